@@ -1,0 +1,5 @@
+pub mod Faults
+pub mod Told
+pub mod Streams
+pub mod Rules
+pub mod formers

@@ -1,0 +1,62 @@
+//! The outside as the crates above see it: what is told of its content, and how often it failed.
+//! A count of faults never falls, and a call answers `Failed` only where it rose.
+ghost use Rattle.std.specs.Prelude.{◌≡◌, ℕ, List, length, Option, IfOk, OnOk};
+ghost use Rattle.std.specs.Io.{ReadsAtMost, WritesAtMost};
+ghost use Rattle.std.specs.Io.KnownBytes.{ReadConsumes, WriteAppends, Consumes};
+ghost use Rattle.kr_base.specs.Faults.{IsCounted};
+
+use crate::answers::Failed;
+
+/// What is read: a file, standard input, bytes in memory.
+pub trait Source {
+    // The bytes that are left, where the type tells them.
+    ghost left: { Self → Option (List ℕ) };
+
+    ghost count: { Self → ℕ };
+
+    /// Takes the next bytes, at most as many as fit. 0 for a buffer that isn't empty is the end. A read that fails takes nothing.
+    fn read(&mut self, into: &mut [u8]) -> Result<usize, Failed>
+        ensures bound { ReadsAtMost result into.new }
+        ensures bytes { ReadConsumes (left self.old) (left self.new) result into.new }
+        ensures cause { IsCounted (count self.old) (count self.new) result };
+
+    /// How often it failed so far, up to the greatest number.
+    fn faults(&self) -> u64
+        ensures { result ≡ count self.now };
+}
+
+/// What is written to: standard output, bytes in memory.
+pub trait Sink {
+    // The bytes that were written, where the type tells them.
+    ghost held: { Self → Option (List ℕ) };
+
+    ghost count: { Self → ℕ };
+
+    /// Appends a prefix, at least one byte of a piece that isn't empty. A write that fails appends nothing.
+    fn write(&mut self, bytes: &[u8]) -> Result<usize, Failed>
+        ensures bound { WritesAtMost result bytes.now }
+        ensures bytes { WriteAppends (held self.old) (held self.new) result bytes.now }
+        ensures progress { IfOk result (λ n. n ≡ 0 → length bytes.now ≡ 0) }
+        ensures cause { IsCounted (count self.old) (count self.new) result };
+
+    /// How often it failed so far, up to the greatest number.
+    fn faults(&self) -> u64
+        ensures { result ≡ count self.now };
+}
+
+/// What random bytes are drawn from.
+pub trait Dice {
+    // The bytes that will be drawn, where the type tells them.
+    ghost left: { Self → Option (List ℕ) };
+
+    ghost count: { Self → ℕ };
+
+    /// Fills the buffer with the next bytes. After a fault the buffer holds any bytes.
+    fn fill(&mut self, into: &mut [u8]) -> Result<(), Failed>
+        ensures bytes { OnOk result (Consumes (left self.old) (left self.new) into.new) }
+        ensures cause { IsCounted (count self.old) (count self.new) result };
+
+    /// How often it failed so far, up to the greatest number.
+    fn faults(&self) -> u64
+        ensures { result ≡ count self.now };
+}
