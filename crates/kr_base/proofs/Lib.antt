@@ -1,3 +1,5 @@
 pub mod Counting
 pub mod Labels
+pub mod Playing
+pub mod SortedPairs
 pub mod Wholes

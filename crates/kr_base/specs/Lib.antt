@@ -2,4 +2,6 @@ pub mod Faults
 pub mod Told
 pub mod Streams
 pub mod Rules
+pub mod Played
+pub mod Pairs
 pub mod formers

@@ -1,0 +1,30 @@
+-- Objects in memory that play those of the outside: which of their calls fail, and what they hold.
+use Rattle.std.specs.Prelude.{◌≡◌, ℕ, ◌+◌, ◌-◌, ◌^◌, ◌⊎◌, ◌↔◌, min, List, Contains, Result, IsErr, is_err, if◌then◌else◌}
+
+-- the numbers of the calls that fail, from 1; how many calls were made, and how many of them failed
+pub record Calls : Type 0 where
+  pub fails : List ℕ
+  pub made : ℕ
+  pub faults : ℕ
+
+-- one more, up to the greatest number
+abbrev pub next_number : ℕ → ℕ
+next_number n = min (n + 1) (2 ^ 64 - 1)
+
+-- one more call was made: it failed exactly where its number is listed or it can't be served, and then it counts as a fault
+pub record Makes {T E : Type 0} (old new : Calls) (Unserved : Type 0) (result : Result T E) : Type 0 where
+  pub fails : new.fails ≡ old.fails
+  pub made : new.made ≡ next_number old.made
+  pub failed : IsErr result ↔ (Contains old.fails (next_number old.made) ⊎ Unserved)
+  pub faults : new.faults ≡ (if is_err result then next_number old.faults else old.faults)
+
+-- a source or a dice with the bytes that are left
+pub record Given : Type 0 where
+  pub bytes : List ℕ
+  pub calls : Calls
+
+-- a sink with the bytes that it took, and the bytes that it has room for in all
+pub record Taken : Type 0 where
+  pub bytes : List ℕ
+  pub room : ℕ
+  pub calls : Calls

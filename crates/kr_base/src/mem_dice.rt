@@ -1,0 +1,80 @@
+ghost use Rattle.std.specs.Prelude.{◌≡◌, ◌++◌, ◌<◌, length, take, drop, Some, MatchResult, OnOk};
+ghost use Rattle.std.specs.Io.KnownBytes.{Consumes};
+ghost use Rattle.kr_base.specs.Faults.{IsCounted};
+ghost use Rattle.kr_base.specs.Played.{Makes};
+
+use crate::answers::Failed;
+use crate::bytes::Bytes;
+use crate::call_log::CallLog;
+use crate::list::List;
+use crate::traits::Dice;
+use std::marker::Model;
+
+/// Random bytes that were written down before. Its draws fail by their numbers, the first being 1, and where fewer
+/// bytes are left than were asked.
+#[derive(Debug, Drop)]
+pub struct MemDice {
+    content: Bytes,
+    at: usize,
+    calls: CallLog,
+}
+
+impl Model for MemDice {
+    ghost use Rattle.std.specs.Prelude.{◌≤◌, length, drop};
+    ghost use Rattle.kr_base.specs.Played.{Given};
+
+    ghost Value = { Given };
+
+    ghost view = { λ dice. record { bytes = drop dice.at dice.content; calls = dice.calls } };
+
+    ghost invariant = { λ dice. dice.at ≤ length dice.content };
+}
+
+impl MemDice {
+    /// A dice that gives the content; each number in `fails` is that of a draw that fails.
+    pub fn new(content: Bytes, fails: List<u64>) -> MemDice
+        ensures { result ≡ record { bytes = content; calls = record { fails = fails.0; made = 0; faults = 0 } } }
+    {
+        MemDice {
+            content,
+            at: 0,
+            calls: CallLog::new(fails),
+        }
+    }
+
+    /// Lends what is left.
+    pub fn bytes(&self) -> &[u8]
+        ensures { result.now ≡ self.now.bytes }
+    {
+        &self.content.as_slice()[self.at..]
+    }
+}
+
+impl Dice for MemDice {
+    ghost left = { λ dice. Some dice.bytes };
+
+    ghost count = { λ dice. dice.calls.faults };
+
+    fn fill(&mut self, into: &mut [u8]) -> Result<(), Failed>
+        ensures calls { Makes self.old.calls self.new.calls (length self.old.bytes < length into.old) result }
+        ensures drawn { MatchResult result (λ _. (into.new ≡ take (length into.old) self.old.bytes) × (self.new.bytes ≡ drop (length into.old) self.old.bytes)) (λ _. self.new.bytes ≡ self.old.bytes) }
+
+        // As the trait says.
+        ensures bytes { OnOk result (Consumes (Some self.old.bytes) (Some self.new.bytes) into.new) }
+        ensures cause { IsCounted self.old.calls.faults self.new.calls.faults result }
+    {
+        let n = into.len();
+        let left = self.content.as_slice().len() - self.at;
+        if self.calls.fails(left < n) {
+            return Err(Failed);
+        }
+        let start = self.at;
+        into.copy_from_slice(&self.content.as_slice()[start..start + n]);
+        self.at += n;
+        Ok(())
+    }
+
+    fn faults(&self) -> u64 {
+        self.calls.faults()
+    }
+}
