@@ -21,4 +21,5 @@ module _ (content old copied into : List ℕ) (at n : ℕ) (is : old ≡ drop at
   pub read_consumes : (old ≡ take n (copied ++ drop n into) ++ drop (at + n) content) × (n ≡ 0 → 0 < length (copied ++ drop n into) → drop (at + n) content ≡ [])
   read_consumes = (
     given content old copied at n n is (taken ∙ ap (take n) all) (λ i. n) ∙ ap (λ l. l ++ drop (at + n) content) (sym front),
-    λ none room. drop_all (at + n) content (omega (arith, ap length all, length-drop at content, length-append copied (drop n into), length-drop n into, length-take-le n into (omega arith))))
+    λ none room. drop_all (at + n) content (omega (arith, ap length all, length-drop at content, length-append copied (drop n into), length-drop n into, length-take-le n into (omega arith))),
+  )

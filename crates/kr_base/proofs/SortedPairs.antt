@@ -75,7 +75,7 @@ replaced key value (e ∷ es) zero d h before same =
     ap (λ k. (k, value) ∷ es) eq.1 ∙ sym (step e es key value Equal eq.0)
 replaced key value (e ∷ es) (suc at) d h before same =
     ap (λ l. e ∷ l) (replaced key value es at d (omega arith) (λ k c z l. before (suc k) c (omega arith) (omega arith)) same)
-      ∙ sym (step e es key value Greater (is_greater (compare key e.0) (before 0 e (omega arith) (omega arith))))
+    ∙ sym (step e es key value Greater (is_greater (compare key e.0) (before 0 e (omega arith) (omega arith))))
 
 pub not_greater : (r : Ordering) → is_gt r ≡ false → is_eq r ≡ false → r ≡ Less
 not_greater Less g e = refl
@@ -90,7 +90,7 @@ added key value [] (suc at) h before next = absurd (omega arith)
 added key value (e ∷ es) zero h before next = sym (step e es key value Less (next e (omega arith)))
 added key value (e ∷ es) (suc at) h before next =
     ap (λ l. e ∷ l) (added key value es at (omega arith) (λ k c z l. before (suc k) c (omega arith) (omega arith)) (λ d l. next d (omega arith)))
-      ∙ sym (step e es key value Greater (is_greater (compare key e.0) (before 0 e (omega arith) (omega arith))))
+    ∙ sym (step e es key value Greater (is_greater (compare key e.0) (before 0 e (omega arith) (omega arith))))
 
 all_below : (P : List ℕ → Type 0) (es : Pairs) (key value : List ℕ) → AllByRecursion P (keys_of es) → P key → AllByRecursion P (keys_of (with_pair es key value))
 all_below P [] key value all p = (p, tt)
@@ -140,13 +140,21 @@ to_false false h = refl
 
 pub above_middle : (key : List ℕ) (es : Pairs) (low high middle : ℕ) (e : List ℕ × List ℕ) → Between key es low high → low ≤ middle → middle < high → is_gt (compare key (get_or es middle e).0) ≡ true → Between key es (middle + 1) high
 above_middle key es low high middle e b l h g = record {
-  sorted = b.sorted; ordered = omega arith; within = b.within; others = b.others;
-  lesser = λ k d z m. partitioned key es b.sorted k middle d (omega arith) (omega (arith, b.within)) (ap (λ p. is_gt (compare key p.0)) (get_or_default es middle d e (omega (arith, b.within))) ∙ g) }
+  sorted = b.sorted;
+  ordered = omega arith;
+  within = b.within;
+  others = b.others;
+  lesser = λ k d z m. partitioned key es b.sorted k middle d (omega arith) (omega (arith, b.within)) (ap (λ p. is_gt (compare key p.0)) (get_or_default es middle d e (omega (arith, b.within))) ∙ g);
+}
 
 pub below_middle : (key : List ℕ) (es : Pairs) (low high middle : ℕ) (e : List ℕ × List ℕ) → Between key es low high → low ≤ middle → middle < high → is_gt (compare key (get_or es middle e).0) ≡ false → Between key es low middle
 below_middle key es low high middle e b l h g = record {
-  sorted = b.sorted; ordered = l; within = omega (arith, b.within); lesser = b.lesser;
-  others = λ k d m n. to_false _ (λ t. not_both _ (partitioned key es b.sorted middle k d m n t) (ap (λ p. is_gt (compare key p.0)) (get_or_default es middle d e (omega (arith, b.within))) ∙ g)) }
+  sorted = b.sorted;
+  ordered = l;
+  within = omega (arith, b.within);
+  lesser = b.lesser;
+  others = λ k d m n. to_false _ (λ t. not_both _ (partitioned key es b.sorted middle k d m n t) (ap (λ p. is_gt (compare key p.0)) (get_or_default es middle d e (omega (arith, b.within))) ∙ g));
+}
 
 pub placed_end : (key : List ℕ) (es : Pairs) (low high : ℕ) → Between key es low high → high ≤ low → low ≡ length es → IsPlaceOf es key (Err low)
 placed_end key es low high b h e = (omega arith, λ value. added key value es low (omega arith) b.lesser (λ d l. absurd (omega arith)))
@@ -157,6 +165,8 @@ placed_equal key es low high e b h n q =
     (within, λ value. replaced key value es low e within b.lesser q)
 
 pub placed_before : (key : List ℕ) (es : Pairs) (low high : ℕ) (e : List ℕ × List ℕ) → Between key es low high → high ≤ low → is_eq (compare key (get_or es low e).0) ≡ false → IsPlaceOf es key (Err low)
-placed_before key es low high e b h q =
-    (omega (arith, b.within, b.ordered), λ value. added key value es low (omega (arith, b.within, b.ordered)) b.lesser
-      (λ d l. not_greater _ (b.others low d (omega arith) l) (ap (λ p. is_eq (compare key p.0)) (get_or_default es low d e l) ∙ q)))
+placed_before key es low high e b h q = (
+  omega (arith, b.within, b.ordered),
+  λ value. added key value es low (omega (arith, b.within, b.ordered)) b.lesser
+      (λ d l. not_greater _ (b.others low d (omega arith) l) (ap (λ p. is_eq (compare key p.0)) (get_or_default es low d e l) ∙ q)),
+)

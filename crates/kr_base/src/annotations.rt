@@ -78,5 +78,9 @@ fn place_of(pairs: &[(Text, Bytes)], key: &Text) -> Result<usize, usize>
     if low == pairs.len() {
         return Err(low);
     }
-    if key.cmp(&pairs[low].0).is_eq() { Ok(low) } else { Err(low) }
+    if key.cmp(&pairs[low].0).is_eq() {
+        Ok(low)
+    } else {
+        Err(low)
+    }
 }

@@ -1,5 +1,5 @@
-ghost use Rattle.std.specs.Prelude.{◌≡◌, ◌++◌, ◌<◌, length, take, drop, Some, MatchResult, OnOk};
-ghost use Rattle.std.specs.Io.KnownBytes.{Consumes};
+ghost use Rattle.std.specs.Prelude.{◌≡◌, ◌++◌, ◌<◌, length, take, drop, Some, MatchResult};
+ghost use Rattle.std.specs.Io.KnownBytes.{Consumes, Keeps};
 ghost use Rattle.kr_base.specs.Faults.{IsCounted};
 ghost use Rattle.kr_base.specs.Played.{Makes};
 
@@ -60,7 +60,7 @@ impl Dice for MemDice {
         ensures drawn { MatchResult result (λ _. (into.new ≡ take (length into.old) self.old.bytes) × (self.new.bytes ≡ drop (length into.old) self.old.bytes)) (λ _. self.new.bytes ≡ self.old.bytes) }
 
         // As the trait says.
-        ensures bytes { OnOk result (Consumes (Some self.old.bytes) (Some self.new.bytes) into.new) }
+        ensures bytes { MatchResult result (λ _. Consumes (Some self.old.bytes) (Some self.new.bytes) into.new) (λ _. Keeps (Some self.old.bytes) (Some self.new.bytes)) }
         ensures cause { IsCounted self.old.calls.faults self.new.calls.faults result }
     {
         let n = into.len();

@@ -1,5 +1,5 @@
-ghost use Rattle.std.specs.Prelude.{◌≡◌, length, None, IsOk, OnOk};
-ghost use Rattle.std.specs.Io.KnownBytes.{Consumes};
+ghost use Rattle.std.specs.Prelude.{◌≡◌, length, None, IsOk, MatchResult};
+ghost use Rattle.std.specs.Io.KnownBytes.{Consumes, Keeps};
 ghost use Rattle.kr_base.specs.Faults.{IsCounted};
 ghost use Rattle.rand_core.specs.Stream.{fill_bytes};
 
@@ -31,7 +31,7 @@ impl<R: Rng> Dice for SeededDice<R> {
         ensures drawn { (into.new, R.stream self.new.rng) ≡ fill_bytes (length into.old) (R.stream self.old.rng) }
 
         // As the trait says.
-        ensures bytes { OnOk result (Consumes None None into.new) }
+        ensures bytes { MatchResult result (λ _. Consumes None None into.new) (λ _. Keeps None None) }
         ensures cause { IsCounted 0 0 result }
     {
         self.rng.fill_bytes(into);

@@ -1,8 +1,8 @@
 //! The outside as the crates above see it: what is told of its content, and how often it failed.
 //! A count of faults never falls, and a call answers `Failed` only where it rose.
-ghost use Rattle.std.specs.Prelude.{◌≡◌, ℕ, List, length, Option, IfOk, OnOk};
+ghost use Rattle.std.specs.Prelude.{◌≡◌, ℕ, List, length, Option, IfOk, MatchResult};
 ghost use Rattle.std.specs.Io.{ReadsAtMost, WritesAtMost};
-ghost use Rattle.std.specs.Io.KnownBytes.{ReadConsumes, WriteAppends, Consumes};
+ghost use Rattle.std.specs.Io.KnownBytes.{ReadConsumes, WriteAppends, Consumes, Keeps};
 ghost use Rattle.kr_base.specs.Faults.{IsCounted};
 
 use crate::answers::Failed;
@@ -51,9 +51,9 @@ pub trait Dice {
 
     ghost count: { Self → ℕ };
 
-    /// Fills the buffer with the next bytes. After a fault the buffer holds any bytes.
+    /// Fills the buffer with the next bytes. After a fault the buffer holds any bytes, and what is told is still to come.
     fn fill(&mut self, into: &mut [u8]) -> Result<(), Failed>
-        ensures bytes { OnOk result (Consumes (left self.old) (left self.new) into.new) }
+        ensures bytes { MatchResult result (λ _. Consumes (left self.old) (left self.new) into.new) (λ _. Keeps (left self.old) (left self.new)) }
         ensures cause { IsCounted (count self.old) (count self.new) result };
 
     /// How often it failed so far, up to the greatest number.
