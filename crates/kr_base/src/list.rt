@@ -39,6 +39,13 @@ impl<T> List<T> {
         List { items }
     }
 
+    /// Gives the items up as they stand.
+    pub fn into_vec(self) -> Vec<T>
+        ensures { result.items ≡ self.0 }
+    {
+        self.items
+    }
+
     /// Puts the item at the end. An item that found no memory comes back.
     pub fn push(&mut self, item: T) -> Result<(), (NoMemory, T)>
         ensures ok { OnOk result (self.new.0 ≡ self.old.0 ++ item ∷ []) }

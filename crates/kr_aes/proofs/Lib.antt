@@ -1,0 +1,13 @@
+pub mod Cases
+pub mod Linear
+pub mod Products
+pub mod Powers
+pub mod Boxes
+pub mod Expansion
+pub mod RoundCounts
+pub mod Blocks
+pub mod Sums
+pub mod Undone
+pub mod Columns
+pub mod InverseRounds
+pub mod InverseBlocks

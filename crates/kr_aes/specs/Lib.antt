@@ -1,0 +1,4 @@
+pub mod Field
+pub mod Cipher
+pub mod KeyExpansion
+pub mod InverseCipher

@@ -1,0 +1,36 @@
+// Laws of the definitions, for a reader and for callers' proofs. The functions do nothing.
+
+ghost use Rattle.kr_aes.specs.Cipher.{CipherGivesBlocks};
+ghost use Rattle.kr_aes.specs.Field.{EachHasInverse, ProductDistributes};
+ghost use Rattle.kr_aes.specs.InverseCipher.{InverseGivesBlocks, InverseUndoesCipher};
+ghost use Rattle.kr_aes.specs.KeyExpansion.{EachWordFollows};
+
+/// The product of a byte other than 0 and its inverse is 1.
+pub fn product_of_inverse()
+    ensures { EachHasInverse }
+{}
+
+/// The product of bytes distributes over their sum.
+pub fn product_of_sum()
+    ensures { ProductDistributes }
+{}
+
+/// Each word of a key's schedule follows from the words before it.
+pub fn words_of_schedule()
+    ensures { EachWordFollows }
+{}
+
+/// What a cipher gives has 16 bytes.
+pub fn block_of_cipher()
+    ensures { CipherGivesBlocks }
+{}
+
+/// What an inverse cipher gives has 16 bytes.
+pub fn block_of_inverse_cipher()
+    ensures { InverseGivesBlocks }
+{}
+
+/// The inverse cipher of a cipher is the block itself.
+pub fn inverse_of_cipher()
+    ensures { InverseUndoesCipher }
+{}
