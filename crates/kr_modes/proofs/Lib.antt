@@ -1,0 +1,4 @@
+pub mod Xors
+pub mod FirstBlocks
+pub mod Paddings
+pub mod Chains
