@@ -1,0 +1,252 @@
+use kr_base::{Bytes, List, MemDice, MemSink, MemSource, NoMemory, Text};
+use kr_top::{MemWorld, run};
+use std::alloc::Global;
+use std::test::Fail;
+
+/// The configuration that examples use: secrets are stored by identity.
+const IDENTITY: &str =
+    r#"{"apiVersion":"apiserver.config.k8s.io/v1","kind":"EncryptionConfiguration","resources":[{"resources":["secrets"],"providers":[{"identity":{}}]}]}"#;
+
+/// A call: its words parted by bars, the file `c.json`, the input, and which first calls fail.
+#[derive(Drop)]
+struct Call<'a> {
+    words: &'a str,
+    config: &'a str,
+    input: &'a [u8],
+    dice: Option<&'a [u8]>,
+    input_fails: bool,
+    output_fails: bool,
+    errors_fail: bool,
+}
+
+/// What a call left.
+#[derive(Drop)]
+struct Left {
+    status: u8,
+    output: Bytes,
+    errors: Bytes,
+    dice_is_back: bool,
+}
+
+/// The number of the first call, where it is to fail.
+fn fails(alloc: Global, first: bool) -> Result<List<u64>, NoMemory> {
+    let mut list = List::new(alloc);
+    if first {
+        match list.push(1) {
+            Ok(()) => {}
+            Err(_) => return Err(NoMemory),
+        }
+    }
+    Ok(list)
+}
+
+fn owned(alloc: Global, words: &str) -> Result<Vec<String>, NoMemory> {
+    let mut all = Vec::new(alloc);
+    for word in words.split('|') {
+        let Ok(word) = String::from_str(alloc, word) else {
+            return Err(NoMemory);
+        };
+        match all.push(word) {
+            Ok(()) => {}
+            Err(_) => return Err(NoMemory),
+        }
+    }
+    Ok(all)
+}
+
+fn world(alloc: Global, config: &str, dice: Option<&[u8]>) -> Result<MemWorld, NoMemory> {
+    let mut files = List::new(alloc);
+    match files.push((
+        Text::copy(alloc, "c.json")?,
+        Bytes::copy(alloc, config.as_bytes())?,
+    )) {
+        Ok(()) => {}
+        Err(_) => return Err(NoMemory),
+    }
+    let mut all = List::new(alloc);
+    if let Some(bytes) = dice {
+        match all.push((
+            0,
+            MemDice::new(Bytes::copy(alloc, bytes)?, List::new(alloc)),
+        )) {
+            Ok(()) => {}
+            Err(_) => return Err(NoMemory),
+        }
+    }
+    Ok(MemWorld::new(alloc, files, all))
+}
+
+fn left_by(alloc: Global, call: &Call<'_>) -> Result<Left, NoMemory> {
+    let words = owned(alloc, call.words)?;
+    let mut world = world(alloc, call.config, call.dice)?;
+    let mut input = MemSource::new(
+        Bytes::copy(alloc, call.input)?,
+        fails(alloc, call.input_fails)?,
+    );
+    let mut output = MemSink::new(
+        Bytes::new(alloc),
+        3_000_000,
+        fails(alloc, call.output_fails)?,
+    )?;
+    let mut errors = MemSink::new(Bytes::new(alloc), 1000, fails(alloc, call.errors_fail)?)?;
+    let status = run(
+        alloc,
+        words.as_slice(),
+        &mut world,
+        &mut input,
+        &mut output,
+        &mut errors,
+    );
+    Ok(Left {
+        status,
+        output: Bytes::copy(alloc, output.bytes())?,
+        errors: Bytes::copy(alloc, errors.bytes())?,
+        dice_is_back: world.dice_of(0).is_some(),
+    })
+}
+
+/// The words of `encrypt` for a secret.
+const ENCRYPT: &str = "encrypt|--config|c.json|--resource|secrets|--path|/registry/secrets/d/s";
+
+fn plain<'a>(input: &'a [u8]) -> Call<'a> {
+    Call {
+        words: ENCRYPT,
+        config: IDENTITY,
+        input,
+        dice: Some(&[]),
+        input_fails: false,
+        output_fails: false,
+        errors_fail: false,
+    }
+}
+
+#[test]
+fn stores_by_identity(rt: HostRuntime) -> Result<(), Fail> {
+    // Input, output, line on errors, status.
+    let cases: [(&[u8], &[u8], &str, u8); 4] = [
+        (b"", b"", "", 0),
+        (b"hello", b"hello", "", 0),
+        (b"k8s\0object", b"k8s\0object", "", 0),
+        (b"k8s:enc:x", b"", "kmsrest: refused 13 LooksEncrypted\n", 1),
+    ];
+    for (input, output, line, status) in cases {
+        let left = left_by(rt.alloc(), &plain(input))?;
+        assert_eq!(rt; left.output.as_slice(), output);
+        assert_eq!(rt; left.errors.as_slice(), line.as_bytes());
+        assert_eq!(rt; left.status, status);
+        assert!(rt; left.dice_is_back);
+    }
+    Ok(())
+}
+
+#[test]
+fn limits_the_data(rt: HostRuntime) -> Result<(), Fail> {
+    let most = vec![in rt.alloc(); 7u8; 2_097_152]?;
+    let left = left_by(rt.alloc(), &plain(most.as_slice()))?;
+    assert_eq!(rt; left.status, 0);
+    assert_eq!(rt; left.output.as_slice(), most.as_slice());
+    let more = vec![in rt.alloc(); 7u8; 2_097_153]?;
+    let left = left_by(rt.alloc(), &plain(more.as_slice()))?;
+    assert_eq!(rt; left.status, 6);
+    assert_eq!(rt;
+        left.errors.as_slice(),
+        b"kmsrest: limit data 2097152\n".as_slice()
+    );
+    assert_eq!(rt; left.output.as_slice(), b"".as_slice());
+    Ok(())
+}
+
+#[test]
+fn names_each_fault(rt: HostRuntime) -> Result<(), Fail> {
+    let mut calls = [
+        plain(b"hello"),
+        plain(b"hello"),
+        plain(b"hello"),
+        plain(b"k8s:enc:x"),
+    ];
+    calls[0].input_fails = true;
+    calls[1].output_fails = true;
+    // A world without a random source for the seat.
+    calls[2].dice = None;
+    calls[3].errors_fail = true;
+    let lines = [
+        "kmsrest: fault input 1\n",
+        "kmsrest: fault output 1\n",
+        "kmsrest: fault files 1\n",
+        "",
+    ];
+    for i in 0..4 {
+        let left = left_by(rt.alloc(), &calls[i])?;
+        assert_eq!(rt; left.status, 4);
+        assert_eq!(rt; left.errors.as_slice(), lines[i].as_bytes());
+        assert_eq!(rt; left.output.as_slice(), b"".as_slice());
+        assert_eq!(rt; left.dice_is_back, i != 2);
+    }
+    Ok(())
+}
+
+#[test]
+fn refuses_other_words_and_files(rt: HostRuntime) -> Result<(), Fail> {
+    let usage = "kmsrest: usage: kmsrest COMMAND OPTIONS\n";
+    let unread = "kmsrest: text 50 0 0\n";
+    let cases: [(&str, &str, &str, u8); 9] = [
+        ("", IDENTITY, usage, 2),
+        ("encrypt", IDENTITY, usage, 2),
+        (
+            "Encrypt|--config|c.json|--resource|secrets|--path|",
+            IDENTITY,
+            usage,
+            2,
+        ),
+        (
+            "encrypt|--config|c.json|--resource|Secrets|--path|",
+            IDENTITY,
+            usage,
+            2,
+        ),
+        (
+            "encrypt|--config|c.json|--resource|secrets|--path|a b",
+            IDENTITY,
+            usage,
+            2,
+        ),
+        (
+            "encrypt|--config|none|--resource|secrets|--path|",
+            IDENTITY,
+            unread,
+            3,
+        ),
+        (
+            "encrypt|--config|c.json|--resource|secrets|--path|",
+            "{",
+            unread,
+            3,
+        ),
+        (
+            "encrypt|--config|c.json|--resource|secrets|--path|",
+            "{}",
+            unread,
+            3,
+        ),
+        (
+            "encrypt|--config|c.json|--resource|pods|--path|",
+            IDENTITY,
+            "",
+            0,
+        ),
+    ];
+    for (words, config, line, status) in cases {
+        let left = left_by(
+            rt.alloc(),
+            &Call {
+                words,
+                config,
+                ..plain(b"")
+            },
+        )?;
+        assert_eq!(rt; left.errors.as_slice(), line.as_bytes());
+        assert_eq!(rt; left.status, status);
+        assert!(rt; left.dice_is_back);
+    }
+    Ok(())
+}

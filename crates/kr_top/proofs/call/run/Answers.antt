@@ -1,0 +1,14 @@
+use Rattle.kr_top.proofs.Readings.{usage, caused, refusal, done}
+use Rattle.kr_top.proofs.call.run.Goals as goal
+
+pub returns-clause-usage : goal.returns-clause-usage
+returns-clause-usage g c = usage _ _ _ _ c.answer-answer.result _ c.answer-answer.ensures c.tell.ensures.told
+
+pub returns-clause-caused : goal.returns-clause-caused
+returns-clause-caused g c = caused _ _ _ _ c.answer-answer.result _ c.answer-answer.ensures c.tell.ensures.told
+
+pub returns-clause-refused : goal.returns-clause-refused
+returns-clause-refused g c = refusal _ _ _ _ c.answer-answer.result _ c.answer-answer.ensures c.tell.ensures.told
+
+pub returns-clause-done : goal.returns-clause-done
+returns-clause-done g c = done _ _ _ _ c.answer-answer.result _ c.answer-answer.ensures c.tell.ensures.told

@@ -1,0 +1,15 @@
+use Rattle.std.proofs.Common.{◌≡◌, ℕ, ◌<◌, Some, length, get_or, sym, ◌∙◌, ap, subst}
+use Rattle.kr_base.specs.Played.{Given}
+use Rattle.kr_top.specs.MemWorld.{dice_of}
+use Rattle.kr_top.proofs.Shelf.{handed_out}
+use Rattle.kr_top.proofs.mem_world.MemWorldWorld.dice.Goals as goal
+
+pub returns-clause-ok : goal.returns-clause-ok
+returns-clause-ok c =
+    let dice = c.args.self.now.dice.items in let at = c.in-Some.at in
+    let same = c.deref.ensures.value in
+    let within : at < length dice = subst (λ l. at < length l) same c.in-Some.ensures.0 in
+    let seats : (d : ℕ × Given) → (get_or dice at d).0 ≡ c.args.seat = subst (λ l. (d : ℕ × Given) → (get_or l at d).0 ≡ c.args.seat) same c.in-Some.ensures.1 in
+    let found : (d : ℕ × Given) → dice_of dice c.args.seat ≡ Some (get_or dice at d).1 = subst (λ l. (d : ℕ × Given) → dice_of l c.args.seat ≡ Some (get_or l at d).1) same c.in-Some.ensures.2 in
+    handed_out c.args.self.now.files.items dice c.remove-seat.new.self.items c.args.self.now.out.items c.push.new.self.items c.args.self.now.faults at c.args.seat c.remove-seat.result.1
+    within seats (found c.remove-seat.result ∙ ap (λ p. Some p.1) (sym c.remove-seat.ensures.value)) c.remove-seat.ensures.items c.in-Ok.ensures.items

@@ -1,0 +1,55 @@
+-- What a world tells of its files and of the random sources of its seats, and what it has handed out.
+use Rattle.std.specs.Prelude.{◌≡◌, ◌≢◌, ℕ, ◌+◌, ◌<◌, ◌≤◌, ◌==◌, List, length, Option, None, Some, Result, Ok, Err, ⊤, if◌then◌else◌}
+use Rattle.kr_base.specs.Faults.{Rose}
+use Rattle.kr_base.specs.Told.{Agrees}
+use Rattle.kr_top.specs.declared.world.FileNo.{FileNo}
+use Rattle.kr_top.specs.declared.world.FileNo.TheVariants.{Absent, TooLong, Failed, NoMemory}
+
+pub record Outside : Type 0 where
+  -- a file by its name: none where the world doesn't tell; else absent, or its bytes
+  pub file : List ℕ → Option (Option (List ℕ))
+  pub file_faults : ℕ
+  -- by the number of a seat: what its random source will give, where that is told, and its count of faults
+  pub dice : ℕ → Option (List ℕ)
+  pub dice_faults : ℕ → ℕ
+  -- how many random sources of a seat are handed out
+  pub out : ℕ → ℕ
+
+-- nothing is handed out or given back
+pub record KeepsDice (old new : Outside) : Type 0 where
+  pub dice : (seat : ℕ) → new.dice seat ≡ old.dice seat
+  pub faults : (seat : ℕ) → new.dice_faults seat ≡ old.dice_faults seat
+  pub out : (seat : ℕ) → new.out seat ≡ old.out seat
+
+-- the files are as they were, and their count of faults didn't fall
+pub record KeepsFiles (old new : Outside) : Type 0 where
+  pub file : (name : List ℕ) → new.file name ≡ old.file name
+  pub later : old.file_faults ≤ new.file_faults
+
+-- a file within the limit was given, or why not
+abbrev pub Loads : Outside → Outside → List ℕ → ℕ → Result (List ℕ) FileNo → Type 0
+Loads old new name limit (Ok bytes) = Agrees (old.file name) (Some bytes) × (length bytes ≤ limit)
+Loads old new name limit (Err Absent) = Agrees (old.file name) None
+Loads old new name limit (Err TooLong) = (bytes : List ℕ) × (limit < length bytes) × Agrees (old.file name) (Some bytes)
+Loads old new name limit (Err Failed) = Rose old.file_faults new.file_faults
+Loads old new name limit (Err NoMemory) = ⊤
+
+-- n at the seat, 0 at each other
+abbrev pub at_seat : ℕ → ℕ → ℕ → ℕ
+at_seat seat n other = if seat == other then n else 0
+
+-- the random source of the seat was handed out; those of other seats stay
+pub record HandsOut (old new : Outside) (seat : ℕ) (left : Option (List ℕ)) (count : ℕ) : Type 0 where
+  pub left_is : left ≡ old.dice seat
+  pub count_is : count ≡ old.dice_faults seat
+  pub out : (other : ℕ) → new.out other ≡ old.out other + at_seat seat 1 other
+  pub dice : (other : ℕ) → other ≢ seat → new.dice other ≡ old.dice other
+  pub faults : (other : ℕ) → other ≢ seat → new.dice_faults other ≡ old.dice_faults other
+
+-- the random source of the seat came back; those of other seats stay
+pub record TakesBack (old new : Outside) (seat : ℕ) (left : Option (List ℕ)) (count : ℕ) : Type 0 where
+  pub left_is : new.dice seat ≡ left
+  pub count_is : new.dice_faults seat ≡ count
+  pub out : (other : ℕ) → new.out other + at_seat seat 1 other ≡ old.out other
+  pub dice : (other : ℕ) → other ≢ seat → new.dice other ≡ old.dice other
+  pub faults : (other : ℕ) → other ≢ seat → new.dice_faults other ≡ old.dice_faults other

@@ -1,0 +1,58 @@
+-- What the phases of a command give to it: each result is said by cases, and want of memory alone is free.
+use Rattle.std.specs.Prelude.{◌≡◌, ℕ, ◌+◌, ◌≤◌, List, length, Option, None, Some, Result, Ok, Err, ⊤}
+use Rattle.std.specs.Io.KnownBytes.{Appends, Consumes, IsAtEnd}
+use Rattle.kr_base.specs.Faults.{Rose}
+use Rattle.kr_base.specs.Told.{Agrees}
+use Rattle.kr_base.specs.Streams.{AppendsFront, TakesAtMost}
+use Rattle.kr_top.specs.Outside.{Outside}
+use Rattle.kr_top.specs.Encrypt.{writer_in}
+use Rattle.kr_top.specs.Trace.{Outcome, refuses, gives}
+use Rattle.kr_top.specs.declared.refusal.Done.TheVariants.{Silent}
+use Rattle.kr_top.specs.declared.config.Who.{Who}
+use Rattle.kr_top.specs.declared.refusal.Object.{Object}
+use Rattle.kr_top.specs.declared.refusal.Object.TheVariants.{Input, Output, Files}
+use Rattle.kr_top.specs.declared.refusal.Refusal.{Refusal}
+use Rattle.kr_top.specs.declared.refusal.Refusal.TheVariants.{Configuration, LongData}
+use Rattle.kr_top.specs.declared.refusal.Stop.{Stop}
+use Rattle.kr_top.specs.declared.refusal.Stop.TheVariants.{Refused, Fault, NoMemory}
+
+-- the writer, where there is one
+abbrev pub ReadsWriter : Option Who → Result Who Stop → Type 0
+ReadsWriter wanted (Ok who) = wanted ≡ Some who
+ReadsWriter wanted (Err (Refused why)) = (why ≡ Configuration) × (wanted ≡ None)
+ReadsWriter wanted (Err (Fault object count)) = ⊥
+ReadsWriter wanted (Err NoMemory) = ⊤
+
+-- the writer by the configuration file, or none
+abbrev pub Configures : Outside → Outside → (name resource : List ℕ) → Result Who Stop → Type 0
+Configures old new name resource (Ok who) = (file : Option (List ℕ)) × Agrees (old.file name) file × (writer_in file resource ≡ Some who)
+Configures old new name resource (Err (Refused why)) = (why ≡ Configuration) × ((file : Option (List ℕ)) × Agrees (old.file name) file × (writer_in file resource ≡ None))
+Configures old new name resource (Err (Fault object count)) = (object ≡ Files) × Rose old.file_faults new.file_faults × (count ≡ new.file_faults)
+Configures old new name resource (Err NoMemory) = ⊤
+
+-- the whole input of at most so many bytes, or one more
+abbrev pub TakesInput : ℕ → Option (List ℕ) → Option (List ℕ) → ℕ → ℕ → Result (List ℕ) Stop → Type 0
+TakesInput limit old new before count (Ok bytes) = Consumes old new bytes × IsAtEnd new × (length bytes ≤ limit)
+TakesInput limit old new before count (Err (Refused why)) = (why ≡ LongData) × ((bytes : List ℕ) × Consumes old new bytes × (length bytes ≡ limit + 1))
+TakesInput limit old new before count (Err (Fault object n)) = (object ≡ Input) × Rose before count × (n ≡ count) × TakesAtMost old new limit
+TakesInput limit old new before count (Err NoMemory) = TakesAtMost old new limit
+
+-- why no random source was handed out
+abbrev pub NoDice : Outside → Outside → Stop → Type 0
+NoDice old new (Refused why) = ⊥
+NoDice old new (Fault object count) = (object ≡ Files) × Rose old.file_faults new.file_faults × (count ≡ new.file_faults)
+NoDice old new NoMemory = ⊤
+
+-- the output was written, or a prefix of it
+abbrev pub WritesOutput : List ℕ → Option (List ℕ) → Option (List ℕ) → ℕ → ℕ → Result ⊤ Stop → Type 0
+WritesOutput value old new before count (Ok done) = Appends old new value
+WritesOutput value old new before count (Err (Refused why)) = ⊥
+WritesOutput value old new before count (Err (Fault object n)) = (object ≡ Output) × Rose before count × (n ≡ count) × AppendsFront old new value
+WritesOutput value old new before count (Err NoMemory) = ⊥
+
+-- the value is the one that the outcome gives, or the outcome refuses so
+abbrev pub Seals : Outcome → List ℕ → Result ⊤ Stop → Type 0
+Seals outcome value (Ok done) = outcome ≡ gives value Silent
+Seals outcome value (Err (Refused why)) = outcome ≡ refuses why
+Seals outcome value (Err (Fault object count)) = ⊥
+Seals outcome value (Err NoMemory) = ⊥

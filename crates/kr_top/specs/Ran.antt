@@ -1,0 +1,147 @@
+-- What a call of `run` did: one relation for all commands.
+use Rattle.std.specs.Prelude.{◌≡◌, ℕ, ◌≤◌, ◌⊎◌, Bool, true, false, List, Option, Result, Ok, Err}
+use Rattle.std.specs.Io.KnownBytes.{Keeps, Appends, Consumes}
+use Rattle.kr_base.specs.Faults.{Rose}
+use Rattle.kr_base.specs.Streams.{AppendsFront}
+use Rattle.kr_top.specs.Outside.{Outside, KeepsFiles, KeepsDice}
+use Rattle.kr_top.specs.Command.{Command, encrypt, Means, input_limit}
+use Rattle.kr_top.specs.Trace.{Sight, Outcome, awaits, refuses, gives, strays, object_at, SawFiles, SawInput, input_of, drawn_of}
+use Rattle.kr_top.specs.Encrypt.{encrypt_outcome}
+use Rattle.kr_top.specs.Message.{status_of, status_of_refusal, line_of}
+use Rattle.kr_top.specs.declared.refusal.Object.{Object}
+use Rattle.kr_top.specs.declared.refusal.Object.TheVariants.{Input, Output, Files, Dice}
+use Rattle.kr_top.specs.declared.refusal.Refusal.{Refusal}
+use Rattle.kr_top.specs.declared.refusal.Refusal.TheVariants.{Usage}
+use Rattle.kr_top.specs.declared.refusal.Stop.{Stop}
+use Rattle.kr_top.specs.declared.refusal.Stop.TheVariants.{Refused, Fault, NoMemory}
+use Rattle.kr_top.specs.declared.refusal.Done.{Done}
+use Rattle.kr_top.specs.declared.refusal.Done.TheVariants.{Silent}
+
+-- what is around a command: the world, the input and the output, each with what it tells and its count of faults
+pub record Around : Type 0 where
+  pub world : Outside
+  pub input : Option (List ℕ)
+  pub input_faults : ℕ
+  pub output : Option (List ℕ)
+  pub output_faults : ℕ
+
+-- a sink before and after a call, each with its count of faults
+pub record Sunk : Type 0 where
+  pub old : Option (List ℕ)
+  pub new : Option (List ℕ)
+  pub old_faults : ℕ
+  pub new_faults : ℕ
+
+-- what the steps of a command make of what it saw
+abbrev pub outcome_of : Command → List Sight → Outcome
+outcome_of (encrypt config resource path) trace = encrypt_outcome config resource path trace
+
+abbrev pub count_at : Object → Around → ℕ
+count_at Input around = around.input_faults
+count_at Output around = around.output_faults
+count_at Files around = around.world.file_faults
+count_at (Dice seat) around = around.world.dice_faults seat
+
+-- the count of the object rose to this
+abbrev pub IsFault : Object → ℕ → Around → Around → Type 0
+IsFault object count old new = Rose (count_at object old) (count_at object new) × (count ≡ count_at object new)
+
+-- it was cut short by a fault or by want of memory
+abbrev pub is_cut : Result Done Stop → Bool
+is_cut (Ok done) = false
+is_cut (Err (Refused why)) = false
+is_cut (Err (Fault object count)) = true
+is_cut (Err NoMemory) = true
+
+-- how a command ends by the outcome of what it saw: a fault stands only at the step that comes next, so in place of no
+-- refusal, or at the output; want of memory alone is free
+abbrev pub Ends : Outcome → Around → Around → Result Done Stop → Type 0
+Ends (gives value done) old new (Ok d) = (d ≡ done) × Appends old.output new.output value
+Ends (gives value done) old new (Err (Refused why)) = ⊥
+Ends (gives value done) old new (Err (Fault object count)) = (object ≡ Output) × IsFault object count old new × AppendsFront old.output new.output value
+Ends (gives value done) old new (Err NoMemory) = Keeps old.output new.output
+Ends (refuses why) old new (Ok d) = ⊥
+Ends (refuses why) old new (Err (Refused r)) = (r ≡ why) × Keeps old.output new.output
+Ends (refuses why) old new (Err (Fault object count)) = ⊥
+Ends (refuses why) old new (Err NoMemory) = Keeps old.output new.output
+Ends (awaits step) old new (Ok d) = ⊥
+Ends (awaits step) old new (Err (Refused why)) = ⊥
+Ends (awaits step) old new (Err (Fault object count)) = (object ≡ object_at step) × IsFault object count old new × Keeps old.output new.output
+Ends (awaits step) old new (Err NoMemory) = Keeps old.output new.output
+Ends strays old new result = ⊥
+
+-- the files are the same, all that was handed out is back, and no count fell
+pub record IsHome (old new : Around) : Type 0 where
+  pub files : KeepsFiles old.world new.world
+  pub out : (seat : ℕ) → new.world.out seat ≡ old.world.out seat
+  pub dice : (seat : ℕ) → old.world.dice_faults seat ≤ new.world.dice_faults seat
+  pub input : old.input_faults ≤ new.input_faults
+  pub output : old.output_faults ≤ new.output_faults
+
+-- a command saw something of the outside, step by step, and ended so
+pub record Did (command : Command) (old new : Around) (result : Result Done Stop) : Type 0 where
+  pub trace : List Sight
+  pub files : SawFiles old.world trace
+  pub input : SawInput (input_limit command) old.input new.input (input_of trace) (is_cut result)
+  pub dice : (seat : ℕ) → Consumes (old.world.dice seat) (new.world.dice seat) (drawn_of seat trace)
+  pub ends : Ends (outcome_of command trace) old new result
+  pub home : IsHome old new
+
+-- nothing around was touched
+pub record IsUntouched (old new : Around) : Type 0 where
+  pub files : (name : List ℕ) → new.world.file name ≡ old.world.file name
+  pub file_faults : new.world.file_faults ≡ old.world.file_faults
+  pub dice : KeepsDice old.world new.world
+  pub input : (new.input ≡ old.input) × (new.input_faults ≡ old.input_faults)
+  pub output : (new.output ≡ old.output) × (new.output_faults ≡ old.output_faults)
+
+-- the words mean a command and it ended so; or they mean none, and nothing was touched
+abbrev pub Answers : List (List ℕ) → Around → Around → Result Done Stop → Type 0
+Answers words old new result =
+    ((command : Command) × Means words command × Did command old new result)
+    ⊎ (((command : Command) → Means words command → ⊥) × (result ≡ Err (Refused Usage)) × IsUntouched old new)
+
+-- the line was written to the sink and the status answered; where it can't be written, the status is 4
+abbrev pub Tells : List ℕ → ℕ → Sunk → ℕ → Type 0
+Tells line status errors answered =
+    ((answered ≡ status) × Appends errors.old errors.new line)
+    ⊎ ((answered ≡ 4) × Rose errors.old_faults errors.new_faults × AppendsFront errors.old errors.new line)
+
+pub record Ran (words : List (List ℕ)) (old new : Around) (errors : Sunk) (status : ℕ) : Type 0 where
+  pub result : Result Done Stop
+  pub answers : Answers words old new result
+  pub tells : Tells (line_of result) (status_of result) errors status
+  pub later : errors.old_faults ≤ errors.new_faults
+
+-- ---- what follows from it, for readers
+
+-- status 2 comes only where the words mean no command; and where they mean none, 2 comes, or 4 where the line couldn't be written
+abbrev pub IsUsage : List (List ℕ) → Sunk → ℕ → Type 0
+IsUsage words errors status =
+    (status ≡ 2 → (command : Command) → Means words command → ⊥)
+    × (((command : Command) → Means words command → ⊥) → (status ≡ 2) ⊎ ((status ≡ 4) × Rose errors.old_faults errors.new_faults))
+
+-- status 4 comes only where the count of an object rose
+abbrev pub IsCaused : Around → Around → Sunk → ℕ → Type 0
+IsCaused old new errors status =
+    status ≡ 4 → ((object : Object) × Rose (count_at object old) (count_at object new)) ⊎ Rose errors.old_faults errors.new_faults
+
+-- the command saw something by which its steps come to this outcome
+pub record Comes (words : List (List ℕ)) (old new : Around) (outcome : Outcome) : Type 0 where
+  pub command : Command
+  pub means : Means words command
+  pub trace : List Sight
+  pub files : SawFiles old.world trace
+  pub input : SawInput (input_limit command) old.input new.input (input_of trace) false
+  pub dice : (seat : ℕ) → Consumes (old.world.dice seat) (new.world.dice seat) (drawn_of seat trace)
+  pub outcome_is : outcome_of command trace ≡ outcome
+
+-- status 1, 3 or 6 comes only where a step refuses so; nothing was written then
+abbrev pub IsRefused : List (List ℕ) → Around → Around → ℕ → Type 0
+IsRefused words old new status =
+    (status ≡ 1) ⊎ (status ≡ 3) ⊎ (status ≡ 6) → (why : Refusal) × Comes words old new (refuses why) × (status_of_refusal why ≡ status) × Keeps old.output new.output
+
+-- status 0 comes only where the steps give a value, and then just that was written
+abbrev pub IsDone : List (List ℕ) → Around → Around → ℕ → Type 0
+IsDone words old new status =
+    status ≡ 0 → (value : List ℕ) × Comes words old new (gives value Silent) × Appends old.output new.output value

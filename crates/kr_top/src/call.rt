@@ -1,0 +1,69 @@
+ghost use Rattle.std.specs.Prelude.{◌≡◌};
+ghost use Rattle.kr_top.specs.Command.{Command, texts};
+ghost use Rattle.kr_top.specs.Ran.{Around, Sunk, Ran, Answers, IsUsage, IsCaused, IsRefused, IsDone};
+
+use crate::encrypt::encrypt;
+use crate::message::tell;
+use crate::refusal::{Done, Refusal, Stop};
+use crate::words::read_words;
+use crate::world::World;
+use kr_base::{Sink, Source};
+use std::alloc::Global;
+
+/// Does the command that the words mean, and answers its status: 0 done, 1 a value was refused, 2 the words mean no
+/// command, 3 a configuration is not read, 4 an object of the outside failed, 5 want of memory, 6 a limit was passed.
+/// Each status other than 0 has one line on `errors`; where that can't be written the status is 4.
+pub fn run<W: World, I: Source, O: Sink, E: Sink>(
+    alloc: Global,
+    words: &[String],
+    world: &mut W,
+    input: &mut I,
+    output: &mut O,
+    errors: &mut E,
+) -> u8
+    ensures ran { Ran (texts words.now)
+        (record { world = W.told world.old; input = I.left input.old; input_faults = I.count input.old; output = O.held output.old; output_faults = O.count output.old })
+        (record { world = W.told world.new; input = I.left input.new; input_faults = I.count input.new; output = O.held output.new; output_faults = O.count output.new })
+        (record { old = E.held errors.old; new = E.held errors.new; old_faults = E.count errors.old; new_faults = E.count errors.new })
+        result }
+
+    // What follows from that, for readers.
+    ensures usage { IsUsage (texts words.now)
+        (record { old = E.held errors.old; new = E.held errors.new; old_faults = E.count errors.old; new_faults = E.count errors.new })
+        result }
+    ensures caused { IsCaused
+        (record { world = W.told world.old; input = I.left input.old; input_faults = I.count input.old; output = O.held output.old; output_faults = O.count output.old })
+        (record { world = W.told world.new; input = I.left input.new; input_faults = I.count input.new; output = O.held output.new; output_faults = O.count output.new })
+        (record { old = E.held errors.old; new = E.held errors.new; old_faults = E.count errors.old; new_faults = E.count errors.new })
+        result }
+    ensures refused { IsRefused (texts words.now)
+        (record { world = W.told world.old; input = I.left input.old; input_faults = I.count input.old; output = O.held output.old; output_faults = O.count output.old })
+        (record { world = W.told world.new; input = I.left input.new; input_faults = I.count input.new; output = O.held output.new; output_faults = O.count output.new })
+        result }
+    ensures done { IsDone (texts words.now)
+        (record { world = W.told world.old; input = I.left input.old; input_faults = I.count input.old; output = O.held output.old; output_faults = O.count output.old })
+        (record { world = W.told world.new; input = I.left input.new; input_faults = I.count input.new; output = O.held output.new; output_faults = O.count output.new })
+        result }
+{
+    let answer = answer(alloc, words, world, input, output);
+    tell(errors, answer)
+}
+
+/// Does the command that the words mean.
+fn answer<W: World, I: Source, O: Sink>(
+    alloc: Global,
+    words: &[String],
+    world: &mut W,
+    input: &mut I,
+    output: &mut O,
+) -> Result<Done, Stop>
+    ensures { Answers (texts words.now)
+        (record { world = W.told world.old; input = I.left input.old; input_faults = I.count input.old; output = O.held output.old; output_faults = O.count output.old })
+        (record { world = W.told world.new; input = I.left input.new; input_faults = I.count input.new; output = O.held output.new; output_faults = O.count output.new })
+        result }
+{
+    match read_words(words) {
+        Some(words) => encrypt(alloc, words, world, input, output),
+        None => Err(Stop::Refused(Refusal::Usage)),
+    }
+}

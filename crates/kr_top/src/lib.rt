@@ -1,0 +1,16 @@
+//! The commands of kmsrest over any world, input and outputs.
+#![tactic(auto)]
+
+mod call;
+mod config;
+mod encrypt;
+mod mem_world;
+mod message;
+mod phases;
+mod refusal;
+mod words;
+mod world;
+
+pub use call::run;
+pub use mem_world::MemWorld;
+pub use world::{FileNo, World};

@@ -1,0 +1,137 @@
+ghost use Rattle.std.specs.Prelude.{◌≡◌, ℕ, ◌∷◌, [], ◌<◌, ◌+◌, ◌==◌, ◌≤◌, length, count_by, vec_len, vec_capacity, MatchOption, None, Some, slice_index_or};
+ghost use Rattle.kr_top.specs.Outside.{at_seat};
+ghost use Rattle.std.specs.Option.{option_copied};
+ghost use Rattle.kr_base.specs.Played.{Given};
+ghost use Rattle.kr_top.specs.MemWorld.{file_of, dice_of, told_by};
+
+use crate::world::{FileNo, World};
+use kr_base::{Bytes, List, MemDice, Text};
+use std::alloc::Global;
+
+/// A world in memory. Files stand with their names, random sources with their seats; of two with one name or one seat
+/// the first counts.
+#[derive(Debug, Drop)]
+pub struct MemWorld {
+    files: Vec<(Text, Bytes)>,
+    dice: Vec<(u32, MemDice)>,
+    out: Vec<u32>,
+    faults: u64,
+    // What is out finds its room again.
+    ghost room: { vec_len dice + vec_len out ≤ vec_capacity dice },
+}
+
+impl MemWorld {
+    /// A world of these files and random sources; nothing is handed out.
+    pub fn new(alloc: Global, files: List<(Text, Bytes)>, dice: List<(u32, MemDice)>) -> MemWorld
+        ensures { ⟦<MemWorld as World>⟧.told result ≡ told_by files.0 dice.0 [] 0 }
+    {
+        MemWorld {
+            files: files.into_vec(),
+            dice: dice.into_vec(),
+            out: Vec::new(alloc),
+            faults: 0,
+        }
+    }
+
+    /// Lends the random source of the seat, if it is there.
+    pub fn dice_of(&self, seat: u32) -> Option<&MemDice>
+        ensures { option_copied result ≡ dice_of self.now.dice.items seat }
+    {
+        match place_of(&self.dice, seat) {
+            Some(at) => Some(&self.dice[at].1),
+            None => None,
+        }
+    }
+}
+
+impl World for MemWorld {
+    type Rand = MemDice;
+
+    ghost told = { λ world. told_by world.files.items world.dice.items world.out.items world.faults };
+
+    fn faults(&self) -> u64 {
+        self.faults
+    }
+
+    fn load(&mut self, alloc: Global, name: &str, limit: u64) -> Result<Bytes, FileNo> {
+        let Some(file) = find_file(&self.files, name) else {
+            return Err(FileNo::Absent);
+        };
+        if file.len() as u64 > limit {
+            return Err(FileNo::TooLong);
+        }
+        match Bytes::copy(alloc, file) {
+            Ok(copy) => Ok(copy),
+            Err(_) => Err(FileNo::NoMemory),
+        }
+    }
+
+    fn dice(&mut self, _alloc: Global, seat: u32) -> Result<MemDice, FileNo> {
+        let Some(at) = place_of(&self.dice, seat) else {
+            self.faults = self.faults.saturating_add(1);
+            return Err(FileNo::Failed);
+        };
+        match self.out.push(seat) {
+            Ok(()) => {}
+            Err(_) => return Err(FileNo::NoMemory),
+        }
+        let (_seat, dice) = self.dice.remove(at);
+        Ok(dice)
+    }
+
+    fn back_dice(&mut self, seat: u32, dice: MemDice) {
+        strike(&mut self.out, seat);
+        match self.dice.insert(0, (seat, dice)) {
+            Ok(()) => {}
+            Err(_) => unreachable!(),
+        }
+    }
+}
+
+/// The first file of the name.
+fn find_file<'a>(files: &'a [(Text, Bytes)], name: &str) -> Option<&'a [u8]>
+    ensures { option_copied result ≡ file_of files.now name.now }
+{
+    for file in files {
+        if name == file.0.as_str() {
+            return Some(file.1.as_slice());
+        }
+    }
+    None
+}
+
+/// Where the first random source of the seat stands.
+fn place_of(dice: &[(u32, MemDice)], seat: u32) -> Option<usize>
+    ensures { MatchOption result (dice_of dice.now seat ≡ None) (λ at. (at < length dice.now) × ((d : ℕ × Given) → (slice_index_or dice.now at d).0 ≡ seat) × ((d : ℕ × Given) → dice_of dice.now seat ≡ Some (slice_index_or dice.now at d).1)) }
+{
+    for at in 0..dice.len() {
+        if dice[at].0 == seat {
+            return Some(at);
+        }
+    }
+    None
+}
+
+/// Strikes one seat off those that are out.
+fn strike(out: &mut Vec<u32>, seat: u32)
+    requires { 0 < count_by (λ other. other == seat) out.old.items }
+    ensures counts { (other : ℕ) → count_by (λ s. s == other) out.new.items + at_seat seat 1 other ≡ count_by (λ s. s == other) out.old.items }
+    ensures len { vec_len out.new + 1 ≡ vec_len out.old }
+{
+    let at = index_of(out.as_slice(), seat);
+    let _ = out.remove(at);
+}
+
+/// Where the seat stands.
+fn index_of(out: &[u32], seat: u32) -> usize
+    requires { 0 < count_by (λ other. other == seat) out.now }
+    ensures within { result < length out.now }
+    ensures there { slice_index_or out.now result 0 ≡ seat }
+{
+    for at in 0..out.len() {
+        if out[at] == seat {
+            return at;
+        }
+    }
+    unreachable!()
+}

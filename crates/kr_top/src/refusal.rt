@@ -1,0 +1,45 @@
+//! How a command ends: done, refused by what it saw, or cut short.
+
+/// An object of the outside, as a fault's line names it.
+#[derive(Clone, Copy, Debug, PartialEq, Eq)]
+pub enum Object {
+    /// The input.
+    Input,
+    /// The output.
+    Output,
+    /// The files of the world.
+    Files,
+    /// The random source of a seat.
+    Dice(u32),
+}
+
+/// Why a command was refused: by its words, or by the first of its steps that refuses what it saw.
+#[derive(Clone, Copy, Debug, PartialEq, Eq)]
+pub enum Refusal {
+    /// The words mean no command.
+    Usage,
+    /// Identity would write data that it couldn't read back.
+    LooksEncrypted,
+    /// The configuration is absent, too long, or not of the form that is read so far.
+    Configuration,
+    /// The input has more bytes than an object may have.
+    LongData,
+}
+
+/// Why a command wasn't done.
+#[derive(Clone, Copy, Debug, PartialEq, Eq)]
+pub enum Stop {
+    /// It was refused.
+    Refused(Refusal),
+    /// An object failed; its count of faults after that.
+    Fault(Object, u64),
+    /// There was no memory.
+    NoMemory,
+}
+
+/// What a command that is done says beside its output.
+#[derive(Clone, Copy, Debug, PartialEq, Eq)]
+pub enum Done {
+    /// Nothing; the status is 0.
+    Silent,
+}

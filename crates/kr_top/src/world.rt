@@ -1,0 +1,53 @@
+//! The world that a command runs in: its files, and the random source of each seat.
+ghost use Rattle.std.specs.Prelude.{◌≡◌, ◌<◌, ◌⊎◌, IfOk, IfErr, OnErr, IsErrOf};
+ghost use Rattle.kr_base.specs.Faults.{Rose};
+ghost use Rattle.kr_top.specs.Outside.{Outside, Loads, KeepsFiles, KeepsDice, HandsOut, TakesBack};
+
+use kr_base::{Bytes, Dice};
+use std::alloc::Global;
+
+/// Why a world gave no file or no object.
+#[derive(Clone, Copy, Debug, PartialEq, Eq)]
+pub enum FileNo {
+    /// There is no file of that name.
+    Absent,
+    /// The file holds more bytes than the limit.
+    TooLong,
+    /// The file, or the making of the object, failed.
+    Failed,
+    /// There was no memory for it.
+    NoMemory,
+}
+
+/// Files by their names, and random sources by the numbers of seats. What is handed out can't be dropped: it comes
+/// back, also after a refusal.
+pub trait World {
+    /// The random source of a seat. It can move to a thread.
+    type Rand: Dice + Send;
+
+    ghost told: { Self → Outside };
+
+    /// How often the files failed so far, up to the greatest number.
+    fn faults(&self) -> u64
+        ensures { result ≡ (told self.now).file_faults };
+
+    /// A whole file of at most `limit` bytes.
+    fn load(&mut self, alloc: Global, name: &str, limit: u64) -> Result<Bytes, FileNo>
+        ensures file { Loads (told self.old) (told self.new) name.now limit result }
+        ensures files { KeepsFiles (told self.old) (told self.new) }
+        ensures dice { KeepsDice (told self.old) (told self.new) };
+
+    /// The random source of a seat. It never answers `Absent` or `TooLong`.
+    fn dice(&mut self, alloc: Global, seat: u32) -> Result<Self::Rand, FileNo>
+        ensures ok { IfOk result (λ dice. HandsOut (told self.old) (told self.new) seat (Self.Rand.left dice) (Self.Rand.count dice)) }
+        ensures err { OnErr result (KeepsDice (told self.old) (told self.new)) }
+        ensures refusals { IfErr result (λ why. (why ≡ FileNo.Failed) ⊎ (why ≡ FileNo.NoMemory)) }
+        ensures failed { IsErrOf result FileNo.Failed → Rose (told self.old).file_faults (told self.new).file_faults }
+        ensures files { KeepsFiles (told self.old) (told self.new) };
+
+    /// Takes a random source of the seat back. It needs no memory.
+    fn back_dice(&mut self, seat: u32, dice: Self::Rand)
+        requires { 0 < (told self.old).out seat }
+        ensures back { TakesBack (told self.old) (told self.new) seat (Self.Rand.left dice) (Self.Rand.count dice) }
+        ensures files { KeepsFiles (told self.old) (told self.new) };
+}
