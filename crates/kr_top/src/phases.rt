@@ -24,7 +24,7 @@ pub fn configure<W: World>(
     ensures files { KeepsFiles (W.told world.old) (W.told world.new) }
     ensures dice { KeepsDice (W.told world.old) (W.told world.new) }
 {
-    let file = match world.load(alloc, name, CONFIG_LIMIT) {
+    let file: Bytes = match world.load(alloc, name, CONFIG_LIMIT) {
         Ok(file) => file,
         Err(FileNo::Absent) => return Err(Stop::Refused(Refusal::Configuration)),
         Err(FileNo::TooLong) => return Err(Stop::Refused(Refusal::Configuration)),

@@ -1,0 +1,7 @@
+pub mod Orders
+pub mod Stays
+pub mod Keeps
+pub mod Makes
+pub mod Ends
+pub mod Acts
+pub mod Rows

@@ -1,0 +1,85 @@
+//! The steps of one turn.
+ghost use Rattle.std.specs.Prelude.{◌≡◌, ◌+◌, ◌-◌, ◌<◌, ◌^◌, [], ◌∷◌, ◌++◌, length, Some, None};
+ghost use Rattle.kr_turn.specs.declared.view.Stage.TheVariants.{Idle, Waiting, Holding};
+ghost use Rattle.kr_turn.specs.declared.view.Terms.{Terms};
+ghost use Rattle.kr_turn.specs.Lines.{of_seat, Acted};
+ghost use Rattle.kr_turn.specs.Rule.{budget_of};
+ghost use Rattle.kr_turn.specs.Steps.{waiting, IsServed, IsTurned, carried, passed_on};
+ghost use Rattle.kr_turn.specs.Tokens.{IsSized, resting};
+
+use crate::rule::{About, Draw, Look, PassOn, TurnRule};
+use crate::turned::Turned;
+use crate::view::View;
+use atomic_table::Shared;
+use std::sync::Wait;
+use std::thread;
+
+pub(crate) type Lock<S: Turned> = Shared<Option<S>, View<S::Line, S::Ground>, About<S>, TurnRule>;
+
+pub(crate) type Token<S: Turned> = atomic_table::Seat<Option<S>, View<S::Line, S::Ground>>;
+
+// Draws a ticket. There is one, since a seat that has a turn left draws fewer than the budgets' sum.
+fn draw<S: Turned>(lock: &Lock<S>, token: &mut Token<S>) -> u64
+    requires lock { (token.old.table_id ≡ lock.now.table_id) × IsSized lock.now.table_id }
+    requires idle { (token.old.me.0.stage ≡ Idle) × (token.old.me.0.ended ≡ []) × (token.old.me.1 ≡ []) × (0 < token.old.me.0.left) }
+    ensures lock { (token.new.table_id ≡ token.old.table_id) × (token.new.id ≡ token.old.id) }
+    ensures drew { token.new.me ≡ (waiting token.old.me.0 result, []) }
+    ensures small { result + 1 < 2 ^ 64 }
+{
+    lock.fetch_add::<Draw>(token, 0, 1)
+}
+
+// Looks until the ticket is served. Between two looks it gives the processor away.
+fn wait<S: Turned, R: Wait>(rt: &R, lock: &Lock<S>, token: &mut Token<S>, ticket: u64)
+    requires lock { (token.old.table_id ≡ lock.now.table_id) × IsSized lock.now.table_id }
+    requires waits { (token.old.me.0.stage ≡ Waiting ticket) × (token.old.me.1 ≡ []) }
+    ensures lock { (token.new.table_id ≡ token.old.table_id) × (token.new.id ≡ token.old.id) }
+    ensures served { IsServed S.lines S.basis S.room S.seat_of ticket token.old.me token.new.me }
+{
+    for _ in rt.forever() {
+        if lock.load::<Look>(token, 1) == ticket {
+            return;
+        }
+        thread::yield_now();
+    }
+    unreachable!()
+}
+
+// Gives the slot back, with the state after the turn, and serves the next ticket.
+fn pass_on<S: Turned>(lock: &Lock<S>, token: &mut Token<S>, ticket: u64)
+    requires lock { (token.old.table_id ≡ lock.now.table_id) × IsSized lock.now.table_id }
+    requires small { ticket + 1 < 2 ^ 64 }
+    requires turned { IsTurned S.lines S.basis S.room S.seat_of ticket token.old.me }
+    ensures lock { (token.new.table_id ≡ token.old.table_id) × (token.new.id ≡ token.old.id) }
+    ensures passed { token.new.me ≡ (passed_on token.old.me.0 (carried S.lines token.old.me.1), []) }
+{
+    lock.store::<PassOn>(token, 1, ticket + 1);
+}
+
+/// Makes one turn with the token of a seat of this number, which has a turn left.
+pub(crate) fn take_turn<S: Turned, R: Wait>(
+    rt: &R,
+    lock: &Lock<S>,
+    token: &mut Token<S>,
+    number: u32,
+    event: S::Event,
+) -> S::Answer
+    requires lock { (token.old.table_id ≡ lock.now.table_id) × IsSized lock.now.table_id }
+    requires rests { token.old ≡ resting token.old number token.old.me.0.left }
+    requires left { 0 < token.old.me.0.left }
+    requires may { (terms : Terms S.Ground) → token.old.me.0.terms ≡ Some terms → S.may terms.basis number token.old.me.0.mine event }
+    ensures lock { (token.new.table_id ≡ token.old.table_id) × (token.new.id ≡ token.old.id) }
+    ensures rests { token.new ≡ resting token.new number (token.old.me.0.left - 1) }
+    ensures terms { token.new.me.0.terms ≡ token.old.me.0.terms }
+    ensures acted { (terms : Terms S.Ground) → token.old.me.0.terms ≡ Some terms → Acted S.seat_of S.law S.tells terms.basis number event result
+        token.old.me.0.seen token.old.me.0.mine token.new.me.0.seen token.new.me.0.mine }
+{
+    let ticket = draw(lock, token);
+    wait(rt, lock, token, ticket);
+    let mut state = lock.exchange(token, 0, None).unwrap();
+    let answer = state.turn(number, event);
+    let taken = lock.exchange(token, 0, Some(state));
+    let None = taken else { unreachable!() };
+    pass_on(lock, token, ticket);
+    answer
+}

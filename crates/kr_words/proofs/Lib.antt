@@ -1,0 +1,6 @@
+pub mod Loops
+pub mod Decimals
+pub mod Commands
+pub mod Spellings
+pub mod Values
+pub mod Meanings

@@ -1,0 +1,6 @@
+pub mod Options
+pub mod Names
+pub mod Numerals
+pub mod Rules
+pub mod Grammar
+pub mod Spelling

@@ -1,0 +1,65 @@
+-- The commands, the names of their options, and which command takes which.
+use Rattle.std.specs.Prelude.{◌≡◌, ◌⊎◌, ℕ, List, [], ◌∷◌, codes}
+use Rattle.kr_words.specs.declared.command.Verb.{Verb}
+use Rattle.kr_words.specs.declared.command.Verb.TheVariants.{Encrypt, Decrypt, Check, Inspect, Put, Get, Rows, Judge, Rewrite, Fleet, Gen}
+use Rattle.kr_words.specs.declared.name.OptionName.{OptionName}
+use Rattle.kr_words.specs.declared.name.OptionName.TheVariants.{Config, Resource, Path, Plugin, Store, Replica, Reload, File, Seed, Size}
+
+-- the word of a command
+abbrev pub word_of : Verb → List ℕ
+word_of Encrypt = codes "encrypt"
+word_of Decrypt = codes "decrypt"
+word_of Check = codes "check"
+word_of Inspect = codes "inspect"
+word_of Put = codes "put"
+word_of Get = codes "get"
+word_of Rows = codes "list"
+word_of Judge = codes "judge"
+word_of Rewrite = codes "rewrite"
+word_of Fleet = codes "fleet"
+word_of Gen = codes "gen"
+
+-- the name of an option, without its dashes
+abbrev pub text_of : OptionName → List ℕ
+text_of Config = codes "config"
+text_of Resource = codes "resource"
+text_of Path = codes "path"
+text_of Plugin = codes "plugin"
+text_of Store = codes "store"
+text_of Replica = codes "replica"
+text_of Reload = codes "reload"
+text_of File = codes "file"
+text_of Seed = codes "seed"
+text_of Size = codes "size"
+
+-- the options that a command must have
+abbrev pub required : Verb → List OptionName
+required Encrypt = Config ∷ Resource ∷ Path ∷ []
+required Decrypt = Config ∷ Resource ∷ Path ∷ []
+required Check = Config ∷ []
+required Inspect = []
+required Put = Config ∷ Store ∷ Resource ∷ Path ∷ []
+required Get = Config ∷ Store ∷ Path ∷ []
+required Rows = Store ∷ []
+required Judge = Store ∷ Replica ∷ Reload ∷ []
+required Rewrite = Config ∷ Store ∷ []
+required Fleet = File ∷ Store ∷ []
+required Gen = Seed ∷ Size ∷ Store ∷ []
+
+-- the options that it may have besides
+abbrev pub optional : Verb → List OptionName
+optional Encrypt = Plugin ∷ []
+optional Decrypt = Plugin ∷ []
+optional Check = Resource ∷ []
+optional Inspect = []
+optional Put = Plugin ∷ []
+optional Get = Plugin ∷ []
+optional Rows = []
+optional Judge = []
+optional Rewrite = Plugin ∷ []
+optional Fleet = Plugin ∷ []
+optional Gen = []
+
+-- only plugins and replicas may repeat
+abbrev pub IsRepeatable : OptionName → Type 0
+IsRepeatable name = (name ≡ Plugin) ⊎ (name ≡ Replica)

@@ -1,0 +1,59 @@
+-- The rules for the options of a command.
+use Rattle.std.specs.Prelude.{◌≡◌, ◌≢◌, ℕ, ◌≤◌, ◌<◌, ◌⊎◌, ◌==◌, List, [], length, Contains, All, AllPairs, ⊤}
+use Rattle.std.specs.List.{before_first, after_first}
+use Rattle.kr_base.specs.Rules.{IsName, IsPath, IsResource}
+use Rattle.kr_words.specs.declared.command.Verb.{Verb}
+use Rattle.kr_words.specs.declared.command.Verb.TheVariants.{Encrypt, Decrypt}
+use Rattle.kr_words.specs.declared.name.OptionName.{OptionName}
+use Rattle.kr_words.specs.declared.name.OptionName.TheVariants.{Config, Resource, Path, Plugin, Store, Replica, Reload, File, Seed, Size}
+use Rattle.kr_words.specs.Names.{text_of, required, optional, IsRepeatable}
+use Rattle.kr_words.specs.Options.{count_of}
+use Rattle.kr_words.specs.Numerals.{IsDecimal}
+
+-- a text is parted at its first `=`
+abbrev pub before_equals : List ℕ → List ℕ
+before_equals text = before_first (λ byte. byte == 0x3D) text
+
+abbrev pub after_equals : List ℕ → List ℕ
+after_equals text = after_first (λ byte. byte == 0x3D) text
+
+-- `NAME=PROGRAM`: a name by its rule, and a program that isn't empty
+abbrev pub IsPlugin : List ℕ → Type 0
+IsPlugin value = Contains value 0x3D × IsName (before_equals value) × (1 ≤ length (after_equals value))
+
+-- `N=FILE`: the replica at N, counted from 0, reads the file
+abbrev pub IsReload : ℕ → List ℕ → Type 0
+IsReload replicas value = Contains value 0x3D × (n : ℕ) × IsDecimal (before_equals value) n × (n < replicas)
+
+-- the path of a value that stands in no store may be empty
+abbrev pub MayHaveEmptyPath : Verb → Type 0
+MayHaveEmptyPath verb = (verb ≡ Encrypt) ⊎ (verb ≡ Decrypt)
+
+-- the values that an option may have, in a command with so many replicas
+abbrev pub IsValue : Verb → ℕ → OptionName → List ℕ → Type 0
+IsValue verb replicas Config value = ⊤
+IsValue verb replicas Resource value = IsResource value
+IsValue verb replicas Path value = IsPath value ⊎ (MayHaveEmptyPath verb × (value ≡ []))
+IsValue verb replicas Plugin value = IsPlugin value
+IsValue verb replicas Store value = ⊤
+IsValue verb replicas Replica value = ⊤
+IsValue verb replicas Reload value = IsReload replicas value
+IsValue verb replicas File value = ⊤
+IsValue verb replicas Seed value = (n : ℕ) × IsDecimal value n × (n ≤ 18446744073709551615)
+IsValue verb replicas Size value = (n : ℕ) × IsDecimal value n × (1 ≤ n)
+
+-- an option of the command, with a value that it may have
+abbrev pub IsOption : Verb → ℕ → List ℕ × List ℕ → Type 0
+IsOption verb replicas option = (name : OptionName) × (option.0 ≡ text_of name) × (Contains (required verb) name ⊎ Contains (optional verb) name) × IsValue verb replicas name option.1
+
+-- two plugins have two names
+abbrev pub HaveTwoNames : List ℕ × List ℕ → List ℕ × List ℕ → Type 0
+HaveTwoNames a b = a.0 ≡ text_of Plugin → b.0 ≡ text_of Plugin → before_equals a.1 ≢ before_equals b.1
+
+-- The options make the command: each is one of the command's with a value that it may have, none that it must have is
+-- missing, only plugins and replicas repeat, and no two plugins have one name.
+pub record IsCommand (verb : Verb) (options : List (List ℕ × List ℕ)) : Type 0 where
+  pub each : All (IsOption verb (count_of options (text_of Replica))) options
+  pub whole : All (λ name. 1 ≤ count_of options (text_of name)) (required verb)
+  pub once : (name : OptionName) → IsRepeatable name ⊎ (count_of options (text_of name) ≤ 1)
+  pub plugins : AllPairs HaveTwoNames options

@@ -1,0 +1,82 @@
+ghost use Rattle.std.specs.Prelude.{◌≡◌};
+ghost use Rattle.std.specs.Option.{option_copied};
+ghost use Rattle.kr_words.specs.Options.{value_of, count_of};
+
+use kr_base::{List, Text};
+
+/// A command of the program.
+#[derive(Clone, Copy, Debug, PartialEq, Eq)]
+pub enum Verb {
+    /// Encrypts the input.
+    Encrypt,
+    /// Decrypts the input.
+    Decrypt,
+    /// Shows a configuration.
+    Check,
+    /// Shows what a stored value is.
+    Inspect,
+    /// Puts the input into a store, encrypted.
+    Put,
+    /// Gets a value from a store, decrypted.
+    Get,
+    /// Lists the rows of a store; its word is `list`.
+    Rows,
+    /// Judges a reload of one replica of many.
+    Judge,
+    /// Encrypts all stale rows of a store anew.
+    Rewrite,
+    /// Runs the replicas of a fleet file.
+    Fleet,
+    /// Generates a load over a new store.
+    Gen,
+}
+
+/// What a command line means: a command and its options as pairs of a name without dashes and a value, in the order
+/// of the words.
+#[derive(Debug, Drop)]
+pub struct Command {
+    pub verb: Verb,
+    pub options: List<(Text, Text)>,
+}
+
+/// Why words weren't read.
+#[derive(Clone, Copy, Debug, PartialEq, Eq)]
+pub enum WordsNo {
+    /// The words mean no command.
+    Usage,
+    /// There are more than 16 replicas.
+    Replicas,
+    /// The size is above 10,000.
+    Size,
+    /// There was no memory for the options.
+    NoMemory,
+}
+
+impl Command {
+    /// The value of the first option of that name.
+    pub fn value(&self, name: &str) -> Option<&str>
+        ensures { option_copied result ≡ value_of self.now.options.0 name.now }
+    {
+        first_value(self.options.as_slice(), name)
+    }
+}
+
+/// The value of the first option of that name.
+pub fn first_value<'a>(options: &'a [(Text, Text)], name: &str) -> Option<&'a str>
+    ensures { option_copied result ≡ value_of options.now name.now }
+{
+    options
+        .iter()
+        .find(|option| option.0.as_str() == name)
+        .map(|option| option.1.as_str())
+}
+
+/// How many options have that name.
+pub fn count_of(options: &[(Text, Text)], name: &str) -> usize
+    ensures { result ≡ count_of options.now name.now }
+{
+    options
+        .iter()
+        .filter(|option| option.0.as_str() == name)
+        .count()
+}

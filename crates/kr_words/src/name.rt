@@ -1,0 +1,150 @@
+ghost use Rattle.std.specs.Prelude.{◌≡◌, ◌↔◌, ◌⊎◌, ℕ, IsTrue, MatchOption, Contains};
+ghost use Rattle.kr_words.specs.Names.{word_of, text_of, required, optional, IsRepeatable};
+
+use crate::command::Verb;
+
+/// The name of an option.
+#[derive(Clone, Copy, Debug, PartialEq, Eq)]
+pub enum OptionName {
+    Config,
+    Resource,
+    Path,
+    Plugin,
+    Store,
+    Replica,
+    Reload,
+    File,
+    Seed,
+    Size,
+}
+
+/// The command of a word.
+pub fn verb_of(word: &str) -> Option<Verb>
+    ensures { MatchOption result
+        ((verb : Verb) → word.now ≡ word_of verb → ⊥)
+        (λ verb. word.now ≡ word_of verb) }
+{
+    match word {
+        "encrypt" => Some(Verb::Encrypt),
+        "decrypt" => Some(Verb::Decrypt),
+        "check" => Some(Verb::Check),
+        "inspect" => Some(Verb::Inspect),
+        "put" => Some(Verb::Put),
+        "get" => Some(Verb::Get),
+        "list" => Some(Verb::Rows),
+        "judge" => Some(Verb::Judge),
+        "rewrite" => Some(Verb::Rewrite),
+        "fleet" => Some(Verb::Fleet),
+        "gen" => Some(Verb::Gen),
+        _ => None,
+    }
+}
+
+impl OptionName {
+    /// Each name once.
+    pub const ALL: [OptionName; 10] = [
+        OptionName::Config,
+        OptionName::Resource,
+        OptionName::Path,
+        OptionName::Plugin,
+        OptionName::Store,
+        OptionName::Replica,
+        OptionName::Reload,
+        OptionName::File,
+        OptionName::Seed,
+        OptionName::Size,
+    ];
+
+    /// The option of that name, without its dashes.
+    pub fn read(text: &str) -> Option<OptionName>
+        ensures { MatchOption result
+            ((name : OptionName) → text.now ≡ text_of name → ⊥)
+            (λ name. text.now ≡ text_of name) }
+    {
+        match text {
+            "config" => Some(OptionName::Config),
+            "resource" => Some(OptionName::Resource),
+            "path" => Some(OptionName::Path),
+            "plugin" => Some(OptionName::Plugin),
+            "store" => Some(OptionName::Store),
+            "replica" => Some(OptionName::Replica),
+            "reload" => Some(OptionName::Reload),
+            "file" => Some(OptionName::File),
+            "seed" => Some(OptionName::Seed),
+            "size" => Some(OptionName::Size),
+            _ => None,
+        }
+    }
+
+    /// The name without its dashes.
+    pub fn text(self) -> &'static str
+        ensures { result.now ≡ text_of self }
+    {
+        match self {
+            OptionName::Config => "config",
+            OptionName::Resource => "resource",
+            OptionName::Path => "path",
+            OptionName::Plugin => "plugin",
+            OptionName::Store => "store",
+            OptionName::Replica => "replica",
+            OptionName::Reload => "reload",
+            OptionName::File => "file",
+            OptionName::Seed => "seed",
+            OptionName::Size => "size",
+        }
+    }
+
+    /// Whether a command may have several options of the name.
+    pub fn may_repeat(self) -> bool
+        ensures { IsTrue result ↔ IsRepeatable self }
+    {
+        matches!(self, OptionName::Plugin | OptionName::Replica)
+    }
+}
+
+impl Verb {
+    /// The options that the command must have.
+    pub fn required(self) -> &'static [OptionName]
+        ensures { result.now ≡ required self }
+    {
+        match self {
+            Verb::Encrypt | Verb::Decrypt => {
+                &[OptionName::Config, OptionName::Resource, OptionName::Path]
+            }
+            Verb::Check => &[OptionName::Config],
+            Verb::Inspect => &[],
+            Verb::Put => &[
+                OptionName::Config,
+                OptionName::Store,
+                OptionName::Resource,
+                OptionName::Path,
+            ],
+            Verb::Get => &[OptionName::Config, OptionName::Store, OptionName::Path],
+            Verb::Rows => &[OptionName::Store],
+            Verb::Judge => &[OptionName::Store, OptionName::Replica, OptionName::Reload],
+            Verb::Rewrite => &[OptionName::Config, OptionName::Store],
+            Verb::Fleet => &[OptionName::File, OptionName::Store],
+            Verb::Gen => &[OptionName::Seed, OptionName::Size, OptionName::Store],
+        }
+    }
+
+    /// The options that the command may have besides.
+    pub fn optional(self) -> &'static [OptionName]
+        ensures { result.now ≡ optional self }
+    {
+        match self {
+            Verb::Encrypt | Verb::Decrypt | Verb::Put | Verb::Get | Verb::Rewrite | Verb::Fleet =>
+                &[OptionName::Plugin],
+            Verb::Check => &[OptionName::Resource],
+            Verb::Inspect | Verb::Rows | Verb::Judge | Verb::Gen => &[],
+        }
+    }
+
+    /// Whether the option is one of the command's.
+    pub fn takes(self, name: OptionName) -> bool
+        ensures { IsTrue result
+            ↔ (Contains (required self) name ⊎ Contains (optional self) name) }
+    {
+        self.required().contains(&name) || self.optional().contains(&name)
+    }
+}

@@ -1,0 +1,72 @@
+ghost use Rattle.kr_words.specs.Grammar.{texts, Reads, MeanOneCommand, IsWithinSize};
+ghost use Rattle.kr_words.specs.Spelling.{HasNoSmallSize};
+ghost use Rattle.kr_words.specs.Numerals.{IsDecimal};
+ghost use Rattle.std.specs.Prelude.{ℕ, ◌≤◌, ◌<◌, MatchBool};
+
+use crate::command::{Command, WordsNo, count_of, first_value};
+use crate::name::{OptionName, verb_of};
+use crate::numeral::number_of;
+use crate::rules::is_command;
+use crate::spelling::{SpellingNo, read_options};
+use kr_base::Text;
+use std::alloc::Global;
+
+/// The most replicas of a command line.
+const REPLICAS: usize = 16;
+
+/// The greatest size of a command line.
+const SIZE: u64 = 10_000;
+
+/// Reads the words of a command line, those behind the program's name. Words that mean no command are refused first,
+/// then too many replicas, then a size that is too large.
+pub fn read_words(alloc: Global, words: &[String]) -> Result<Command, WordsNo>
+    ensures { Reads (texts words.now) result }
+{
+    let Some((word, rest)) = words.split_first() else {
+        return Err(WordsNo::Usage);
+    };
+    let Some(verb) = verb_of(word.as_str()) else {
+        return Err(WordsNo::Usage);
+    };
+    let options = match read_options(alloc, rest) {
+        Ok(options) => options,
+        Err(SpellingNo::Usage) => return Err(WordsNo::Usage),
+        Err(SpellingNo::NoMemory) => return Err(WordsNo::NoMemory),
+    };
+    if !is_command(verb, options.as_slice()) {
+        return Err(WordsNo::Usage);
+    }
+    if count_of(options.as_slice(), OptionName::Replica.text()) > REPLICAS {
+        return Err(WordsNo::Replicas);
+    }
+    if !is_within_size(options.as_slice()) {
+        return Err(WordsNo::Size);
+    }
+    Ok(Command { verb, options })
+}
+
+fn is_within_size(options: &[(Text, Text)]) -> bool
+    ensures { MatchBool result (IsWithinSize options.now) (HasNoSmallSize options.now) }
+{
+    match first_value(options, OptionName::Size.text()) {
+        Some(size) => is_at_most(size, SIZE),
+        None => true,
+    }
+}
+
+/// Whether the text is a number up to the limit, in decimal digits.
+fn is_at_most(text: &str, limit: u64) -> bool
+    ensures { MatchBool result
+        ((n : ℕ) × IsDecimal text.now n × (n ≤ limit))
+        ((n : ℕ) → IsDecimal text.now n → limit < n) }
+{
+    match number_of(text) {
+        Some(number) => number <= limit,
+        None => false,
+    }
+}
+
+/// The words of one command line mean at most one command with its options.
+pub fn one_meaning()
+    ensures { MeanOneCommand }
+{}
