@@ -50,6 +50,7 @@ pub struct RealWorld<'a, R> {
 }
 
 impl<'a, R: Files<File = File>> RealWorld<'a, R> {
+    /// The world of these files, with no fault so far and nothing handed out.
     pub fn new(files: &'a R) -> RealWorld<'a, R> {
         RealWorld {
             files,

@@ -11,6 +11,7 @@ pub struct StdSource<R> {
 }
 
 impl<R: Read> StdSource<R> {
+    /// Reads from the reader, with no fault so far.
     pub fn new(reader: R) -> StdSource<R>
         ensures { result.faults ≡ 0 }
     {
@@ -46,6 +47,7 @@ pub struct StdSink<W> {
 }
 
 impl<W: Write> StdSink<W> {
+    /// Writes to the writer, with no fault so far.
     pub fn new(writer: W) -> StdSink<W>
         ensures { result.faults ≡ 0 }
     {

@@ -7,6 +7,10 @@ use std::test::Fail;
 const IDENTITY: &str =
     r#"{"apiVersion":"apiserver.config.k8s.io/v1","kind":"EncryptionConfiguration","resources":[{"resources":["secrets"],"providers":[{"identity":{}}]}]}"#;
 
+/// Secrets are stored by aescbc under the key of bytes 0 to 31, named `key1`.
+const AESCBC: &str =
+    r#"{"apiVersion":"apiserver.config.k8s.io/v1","kind":"EncryptionConfiguration","resources":[{"resources":["secrets"],"providers":[{"aescbc":{"keys":[{"name":"key1","secret":"AAECAwQFBgcICQoLDA0ODxAREhMUFRYXGBkaGxwdHh8="}]}}]}]}"#;
+
 /// A call: its words parted by bars, the file `c.json`, the input, and which first calls fail.
 #[derive(Drop)]
 struct Call<'a> {
@@ -17,6 +21,7 @@ struct Call<'a> {
     input_fails: bool,
     output_fails: bool,
     errors_fail: bool,
+    dice_fail: bool,
 }
 
 /// What a call left.
@@ -54,20 +59,20 @@ fn owned(alloc: Global, words: &str) -> Result<Vec<String>, NoMemory> {
     Ok(all)
 }
 
-fn world(alloc: Global, config: &str, dice: Option<&[u8]>) -> Result<MemWorld, NoMemory> {
+fn world(alloc: Global, call: &Call<'_>) -> Result<MemWorld, NoMemory> {
     let mut files = List::new(alloc);
     match files.push((
         Text::copy(alloc, "c.json")?,
-        Bytes::copy(alloc, config.as_bytes())?,
+        Bytes::copy(alloc, call.config.as_bytes())?,
     )) {
         Ok(()) => {}
         Err(_) => return Err(NoMemory),
     }
     let mut all = List::new(alloc);
-    if let Some(bytes) = dice {
+    if let Some(bytes) = call.dice {
         match all.push((
             0,
-            MemDice::new(Bytes::copy(alloc, bytes)?, List::new(alloc)),
+            MemDice::new(Bytes::copy(alloc, bytes)?, fails(alloc, call.dice_fail)?),
         )) {
             Ok(()) => {}
             Err(_) => return Err(NoMemory),
@@ -78,7 +83,7 @@ fn world(alloc: Global, config: &str, dice: Option<&[u8]>) -> Result<MemWorld, N
 
 fn left_by(alloc: Global, call: &Call<'_>) -> Result<Left, NoMemory> {
     let words = owned(alloc, call.words)?;
-    let mut world = world(alloc, call.config, call.dice)?;
+    let mut world = world(alloc, call)?;
     let mut input = MemSource::new(
         Bytes::copy(alloc, call.input)?,
         fails(alloc, call.input_fails)?,
@@ -117,6 +122,7 @@ fn plain<'a>(input: &'a [u8]) -> Call<'a> {
         input_fails: false,
         output_fails: false,
         errors_fail: false,
+        dice_fail: false,
     }
 }
 
@@ -136,6 +142,37 @@ fn stores_by_identity(rt: HostRuntime) -> Result<(), Fail> {
         assert_eq!(rt; left.status, status);
         assert!(rt; left.dice_is_back);
     }
+    Ok(())
+}
+
+/// What the random source gives, as an IV.
+const IV: &[u8] = &[
+    0x10, 0x01, 0x32, 0x23, 0x54, 0x45, 0x76, 0x67, 0x98, 0x89, 0xba, 0xab, 0xdc, 0xcd, 0xfe, 0xef,
+];
+
+/// The CBC of one block of padding under that key and IV, from another implementation.
+const BLOCK: &[u8] = &[
+    0x8e, 0xa2, 0xb7, 0xca, 0x51, 0x67, 0x45, 0xbf, 0xea, 0xfc, 0x49, 0x90, 0x4b, 0x49, 0x60, 0x89,
+];
+
+#[test]
+fn stores_by_aescbc(rt: HostRuntime) -> Result<(), Fail> {
+    let call = Call {
+        config: AESCBC,
+        dice: Some(IV),
+        ..plain(b"")
+    };
+    let left = left_by(rt.alloc(), &call)?;
+    assert_eq!(rt; left.status, 0);
+    assert_eq!(rt; left.errors.as_slice(), b"".as_slice());
+    assert!(rt; left.dice_is_back);
+    let output = left.output.as_slice();
+    assert_eq!(rt; output.len(), 55);
+    let (prefix, rest) = output.split_at(23);
+    let (iv, body) = rest.split_at(16);
+    assert_eq!(rt; prefix, b"k8s:enc:aescbc:v1:key1:".as_slice());
+    assert_eq!(rt; iv, IV);
+    assert_eq!(rt; body, BLOCK);
     Ok(())
 }
 
@@ -163,19 +200,24 @@ fn names_each_fault(rt: HostRuntime) -> Result<(), Fail> {
         plain(b"hello"),
         plain(b"hello"),
         plain(b"k8s:enc:x"),
+        plain(b"hello"),
     ];
     calls[0].input_fails = true;
     calls[1].output_fails = true;
     // A world without a random source for the seat.
     calls[2].dice = None;
     calls[3].errors_fail = true;
+    calls[4].config = AESCBC;
+    calls[4].dice = Some(IV);
+    calls[4].dice_fail = true;
     let lines = [
         "kmsrest: fault input 1\n",
         "kmsrest: fault output 1\n",
         "kmsrest: fault files 1\n",
         "",
+        "kmsrest: fault dice 0 1\n",
     ];
-    for i in 0..4 {
+    for i in 0..5 {
         let left = left_by(rt.alloc(), &calls[i])?;
         assert_eq!(rt; left.status, 4);
         assert_eq!(rt; left.errors.as_slice(), lines[i].as_bytes());
@@ -185,13 +227,25 @@ fn names_each_fault(rt: HostRuntime) -> Result<(), Fail> {
     Ok(())
 }
 
+/// A command with 17 replicas.
+const MANY: &str =
+    "judge|--store|s|--reload|0=f|--replica|f|--replica|f|--replica|f|--replica|f|--replica|f|--replica|f|--replica|f|--replica|f|--replica|f|--replica|f|--replica|f|--replica|f|--replica|f|--replica|f|--replica|f|--replica|f|--replica|f";
+
 #[test]
 fn refuses_other_words_and_files(rt: HostRuntime) -> Result<(), Fail> {
     let usage = "kmsrest: usage: kmsrest COMMAND OPTIONS\n";
     let unread = "kmsrest: text 50 0 0\n";
-    let cases: [(&str, &str, &str, u8); 9] = [
+    let cases: [(&str, &str, &str, u8); 12] = [
         ("", IDENTITY, usage, 2),
         ("encrypt", IDENTITY, usage, 2),
+        ("list|--store|s", IDENTITY, usage, 2),
+        (
+            "encrypt|--path=|--resource|secrets|--config=c.json",
+            IDENTITY,
+            "",
+            0,
+        ),
+        (MANY, IDENTITY, "kmsrest: limit replicas 16\n", 6),
         (
             "Encrypt|--config|c.json|--resource|secrets|--path|",
             IDENTITY,

@@ -1,5 +1,5 @@
 -- Labels parted by dots, read from left to right.
-use Rattle.std.proofs.Common.{◌≡◌, ℕ, ◌≤◌, ◌⊎◌, List, [], ◌∷◌, ◌++◌, length, Bool, true, false, IsTrue, refl, sym, ap, inl, inr, arith, subst, All, ◌↔◌, ◌<◌, ◌+◌, drop, suc, get_or, add-one}
+use Rattle.std.proofs.Common.{◌≡◌, ℕ, ◌≤◌, ◌⊎◌, List, [], ◌∷◌, length, Bool, true, false, IsTrue, refl, sym, ap, inl, inr, arith, subst, All, ◌↔◌, ◌<◌, ◌+◌, drop, suc, get_or, add-one}
 use Rattle.std.proofs.Math.Seq.{drop-cons}
 use Rattle.std.proofs.lemmas.List.{drop_all}
 use Rattle.std.proofs.lemmas.List.Elements.{All-nil, All-cons, All-head, All-tail}

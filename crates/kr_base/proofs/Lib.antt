@@ -1,6 +1,6 @@
 pub mod Counting
 pub mod Labels
 pub mod Playing
+pub mod RuleTests
 pub mod SortedPairs
-pub mod Tests
 pub mod Wholes

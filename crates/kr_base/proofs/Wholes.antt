@@ -1,9 +1,9 @@
 -- How far a whole content was read or written.
-use Rattle.std.proofs.Common.{◌≡◌, ℕ, ◌+◌, ◌-◌, ◌<◌, ◌≤◌, List, [], ◌++◌, length, take, drop, refl, sym, ◌∙◌, ap, subst, arith, length-append, length-drop, Option}
+use Rattle.std.proofs.Common.{◌≡◌, ℕ, ◌+◌, ◌-◌, ◌<◌, ◌≤◌, List, ◌++◌, length, take, drop, sym, ◌∙◌, ap, subst, arith, length-append, length-drop, Option}
 use Rattle.std.proofs.lemmas.List.{take_all, length-take-le, take-append-le}
 use Rattle.std.proofs.Math.Seq.{take-add}
 use Rattle.std.specs.Io.KnownBytes.{Appends, Consumes, Keeps}
-use Rattle.std.proofs.KnownBytes.{Appends-trans, Appends-kept, Consumes-trans, Consumes-kept}
+use Rattle.std.proofs.KnownBytes.{Appends-trans, Appends-kept, Consumes-trans}
 use Rattle.kr_base.specs.Streams.{TakesCount, TakesAtMost, AppendsFront}
 
 -- a sink has taken the first bytes

@@ -23,6 +23,7 @@ impl Model for CallLog {
 }
 
 impl CallLog {
+    /// No call was made; those with these numbers, counted from 1, will fail.
     pub fn new(fails: List<u64>) -> CallLog
         ensures { result ≡ record { fails = fails.0; made = 0; faults = 0 } }
     {
@@ -50,6 +51,7 @@ impl CallLog {
         failed
     }
 
+    /// How many calls failed, up to the greatest number.
     pub fn faults(&self) -> u64
         ensures { result ≡ self.now.faults }
     {

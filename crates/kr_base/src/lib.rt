@@ -12,6 +12,8 @@ mod mem_sink;
 mod mem_source;
 mod rules;
 mod seeded_dice;
+#[cfg(test)]
+mod tests;
 mod text;
 mod traits;
 mod whole;

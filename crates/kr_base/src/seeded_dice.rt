@@ -14,6 +14,7 @@ pub struct SeededDice<R> {
 }
 
 impl<R: Rng> SeededDice<R> {
+    /// Draws from the generator, from where it stands.
     pub fn new(rng: R) -> SeededDice<R>
         ensures { result.rng ≡ rng }
     {

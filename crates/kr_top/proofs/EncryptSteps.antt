@@ -1,24 +1,23 @@
 -- How `encrypt` ends at each of its steps.
-use Rattle.std.proofs.Common.{◌≡◌, ℕ, ◌+◌, ◌<◌, ◌≤◌, List, [], ◌∷◌, length, Bool, true, false, Option, None, Some, Ok, Err, refl, sym, ◌∙◌, ap, subst, inl, inr, arith}
+use Rattle.std.proofs.Common.{◌≡◌, ℕ, zero, suc, ◌+◌, ◌<◌, ◌≤◌, List, [], ◌∷◌, ◌++◌, ◌==◌, length, Bool, true, false, Option, None, Some, Ok, Err, refl, sym, ◌∙◌, ap, subst, inl, inr, arith, append-nil}
 use Rattle.std.specs.Prelude.{Result, nat_lt, ⊤, if◌then◌else◌}
 use Rattle.std.specs.Str.{bytes_eq}
 use Rattle.std.specs.Io.KnownBytes.{Appends, Consumes, Keeps, IsAtEnd}
 use Rattle.std.proofs.KnownBytes.{Consumes-nil}
 use Rattle.std.proofs.lemmas.Slice.Eq.{bytes_eq-Decides}
-use Rattle.std.proofs.lemmas.Bool.Decides.{Decides-ltb}
+use Rattle.std.proofs.lemmas.Bool.Decides.{Decides-ltb, Decides-eqb}
 use Rattle.kr_base.specs.Faults.{Rose}
 use Rattle.kr_base.specs.Told.{Agrees}
 use Rattle.kr_base.specs.Streams.{TakesAtMost, AppendsFront}
 use Rattle.kr_top.specs.Outside.{Outside, KeepsFiles, KeepsDice, HandsOut, TakesBack}
 use Rattle.kr_top.specs.Command.{encrypt}
-use Rattle.kr_top.specs.Trace.{Sight, loaded, taken, opened, Outcome, awaits, refuses, gives, strays, load_file, take_input, open_dice, object_at, at_last}
-use Rattle.kr_top.specs.Encrypt.{writer_in, by_writer, from_input, from_dice, sealed_by_identity, encrypt_outcome}
-use Rattle.kr_top.specs.Phases.{Configures, TakesInput, NoDice, Seals, WritesOutput}
+use Rattle.kr_top.specs.Trace.{Sight, loaded, taken, opened, Outcome, awaits, refuses, gives, strays, load_file, take_input, open_dice, object_at, at_last, SawFiles, SawInput, input_of, drawn_of}
+use Rattle.kr_top.specs.Encrypt.{writer_in, by_writer, from_input, from_dice, encrypt_outcome}
+use Rattle.kr_top.specs.Phases.{Configures, TakesInput, NoDice, Seals, WritesOutput, draws_of, bytes_of}
 use Rattle.kr_top.specs.Ran.{Around, Did, IsHome, Ends, IsFault, count_at}
 use Rattle.kr_top.specs.declared.config.Who.{Who}
-use Rattle.kr_top.specs.declared.config.Who.TheVariants.{Identity, Aescbc}
 use Rattle.kr_top.specs.declared.refusal.Object.{Object}
-use Rattle.kr_top.specs.declared.refusal.Object.TheVariants.{Input, Output, Files}
+use Rattle.kr_top.specs.declared.refusal.Object.TheVariants.{Input, Output, Files, Dice}
 use Rattle.kr_top.specs.declared.refusal.Refusal.{Refusal}
 use Rattle.kr_top.specs.declared.refusal.Refusal.TheVariants.{Configuration, LongData}
 use Rattle.kr_top.specs.declared.refusal.Stop.{Stop}
@@ -26,7 +25,7 @@ use Rattle.kr_top.specs.declared.refusal.Stop.TheVariants.{Refused, Fault, NoMem
 use Rattle.kr_top.specs.declared.refusal.Done.{Done}
 use Rattle.kr_top.specs.declared.refusal.Done.TheVariants.{Silent}
 use Rattle.kr_base.proofs.Counting.{Rose-later}
-use Rattle.kr_top.proofs.Worlds.{Keeps-refl, kept_nothing, files_trans, dice_trans, unused}
+use Rattle.kr_top.proofs.Worlds.{Keeps-refl, kept_nothing, files_trans, dice_trans, by_seat}
 
 abbrev pub around : Outside → Option (List ℕ) → ℕ → Option (List ℕ) → ℕ → Around
 around world input input_faults output output_faults = record { world = world; input = input; input_faults = input_faults; output = output; output_faults = output_faults }
@@ -46,13 +45,22 @@ fault_of o p count old new e r n = subst (λ q. IsFault q count old new) (sym e)
 pub home : (old new : Outside) (i j : Option (List ℕ)) (m n : ℕ) (o p : Option (List ℕ)) (k l : ℕ) → KeepsFiles old new → KeepsDice old new → m ≤ n → k ≤ l → IsHome (around old i m o k) (around new j n p l)
 home old new i j m n o p k l files dice more most = record { files = files; out = dice.out; dice = λ s. omega (arith, dice.faults s); input = more; output = most }
 
+-- what a seat's random source gave, where seat 0 was drawn from once or not at all
+drawn_here : (d : Option (List ℕ)) → drawn_of 0 (draws_of d) ≡ bytes_of d
+drawn_here None = refl
+drawn_here (Some bytes) = append-nil bytes
+
+drawn_there : (s : ℕ) (d : Option (List ℕ)) → drawn_of (suc s) (draws_of d) ≡ []
+drawn_there s None = refl
+drawn_there s (Some bytes) = ap (λ q. (if q then bytes else []) ++ []) (to_false (0 == suc s) (λ t. absurd (omega (arith, (Decides-eqb 0 (suc s)).0 t))))
+
 module _ (config resource path : List ℕ) where
   -- the outcome once the configuration was loaded
   loaded_outcome : (file : Option (List ℕ)) (rest : List Sight) → encrypt_outcome config resource path (loaded config file ∷ rest) ≡ by_writer (writer_in file resource) rest
   loaded_outcome file rest = ap (λ q. if q then by_writer (writer_in file resource) rest else strays) ((bytes_eq-Decides config config).1 refl)
 
-  identity_outcome : (file : Option (List ℕ)) (rest : List Sight) → writer_in file resource ≡ Some Identity → encrypt_outcome config resource path (loaded config file ∷ rest) ≡ from_input rest
-  identity_outcome file rest e = loaded_outcome file rest ∙ ap (λ w. by_writer w rest) e
+  writer_outcome : (file : Option (List ℕ)) (who : Who) (rest : List Sight) → writer_in file resource ≡ Some who → encrypt_outcome config resource path (loaded config file ∷ rest) ≡ from_input who rest
+  writer_outcome file who rest e = loaded_outcome file rest ∙ ap (λ w. by_writer w rest) e
 
   -- no writer
   pub not_configured : (old new : Outside) (i o : Option (List ℕ)) (m k : ℕ) (stop : Stop) → KeepsFiles old new → KeepsDice old new → Configures old new config resource (Err stop)
@@ -82,125 +90,148 @@ module _ (config resource path : List ℕ) where
     home = home old new i i m m o o k k files dice (omega arith) (omega arith);
   }
 
-  -- a writer that isn't sealed with yet
-  pub not_sealed : (old new : Outside) (i o : Option (List ℕ)) (m k : ℕ) (name secret : List ℕ) → KeepsFiles old new → KeepsDice old new → Configures old new config resource (Ok (Aescbc name secret))
-      → Did (encrypt config resource path) (around old i m o k) (around new i m o k) (Err (Refused Configuration))
-  not_sealed old new i o m k name secret files dice w = record {
-    trace = loaded config w.0 ∷ [];
-    files = (w.1, tt);
-    input = Keeps-refl i;
-    dice = λ s. kept_nothing _ _ (dice.dice s);
-    ends = subst (λ out. Ends out (around old i m o k) (around new i m o k) (Err (Refused Configuration))) (sym (loaded_outcome w.0 [] ∙ ap (λ v. by_writer v []) w.2)) (refl, Keeps-refl o);
-    home = home old new i i m m o o k k files dice (omega arith) (omega arith);
-  }
-
   -- no input
-  pub not_taken : (old new : Outside) (i j o : Option (List ℕ)) (m n k : ℕ) (stop : Stop) → KeepsFiles old new → KeepsDice old new → Configures old new config resource (Ok Identity)
+  pub not_taken : (who : Who) (old new : Outside) (i j o : Option (List ℕ)) (m n k : ℕ) (stop : Stop) → KeepsFiles old new → KeepsDice old new → Configures old new config resource (Ok who)
       → TakesInput 2097152 i j m n (Err stop) → m ≤ n → Did (encrypt config resource path) (around old i m o k) (around new j n o k) (Err stop)
-  not_taken old new i j o m n k (Refused why) files dice w t more = record {
+  not_taken who old new i j o m n k (Refused why) files dice w t more = record {
     trace = loaded config w.0 ∷ taken t.1.0 ∷ [];
     files = (w.1, tt);
     input = (t.1.1, inr t.1.2);
     dice = λ s. kept_nothing _ _ (dice.dice s);
     ends = subst (λ out. Ends out (around old i m o k) (around new j n o k) (Err (Refused why)))
-        (sym (identity_outcome w.0 (taken t.1.0 ∷ []) w.2 ∙ ap (λ l. if nat_lt 2097152 l then refuses LongData else from_dice t.1.0 []) t.1.2)) (t.0, Keeps-refl o);
+        (sym (writer_outcome w.0 who (taken t.1.0 ∷ []) w.2 ∙ ap (λ l. if nat_lt 2097152 l then refuses LongData else from_dice who t.1.0 []) t.1.2)) (t.0, Keeps-refl o);
     home = home old new i j m n o o k k files dice more (omega arith);
   }
-  not_taken old new i j o m n k (Fault object count) files dice w t more = record {
+  not_taken who old new i j o m n k (Fault object count) files dice w t more = record {
     trace = loaded config w.0 ∷ [];
     files = (w.1, tt);
     input = t.3;
     dice = λ s. kept_nothing _ _ (dice.dice s);
-    ends = subst (λ out. Ends out (around old i m o k) (around new j n o k) (Err (Fault object count))) (sym (identity_outcome w.0 [] w.2))
+    ends = subst (λ out. Ends out (around old i m o k) (around new j n o k) (Err (Fault object count))) (sym (writer_outcome w.0 who [] w.2))
         (t.0, fault_of object Input count (around old i m o k) (around new j n o k) t.0 t.1 t.2, Keeps-refl o);
     home = home old new i j m n o o k k files dice more (omega arith);
   }
-  not_taken old new i j o m n k NoMemory files dice w t more = record {
+  not_taken who old new i j o m n k NoMemory files dice w t more = record {
     trace = loaded config w.0 ∷ [];
     files = (w.1, tt);
     input = t;
     dice = λ s. kept_nothing _ _ (dice.dice s);
-    ends = subst (λ out. Ends out (around old i m o k) (around new j n o k) (Err NoMemory)) (sym (identity_outcome w.0 [] w.2)) (Keeps-refl o);
+    ends = subst (λ out. Ends out (around old i m o k) (around new j n o k) (Err NoMemory)) (sym (writer_outcome w.0 who [] w.2)) (Keeps-refl o);
     home = home old new i j m n o o k k files dice more (omega arith);
   }
 
   -- the outcome once the input was taken
-  taken_outcome : (file : Option (List ℕ)) (plain : List ℕ) (rest : List Sight) → writer_in file resource ≡ Some Identity → length plain ≤ 2097152
-      → encrypt_outcome config resource path (loaded config file ∷ taken plain ∷ rest) ≡ from_dice plain rest
-  taken_outcome file plain rest e short = identity_outcome file (taken plain ∷ rest) e
-      ∙ ap (λ q. if q then at_last rest (refuses LongData) else from_dice plain rest) (to_false _ (λ t. absurd (omega (arith, (Decides-ltb 2097152 (length plain)).0 t))))
+  taken_outcome : (file : Option (List ℕ)) (who : Who) (plain : List ℕ) (rest : List Sight) → writer_in file resource ≡ Some who → length plain ≤ 2097152
+      → encrypt_outcome config resource path (loaded config file ∷ taken plain ∷ rest) ≡ from_dice who plain rest
+  taken_outcome file who plain rest e short = writer_outcome file who (taken plain ∷ rest) e
+      ∙ ap (λ q. if q then at_last rest (refuses LongData) else from_dice who plain rest) (to_false _ (λ t. absurd (omega (arith, (Decides-ltb 2097152 (length plain)).0 t))))
 
   -- no random source
-  pub not_opened : (old mid new : Outside) (i j o : Option (List ℕ)) (m n k : ℕ) (plain : List ℕ) (stop : Stop) → KeepsFiles old mid → KeepsDice old mid → Configures old mid config resource (Ok Identity)
+  pub not_opened : (who : Who) (old mid new : Outside) (i j o : Option (List ℕ)) (m n k : ℕ) (plain : List ℕ) (stop : Stop) → KeepsFiles old mid → KeepsDice old mid → Configures old mid config resource (Ok who)
       → TakesInput 2097152 i j m n (Ok plain) → m ≤ n → KeepsFiles mid new → KeepsDice mid new → NoDice mid new stop
       → Did (encrypt config resource path) (around old i m o k) (around new j n o k) (Err stop)
-  not_opened old mid new i j o m n k plain (Refused why) files dice w t more after same d = absurd d
-  not_opened old mid new i j o m n k plain (Fault object count) files dice w t more after same d = record {
+  not_opened who old mid new i j o m n k plain (Refused why) files dice w t more after same d = absurd d
+  not_opened who old mid new i j o m n k plain (Fault object count) files dice w t more after same d = record {
     trace = loaded config w.0 ∷ taken plain ∷ [];
     files = (w.1, tt);
     input = (t.0, inl (t.2, t.1));
     dice = λ s. kept_nothing _ _ (same.dice s ∙ dice.dice s);
-    ends = subst (λ out. Ends out (around old i m o k) (around new j n o k) (Err (Fault object count))) (sym (taken_outcome w.0 plain [] w.2 t.2))
+    ends = subst (λ out. Ends out (around old i m o k) (around new j n o k) (Err (Fault object count))) (sym (taken_outcome w.0 who plain [] w.2 t.2))
         (d.0, fault_of object Files count (around old i m o k) (around new j n o k) d.0 (Rose-later _ _ _ files.later d.1) d.2, Keeps-refl o);
     home = home old new i j m n o o k k (files_trans files after) (dice_trans dice same) more (omega arith);
   }
-  not_opened old mid new i j o m n k plain NoMemory files dice w t more after same d = record {
+  not_opened who old mid new i j o m n k plain NoMemory files dice w t more after same d = record {
     trace = loaded config w.0 ∷ taken plain ∷ [];
     files = (w.1, tt);
     input = (t.0, inl (t.2, t.1));
     dice = λ s. kept_nothing _ _ (same.dice s ∙ dice.dice s);
-    ends = subst (λ out. Ends out (around old i m o k) (around new j n o k) (Err NoMemory)) (sym (taken_outcome w.0 plain [] w.2 t.2)) (Keeps-refl o);
+    ends = subst (λ out. Ends out (around old i m o k) (around new j n o k) (Err NoMemory)) (sym (taken_outcome w.0 who plain [] w.2 t.2)) (Keeps-refl o);
     home = home old new i j m n o o k k (files_trans files after) (dice_trans dice same) more (omega arith);
   }
 
-  -- the random source came back unused
-  module _ (old mid out new : Outside) (left : Option (List ℕ)) (count : ℕ) (i j : Option (List ℕ)) (m n : ℕ) (plain : List ℕ)
-      (files : KeepsFiles old mid) (dice : KeepsDice old mid) (w : Configures old mid config resource (Ok Identity)) (t : TakesInput 2097152 i j m n (Ok plain)) (more : m ≤ n)
-      (opens : HandsOut mid out 0 left count) (opened_files : KeepsFiles mid out) (back : TakesBack out new 0 left count) (back_files : KeepsFiles out new) where
-    same : KeepsDice old new
-    same = dice_trans dice (unused opens back)
-
+  -- the random source came back with what a seal left of it
+  module _ (who : Who) (old mid out new : Outside) (given left : Option (List ℕ)) (first count : ℕ) (i j : Option (List ℕ)) (m n : ℕ) (plain : List ℕ)
+      (files : KeepsFiles old mid) (dice : KeepsDice old mid) (w : Configures old mid config resource (Ok who)) (t : TakesInput 2097152 i j m n (Ok plain)) (more : m ≤ n)
+      (opens : HandsOut mid out 0 given first) (opened_files : KeepsFiles mid out) (later : first ≤ count) (back : TakesBack out new 0 left count) (back_files : KeepsFiles out new) where
     all_files : KeepsFiles old new
     all_files = files_trans files (files_trans opened_files back_files)
 
-    -- the value was refused
-    pub refused : (o : Option (List ℕ)) (k : ℕ) (stop : Stop) → Seals (sealed_by_identity plain) plain (Err stop) → Did (encrypt config resource path) (around old i m o k) (around new j n o k) (Err stop)
-    refused o k (Refused why) s = record {
-      trace = loaded config w.0 ∷ taken plain ∷ opened 0 ∷ [];
-      files = (w.1, tt);
-      input = (t.0, inl (t.2, t.1));
-      dice = λ s. kept_nothing _ _ (same.dice s);
-      ends = subst (λ out. Ends out (around old i m o k) (around new j n o k) (Err (Refused why))) (sym (taken_outcome w.0 plain (opened 0 ∷ []) w.2 t.2 ∙ s)) (refl, Keeps-refl o);
-      home = home old new i j m n o o k k all_files same more (omega arith);
+    saw_files : (d : Option (List ℕ)) → SawFiles old (loaded config w.0 ∷ taken plain ∷ opened 0 ∷ draws_of d)
+    saw_files None = (w.1, tt)
+    saw_files (Some bytes) = (w.1, tt)
+
+    saw_input : (d : Option (List ℕ)) (cut : Bool) → SawInput 2097152 i j (input_of (loaded config w.0 ∷ taken plain ∷ opened 0 ∷ draws_of d)) cut
+    saw_input d cut = (t.0, inl (t.2, t.1))
+
+    drew : (d : Option (List ℕ)) → Consumes given left (bytes_of d) → (s : ℕ) → Consumes (old.dice s) (new.dice s) (drawn_of s (loaded config w.0 ∷ taken plain ∷ opened 0 ∷ draws_of d))
+    drew d c zero = subst (λ l. Consumes (old.dice 0) (new.dice 0) l) (sym (drawn_here d))
+        (subst (λ q. Consumes q (new.dice 0) (bytes_of d)) (opens.left_is ∙ dice.dice 0) (subst (λ q. Consumes given q (bytes_of d)) (sym back.left_is) c))
+    drew d c (suc s) = subst (λ l. Consumes (old.dice (suc s)) (new.dice (suc s)) l) (sym (drawn_there s d))
+        (kept_nothing _ _ (back.dice (suc s) (λ e. cc) ∙ opens.dice (suc s) (λ e. cc) ∙ dice.dice (suc s)))
+
+    came_home : (o p : Option (List ℕ)) (k l : ℕ) → k ≤ l → IsHome (around old i m o k) (around new j n p l)
+    came_home o p k l most = record {
+      files = all_files;
+      out = λ s. omega (arith, opens.out s, back.out s, dice.out s);
+      dice = by_seat (λ s. old.dice_faults s ≤ new.dice_faults s) (omega (arith, opens.count_is, back.count_is, later, dice.faults 0)) (λ s n. omega (arith, dice.faults s, opens.faults s n, back.faults s n));
+      input = more;
+      output = most;
     }
-    refused o k (Fault object count) s = absurd s
-    refused o k NoMemory s = absurd s
+
+    -- no value was sealed
+    pub not_sealed : (o : Option (List ℕ)) (k : ℕ) (stop : Stop) → Seals who plain given left first count (Err stop) → Did (encrypt config resource path) (around old i m o k) (around new j n o k) (Err stop)
+    not_sealed o k (Refused why) s = record {
+      trace = loaded config w.0 ∷ taken plain ∷ opened 0 ∷ draws_of None;
+      files = saw_files None;
+      input = saw_input None false;
+      dice = drew None s.1;
+      ends = subst (λ out. Ends out (around old i m o k) (around new j n o k) (Err (Refused why))) (sym (taken_outcome w.0 who plain (opened 0 ∷ []) w.2 t.2 ∙ s.0)) (refl, Keeps-refl o);
+      home = came_home o o k k (omega arith);
+    }
+    not_sealed o k (Fault object c) s = record {
+      trace = loaded config w.0 ∷ taken plain ∷ opened 0 ∷ draws_of None;
+      files = saw_files None;
+      input = saw_input None true;
+      dice = drew None s.4;
+      ends = subst (λ out. Ends out (around old i m o k) (around new j n o k) (Err (Fault object c))) (sym (taken_outcome w.0 who plain (opened 0 ∷ []) w.2 t.2 ∙ s.3)) (
+        s.0,
+        fault_of object (Dice 0) c (around old i m o k) (around new j n o k) s.0
+            (subst (λ q. Rose q (new.dice_faults 0)) (opens.count_is ∙ dice.faults 0) (subst (λ q. Rose first q) (sym back.count_is) s.1)) (s.2 ∙ sym back.count_is),
+        Keeps-refl o,
+      );
+      home = came_home o o k k (omega arith);
+    }
+    not_sealed o k NoMemory s = record {
+      trace = loaded config w.0 ∷ taken plain ∷ opened 0 ∷ draws_of None;
+      files = saw_files None;
+      input = saw_input None true;
+      dice = drew None s.1;
+      ends = subst (λ out. Ends out (around old i m o k) (around new j n o k) (Err NoMemory)) (sym (taken_outcome w.0 who plain (opened 0 ∷ []) w.2 t.2 ∙ s.0)) (Keeps-refl o);
+      home = came_home o o k k (omega arith);
+    }
 
     -- the value was written, or a prefix of it
-    pub written : (o p : Option (List ℕ)) (k l : ℕ) → Seals (sealed_by_identity plain) plain (Ok tt) → Appends o p plain → k ≤ l
+    pub written : (value : List ℕ) (o p : Option (List ℕ)) (k l : ℕ) → Seals who plain given left first count (Ok value) → Appends o p value → k ≤ l
         → Did (encrypt config resource path) (around old i m o k) (around new j n p l) (Ok Silent)
-    written o p k l s a most = record {
-      trace = loaded config w.0 ∷ taken plain ∷ opened 0 ∷ [];
-      files = (w.1, tt);
-      input = (t.0, inl (t.2, t.1));
-      dice = λ s. kept_nothing _ _ (same.dice s);
-      ends = subst (λ out. Ends out (around old i m o k) (around new j n p l) (Ok Silent)) (sym (taken_outcome w.0 plain (opened 0 ∷ []) w.2 t.2 ∙ s)) (refl, a);
-      home = home old new i j m n o p k l all_files same more most;
+    written value o p k l s a most = record {
+      trace = loaded config w.0 ∷ taken plain ∷ opened 0 ∷ draws_of s.0;
+      files = saw_files s.0;
+      input = saw_input s.0 false;
+      dice = drew s.0 s.2;
+      ends = subst (λ out. Ends out (around old i m o k) (around new j n p l) (Ok Silent)) (sym (taken_outcome w.0 who plain (opened 0 ∷ draws_of s.0) w.2 t.2 ∙ s.1)) (refl, a);
+      home = came_home o p k l most;
     }
 
-    pub not_written : (o p : Option (List ℕ)) (k l : ℕ) (stop : Stop) → Seals (sealed_by_identity plain) plain (Ok tt) → WritesOutput plain o p k l (Err stop) → k ≤ l
+    pub not_written : (value : List ℕ) (o p : Option (List ℕ)) (k l : ℕ) (stop : Stop) → Seals who plain given left first count (Ok value) → WritesOutput value o p k l (Err stop) → k ≤ l
         → Did (encrypt config resource path) (around old i m o k) (around new j n p l) (Err stop)
-    not_written o p k l (Refused why) s a most = absurd a
-    not_written o p k l (Fault object count) s a most = record {
-      trace = loaded config w.0 ∷ taken plain ∷ opened 0 ∷ [];
-      files = (w.1, tt);
-      input = (t.0, inl (t.2, t.1));
-      dice = λ s. kept_nothing _ _ (same.dice s);
-      ends = subst (λ out. Ends out (around old i m o k) (around new j n p l) (Err (Fault object count))) (sym (taken_outcome w.0 plain (opened 0 ∷ []) w.2 t.2 ∙ s))
-          (a.0, fault_of object Output count (around old i m o k) (around new j n p l) a.0 a.1 a.2, a.3);
-      home = home old new i j m n o p k l all_files same more most;
+    not_written value o p k l (Refused why) s a most = absurd a
+    not_written value o p k l (Fault object c) s a most = record {
+      trace = loaded config w.0 ∷ taken plain ∷ opened 0 ∷ draws_of s.0;
+      files = saw_files s.0;
+      input = saw_input s.0 true;
+      dice = drew s.0 s.2;
+      ends = subst (λ out. Ends out (around old i m o k) (around new j n p l) (Err (Fault object c))) (sym (taken_outcome w.0 who plain (opened 0 ∷ draws_of s.0) w.2 t.2 ∙ s.1))
+          (a.0, fault_of object Output c (around old i m o k) (around new j n p l) a.0 a.1 a.2, a.3);
+      home = came_home o p k l most;
     }
-    not_written o p k l NoMemory s a most = absurd a
-
-pub as_writer : (old new : Outside) (config resource : List ℕ) (who other : Who) → who ≡ other → Configures old new config resource (Ok who) → Configures old new config resource (Ok other)
-as_writer old new config resource who other e w = subst (λ v. Configures old new config resource (Ok v)) e w
+    not_written value o p k l NoMemory s a most = absurd a

@@ -1,7 +1,9 @@
+pub mod Asked
 pub mod EncryptSteps
+pub mod Keys
 pub mod Pieces
 pub mod Shelf
 pub mod Readings
-pub mod Seven
+pub mod Seals
 pub mod Singles
 pub mod Worlds

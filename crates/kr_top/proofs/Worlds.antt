@@ -2,7 +2,8 @@
 use Rattle.std.proofs.Common.{◌≡◌, ◌≢◌, ℕ, zero, suc, ◌+◌, ◌≤◌, List, [], ◌++◌, Option, None, Some, refl, sym, ◌∙◌, ap, subst, arith}
 use Rattle.std.specs.Io.KnownBytes.{Consumes, Keeps}
 use Rattle.std.proofs.KnownBytes.{Consumes-nil}
-use Rattle.kr_top.specs.Outside.{Outside, KeepsFiles, KeepsDice, HandsOut, TakesBack}
+use Rattle.kr_top.specs.Outside.{Outside, KeepsFiles, KeepsDice}
+use Rattle.kr_top.specs.Ran.{Around, IsUntouched}
 
 pub files_trans : {a b c : Outside} → KeepsFiles a b → KeepsFiles b c → KeepsFiles a c
 files_trans p q = record { file = λ name. q.file name ∙ p.file name; later = omega (arith, p.later, q.later) }
@@ -14,17 +15,18 @@ pub by_seat : (P : ℕ → Type 0) → P 0 → ((s : ℕ) → s ≢ 0 → P s) �
 by_seat P z n zero = z
 by_seat P z n (suc s) = n (suc s) (λ e. cc)
 
--- a random source that went out and came back unused
-pub unused : {a b c : Outside} {left : Option (List ℕ)} {count : ℕ} → HandsOut a b 0 left count → TakesBack b c 0 left count → KeepsDice a c
-unused {a} {b} {c} {left} {count} h t = record {
-  dice = by_seat (λ s. c.dice s ≡ a.dice s) (t.left_is ∙ h.left_is) (λ s n. t.dice s n ∙ h.dice s n);
-  faults = by_seat (λ s. c.dice_faults s ≡ a.dice_faults s) (t.count_is ∙ h.count_is) (λ s n. t.faults s n ∙ h.faults s n);
-  out = λ s. omega (arith, h.out s, t.out s);
-}
-
 pub Keeps-refl : (a : Option (List ℕ)) → Keeps a a
 Keeps-refl None = tt
 Keeps-refl (Some x) = refl
 
 pub kept_nothing : (a b : Option (List ℕ)) → b ≡ a → Consumes a b []
 kept_nothing a b e = subst (λ o. Consumes a o []) (sym e) (Consumes-nil a)
+
+pub untouched : (around : Around) → IsUntouched around around
+untouched around = record {
+  files = λ name. refl;
+  file_faults = refl;
+  dice = record { dice = λ s. refl; faults = λ s. refl; out = λ s. refl };
+  input = (refl, refl);
+  output = (refl, refl);
+}

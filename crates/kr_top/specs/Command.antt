@@ -1,24 +1,39 @@
--- The commands, and the words that mean them.
-use Rattle.std.specs.Prelude.{◌≡◌, ℕ, ◌⊎◌, List, [], codes, length, slice_index_or, map, String, string_bytes}
-use Rattle.std.specs.declared.alloc.Global.{Global}
-use Rattle.kr_base.specs.Rules.{IsPath, IsResource}
+-- The commands that are built, and the words that mean them.
+use Rattle.std.specs.Prelude.{◌≡◌, ℕ, ◌≤◌, ◌<◌, ◌⊎◌, List, codes, Some}
+use Rattle.kr_words.specs.Grammar.{Means, replicas_of, IsAboveSize, IsWithinSize}
+use Rattle.kr_words.specs.Options.{value_of}
+use Rattle.kr_words.specs.declared.command.Verb.{Verb}
+use Rattle.kr_words.specs.declared.command.Verb.TheVariants.{Encrypt}
 
 pub data Command : Type 0 where
   -- encrypts the input for a resource and a path by a configuration
   encrypt : (config resource path : List ℕ) → Command
 
-abbrev pub texts : List (String Global) → List (List ℕ)
-texts words = map string_bytes words
+-- the verb with its options is this command
+abbrev pub IsOf : Command → Verb → List (List ℕ × List ℕ) → Type 0
+IsOf (encrypt config resource path) verb options =
+    (verb ≡ Encrypt) × (value_of options (codes "config") ≡ Some config) × (value_of options (codes "resource") ≡ Some resource) × (value_of options (codes "path") ≡ Some path)
 
-abbrev pub word : List (List ℕ) → ℕ → List ℕ
-word words place = slice_index_or words place []
+-- the words mean the command, and no limit of the command line is passed
+pub record Asks (words : List (List ℕ)) (command : Command) : Type 0 where
+  pub verb : Verb
+  pub options : List (List ℕ × List ℕ)
+  pub means : Means words verb options
+  pub few : replicas_of options ≤ 16
+  pub small : IsWithinSize options
+  pub is : IsOf command verb options
 
--- the words mean the command: `encrypt --config FILE --resource R --path P`, these seven in this order
-abbrev pub Means : List (List ℕ) → Command → Type 0
-Means words (encrypt config resource path) =
-    (length words ≡ 7) × (word words 0 ≡ codes "encrypt") × (word words 1 ≡ codes "--config") × (word words 2 ≡ config)
-    × (word words 3 ≡ codes "--resource") × (word words 4 ≡ resource) × (word words 5 ≡ codes "--path") × (word words 6 ≡ path)
-    × IsResource resource × ((path ≡ []) ⊎ IsPath path)
+-- the words mean no command, or one that isn't built
+abbrev pub AskNothing : List (List ℕ) → Type 0
+AskNothing words = (verb : Verb) (options : List (List ℕ × List ℕ)) → Means words verb options → verb ≡ Encrypt → ⊥
+
+-- the words mean a command that has too many replicas
+abbrev pub AskReplicas : List (List ℕ) → Type 0
+AskReplicas words = (verb : Verb) × (options : List (List ℕ × List ℕ)) × Means words verb options × (16 < replicas_of options)
+
+-- the words mean a command whose size is too large
+abbrev pub AskSize : List (List ℕ) → Type 0
+AskSize words = (verb : Verb) × (options : List (List ℕ × List ℕ)) × Means words verb options × (replicas_of options ≤ 16) × IsAboveSize options
 
 -- the most bytes that the command takes as its input
 abbrev pub input_limit : Command → ℕ

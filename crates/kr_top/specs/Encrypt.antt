@@ -1,10 +1,15 @@
 -- The steps of `encrypt`: configuration, input, random source, seal, write the value.
-use Rattle.std.specs.Prelude.{ℕ, zero, suc, List, [], ◌∷◌, length, codes, nat_eq, nat_lt, Option, None, Some, if◌then◌else◌}
+use Rattle.std.specs.Prelude.{ℕ, zero, suc, ◌==◌, List, [], ◌∷◌, ◌++◌, length, codes, nat_eq, nat_lt, Option, None, Some, if◌then◌else◌}
 use Rattle.std.specs.Option.{option_map}
 use Rattle.std.specs.List.{starts_with}
 use Rattle.std.specs.Str.{bytes_eq}
+use Rattle.kr_aes.specs.Cipher.{cipher}
+use Rattle.kr_aes.specs.KeyExpansion.{padded_schedule}
+use Rattle.kr_aes.specs.declared.Rounds.TheVariants.{Ten, Twelve, Fourteen}
+use Rattle.kr_modes.specs.Cbc.{cbc}
+use Rattle.kr_modes.specs.Padding.{pad}
 use Rattle.kr_top.specs.Config.{config_of}
-use Rattle.kr_top.specs.Trace.{Sight, loaded, taken, opened, drawn, load_file, take_input, open_dice, Outcome, awaits, refuses, gives, strays, at_last}
+use Rattle.kr_top.specs.Trace.{Sight, loaded, taken, opened, drawn, load_file, take_input, open_dice, draw, Outcome, awaits, refuses, gives, strays, at_last}
 use Rattle.kr_top.specs.declared.config.Config.{Config}
 use Rattle.kr_top.specs.declared.config.Who.{Who}
 use Rattle.kr_top.specs.declared.config.Who.TheVariants.{Identity, Aescbc}
@@ -24,26 +29,48 @@ writer_in (Some bytes) resource = if nat_lt 1048576 (length bytes) then None els
 abbrev pub sealed_by_identity : List ℕ → Outcome
 sealed_by_identity plain = if starts_with nat_eq plain (codes "k8s:enc:") then refuses LooksEncrypted else gives plain Silent
 
-abbrev pub from_dice : List ℕ → List Sight → Outcome
-from_dice plain [] = awaits (open_dice 0)
-from_dice plain (loaded name file ∷ rest) = strays
-from_dice plain (taken bytes ∷ rest) = strays
-from_dice plain (opened zero ∷ rest) = at_last rest (sealed_by_identity plain)
-from_dice plain (opened (suc seat) ∷ rest) = strays
-from_dice plain (drawn seat bytes ∷ rest) = strays
+-- the cipher under a key of 16, 24 or 32 bytes (FIPS 197)
+abbrev pub cipher_under : List ℕ → List ℕ → List ℕ
+cipher_under key = cipher (padded_schedule key) (if length key == 16 then Ten else if length key == 24 then Twelve else Fourteen)
 
-abbrev pub from_input : List Sight → Outcome
-from_input [] = awaits take_input
-from_input (loaded name file ∷ rest) = strays
-from_input (taken plain ∷ rest) = if nat_lt 2097152 (length plain) then at_last rest (refuses LongData) else from_dice plain rest
-from_input (opened seat ∷ rest) = strays
-from_input (drawn seat bytes ∷ rest) = strays
+abbrev pub aescbc_prefix : List ℕ → List ℕ
+aescbc_prefix name = codes "k8s:enc:aescbc:v1:" ++ name ++ codes ":"
 
--- aescbc isn't sealed with yet
+-- aescbc writes its prefix, the IV and the CBC of the padded data
+unfoldable pub aescbc_value : (name secret iv plain : List ℕ) → List ℕ
+aescbc_value name secret iv plain = aescbc_prefix name ++ (iv ++ cbc (cipher_under secret) iv (pad plain))
+
+-- one draw of 16 bytes gives the IV
+abbrev pub sealed_by_aescbc : (name secret plain : List ℕ) → List Sight → Outcome
+sealed_by_aescbc name secret plain [] = awaits (draw 0)
+sealed_by_aescbc name secret plain (loaded file bytes ∷ rest) = strays
+sealed_by_aescbc name secret plain (taken bytes ∷ rest) = strays
+sealed_by_aescbc name secret plain (opened seat ∷ rest) = strays
+sealed_by_aescbc name secret plain (drawn zero iv ∷ rest) = if length iv == 16 then at_last rest (gives (aescbc_value name secret iv plain) Silent) else strays
+sealed_by_aescbc name secret plain (drawn (suc seat) iv ∷ rest) = strays
+
+abbrev pub sealed_by : Who → List ℕ → List Sight → Outcome
+sealed_by Identity plain rest = at_last rest (sealed_by_identity plain)
+sealed_by (Aescbc name secret) plain rest = sealed_by_aescbc name secret plain rest
+
+abbrev pub from_dice : Who → List ℕ → List Sight → Outcome
+from_dice who plain [] = awaits (open_dice 0)
+from_dice who plain (loaded name file ∷ rest) = strays
+from_dice who plain (taken bytes ∷ rest) = strays
+from_dice who plain (opened zero ∷ rest) = sealed_by who plain rest
+from_dice who plain (opened (suc seat) ∷ rest) = strays
+from_dice who plain (drawn seat bytes ∷ rest) = strays
+
+abbrev pub from_input : Who → List Sight → Outcome
+from_input who [] = awaits take_input
+from_input who (loaded name file ∷ rest) = strays
+from_input who (taken plain ∷ rest) = if nat_lt 2097152 (length plain) then at_last rest (refuses LongData) else from_dice who plain rest
+from_input who (opened seat ∷ rest) = strays
+from_input who (drawn seat bytes ∷ rest) = strays
+
 abbrev pub by_writer : Option Who → List Sight → Outcome
 by_writer None rest = at_last rest (refuses Configuration)
-by_writer (Some Identity) rest = from_input rest
-by_writer (Some (Aescbc name secret)) rest = at_last rest (refuses Configuration)
+by_writer (Some who) rest = from_input who rest
 
 abbrev pub encrypt_outcome : (config resource path : List ℕ) → List Sight → Outcome
 encrypt_outcome config resource path [] = awaits (load_file config)

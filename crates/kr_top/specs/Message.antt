@@ -4,7 +4,7 @@ use Rattle.std.specs.Borrow.{Bor}
 use Rattle.kr_top.specs.declared.refusal.Object.{Object}
 use Rattle.kr_top.specs.declared.refusal.Object.TheVariants.{Input, Output, Files, Dice}
 use Rattle.kr_top.specs.declared.refusal.Refusal.{Refusal}
-use Rattle.kr_top.specs.declared.refusal.Refusal.TheVariants.{Usage, LooksEncrypted, Configuration, LongData}
+use Rattle.kr_top.specs.declared.refusal.Refusal.TheVariants.{Usage, Replicas, Size, LooksEncrypted, Configuration, LongData}
 use Rattle.kr_top.specs.declared.refusal.Stop.{Stop}
 use Rattle.kr_top.specs.declared.refusal.Stop.TheVariants.{Refused, Fault, NoMemory}
 use Rattle.kr_top.specs.declared.refusal.Done.{Done}
@@ -13,6 +13,8 @@ use Rattle.kr_top.specs.declared.refusal.Done.TheVariants.{Silent}
 abbrev pub status_of_refusal : Refusal → ℕ
 status_of_refusal LooksEncrypted = 1
 status_of_refusal Usage = 2
+status_of_refusal Replicas = 6
+status_of_refusal Size = 6
 status_of_refusal Configuration = 3
 status_of_refusal LongData = 6
 
@@ -25,6 +27,8 @@ status_of (Err NoMemory) = 5
 abbrev pub refusal_line : Refusal → List ℕ
 refusal_line LooksEncrypted = codes "kmsrest: refused 13 LooksEncrypted\n"
 refusal_line Usage = codes "kmsrest: usage: kmsrest COMMAND OPTIONS\n"
+refusal_line Replicas = codes "kmsrest: limit replicas 16\n"
+refusal_line Size = codes "kmsrest: limit size 10000\n"
 refusal_line Configuration = codes "kmsrest: text 50 0 0\n"
 refusal_line LongData = codes "kmsrest: limit data 2097152\n"
 

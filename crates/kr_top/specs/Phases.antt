@@ -1,16 +1,18 @@
 -- What the phases of a command give to it: each result is said by cases, and want of memory alone is free.
-use Rattle.std.specs.Prelude.{◌≡◌, ℕ, ◌+◌, ◌≤◌, List, length, Option, None, Some, Result, Ok, Err, ⊤}
+use Rattle.std.specs.Prelude.{◌≡◌, ℕ, ◌+◌, ◌≤◌, ◌⊎◌, List, [], ◌∷◌, length, Option, None, Some, Result, Ok, Err, ⊤}
 use Rattle.std.specs.Io.KnownBytes.{Appends, Consumes, IsAtEnd}
+use Rattle.kr_aes.specs.KeyExpansion.{IsKeyLength}
 use Rattle.kr_base.specs.Faults.{Rose}
 use Rattle.kr_base.specs.Told.{Agrees}
 use Rattle.kr_base.specs.Streams.{AppendsFront, TakesAtMost}
 use Rattle.kr_top.specs.Outside.{Outside}
-use Rattle.kr_top.specs.Encrypt.{writer_in}
-use Rattle.kr_top.specs.Trace.{Outcome, refuses, gives}
+use Rattle.kr_top.specs.Encrypt.{writer_in, sealed_by}
+use Rattle.kr_top.specs.Trace.{Sight, drawn, draw, awaits, refuses, gives}
 use Rattle.kr_top.specs.declared.refusal.Done.TheVariants.{Silent}
 use Rattle.kr_top.specs.declared.config.Who.{Who}
+use Rattle.kr_top.specs.declared.config.Who.TheVariants.{Identity, Aescbc}
 use Rattle.kr_top.specs.declared.refusal.Object.{Object}
-use Rattle.kr_top.specs.declared.refusal.Object.TheVariants.{Input, Output, Files}
+use Rattle.kr_top.specs.declared.refusal.Object.TheVariants.{Input, Output, Files, Dice}
 use Rattle.kr_top.specs.declared.refusal.Refusal.{Refusal}
 use Rattle.kr_top.specs.declared.refusal.Refusal.TheVariants.{Configuration, LongData}
 use Rattle.kr_top.specs.declared.refusal.Stop.{Stop}
@@ -50,9 +52,23 @@ WritesOutput value old new before count (Err (Refused why)) = ⊥
 WritesOutput value old new before count (Err (Fault object n)) = (object ≡ Output) × Rose before count × (n ≡ count) × AppendsFront old new value
 WritesOutput value old new before count (Err NoMemory) = ⊥
 
--- the value is the one that the outcome gives, or the outcome refuses so
-abbrev pub Seals : Outcome → List ℕ → Result ⊤ Stop → Type 0
-Seals outcome value (Ok done) = outcome ≡ gives value Silent
-Seals outcome value (Err (Refused why)) = outcome ≡ refuses why
-Seals outcome value (Err (Fault object count)) = ⊥
-Seals outcome value (Err NoMemory) = ⊥
+-- the key of a provider has 16, 24 or 32 bytes
+abbrev pub HasKey : Who → Type 0
+HasKey Identity = ⊤
+HasKey (Aescbc name secret) = IsKeyLength (length secret)
+
+-- what was seen of the random source: one draw, or none
+abbrev pub draws_of : Option (List ℕ) → List Sight
+draws_of None = []
+draws_of (Some bytes) = drawn 0 bytes ∷ []
+
+abbrev pub bytes_of : Option (List ℕ) → List ℕ
+bytes_of None = []
+bytes_of (Some bytes) = bytes
+
+-- the value is the one that the outcome of one draw or none gives, or it refuses, or the draw failed
+abbrev pub Seals : Who → List ℕ → (old new : Option (List ℕ)) (before count : ℕ) → Result (List ℕ) Stop → Type 0
+Seals who plain old new before count (Ok value) = (draw_of : Option (List ℕ)) × (sealed_by who plain (draws_of draw_of) ≡ gives value Silent) × Consumes old new (bytes_of draw_of)
+Seals who plain old new before count (Err (Refused why)) = (sealed_by who plain [] ≡ refuses why) × Consumes old new []
+Seals who plain old new before count (Err (Fault object n)) = (object ≡ Dice 0) × Rose before count × (n ≡ count) × (sealed_by who plain [] ≡ awaits (draw 0)) × Consumes old new []
+Seals who plain old new before count (Err NoMemory) = (sealed_by who plain [] ≡ awaits (draw 0)) × Consumes old new []

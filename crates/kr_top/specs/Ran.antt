@@ -1,17 +1,17 @@
 -- What a call of `run` did: one relation for all commands.
-use Rattle.std.specs.Prelude.{◌≡◌, ℕ, ◌≤◌, ◌⊎◌, Bool, true, false, List, Option, Result, Ok, Err}
+use Rattle.std.specs.Prelude.{◌≡◌, ℕ, ◌≤◌, ◌⊎◌, Bool, true, false, List, Option, Result, Ok, Err, ⊤}
 use Rattle.std.specs.Io.KnownBytes.{Keeps, Appends, Consumes}
 use Rattle.kr_base.specs.Faults.{Rose}
 use Rattle.kr_base.specs.Streams.{AppendsFront}
 use Rattle.kr_top.specs.Outside.{Outside, KeepsFiles, KeepsDice}
-use Rattle.kr_top.specs.Command.{Command, encrypt, Means, input_limit}
+use Rattle.kr_top.specs.Command.{Command, encrypt, Asks, AskNothing, AskReplicas, AskSize, input_limit}
 use Rattle.kr_top.specs.Trace.{Sight, Outcome, awaits, refuses, gives, strays, object_at, SawFiles, SawInput, input_of, drawn_of}
 use Rattle.kr_top.specs.Encrypt.{encrypt_outcome}
 use Rattle.kr_top.specs.Message.{status_of, status_of_refusal, line_of}
 use Rattle.kr_top.specs.declared.refusal.Object.{Object}
 use Rattle.kr_top.specs.declared.refusal.Object.TheVariants.{Input, Output, Files, Dice}
 use Rattle.kr_top.specs.declared.refusal.Refusal.{Refusal}
-use Rattle.kr_top.specs.declared.refusal.Refusal.TheVariants.{Usage}
+use Rattle.kr_top.specs.declared.refusal.Refusal.TheVariants.{Usage, Replicas, Size, LooksEncrypted, Configuration, LongData}
 use Rattle.kr_top.specs.declared.refusal.Stop.{Stop}
 use Rattle.kr_top.specs.declared.refusal.Stop.TheVariants.{Refused, Fault, NoMemory}
 use Rattle.kr_top.specs.declared.refusal.Done.{Done}
@@ -95,11 +95,24 @@ pub record IsUntouched (old new : Around) : Type 0 where
   pub input : (new.input ≡ old.input) × (new.input_faults ≡ old.input_faults)
   pub output : (new.output ≡ old.output) × (new.output_faults ≡ old.output_faults)
 
--- the words mean a command and it ended so; or they mean none, and nothing was touched
+-- the words mean no command, or one that isn't built, or one that passes a limit of the command line; or there was no
+-- memory for them
+abbrev pub Stops : List (List ℕ) → Result Done Stop → Type 0
+Stops words (Ok done) = ⊥
+Stops words (Err (Refused Usage)) = AskNothing words
+Stops words (Err (Refused Replicas)) = AskReplicas words
+Stops words (Err (Refused Size)) = AskSize words
+Stops words (Err (Refused LooksEncrypted)) = ⊥
+Stops words (Err (Refused Configuration)) = ⊥
+Stops words (Err (Refused LongData)) = ⊥
+Stops words (Err (Fault object count)) = ⊥
+Stops words (Err NoMemory) = ⊤
+
+-- the words ask for a command and it ended so; or they stop it before anything was touched
 abbrev pub Answers : List (List ℕ) → Around → Around → Result Done Stop → Type 0
 Answers words old new result =
-    ((command : Command) × Means words command × Did command old new result)
-    ⊎ (((command : Command) → Means words command → ⊥) × (result ≡ Err (Refused Usage)) × IsUntouched old new)
+    ((command : Command) × Asks words command × Did command old new result)
+    ⊎ (Stops words result × IsUntouched old new)
 
 -- the line was written to the sink and the status answered; where it can't be written, the status is 4
 abbrev pub Tells : List ℕ → ℕ → Sunk → ℕ → Type 0
@@ -115,11 +128,12 @@ pub record Ran (words : List (List ℕ)) (old new : Around) (errors : Sunk) (sta
 
 -- ---- what follows from it, for readers
 
--- status 2 comes only where the words mean no command; and where they mean none, 2 comes, or 4 where the line couldn't be written
+-- status 2 comes only where the words ask for nothing; and where they do, 2 comes, but for a limit that they pass, want of
+-- memory, and a line that couldn't be written
 abbrev pub IsUsage : List (List ℕ) → Sunk → ℕ → Type 0
 IsUsage words errors status =
-    (status ≡ 2 → (command : Command) → Means words command → ⊥)
-    × (((command : Command) → Means words command → ⊥) → (status ≡ 2) ⊎ ((status ≡ 4) × Rose errors.old_faults errors.new_faults))
+    (status ≡ 2 → AskNothing words)
+    × (AskNothing words → (status ≡ 2) ⊎ (status ≡ 5) ⊎ ((status ≡ 6) × (AskReplicas words ⊎ AskSize words)) ⊎ ((status ≡ 4) × Rose errors.old_faults errors.new_faults))
 
 -- status 4 comes only where the count of an object rose
 abbrev pub IsCaused : Around → Around → Sunk → ℕ → Type 0
@@ -129,17 +143,19 @@ IsCaused old new errors status =
 -- the command saw something by which its steps come to this outcome
 pub record Comes (words : List (List ℕ)) (old new : Around) (outcome : Outcome) : Type 0 where
   pub command : Command
-  pub means : Means words command
+  pub asks : Asks words command
   pub trace : List Sight
   pub files : SawFiles old.world trace
   pub input : SawInput (input_limit command) old.input new.input (input_of trace) false
   pub dice : (seat : ℕ) → Consumes (old.world.dice seat) (new.world.dice seat) (drawn_of seat trace)
   pub outcome_is : outcome_of command trace ≡ outcome
 
--- status 1, 3 or 6 comes only where a step refuses so; nothing was written then
+-- status 1, 3 or 6 comes only where a step refuses so, or, status 6, where the words pass a limit; nothing was written then
 abbrev pub IsRefused : List (List ℕ) → Around → Around → ℕ → Type 0
 IsRefused words old new status =
-    (status ≡ 1) ⊎ (status ≡ 3) ⊎ (status ≡ 6) → (why : Refusal) × Comes words old new (refuses why) × (status_of_refusal why ≡ status) × Keeps old.output new.output
+    (status ≡ 1) ⊎ (status ≡ 3) ⊎ (status ≡ 6)
+    → ((why : Refusal) × Comes words old new (refuses why) × (status_of_refusal why ≡ status) × Keeps old.output new.output)
+    ⊎ ((status ≡ 6) × (AskReplicas words ⊎ AskSize words) × IsUntouched old new)
 
 -- status 0 comes only where the steps give a value, and then just that was written
 abbrev pub IsDone : List (List ℕ) → Around → Around → ℕ → Type 0

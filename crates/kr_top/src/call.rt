@@ -1,13 +1,17 @@
 ghost use Rattle.std.specs.Prelude.{◌≡◌};
-ghost use Rattle.kr_top.specs.Command.{Command, texts};
+ghost use Rattle.std.specs.Option.{option_copied};
+ghost use Rattle.kr_words.specs.Grammar.{texts};
+ghost use Rattle.kr_words.specs.Options.{value_of};
+ghost use Rattle.kr_words.specs.Rules.{IsCommand};
+ghost use Rattle.kr_top.specs.Command.{Command, encrypt, IsOf};
 ghost use Rattle.kr_top.specs.Ran.{Around, Sunk, Ran, Answers, IsUsage, IsCaused, IsRefused, IsDone};
 
-use crate::encrypt::encrypt;
+use crate::encrypt::{EncryptWords, encrypt};
 use crate::message::tell;
 use crate::refusal::{Done, Refusal, Stop};
-use crate::words::read_words;
 use crate::world::World;
 use kr_base::{Sink, Source};
+use kr_words::{Verb, WordsNo, one_meaning, read_words};
 use std::alloc::Global;
 
 /// Does the command that the words mean, and answers its status: 0 done, 1 a value was refused, 2 the words mean no
@@ -62,8 +66,28 @@ fn answer<W: World, I: Source, O: Sink>(
         (record { world = W.told world.new; input = I.left input.new; input_faults = I.count input.new; output = O.held output.new; output_faults = O.count output.new })
         result }
 {
-    match read_words(words) {
-        Some(words) => encrypt(alloc, words, world, input, output),
-        None => Err(Stop::Refused(Refusal::Usage)),
+    let command = match read_words(alloc, words) {
+        Ok(command) => command,
+        Err(WordsNo::Usage) => return Err(Stop::Refused(Refusal::Usage)),
+        Err(WordsNo::Replicas) => return Err(Stop::Refused(Refusal::Replicas)),
+        Err(WordsNo::Size) => return Err(Stop::Refused(Refusal::Size)),
+        Err(WordsNo::NoMemory) => return Err(Stop::NoMemory),
+    };
+    match command.verb {
+        Verb::Encrypt => encrypt(alloc, encrypt_words(&command), world, input, output),
+        _ => Err(Stop::Refused(Refusal::Usage)),
+    }
+}
+
+/// The words of `encrypt`.
+fn encrypt_words(command: &kr_words::Command) -> EncryptWords<'_>
+    requires whole { IsCommand command.now.verb command.now.options.0 }
+    requires verb { command.now.verb ≡ Verb.Encrypt }
+    ensures { IsOf (encrypt result.config.now result.resource.now result.path.now) command.now.verb command.now.options.0 }
+{
+    EncryptWords {
+        config: command.value("config").unwrap(),
+        resource: command.value("resource").unwrap(),
+        path: command.value("path").unwrap(),
     }
 }

@@ -1,28 +1,33 @@
 //! `encrypt`: configuration, input, random source, seal, write the value.
 ghost use Rattle.std.specs.Prelude.{◌≡◌};
 ghost use Rattle.kr_top.specs.Command.{encrypt};
-ghost use Rattle.kr_top.specs.Encrypt.{sealed_by_identity};
-ghost use Rattle.kr_top.specs.Phases.{Seals};
 ghost use Rattle.kr_top.specs.Ran.{Around, Did};
 
-use crate::config::Who;
 use crate::phases::{configure, open_dice, take_input, write_output};
-use crate::refusal::{Done, Refusal, Stop};
-use crate::words::Encrypt;
+use crate::refusal::{Done, Stop};
+use crate::seal::seal;
 use crate::world::World;
 use kr_base::{Sink, Source};
 use std::alloc::Global;
 
+/// The words of `encrypt`.
+#[derive(Clone, Copy)]
+pub struct EncryptWords<'a> {
+    /// The name of the configuration file.
+    pub config: &'a str,
+    /// The resource of the object.
+    pub resource: &'a str,
+    /// The path that the object is stored at; it may be empty.
+    pub path: &'a str,
+}
+
 /// The most bytes of an object's data.
 const DATA_LIMIT: u64 = 2_097_152;
-
-/// What the values of providers other than identity begin with.
-const ENCRYPTED: &[u8] = b"k8s:enc:";
 
 /// Encrypts the input to the output.
 pub fn encrypt<W: World, I: Source, O: Sink>(
     alloc: Global,
-    words: Encrypt<'_>,
+    words: EncryptWords<'_>,
     world: &mut W,
     input: &mut I,
     output: &mut O,
@@ -32,37 +37,26 @@ pub fn encrypt<W: World, I: Source, O: Sink>(
         (record { world = W.told world.new; input = I.left input.new; input_faults = I.count input.new; output = O.held output.new; output_faults = O.count output.new })
         result }
 {
-    match configure(alloc, world, words.config, words.resource) {
-        Ok(Who::Identity) => {}
-        Ok(Who::Aescbc(_name, _secret)) => return Err(Stop::Refused(Refusal::Configuration)),
+    let who = match configure(alloc, world, words.config, words.resource) {
+        Ok(who) => who,
         Err(stop) => return Err(stop),
-    }
+    };
     let plain = match take_input(alloc, input, DATA_LIMIT) {
         Ok(plain) => plain,
         Err(stop) => return Err(stop),
     };
-    let dice = match open_dice(alloc, world, 0) {
+    let mut dice = match open_dice(alloc, world, 0) {
         Ok(dice) => dice,
         Err(stop) => return Err(stop),
     };
-    let sealed = seal_by_identity(plain.as_slice());
+    let sealed = seal(alloc, &who, plain, &mut dice);
     world.back_dice(0, dice);
-    match sealed {
-        Ok(()) => {}
+    let value = match sealed {
+        Ok(value) => value,
         Err(stop) => return Err(stop),
-    }
-    match write_output(output, plain.as_slice()) {
+    };
+    match write_output(output, value.as_slice()) {
         Ok(()) => Ok(Done::Silent),
         Err(stop) => Err(stop),
     }
-}
-
-/// Identity writes the data as they stand, unless it couldn't read them back.
-fn seal_by_identity(plain: &[u8]) -> Result<(), Stop>
-    ensures { Seals (sealed_by_identity plain.now) plain.now result }
-{
-    if plain.starts_with(ENCRYPTED) {
-        return Err(Stop::Refused(Refusal::LooksEncrypted));
-    }
-    Ok(())
 }

@@ -8,7 +8,7 @@ mod mem_world;
 mod message;
 mod phases;
 mod refusal;
-mod words;
+mod seal;
 mod world;
 
 pub use call::run;

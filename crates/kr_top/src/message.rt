@@ -16,6 +16,8 @@ fn refusal_line(why: Refusal) -> &'static str
     match why {
         Refusal::LooksEncrypted => "kmsrest: refused 13 LooksEncrypted\n",
         Refusal::Usage => "kmsrest: usage: kmsrest COMMAND OPTIONS\n",
+        Refusal::Replicas => "kmsrest: limit replicas 16\n",
+        Refusal::Size => "kmsrest: limit size 10000\n",
         Refusal::Configuration => "kmsrest: text 50 0 0\n",
         Refusal::LongData => "kmsrest: limit data 2097152\n",
     }
@@ -27,6 +29,8 @@ fn status_of_refusal(why: Refusal) -> u8
     match why {
         Refusal::LooksEncrypted => 1,
         Refusal::Usage => 2,
+        Refusal::Replicas => 6,
+        Refusal::Size => 6,
         Refusal::Configuration => 3,
         Refusal::LongData => 6,
     }

@@ -16,8 +16,12 @@ pub enum Object {
 /// Why a command was refused: by its words, or by the first of its steps that refuses what it saw.
 #[derive(Clone, Copy, Debug, PartialEq, Eq)]
 pub enum Refusal {
-    /// The words mean no command.
+    /// The words mean no command, or one that isn't built.
     Usage,
+    /// The words mean a command with more than 16 replicas.
+    Replicas,
+    /// The words mean a command whose size is above 10,000.
+    Size,
     /// Identity would write data that it couldn't read back.
     LooksEncrypted,
     /// The configuration is absent, too long, or not of the form that is read so far.

@@ -1,6 +1,6 @@
-use Rattle.std.proofs.Common.{◌≡◌, ◌∷◌, IsTrue, true, false, subst, sym, ◌∙◌, refl, ◌↔◌, get_or, drop, suc}
+use Rattle.std.proofs.Common.{◌≡◌, ◌∷◌, IsTrue, true, false, subst, sym, ◌↔◌, get_or, drop, suc}
 use Rattle.kr_base.specs.Rules.{IsLabelByte}
-use Rattle.kr_base.proofs.Labels.{Parted, after_dot, after_label, refused_byte, moved, stopped, at_end, parted_labels, labels_parted}
+use Rattle.kr_base.proofs.Labels.{Parted, after_dot, after_label, refused_byte, moved, stopped, at_end, labels_parted}
 use Rattle.kr_base.proofs.rules.are_labels.Goals as goal
 use Rattle.kr_base.proofs.rules.are_labels.Goals.{then-begun+then-byte-eq46, else-begun+then-is_label_byte, else-begun-via-then-begun+else-byte-eq46, else-begun-via-else-begun}
 

@@ -1,5 +1,5 @@
 use Rattle.std.proofs.lemmas.Bool.Decides.{same_from_decides}
-use Rattle.kr_base.proofs.Tests.{name}
+use Rattle.kr_base.proofs.RuleTests.{name}
 use Rattle.kr_base.proofs.rules.name_ok.Goals as goal
 
 pub returns-clause-test : goal.returns-clause-test

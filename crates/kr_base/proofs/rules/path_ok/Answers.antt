@@ -1,5 +1,5 @@
 use Rattle.std.proofs.lemmas.Bool.Decides.{same_from_decides}
-use Rattle.kr_base.proofs.Tests.{path}
+use Rattle.kr_base.proofs.RuleTests.{path}
 use Rattle.kr_base.proofs.rules.path_ok.Goals as goal
 
 pub returns-clause-test : goal.returns-clause-test

@@ -1,11 +1,11 @@
 -- The rules as facts and as tests say the same.
-use Rattle.std.proofs.Common.{◌≡◌, ◌≢◌, ℕ, ◌≤◌, ◌⊎◌, List, [], ◌∷◌, length, Bool, true, false, ◌&&◌, ◌||◌, ◌==◌, not, refl, sym, ◌∙◌, ap, subst, IsTrue, inl, inr, arith, All}
+use Rattle.std.proofs.Common.{◌≡◌, ℕ, ◌≤◌, List, [], ◌∷◌, length, Bool, true, false, ◌&&◌, ◌==◌, refl, sym, ◌∙◌, subst, inl, inr, arith, All}
 use Rattle.std.specs.Prelude.{nat_le, if◌then◌else◌}
 use Rattle.std.specs.Bool.{Decides}
 use Rattle.std.specs.List.{list_all}
 use Rattle.std.proofs.lemmas.Bool.{leb-true, le-leb}
 use Rattle.std.proofs.lemmas.Bool.Decides.{Decides-eqb, Decides-and, Decides-or, Decides-not, Decides-by_and, Decides-like}
-use Rattle.kr_base.specs.Rules.{IsGraphic, IsPath, IsName, IsLabelByte, IsLabel, IsResource, AreLabels, is_graphic, is_path, is_name, is_label_byte, is_label, is_resource, first_part, later_parts}
+use Rattle.kr_base.specs.Rules.{IsGraphic, IsPath, IsName, IsLabelByte, IsLabel, IsResource, is_graphic, is_path, is_name, is_label_byte, is_label, is_resource, first_part, later_parts}
 use Rattle.kr_base.proofs.Labels.{Parted, parted_labels, labels_parted}
 
 at_most : (a b : ℕ) → Decides (nat_le a b) (a ≤ b)
