@@ -1,4 +1,11 @@
 pub mod Xors
 pub mod FirstBlocks
 pub mod Paddings
+pub mod Unpaddings
 pub mod Chains
+pub mod Remainders
+pub mod Hashes
+pub mod Opening
+pub mod Streams
+pub mod Sealed
+pub mod BlockBits

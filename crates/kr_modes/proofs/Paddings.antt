@@ -1,10 +1,50 @@
--- Padded data as blocks.
-use Rattle.std.proofs.Common.{◌≡◌, ℕ, ◌+◌, ◌*◌, ◌-◌, ◌/◌, ◌%◌, ◌≤◌, List, ◌++◌, length, take, drop, replicate, min, refl, sym, ap, ◌∙◌, arith, inl, inr}
+-- Strings with bytes behind them, as blocks.
+use Rattle.std.proofs.Common.{◌≡◌, ℕ, ◌+◌, ◌*◌, ◌-◌, ◌/◌, ◌%◌, ◌<◌, ◌≤◌, List, ◌++◌, length, take, drop, replicate, min, sym, ap, ◌∙◌, arith, inl, inr}
 use Rattle.std.proofs.lemmas.Bool.{cases_lt}
-use Rattle.std.proofs.lemmas.List.{length-append, length-drop, length-replicate, drop-append-le, take-append-le, take_all, drop-replicate, append-nil}
+use Rattle.std.proofs.lemmas.List.{append-nil, drop-append-le, length-append, length-drop, length-replicate, length-take, take-append-le, take-replicate, take_all}
+use Rattle.std.proofs.Math.Seq.{take-append-add}
 use Rattle.std.specs.Fork.{slice_chunk}
-use Rattle.std.specs.Int.{div_ceil}
+use Rattle.std.specs.Int.{div_ceil, next_multiple_of}
+use Rattle.kr_modes.specs.Gcm.{zero_padded}
 use Rattle.kr_modes.specs.Padding.{pad, padding}
+
+-- a chunk and what fills it up
+abbrev pub filled : List ℕ → ℕ → ℕ → List ℕ
+filled bytes i fill = slice_chunk bytes 16 i ++ replicate (16 - length (slice_chunk bytes 16 i)) fill
+
+-- a chunk of a string with enough behind it
+chunk_of_filled : (bytes : List ℕ) (i n fill : ℕ) → i * 16 ≤ length bytes → i * 16 + 16 ≤ length bytes + n
+    → slice_chunk (bytes ++ replicate n fill) 16 i ≡ filled bytes i fill
+chunk_of_filled bytes i n fill within enough =
+    let rest : List ℕ = drop (i * 16) bytes in
+    let long : length rest ≡ length bytes - i * 16 = length-drop (i * 16) bytes in
+    let size : length (take 16 rest) ≡ min 16 (length rest) = length-take 16 rest in
+    let cut : slice_chunk (bytes ++ replicate n fill) 16 i ≡ take 16 (rest ++ replicate n fill) =
+    ap (take 16) (drop-append-le (i * 16) bytes (replicate n fill) within) in
+    elim (cases_lt (length rest) 16) [
+      | inl less ↦
+          let left : 16 - length (take 16 rest) ≡ 16 - length rest = omega arith in
+          let both : length rest + (16 - length rest) ≡ 16 = omega arith in
+          let chunk : take 16 rest ≡ rest = take_all 16 rest (omega arith) in
+          let longer : take 16 (rest ++ replicate n fill) ≡ rest ++ take (16 - length rest) (replicate n fill) =
+          ap (λ (k : ℕ). take k (rest ++ replicate n fill)) (sym both) ∙ take-append-add rest (replicate n fill) (16 - length rest) in
+          cut ∙ longer ∙ ap (λ (zs : List ℕ). rest ++ zs) (take-replicate (16 - length rest) n fill (omega arith))
+          ∙ ap (λ (k : ℕ). rest ++ replicate k fill) (sym left)
+          ∙ ap (λ (xs : List ℕ). xs ++ replicate (16 - length (take 16 rest)) fill) (sym chunk)
+      | inr full ↦
+          let none : 16 - length (take 16 rest) ≡ 0 = omega arith in
+          cut ∙ take-append-le 16 rest (replicate n fill) full
+          ∙ sym (append-nil (take 16 rest)) ∙ ap (λ (k : ℕ). take 16 rest ++ replicate k fill) (sym none)
+    ]
+
+-- a whole chunk has nothing behind it
+pub filled_whole : (bytes : List ℕ) (i fill : ℕ) → i * 16 + 16 ≤ length bytes → filled bytes i fill ≡ slice_chunk bytes 16 i
+filled_whole bytes i fill fits =
+    let size : length (slice_chunk bytes 16 i) ≡ 16 = omega (arith, length-take 16 (drop (i * 16) bytes), length-drop (i * 16) bytes) in
+    let none : 16 - length (slice_chunk bytes 16 i) ≡ 0 = omega arith in
+    ap (λ (k : ℕ). slice_chunk bytes 16 i ++ replicate k fill) none ∙ append-nil (slice_chunk bytes 16 i)
+
+-- ---- the padding of PKCS #7
 
 pub length-pad : (bytes : List ℕ) → length (pad bytes) ≡ length bytes + 16 - length bytes % 16
 unfolding pad
@@ -13,34 +53,35 @@ length-pad bytes = omega (arith, length-append bytes (replicate (padding bytes) 
 pub count_of_pad : (bytes : List ℕ) → div_ceil (length (pad bytes)) 16 ≡ length bytes / 16 + 1
 count_of_pad bytes = omega (arith, length-pad bytes)
 
-chunk_of_pad : (bytes : List ℕ) (i size : ℕ) → i ≤ length bytes / 16 → size ≡ min (length bytes - i * 16) 16
-    → slice_chunk (pad bytes) 16 i ≡ take size (drop (i * 16) bytes) ++ replicate (16 - size) (16 - size)
+pub chunk_of_pad : (bytes : List ℕ) (i : ℕ) → i ≤ length bytes / 16 → slice_chunk (pad bytes) 16 i ≡ filled bytes i (16 - length bytes % 16)
 unfolding pad
-chunk_of_pad bytes i size le is =
-    let rest : List ℕ = drop (i * 16) bytes in
-    let fill : List ℕ = replicate (padding bytes) (padding bytes) in
-    let long : length rest ≡ length bytes - i * 16 = length-drop (i * 16) bytes in
-    let cut : slice_chunk (pad bytes) 16 i ≡ take 16 (rest ++ fill) = ap (take 16) (drop-append-le (i * 16) bytes fill (omega arith)) in
-    elim (cases_lt size 16) [
-      | inl less ↦
-          let filled : padding bytes ≡ 16 - size = omega arith in
-          let whole : length (rest ++ fill) ≡ 16 = omega (arith, length-append rest fill, length-replicate (padding bytes) (padding bytes)) in
-          let all : take size rest ≡ rest = take_all size rest (omega arith) in
-          cut ∙ take_all 16 (rest ++ fill) (omega arith) ∙ rw (filled, all) refl
-      | inr full ↦
-          let e : size ≡ 16 = omega arith in
-          cut ∙ take-append-le 16 rest fill (omega arith) ∙ rw e (sym (append-nil (take 16 rest)))
-    ]
+chunk_of_pad bytes i le = chunk_of_filled bytes i (padding bytes) (padding bytes) (omega arith) (omega arith)
 
--- the block that is filled with the padding first, and then with what is left of the data
-pub padded_block_is : (bytes block : List ℕ) (i size : ℕ) → i ≤ length bytes / 16
-    → size ≡ min (length (take (length bytes - 16 * i) (drop (16 * i) bytes))) 16
-    → block ≡ take size (take (length bytes - 16 * i) (drop (16 * i) bytes))
-    → block ++ drop size (replicate 16 (16 - size)) ≡ slice_chunk (pad bytes) 16 i
-padded_block_is bytes block i size le is taken =
-    let at : 16 * i ≡ i * 16 = omega arith in
-    let long : length (drop (16 * i) bytes) ≡ length bytes - 16 * i = length-drop (16 * i) bytes in
-    let rest : take (length bytes - 16 * i) (drop (16 * i) bytes) ≡ drop (16 * i) bytes = take_all (length bytes - 16 * i) (drop (16 * i) bytes) (omega arith) in
-    let sized : size ≡ min (length bytes - i * 16) 16 = is ∙ ap (λ (xs : List ℕ). min (length xs) 16) rest ∙ omega arith in
-    let front : block ≡ take size (drop (i * 16) bytes) = taken ∙ ap (take size) rest ∙ ap (λ (k : ℕ). take size (drop k bytes)) at in
-    rw (front, drop-replicate size 16 (16 - size)) (sym (chunk_of_pad bytes i size le sized))
+-- ---- zeros
+
+abbrev pub zeros_behind : List ℕ → ℕ
+zeros_behind bytes = next_multiple_of (length bytes) 16 - length bytes
+
+zeros_fill : (n : ℕ) → n + (next_multiple_of n 16 - n) ≡ div_ceil n 16 * 16
+zeros_fill n = omega arith
+
+pub length-zero_padded : (bytes : List ℕ) → length (zero_padded bytes) ≡ div_ceil (length bytes) 16 * 16
+unfolding zero_padded
+length-zero_padded bytes =
+    length-append bytes (replicate (zeros_behind bytes) 0)
+    ∙ ap (λ (k : ℕ). length bytes + k) (length-replicate (zeros_behind bytes) 0)
+    ∙ zeros_fill (length bytes)
+
+pub count_of_zero_padded : (bytes : List ℕ) → div_ceil (length (zero_padded bytes)) 16 ≡ div_ceil (length bytes) 16
+count_of_zero_padded bytes = omega (arith, length-zero_padded bytes)
+
+pub chunk_of_zero_padded : (bytes : List ℕ) (i : ℕ) → i < div_ceil (length bytes) 16 → slice_chunk (zero_padded bytes) 16 i ≡ filled bytes i 0
+unfolding zero_padded
+chunk_of_zero_padded bytes i lt = chunk_of_filled bytes i (zeros_behind bytes) 0 (omega arith) (omega (arith, zeros_fill (length bytes)))
+
+-- whole blocks have no zeros behind them
+pub zero_padded_whole : (bytes : List ℕ) (n : ℕ) → length bytes ≡ n * 16 → zero_padded bytes ≡ bytes
+unfolding zero_padded
+zero_padded_whole bytes n e =
+    let none : zeros_behind bytes ≡ 0 = omega (arith, zeros_fill (length bytes)) in
+    ap (λ (k : ℕ). bytes ++ replicate k 0) none ∙ append-nil bytes

@@ -1,3 +1,5 @@
 pub mod Blocks
 pub mod Padding
 pub mod Cbc
+pub mod Ghash
+pub mod Gcm

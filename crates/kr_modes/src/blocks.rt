@@ -1,11 +1,10 @@
 // Blocks of 16 bytes, taken from slices.
 
-ghost use Rattle.std.specs.Prelude.{◌≡◌, ◌≤◌, ◌/◌, length};
+ghost use Rattle.std.specs.Prelude.{◌≡◌, ◌≤◌, ◌-◌, ◌*◌, ◌++◌, length, replicate};
 ghost use Rattle.std.specs.Fork.{slice_chunk};
 ghost use Rattle.kr_modes.specs.Blocks.{xor};
-ghost use Rattle.kr_modes.specs.Padding.{pad};
 
-/// A block of AES.
+/// The length of a block of AES in bytes.
 pub(crate) const BLOCK: usize = 16;
 
 /// Puts the exclusive or of both in the place of `block`.
@@ -17,14 +16,15 @@ pub(crate) fn add(block: &mut [u8; BLOCK], other: &[u8; BLOCK])
     }
 }
 
-/// Block `index` of the padded data.
-pub(crate) fn padded_block(plain: &[u8], index: usize) -> [u8; BLOCK]
-    requires { index ≤ length plain.now / 16 }
-    ensures { result ≡ slice_chunk (pad plain.now) 16 index }
+/// Block `index` of the bytes, with `fill` behind it where they end before it does.
+pub(crate) fn filled_block(bytes: &[u8], index: usize, fill: u8) -> [u8; BLOCK]
+    requires { 16 * index ≤ length bytes.now }
+    ensures { let chunk = slice_chunk bytes.now 16 index in
+        result ≡ chunk ++ replicate (16 - length chunk) fill }
 {
-    let rest = &plain[BLOCK * index..];
+    let rest = &bytes[BLOCK * index..];
     let size = rest.len().min(BLOCK);
-    let mut block = [(BLOCK - size) as u8; BLOCK];
+    let mut block = [fill; BLOCK];
     block[..size].copy_from_slice(&rest[..size]);
     block
 }

@@ -1,10 +1,27 @@
-//! Modes of operation for AES: CBC (SP 800-38A) with the padding of PKCS #7. Nothing is allocated:
-//! the calls work in the lent buffers.
+//! Modes of operation for AES: CBC (SP 800-38A) with the padding of PKCS #7, and GCM (SP 800-38D).
+//! Nothing is allocated: the calls work in the lent buffers.
 #![tactic(auto)]
 
 mod blocks;
 mod chaining;
+mod counting;
+mod hashing;
+pub mod laws;
 #[cfg(test)]
 mod tests;
 
-pub use chaining::{cbc_length, cbc_seal};
+pub use chaining::{cbc_length, cbc_seal, cbc_unseal};
+pub use counting::{gcm_seal, gcm_unseal};
+
+/// Why a sealed value isn't opened.
+#[derive(Clone, Copy, PartialEq, Eq, Debug)]
+pub enum ModeNo {
+    /// Too short: there is no block behind the IV, or no tag.
+    Short,
+    /// No whole blocks.
+    BadBlock,
+    /// What the blocks decrypt to is no padded data.
+    BadPadding,
+    /// The tag isn't the one of the ciphertext and the associated data.
+    BadTag,
+}

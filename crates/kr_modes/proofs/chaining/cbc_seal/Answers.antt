@@ -5,7 +5,7 @@ use Rattle.kr_aes.proofs.Blocks.{length-cipher}
 use Rattle.kr_modes.specs.Blocks.{xor}
 use Rattle.kr_modes.specs.Padding.{pad}
 use Rattle.kr_modes.proofs.Chains.{chained_all, chained_more, chained_none, length-written}
-use Rattle.kr_modes.proofs.Paddings.{count_of_pad}
+use Rattle.kr_modes.proofs.Paddings.{chunk_of_pad, count_of_pad}
 use Rattle.kr_modes.proofs.chaining.cbc_seal.Goals as goal
 
 pub loop-index-init : goal.loop-index-init
@@ -23,7 +23,7 @@ loop-index-preserved c =
     let k : 16 * l.index + 16 - 16 * l.index ≡ 16 = omega arith in
     let fits : 16 * l.index + 16 ≤ length l.out = omega (arith, l.invariant.same_length, c.requires.size) in
     let block : next ≡ encipher (xor (slice_chunk text 16 l.index) l.previous) =
-    c.encrypt_block.ensures ∙ ap encipher (c.add.ensures ∙ ap (λ (b : List ℕ). xor b l.previous) c.padded_block-block.ensures) in
+    c.encrypt_block.ensures ∙ ap encipher (c.add.ensures ∙ ap (λ (b : List ℕ). xor b l.previous) (c.filled_block-block.ensures ∙ sym (chunk_of_pad c.args.plain.now l.index (omega arith)))) in
     let long : length next ≡ 16 = ap length block ∙ length-cipher c.args.words.now c.args.rounds _ in
     rw (k, c.copy_from_slice.ensures.after) record {
       same_length = length-written l.out next (16 * l.index) 16 fits long ∙ l.invariant.same_length;

@@ -1,0 +1,108 @@
+-- The key stream, block by block.
+use Rattle.std.proofs.Common.{◌≡◌, ℕ, zero, suc, ◌+◌, ◌*◌, ◌-◌, ◌≤◌, List, [], ◌∷◌, ◌++◌, length, take, drop, replicate, min, refl, sym, ap, ◌∙◌, arith, add-one, rules}
+use Rattle.std.proofs.lemmas.List.{append-nil, drop_all, drop_at, length-append, length-drop, length-take, map-id, places, take_all, take_at, take_min}
+use Rattle.std.proofs.lemmas.List.Concat.{flat_map-append}
+use Rattle.std.proofs.lemmas.List.FromFn.{map-range_with_len_more}
+use Rattle.std.proofs.lemmas.Slice.{take-put_mid}
+use Rattle.std.specs.Int.{div_ceil}
+use Rattle.std.specs.List.{flat_map, range_with_len}
+use borrow.Rule.Slice.PartMut.{put_mid}
+use Rattle.kr_modes.specs.Blocks.{xor}
+use Rattle.kr_modes.specs.Gcm.{gctr, counter_block, key_stream}
+use Rattle.kr_modes.proofs.Paddings.{filled}
+use Rattle.kr_modes.proofs.Xors.{length-xor, take-xor, xor-append, xor_cut, xor_nothing}
+
+range_with_len-more : (n : ℕ) → range_with_len 1 (n + 1) ≡ range_with_len 1 n ++ (n + 1) ∷ []
+range_with_len-more n =
+    sym (map-id (range_with_len 1 (n + 1))) ∙ map-range_with_len_more (λ k. k) 1 n (n + 1) (omega arith) ∙ ap (λ (ks : List ℕ). ks ++ (n + 1) ∷ []) (map-id (range_with_len 1 n))
+
+-- a function whose values have 16 bytes each
+abbrev pub GivesBlocks : (List ℕ → List ℕ) → Type 0
+GivesBlocks encipher = (block : List ℕ) → length (encipher block) ≡ 16
+
+key_stream-more : (encipher : List ℕ → List ℕ) (nonce : List ℕ) (n : ℕ)
+    → key_stream encipher nonce (n + 1) ≡ key_stream encipher nonce n ++ encipher (counter_block nonce (n + 1))
+unfolding key_stream
+key_stream-more encipher nonce n =
+    let f : ℕ → List ℕ = λ i. encipher (counter_block nonce i) in
+    ap (flat_map f) (range_with_len-more n) ∙ flat_map-append f (range_with_len 1 n) ((n + 1) ∷ [])
+    ∙ ap (λ (b : List ℕ). flat_map f (range_with_len 1 n) ++ b) (append-nil (f (n + 1)))
+
+pub length-key_stream : (encipher : List ℕ → List ℕ) (nonce : List ℕ) → GivesBlocks encipher → (n : ℕ) → length (key_stream encipher nonce n) ≡ 16 * n
+unfolding key_stream
+length-key_stream encipher nonce gives zero = refl
+length-key_stream encipher nonce gives (suc n) =
+    let before = length-key_stream encipher nonce gives n in
+    let more : key_stream encipher nonce (suc n) ≡ key_stream encipher nonce n ++ encipher (counter_block nonce (suc n)) =
+    rw add-one at (key_stream-more encipher nonce n) in
+    ap length more
+    ∙ omega (arith, before, gives (counter_block nonce (suc n)), length-append (key_stream encipher nonce n) (encipher (counter_block nonce (suc n))))
+
+pub length-gctr : (encipher : List ℕ → List ℕ) (nonce bytes : List ℕ) → GivesBlocks encipher → length (gctr encipher nonce bytes) ≡ length bytes
+unfolding gctr
+length-gctr encipher nonce bytes gives =
+    let n : ℕ = div_ceil (length bytes) 16 in
+    omega (arith, length-xor bytes (key_stream encipher nonce n), length-key_stream encipher nonce gives n)
+
+-- nothing is written yet
+pub stream_none : (encipher : List ℕ → List ℕ) (nonce bytes : List ℕ) → [] ≡ xor bytes (key_stream encipher nonce 0)
+unfolding key_stream
+stream_none encipher nonce bytes = sym (xor_nothing bytes)
+
+-- a write of ys from a up to end
+length-put_mid : (xs ys : List ℕ) (a end : ℕ) → a ≤ end → end ≤ length xs → length ys ≡ end - a → length (put_mid a (end - a) xs ys) ≡ length xs
+length-put_mid xs ys a end ordered within long = search (rules, places)
+
+written_at : (xs ys : List ℕ) (a end m : ℕ) → a ≤ end → end ≡ min m (length xs) → length ys ≡ end - a → take m (put_mid a (end - a) xs ys) ≡ take a xs ++ ys
+written_at xs ys a end m ordered ends long =
+    let zs : List ℕ = put_mid a (end - a) xs ys in
+    let same : length zs ≡ length xs = length-put_mid xs ys a end ordered (omega arith) long in
+    sym (take_min m zs) ∙ ap (λ (k : ℕ). take k zs) (ap (min m) same ∙ sym ends) ∙ take-put_mid a (end - a) xs ys end (omega arith) (omega arith)
+
+-- a chunk xor a block, without what was filled up
+cut_block : (bytes key : List ℕ) (i : ℕ) → length key ≡ 16
+    → take (min (length bytes - i * 16) 16) (xor (filled bytes i 0) key) ≡ xor (drop (i * 16) bytes) key
+cut_block bytes key i long =
+    let rest : List ℕ = drop (i * 16) bytes in
+    let m : ℕ = min (length bytes - i * 16) 16 in
+    let size : length (take 16 rest) ≡ m = omega (arith, length-take 16 rest, length-drop (i * 16) bytes) in
+    take-xor m (filled bytes i 0) key
+    ∙ ap (λ (xs : List ℕ). xor xs key) (take_at (take 16 rest) (replicate (16 - length (take 16 rest)) 0) m size)
+    ∙ sym (xor_cut 16 rest key (omega arith))
+
+-- one more block is written
+pub gctr_more : (encipher : List ℕ → List ℕ) (nonce bytes out block ys : List ℕ) (i end : ℕ) → GivesBlocks encipher
+    → 16 * i ≤ length bytes → length out ≡ length bytes → end ≡ min (length bytes) (16 * i + 16)
+    → block ≡ xor (filled bytes i 0) (encipher (counter_block nonce (i + 1))) → ys ≡ take (end - 16 * i) block
+    → take (16 * i) out ≡ xor bytes (key_stream encipher nonce i)
+    → (length (put_mid (16 * i) (end - 16 * i) out ys) ≡ length out) × (take (16 * (i + 1)) (put_mid (16 * i) (end - 16 * i) out ys) ≡ xor bytes (key_stream encipher nonce (i + 1)))
+gctr_more encipher nonce bytes out block ys i end gives within same ends is cut before =
+    let key : List ℕ = encipher (counter_block nonce (i + 1)) in
+    let at : 16 * i ≡ i * 16 = omega arith in
+    let size : end - 16 * i ≡ min (length bytes - i * 16) 16 = omega arith in
+    let stream : length (key_stream encipher nonce i) ≡ 16 * i = length-key_stream encipher nonce gives i in
+    let part : ys ≡ xor (drop (16 * i) bytes) key =
+    cut ∙ (λ j. take (size j) (is j)) ∙ cut_block bytes key i (gives (counter_block nonce (i + 1))) ∙ ap (λ (k : ℕ). xor (drop k bytes) key) (sym at) in
+    let long : length ys ≡ end - 16 * i =
+    ap length part ∙ omega (arith, length-xor (drop (16 * i) bytes) key, length-drop (16 * i) bytes, gives (counter_block nonce (i + 1))) in
+    let longer : xor bytes (key_stream encipher nonce (i + 1)) ≡ xor bytes (key_stream encipher nonce i) ++ xor (drop (16 * i) bytes) key =
+    ap (xor bytes) (key_stream-more encipher nonce i)
+    ∙ xor-append bytes (key_stream encipher nonce i) key (omega arith)
+    ∙ ap (λ (k : ℕ). xor bytes (key_stream encipher nonce i) ++ xor (drop k bytes) key) stream in (
+      length-put_mid out ys (16 * i) end (omega arith) (omega arith) long,
+      written_at out ys (16 * i) end (16 * (i + 1)) (omega arith) (omega arith) long ∙ (λ j. before j ++ part j) ∙ sym longer,
+    )
+
+-- all is written
+pub gctr_all : (encipher : List ℕ → List ℕ) (nonce bytes out : List ℕ) (i : ℕ) → i ≡ div_ceil (length bytes) 16 → length out ≡ length bytes
+    → take (16 * i) out ≡ xor bytes (key_stream encipher nonce i) → out ≡ gctr encipher nonce bytes
+unfolding gctr
+gctr_all encipher nonce bytes out i e same before =
+    sym (take_all (16 * i) out (omega arith)) ∙ before ∙ ap (λ (n : ℕ). xor bytes (key_stream encipher nonce n)) e
+
+-- a write over all that follows xs
+pub put_end : (xs zs ys : List ℕ) (a k : ℕ) → length xs ≡ a → length zs ≤ k → put_mid a k (xs ++ zs) ys ≡ xs ++ ys
+put_end xs zs ys a k size most =
+    let front : take a (xs ++ zs) ≡ xs = take_at xs zs a size in
+    let rest : drop k (drop a (xs ++ zs)) ≡ [] = ap (drop k) (drop_at xs zs a size) ∙ drop_all k zs most in
+    (λ i. front i ++ (ys ++ rest i)) ∙ ap (λ (s : List ℕ). xs ++ s) (append-nil ys)
