@@ -1,0 +1,65 @@
+-- How bytes and outcomes are written.
+use Rattle.std.specs.Prelude.{◌≡◌, ◌≢◌, ℕ, List, [], ◌∷◌, codes, ◌⊎◌, Ok}
+use Rattle.std.specs.List.{join_with_byte}
+use Rattle.hex.specs.Hex.{IsBytes, decode_of, encode_lower}
+use Rattle.kr_modes.specs.declared.ModeNo.{ModeNo}
+use Rattle.kr_modes.specs.declared.ModeNo.TheVariants.{Short, BadBlock, BadPadding, BadTag}
+use Rattle.kr_vectors.specs.declared.case.Case.{Case}
+use Rattle.kr_vectors.specs.declared.case.Operation.{Operation}
+use Rattle.kr_vectors.specs.declared.case.Operation.TheVariants.{Encrypt, Decrypt, CbcSeal, CbcUnseal, GcmSeal, GcmUnseal}
+use Rattle.kr_vectors.specs.declared.outcome.Outcome.{Outcome}
+use Rattle.kr_vectors.specs.declared.outcome.Outcome.TheVariants.{Bytes, KeyLength, Refused}
+
+-- a word stands for the bytes: in hex, and by a dash where there are none
+abbrev pub StandsFor : List ℕ → List ℕ → Type 0
+StandsFor word bytes = ((word ≡ codes "-") × (bytes ≡ [])) ⊎ ((word ≢ []) × (decode_of word ≡ Ok bytes))
+
+-- words stand for strings of bytes, one for one
+abbrev pub StandFor : List (List ℕ) → List (List ℕ) → Type 0
+StandFor [] [] = Unit
+StandFor [] (bytes ∷ rest) = ⊥
+StandFor (word ∷ words) [] = ⊥
+StandFor (word ∷ words) (bytes ∷ rest) = StandsFor word bytes × StandFor words rest
+
+-- a name and the words behind the key ask for an operation
+abbrev pub AskFor : List ℕ → List (List ℕ) → Operation → Type 0
+AskFor name words (Encrypt block) = (name ≡ codes "aes") × StandFor words (block ∷ [])
+AskFor name words (Decrypt block) = (name ≡ codes "unaes") × StandFor words (block ∷ [])
+AskFor name words (CbcSeal iv plain) = (name ≡ codes "cbc") × StandFor words (iv ∷ plain.bytes.items ∷ [])
+AskFor name words (CbcUnseal body) = (name ≡ codes "uncbc") × StandFor words (body.bytes.items ∷ [])
+AskFor name words (GcmSeal nonce aad plain) =
+    (name ≡ codes "gcm") × StandFor words (nonce ∷ aad.bytes.items ∷ plain.bytes.items ∷ [])
+AskFor name words (GcmUnseal nonce aad body) =
+    (name ≡ codes "ungcm") × StandFor words (nonce ∷ aad.bytes.items ∷ body.bytes.items ∷ [])
+
+-- the words of a line ask for a case: a name, the key and the others
+abbrev pub WordsAskFor : List (List ℕ) → Case → Type 0
+WordsAskFor [] case = ⊥
+WordsAskFor (name ∷ []) case = ⊥
+WordsAskFor (name ∷ key ∷ words) case = StandsFor key case.key.bytes.items × AskFor name words case.operation
+
+-- a line asks for a case: words that do have one space between each two
+abbrev pub Asks : List ℕ → Case → Type 0
+Asks line case = (words : List (List ℕ)) × (line ≡ join_with_byte 32 words) × WordsAskFor words case
+
+-- the word for bytes, in lower case
+abbrev pub word_of : List ℕ → List ℕ
+word_of [] = codes "-"
+word_of (byte ∷ rest) = encode_lower (byte ∷ rest)
+
+abbrev pub name_of : ModeNo → List ℕ
+name_of Short = codes "Short"
+name_of BadBlock = codes "BadBlock"
+name_of BadPadding = codes "BadPadding"
+name_of BadTag = codes "BadTag"
+
+-- what is printed for an outcome
+abbrev pub printed : Outcome → List ℕ
+printed (Bytes bytes) = word_of bytes.items
+printed KeyLength = codes "KeyLength"
+printed (Refused why) = name_of why
+
+-- ---- a law for a reader: the word that is printed for bytes stands for them where it is read
+
+abbrev pub WordStandsForBytes : Type 0
+WordStandsForBytes = (bytes : List ℕ) → IsBytes bytes → StandsFor (word_of bytes) bytes

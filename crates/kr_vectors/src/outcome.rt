@@ -1,0 +1,39 @@
+ghost use Rattle.std.specs.Prelude.{◌≡◌, IfOk, string_bytes};
+ghost use Rattle.kr_vectors.specs.Words.{name_of, printed};
+
+use kr_modes::ModeNo;
+use std::alloc::{AllocError, Global};
+
+/// What a case comes to.
+#[derive(Drop)]
+pub enum Outcome {
+    Bytes(Vec<u8>),
+    /// The key hasn't 16, 24 or 32 bytes.
+    KeyLength,
+    Refused(ModeNo),
+}
+
+impl Outcome {
+    /// The bytes in hex, or `-` where there are none, or the refusal's name.
+    pub fn text(&self, alloc: Global) -> Result<String, AllocError>
+        ensures { IfOk result (λ text. string_bytes text ≡ printed self.now) }
+    {
+        match self {
+            Outcome::Bytes(bytes) if bytes.is_empty() => "-".to_string(alloc),
+            Outcome::Bytes(bytes) => hex::encode(alloc, bytes.as_slice()),
+            Outcome::KeyLength => "KeyLength".to_string(alloc),
+            Outcome::Refused(why) => name_of(*why).to_string(alloc),
+        }
+    }
+}
+
+fn name_of(why: ModeNo) -> &'static str
+    ensures { result.now ≡ name_of why }
+{
+    match why {
+        ModeNo::Short => "Short",
+        ModeNo::BadBlock => "BadBlock",
+        ModeNo::BadPadding => "BadPadding",
+        ModeNo::BadTag => "BadTag",
+    }
+}

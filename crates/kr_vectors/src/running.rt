@@ -1,0 +1,172 @@
+ghost use Rattle.std.specs.Prelude.{◌≡◌, length, IfOk};
+ghost use Rattle.kr_aes.specs.Cipher.{cipher};
+ghost use Rattle.kr_aes.specs.InverseCipher.{inverse_cipher};
+ghost use Rattle.kr_aes.specs.KeyExpansion.{IsKeyLength, IsKeyOf, IsSchedule, padded_schedule};
+ghost use Rattle.kr_modes.specs.Cbc.{cbc, cbc_opened};
+ghost use Rattle.kr_modes.specs.Gcm.{gcm, gcm_opened};
+ghost use Rattle.kr_modes.specs.Padding.{pad};
+ghost use Rattle.kr_vectors.specs.Answers.{Tells, answer};
+
+use crate::case::{Case, Operand, Operation};
+use crate::outcome::Outcome;
+use kr_aes::Rounds;
+use std::alloc::{AllocError, Global};
+
+/// Runs a case.
+pub fn outcome(alloc: Global, case: &Case) -> Result<Outcome, AllocError>
+    ensures key_length { IfOk result (λ outcome.
+        ¬ IsKeyLength (length case.now.key.bytes.items) → outcome ≡ Outcome.KeyLength) }
+    ensures given { IfOk result (λ outcome. (rounds : Rounds)
+        → IsKeyOf (length case.now.key.bytes.items) rounds
+        → Tells outcome (answer (padded_schedule case.now.key.bytes.items) rounds case.now.operation)) }
+{
+    let mut words = [0; 60];
+    match kr_aes::expand(case.key.bytes.as_slice(), &mut words) {
+        Ok(rounds) => under_key(alloc, &words, rounds, &case.operation),
+        Err(_) => Ok(Outcome::KeyLength),
+    }
+}
+
+fn under_key(
+    alloc: Global,
+    words: &[u32; 60],
+    rounds: Rounds,
+    operation: &Operation,
+) -> Result<Outcome, AllocError>
+    requires { IsSchedule words.now rounds }
+    ensures { IfOk result (λ outcome. Tells outcome (answer words.now rounds operation.now)) }
+{
+    match operation {
+        Operation::Encrypt { block } => encrypt(alloc, words, rounds, block),
+        Operation::Decrypt { block } => decrypt(alloc, words, rounds, block),
+        Operation::CbcSeal { iv, plain } => cbc_seal(alloc, words, rounds, iv, plain),
+        Operation::CbcUnseal { body } => cbc_unseal(alloc, words, rounds, body),
+        Operation::GcmSeal { nonce, aad, plain } => gcm_seal(
+            alloc, words, rounds, nonce, aad, plain,
+        ),
+        Operation::GcmUnseal { nonce, aad, body } => gcm_unseal(
+            alloc, words, rounds, nonce, aad, body,
+        ),
+    }
+}
+
+fn encrypt(
+    alloc: Global,
+    words: &[u32; 60],
+    rounds: Rounds,
+    block: &[u8; 16],
+) -> Result<Outcome, AllocError>
+    requires { IsSchedule words.now rounds }
+    ensures { IfOk result (λ outcome. Tells outcome (Ok (cipher words.now rounds block.now))) }
+{
+    let mut block = *block;
+    kr_aes::encrypt_block(words, rounds, &mut block);
+    Ok(Outcome::Bytes(block.to_vec(alloc)?))
+}
+
+fn decrypt(
+    alloc: Global,
+    words: &[u32; 60],
+    rounds: Rounds,
+    block: &[u8; 16],
+) -> Result<Outcome, AllocError>
+    requires { IsSchedule words.now rounds }
+    ensures { IfOk result (λ outcome. Tells outcome (Ok (inverse_cipher words.now rounds block.now))) }
+{
+    let mut block = *block;
+    kr_aes::decrypt_block(words, rounds, &mut block);
+    Ok(Outcome::Bytes(block.to_vec(alloc)?))
+}
+
+fn cbc_seal(
+    alloc: Global,
+    words: &[u32; 60],
+    rounds: Rounds,
+    iv: &[u8; 16],
+    plain: &Operand,
+) -> Result<Outcome, AllocError>
+    requires { IsSchedule words.now rounds }
+    ensures { IfOk result (λ outcome. Tells outcome
+        (Ok (cbc (cipher words.now rounds) iv.now (pad plain.now.bytes.items)))) }
+{
+    let plain = plain.bytes.as_slice();
+    let mut out = vec![in alloc; 0; kr_modes::cbc_length(plain.len())]?;
+    kr_modes::cbc_seal(words, rounds, iv, plain, out.as_mut_slice());
+    Ok(Outcome::Bytes(out))
+}
+
+fn cbc_unseal(
+    alloc: Global,
+    words: &[u32; 60],
+    rounds: Rounds,
+    body: &Operand,
+) -> Result<Outcome, AllocError>
+    requires { IsSchedule words.now rounds }
+    ensures { IfOk result (λ outcome. Tells outcome
+        (cbc_opened (inverse_cipher words.now rounds) body.now.bytes.items)) }
+{
+    let body = body.bytes.as_slice();
+    let mut out = vec![in alloc; 0; body.len()]?;
+    match kr_modes::cbc_unseal(words, rounds, body, out.as_mut_slice()) {
+        Ok(length) => {
+            out.truncate(length);
+            Ok(Outcome::Bytes(out))
+        }
+        Err(why) => Ok(Outcome::Refused(why)),
+    }
+}
+
+fn gcm_seal(
+    alloc: Global,
+    words: &[u32; 60],
+    rounds: Rounds,
+    nonce: &[u8; 12],
+    aad: &Operand,
+    plain: &Operand,
+) -> Result<Outcome, AllocError>
+    requires { IsSchedule words.now rounds }
+    ensures { IfOk result (λ outcome. Tells outcome
+        (Ok (gcm (cipher words.now rounds) nonce.now aad.now.bytes.items plain.now.bytes.items))) }
+{
+    let plain = plain.bytes.as_slice();
+    let mut out = vec![in alloc; 0; plain.len() + 16]?;
+    kr_modes::gcm_seal(
+        words,
+        rounds,
+        nonce,
+        aad.bytes.as_slice(),
+        plain,
+        out.as_mut_slice(),
+    );
+    Ok(Outcome::Bytes(out))
+}
+
+fn gcm_unseal(
+    alloc: Global,
+    words: &[u32; 60],
+    rounds: Rounds,
+    nonce: &[u8; 12],
+    aad: &Operand,
+    body: &Operand,
+) -> Result<Outcome, AllocError>
+    requires { IsSchedule words.now rounds }
+    ensures { IfOk result (λ outcome. Tells outcome
+        (gcm_opened (cipher words.now rounds) nonce.now aad.now.bytes.items body.now.bytes.items)) }
+{
+    let body = body.bytes.as_slice();
+    let mut out = vec![in alloc; 0; body.len()]?;
+    match kr_modes::gcm_unseal(
+        words,
+        rounds,
+        nonce,
+        aad.bytes.as_slice(),
+        body,
+        out.as_mut_slice(),
+    ) {
+        Ok(length) => {
+            out.truncate(length);
+            Ok(Outcome::Bytes(out))
+        }
+        Err(why) => Ok(Outcome::Refused(why)),
+    }
+}
