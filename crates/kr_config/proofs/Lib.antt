@@ -1,0 +1,11 @@
+pub mod FirstLists
+pub mod Places
+pub mod ClassTables
+pub mod Orders
+pub mod Trees
+pub mod Inversions
+pub mod KeptPatterns
+pub mod KeptProviders
+pub mod KeptRows
+pub mod EntryLoop
+pub mod WholeFiles

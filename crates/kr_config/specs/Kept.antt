@@ -1,0 +1,47 @@
+-- What settings keep.
+use Rattle.std.specs.Prelude.{ℕ, ◌&&◌, Bool, true, false, not, List, [], ◌∷◌, length, nat_le, map, count_by}
+use Rattle.std.specs.List.{list_all, sum_by}
+use Rattle.kr_config.specs.declared.pattern.Pattern.{Pattern}
+use Rattle.kr_config.specs.declared.who.Who.{Who}
+use Rattle.kr_config.specs.declared.settings.Entry.{Entry}
+use Rattle.kr_config.specs.Patterns.{is_pattern, clash}
+use Rattle.kr_config.specs.Providers.{is_provider, is_key, is_kms, rivals}
+
+-- an entry as its two lists
+pub record Row : Type 0 where
+  pub patterns : List Pattern
+  pub providers : List Who
+
+abbrev pub row_of : Entry → Row
+row_of entry = record { patterns = entry.patterns.0; providers = entry.providers.0 }
+
+abbrev pub rows_of : List Entry → List Row
+rows_of entries = map row_of entries
+
+-- no two items of a list clash
+abbrev pub apart : {T : Type 0} → (T → T → Bool) → List T → Bool
+apart clashes [] = true
+apart clashes (x ∷ xs) = list_all (λ y. not (clashes x y)) xs && apart clashes xs
+
+abbrev pub keeps_patterns : List Pattern → Bool
+keeps_patterns patterns = nat_le 1 (length patterns) && list_all is_pattern patterns && apart clash patterns
+
+abbrev pub keeps_providers : List Who → Bool
+keeps_providers providers = nat_le 1 (length providers) && list_all is_provider providers && apart rivals providers
+
+abbrev pub keeps_row : Row → Bool
+keeps_row row = keeps_patterns row.patterns && keeps_providers row.providers
+
+abbrev pub patterns_in : List Row → ℕ
+patterns_in rows = sum_by (λ row. length row.patterns) rows
+
+abbrev pub keys_in : List Row → ℕ
+keys_in rows = sum_by (λ row. count_by is_key row.providers) rows
+
+abbrev pub kms_in : List Row → ℕ
+kms_in rows = sum_by (λ row. count_by is_kms row.providers) rows
+
+-- 1 to 64 entries, each of which keeps the rules; in all at most 256 patterns, 64 keys and 16 plugins
+unfoldable pub keeps : List Row → Bool
+keeps rows = nat_le 1 (length rows) && nat_le (length rows) 64 && list_all keeps_row rows
+    && nat_le (patterns_in rows) 256 && nat_le (keys_in rows) 64 && nat_le (kms_in rows) 16

@@ -1,0 +1,64 @@
+-- How a call's answer stands to what is meant: want of memory may take the place of any other answer.
+use Rattle.std.specs.Prelude.{◌≡◌, IsOk, ℕ, ⊤, List, Option, None, Some, Result, Ok, Err, map}
+use denote.Ref.{Bor}
+use Rattle.serde_json.specs.Data.{Data}
+use Rattle.serde_json.specs.View.{view}
+use Rattle.serde_json.specs.declared.value.Value.{Value}
+use Rattle.kr_config.specs.declared.refusal.ConfigNo.{ConfigNo}
+use Rattle.kr_config.specs.declared.refusal.ConfigErr.{ConfigErr}
+use Rattle.kr_config.specs.declared.refusal.ConfigErr.TheVariants.{No, NoMemory}
+use Rattle.kr_config.specs.declared.reading.JsonNo.{JsonNo}
+use Rattle.kr_config.specs.declared.reading.JsonNo.TheVariants.{Form}
+use Rattle.kr_config.specs.declared.reading.JsonNo.TheVariants as json
+use Rattle.kr_config.specs.declared.settings.Settings.{Settings}
+use Rattle.kr_config.specs.declared.settings.Entry.{Entry}
+use Rattle.kr_config.specs.Kept.{Row, row_of, rows_of}
+
+abbrev pub Reads : {T : Type 0} → Result T ConfigNo → Result T ConfigErr → Type 0
+Reads wanted (Ok x) = wanted ≡ Ok x
+Reads wanted (Err (No why)) = wanted ≡ Err why
+Reads wanted (Err NoMemory) = ⊤
+
+-- the settings of these entries
+abbrev pub ReadsSettings : Result (List Row) ConfigNo → Result Settings ConfigErr → Type 0
+ReadsSettings wanted (Ok settings) = wanted ≡ Ok (rows_of settings.entries.0)
+ReadsSettings wanted (Err (No why)) = wanted ≡ Err why
+ReadsSettings wanted (Err NoMemory) = ⊤
+
+-- a list that the call went on with is now the one that is meant
+abbrev pub ReadsInto : {T U : Type 0} → Result (List T) ConfigNo → List T → Result U ConfigErr → Type 0
+ReadsInto wanted new (Ok x) = wanted ≡ Ok new
+ReadsInto wanted new (Err (No why)) = wanted ≡ Err why
+ReadsInto wanted new (Err NoMemory) = ⊤
+
+-- a list, an entry and entries, as what they hold
+abbrev pub ReadsList : {T : Type 0} → Result (List T) ConfigNo → Result (List T × ℕ) ConfigErr → Type 0
+ReadsList wanted (Ok list) = wanted ≡ Ok list.0
+ReadsList wanted (Err (No why)) = wanted ≡ Err why
+ReadsList wanted (Err NoMemory) = ⊤
+
+abbrev pub ReadsEntry : Result Row ConfigNo → Result Entry ConfigErr → Type 0
+ReadsEntry wanted (Ok entry) = wanted ≡ Ok (row_of entry)
+ReadsEntry wanted (Err (No why)) = wanted ≡ Err why
+ReadsEntry wanted (Err NoMemory) = ⊤
+
+abbrev pub ReadsEntries : Result (List Row) ConfigNo → Result (List Entry × ℕ) ConfigErr → Type 0
+ReadsEntries wanted (Ok entries) = wanted ≡ Ok (rows_of entries.0)
+ReadsEntries wanted (Err (No why)) = wanted ≡ Err why
+ReadsEntries wanted (Err NoMemory) = ⊤
+
+-- the value of a text in JSON; `Form` exactly where there is none
+abbrev pub ReadsJson : Option Data → Result Value JsonNo → Type 0
+ReadsJson wanted (Ok value) = wanted ≡ Some (view value)
+ReadsJson wanted (Err Form) = wanted ≡ None
+ReadsJson wanted (Err json.NoMemory) = ⊤
+
+-- the values of a tree that are lent
+abbrev pub Lends : Result (List Data) ConfigNo → Result (Bor (List Value)) ConfigNo → Type 0
+Lends wanted (Ok values) = wanted ≡ Ok (map view values.now)
+Lends wanted (Err why) = wanted ≡ Err why
+
+-- a check that answers nothing where it passes
+abbrev pub Checks : {T U : Type 0} → Result T ConfigNo → Result U ConfigNo → Type 0
+Checks wanted (Ok x) = IsOk wanted
+Checks wanted (Err why) = wanted ≡ Err why

@@ -1,0 +1,149 @@
+ghost use Rattle.std.specs.Prelude.{◌≡◌, ◌≤◌, IfOk, Some, None, if◌then◌else◌};
+ghost use Rattle.std.specs.List.{list_any};
+ghost use Rattle.kr_base.specs.Rules.{is_resource};
+ghost use Rattle.kr_config.specs.declared.pattern.Pattern.TheVariants.{Exact};
+ghost use Rattle.serde_json.specs.View.{view};
+ghost use Rattle.kr_config.specs.Patterns.{same, overlap, is_group};
+ghost use Rattle.kr_config.specs.Walk.{star_pattern, pattern_of, place_pattern, pattern_step};
+ghost use Rattle.kr_config.specs.Reads.{ReadsInto};
+
+use crate::pattern::Pattern;
+use crate::refusal::{ConfigErr, ConfigNo};
+use kr_base::{List, NoMemory, Text, resource_ok};
+use serde_json::Value;
+use std::alloc::Global;
+
+/// The longest group: `*.` before it counts among the 253 bytes.
+const GROUP_LIMIT: usize = 251;
+
+/// Reads the pattern at number `i` of entry `e`, where earlier entries have `met` patterns, and puts it behind those that
+/// stand before it.
+#[tactic(auto, unfolding(crate::specs::Walk::pattern_step))]
+pub fn read_pattern(
+    alloc: Global,
+    met: usize,
+    e: u32,
+    i: u32,
+    before: &mut List<Pattern>,
+    value: &Value,
+) -> Result<(), ConfigErr>
+    requires { met ≤ 256 }
+    ensures { ReadsInto (pattern_step met e i before.old.0 (view value.now)) before.new.0 result }
+{
+    let Some(text) = value.as_str() else {
+        return Err(ConfigErr::No(ConfigNo {
+            code: 22,
+            first: e,
+            second: i,
+        }));
+    };
+    match pattern_of(alloc, text) {
+        Ok(Some(pattern)) => place_pattern(met, e, i, before, pattern),
+        Ok(None) => Err(ConfigErr::No(ConfigNo {
+            code: 35,
+            first: e,
+            second: i,
+        })),
+        Err(_) => Err(ConfigErr::NoMemory),
+    }
+}
+
+#[tactic(auto, unfolding(crate::specs::Walk::place_pattern))]
+fn place_pattern(
+    met: usize,
+    e: u32,
+    i: u32,
+    before: &mut List<Pattern>,
+    pattern: Pattern,
+) -> Result<(), ConfigErr>
+    requires { met ≤ 256 }
+    ensures { ReadsInto (place_pattern met e i before.old.0 pattern) before.new.0 result }
+{
+    if has_same(before.as_slice(), &pattern) {
+        return Err(ConfigErr::No(ConfigNo {
+            code: 36,
+            first: e,
+            second: i,
+        }));
+    }
+    if has_overlap(before.as_slice(), &pattern) {
+        return Err(ConfigErr::No(ConfigNo {
+            code: 37,
+            first: e,
+            second: i,
+        }));
+    }
+    if before.as_slice().len() >= 256 - met {
+        return Err(ConfigErr::No(ConfigNo {
+            code: 39,
+            first: 2,
+            second: 256,
+        }));
+    }
+    match before.push(pattern) {
+        Ok(()) => Ok(()),
+        Err(_) => Err(ConfigErr::NoMemory),
+    }
+}
+
+fn has_same(before: &[Pattern], pattern: &Pattern) -> bool
+    ensures { result ≡ list_any (λ earlier. same earlier pattern.now) before.now }
+{
+    before.iter().any(|earlier| earlier.is_same(pattern))
+}
+
+fn has_overlap(before: &[Pattern], pattern: &Pattern) -> bool
+    ensures { result ≡ list_any (λ earlier. overlap earlier pattern.now) before.now }
+{
+    before.iter().any(|earlier| earlier.overlaps(pattern))
+}
+
+/// The pattern that a text spells, or none.
+#[tactic(auto, unfolding(crate::specs::Walk::pattern_of))]
+fn pattern_of(alloc: Global, text: &str) -> Result<Option<Pattern>, NoMemory>
+    ensures { IfOk result (λ pattern. pattern ≡ pattern_of text.now) }
+{
+    match text.split_once('.') {
+        Some((first, group)) => if first == "*" {
+            star_pattern(alloc, group)
+        } else {
+            exact_pattern(alloc, text)
+        },
+        None => exact_pattern(alloc, text),
+    }
+}
+
+/// The pattern that a text behind `*.` spells.
+#[tactic(auto, unfolding(crate::specs::Walk::star_pattern))]
+fn star_pattern(alloc: Global, group: &str) -> Result<Option<Pattern>, NoMemory>
+    ensures { IfOk result (λ pattern. pattern ≡ star_pattern group.now) }
+{
+    if group == "*" {
+        return Ok(Some(Pattern::All));
+    }
+    if !group_ok(group) {
+        return Ok(None);
+    }
+    match Text::copy(alloc, group) {
+        Ok(group) => Ok(Some(Pattern::Group(group))),
+        Err(why) => Err(why),
+    }
+}
+
+fn exact_pattern(alloc: Global, text: &str) -> Result<Option<Pattern>, NoMemory>
+    ensures { IfOk result (λ pattern. pattern ≡ (if is_resource text.now then Some (Exact text.now) else None)) }
+{
+    if !resource_ok(text) {
+        return Ok(None);
+    }
+    match Text::copy(alloc, text) {
+        Ok(text) => Ok(Some(Pattern::Exact(text))),
+        Err(why) => Err(why),
+    }
+}
+
+fn group_ok(group: &str) -> bool
+    ensures { result ≡ is_group group.now }
+{
+    group.is_empty() || (group.len() <= GROUP_LIMIT && resource_ok(group))
+}

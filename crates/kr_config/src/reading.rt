@@ -1,0 +1,180 @@
+ghost use Rattle.std.specs.Prelude.{◌≡◌, count_by, map, []};
+ghost use Rattle.serde_json.specs.View.{view};
+ghost use Rattle.serde_json.specs.Read.{read};
+ghost use Rattle.kr_config.specs.Providers.{is_key, is_kms};
+ghost use Rattle.kr_config.specs.Walk.{walk, entry_step, config_in, begins_json, is_blank, text_rows, rows_in};
+ghost use Rattle.kr_config.specs.Reads.{ReadsEntries, ReadsSettings, ReadsJson};
+
+use crate::read_entry::read_entry;
+use crate::refusal::{ConfigErr, ConfigNo};
+use crate::settings::{Entry, Settings};
+use crate::tree::{has_text, is_mapping, named_list};
+use crate::who::Who;
+use kr_base::List;
+use serde_json::Value;
+use serde_json::error::Category;
+use std::alloc::Global;
+use std::str;
+
+/// Reads a configuration in JSON. Its walk goes over the whole, the entries in order, and in each the patterns and then
+/// the provider elements; the first breach decides. Members that no rule names are ignored.
+#[tactic(auto, unfolding(crate::specs::Walk::rows_in), using(crate::proofs::KeptRows::text_kept))]
+pub fn read(alloc: Global, bytes: &[u8]) -> Result<Settings, ConfigErr>
+    ensures { ReadsSettings (rows_in bytes.now) result }
+{
+    if !begins_json(bytes) {
+        return Err(ConfigErr::No(ConfigNo {
+            code: 21,
+            first: 0,
+            second: 6,
+        }));
+    }
+    let text = match str::from_utf8(bytes) {
+        Ok(text) => text,
+        Err(_) => return Err(ConfigErr::No(ConfigNo {
+            code: 20,
+            first: 0,
+            second: 0,
+        })),
+    };
+    let entries = match read_text(alloc, text) {
+        Ok(entries) => entries,
+        Err(why) => return Err(why),
+    };
+    match Settings::of(alloc, entries) {
+        Ok(settings) => Ok(settings),
+        Err(_) => Err(ConfigErr::NoMemory),
+    }
+}
+
+/// Reads a text in JSON.
+#[tactic(auto, unfolding(crate::specs::Walk::text_rows))]
+fn read_text(alloc: Global, text: &str) -> Result<List<Entry>, ConfigErr>
+    ensures { ReadsEntries (text_rows text.now) result }
+{
+    match read_json(alloc, text) {
+        Ok(value) => read_config(alloc, &value),
+        Err(JsonNo::Form) => Err(ConfigErr::No(ConfigNo {
+            code: 20,
+            first: 0,
+            second: 0,
+        })),
+        Err(JsonNo::NoMemory) => Err(ConfigErr::NoMemory),
+    }
+}
+
+/// Whether the first byte other than space, tab, CR and LF is `{`.
+fn begins_json(bytes: &[u8]) -> bool
+    ensures { result ≡ begins_json bytes.now }
+{
+    for byte in bytes {
+        if !is_blank(*byte) {
+            return *byte == b'{';
+        }
+    }
+    false
+}
+
+fn is_blank(byte: u8) -> bool
+    ensures { result ≡ is_blank byte }
+{
+    byte == b' ' || byte == b'\t' || byte == b'\r' || byte == b'\n'
+}
+
+/// Why a text wasn't read as JSON.
+enum JsonNo {
+    /// It isn't JSON.
+    Form,
+    /// There was no memory.
+    NoMemory,
+}
+
+/// The JSON value of a text.
+fn read_json(alloc: Global, text: &str) -> Result<Value, JsonNo>
+    ensures { ReadsJson (read text.now) result }
+{
+    match Value::from_str(alloc, text) {
+        Ok(value) => Ok(value),
+        Err(error) => match error.classify() {
+            Category::Memory => Err(JsonNo::NoMemory),
+            _ => Err(JsonNo::Form),
+        },
+    }
+}
+
+#[tactic(auto, unfolding(crate::specs::Walk::config_in))]
+fn read_config(alloc: Global, value: &Value) -> Result<List<Entry>, ConfigErr>
+    ensures { ReadsEntries (config_in (view value.now)) result }
+{
+    if !is_mapping(value) {
+        return Err(ConfigErr::No(ConfigNo {
+            code: 22,
+            first: 0,
+            second: 0,
+        }));
+    }
+    if !has_text(value, "apiVersion", "apiserver.config.k8s.io/v1") {
+        return Err(ConfigErr::No(ConfigNo {
+            code: 23,
+            first: 0,
+            second: 0,
+        }));
+    }
+    if !has_text(value, "kind", "EncryptionConfiguration") {
+        return Err(ConfigErr::No(ConfigNo {
+            code: 24,
+            first: 0,
+            second: 0,
+        }));
+    }
+    let entries = match named_list(value, "resources", 0, 0) {
+        Ok(entries) => entries,
+        Err(why) => return Err(ConfigErr::No(why)),
+    };
+    if entries.len() > 64 {
+        return Err(ConfigErr::No(ConfigNo {
+            code: 39,
+            first: 1,
+            second: 64,
+        }));
+    }
+    read_entries(alloc, entries)
+}
+
+#[tactic(auto, using(crate::proofs::EntryLoop::reading_begins, crate::proofs::EntryLoop::reading_more, crate::proofs::EntryLoop::reading_stops, crate::proofs::EntryLoop::reading_ends, crate::proofs::EntryLoop::reading_few, crate::proofs::EntryLoop::few_patterns, crate::proofs::EntryLoop::few_keys, crate::proofs::EntryLoop::few_plugins))]
+fn read_entries(alloc: Global, values: &[Value]) -> Result<List<Entry>, ConfigErr>
+    ensures { ReadsEntries (walk entry_step 0 [] (map view values.now)) result }
+{
+    let mut entries = List::new(alloc);
+    let mut e: u32 = 0;
+    let mut patterns = 0;
+    let mut keys = 0;
+    let mut plugins = 0;
+    for value in values {
+        let entry = match read_entry(alloc, patterns, keys, plugins, e, value) {
+            Ok(entry) => entry,
+            Err(why) => return Err(why),
+        };
+        patterns += entry.patterns.as_slice().len();
+        keys += keys_in(entry.providers.as_slice());
+        plugins += plugins_in(entry.providers.as_slice());
+        match entries.push(entry) {
+            Ok(()) => {}
+            Err(_) => return Err(ConfigErr::NoMemory),
+        }
+        e = e.saturating_add(1);
+    }
+    Ok(entries)
+}
+
+fn keys_in(providers: &[Who]) -> usize
+    ensures { result ≡ count_by is_key providers.now }
+{
+    providers.iter().filter(|who| who.is_key()).count()
+}
+
+fn plugins_in(providers: &[Who]) -> usize
+    ensures { result ≡ count_by is_kms providers.now }
+{
+    providers.iter().filter(|who| who.is_kms()).count()
+}

@@ -1,0 +1,126 @@
+ghost use Rattle.std.specs.Prelude.{◌≡◌, IsTrue, [], ◌∷◌};
+ghost use Rattle.std.specs.List.{list_any};
+ghost use Rattle.kr_config.specs.declared.who.Who.TheVariants.{Identity};
+ghost use Rattle.kr_config.specs.Kept.{rows_of, keeps};
+
+use crate::class::Class;
+use crate::pattern::Pattern;
+use crate::who::Who;
+use kr_base::{List, NoMemory};
+use std::alloc::Global;
+
+/// An entry of a configuration: its patterns, and the providers of the resources that they match.
+#[derive(Debug, Drop)]
+pub struct Entry {
+    pub patterns: List<Pattern>,
+    pub providers: List<Who>,
+}
+
+/// A configuration that keeps the rules: no list is empty; names, patterns and secrets are of their form; the patterns of
+/// a list stand apart; no list has two providers of one prefix; and no limit is passed.
+#[derive(Debug, Drop)]
+pub struct Settings {
+    pub entries: List<Entry>,
+    /// The list of a resource that no entry matches: identity alone.
+    pub fallback: List<Who>,
+    pub ghost kept: { IsTrue (keeps (rows_of entries.0)) },
+    pub ghost alone: { fallback.0 ≡ Identity ∷ [] },
+}
+
+impl Settings {
+    ghost use Rattle.std.specs.Prelude.{IfOk};
+    ghost use Rattle.kr_config.specs.Patterns.{covers_group, covers_rest};
+    ghost use Rattle.kr_config.specs.Lists.{first_list, list_of, class_list};
+
+    /// The settings of entries that keep the rules.
+    pub fn of(alloc: Global, entries: List<Entry>) -> Result<Settings, NoMemory>
+        requires { IsTrue (keeps (rows_of entries.0)) }
+        ensures { IfOk result (λ settings. settings.entries ≡ entries) }
+    {
+        let mut fallback = List::new(alloc);
+        match fallback.push(Who::Identity) {
+            Ok(()) => Ok(Settings { entries, fallback }),
+            Err(_) => Err(NoMemory),
+        }
+    }
+
+    /// The providers of the first entry with a pattern that matches the resource, or identity alone.
+    #[tactic(auto, using(crate::proofs::FirstLists::first_more, crate::proofs::FirstLists::first_found, crate::proofs::FirstLists::first_none))]
+    pub fn list_for(&self, resource: &str) -> &[Who]
+        ensures { result.now ≡ list_of (rows_of self.now.entries.0) resource.now }
+    {
+        for entry in self.entries.as_slice() {
+            if entry.matches(resource) {
+                return entry.providers.as_slice();
+            }
+        }
+        self.fallback.as_slice()
+    }
+
+    /// The providers of a class of resources: for an exact one its resource's, for a group those of the first entry that
+    /// speaks of all of it, and for the rest those of the first entry that speaks of every resource.
+    pub fn list_for_class(&self, class: &Class) -> &[Who]
+        ensures { result.now ≡ class_list (rows_of self.now.entries.0) class.now }
+    {
+        match class {
+            Class::Exact(text) => self.list_for(text.as_str()),
+            Class::Group(group) => self.list_for_group(group.as_str()),
+            Class::Rest => self.list_for_rest(),
+        }
+    }
+
+    #[tactic(auto, using(crate::proofs::FirstLists::first_more, crate::proofs::FirstLists::first_found, crate::proofs::FirstLists::first_none))]
+    fn list_for_group(&self, group: &str) -> &[Who]
+        ensures { result.now ≡ first_list (λ pattern. covers_group pattern group.now) (rows_of self.now.entries.0) }
+    {
+        for entry in self.entries.as_slice() {
+            if entry.covers_group(group) {
+                return entry.providers.as_slice();
+            }
+        }
+        self.fallback.as_slice()
+    }
+
+    #[tactic(auto, using(crate::proofs::FirstLists::first_more, crate::proofs::FirstLists::first_found, crate::proofs::FirstLists::first_none))]
+    fn list_for_rest(&self) -> &[Who]
+        ensures { result.now ≡ first_list covers_rest (rows_of self.now.entries.0) }
+    {
+        for entry in self.entries.as_slice() {
+            if entry.covers_rest() {
+                return entry.providers.as_slice();
+            }
+        }
+        self.fallback.as_slice()
+    }
+}
+
+impl Entry {
+    ghost use Rattle.kr_config.specs.Patterns.{matches, covers_group, covers_rest};
+
+    fn matches(&self, resource: &str) -> bool
+        ensures { result ≡ list_any (λ pattern. matches pattern resource.now) self.now.patterns.0 }
+    {
+        self.patterns
+            .as_slice()
+            .iter()
+            .any(|pattern| pattern.matches(resource))
+    }
+
+    fn covers_group(&self, group: &str) -> bool
+        ensures { result ≡ list_any (λ pattern. covers_group pattern group.now) self.now.patterns.0 }
+    {
+        self.patterns
+            .as_slice()
+            .iter()
+            .any(|pattern| pattern.covers_group(group))
+    }
+
+    fn covers_rest(&self) -> bool
+        ensures { result ≡ list_any covers_rest self.now.patterns.0 }
+    {
+        self.patterns
+            .as_slice()
+            .iter()
+            .any(|pattern| pattern.covers_rest())
+    }
+}
