@@ -1,9 +1,12 @@
 pub mod Asked
+pub mod CheckSteps
 pub mod EncryptSteps
 pub mod Keys
+pub mod Listings
 pub mod Pieces
-pub mod Shelf
+pub mod Printed
 pub mod Readings
 pub mod Seals
-pub mod Singles
+pub mod Shelf
+pub mod Steps
 pub mod Worlds
