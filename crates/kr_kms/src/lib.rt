@@ -4,6 +4,8 @@
 
 mod plugin;
 mod seeds;
+mod table_plugin;
 
 pub use plugin::{Kms, KmsNo, Status, Wrapped};
 pub use seeds::{Field, SeedKey, SeedRow};
+pub use table_plugin::TablePlugin;
