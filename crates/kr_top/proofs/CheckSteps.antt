@@ -6,7 +6,7 @@ use Rattle.std.proofs.lemmas.Slice.Eq.{bytes_eq-Decides}
 use Rattle.kr_config.specs.Kept.{rows_of}
 use Rattle.kr_config.specs.declared.settings.Settings.{Settings}
 use Rattle.kr_base.specs.Streams.{AppendsFront}
-use Rattle.kr_top.specs.Outside.{Outside, KeepsFiles, KeepsDice}
+use Rattle.kr_kms.specs.Outside.{Outside, KeepsFiles, KeepsDice}
 use Rattle.kr_top.specs.Command.{check}
 use Rattle.kr_top.specs.Trace.{loaded, strays, gives}
 use Rattle.kr_top.specs.Configuration.{configuration}

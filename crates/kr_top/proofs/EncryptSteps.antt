@@ -6,7 +6,7 @@ use Rattle.std.proofs.lemmas.Slice.Eq.{bytes_eq-Decides}
 use Rattle.std.proofs.lemmas.Bool.Decides.{Decides-ltb}
 use Rattle.kr_base.specs.Faults.{Rose}
 use Rattle.kr_base.specs.Told.{Agrees}
-use Rattle.kr_top.specs.Outside.{Outside, KeepsFiles, KeepsDice, HandsOut, TakesBack}
+use Rattle.kr_kms.specs.Outside.{Outside, KeepsFiles, KeepsDice, HandsOut, TakesBack}
 use Rattle.kr_top.specs.Command.{encrypt}
 use Rattle.kr_top.specs.Trace.{Sight, loaded, taken, opened, refuses, strays, at_last, SawFiles, SawInput, input_of, drawn_of}
 use Rattle.kr_top.specs.Encrypt.{writer_of, writer_by, writer_in, by_writer, from_input, from_dice, encrypt_outcome}

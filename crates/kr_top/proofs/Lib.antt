@@ -7,6 +7,5 @@ pub mod Pieces
 pub mod Printed
 pub mod Readings
 pub mod Seals
-pub mod Shelf
 pub mod Steps
 pub mod Worlds

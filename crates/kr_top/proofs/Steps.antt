@@ -5,7 +5,7 @@ use Rattle.std.proofs.KnownBytes.{Consumes-nil}
 use Rattle.std.proofs.lemmas.Bool.Decides.{Decides-eqb}
 use Rattle.kr_base.specs.Faults.{Rose}
 use Rattle.kr_base.specs.Streams.{TakesAtMost}
-use Rattle.kr_top.specs.Outside.{Outside, KeepsFiles, KeepsDice}
+use Rattle.kr_kms.specs.Outside.{Outside, KeepsFiles, KeepsDice}
 use Rattle.kr_top.specs.Trace.{drawn_of}
 use Rattle.kr_top.specs.Phases.{draws_of, bytes_of}
 use Rattle.kr_top.specs.Ran.{Around, IsHome, IsFault, count_at}

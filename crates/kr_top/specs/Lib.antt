@@ -2,9 +2,7 @@ pub mod Check
 pub mod Command
 pub mod Configuration
 pub mod Encrypt
-pub mod MemWorld
 pub mod Message
-pub mod Outside
 pub mod Phases
 pub mod Ran
 pub mod Trace

@@ -5,7 +5,7 @@ use Rattle.kr_aes.specs.KeyExpansion.{IsKeyLength}
 use Rattle.kr_base.specs.Faults.{Rose}
 use Rattle.kr_base.specs.Told.{Agrees}
 use Rattle.kr_base.specs.Streams.{AppendsFront, TakesAtMost}
-use Rattle.kr_top.specs.Outside.{Outside}
+use Rattle.kr_kms.specs.Outside.{Outside}
 use Rattle.kr_config.specs.Kept.{Row, rows_of}
 use Rattle.kr_config.specs.declared.settings.Settings.{Settings}
 use Rattle.kr_config.specs.declared.who.Who.{Who}

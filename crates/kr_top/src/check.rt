@@ -9,7 +9,7 @@ ghost use Rattle.kr_top.specs.Ran.{Around, Did};
 use crate::listing::{entry_lines, provider_lines};
 use crate::phases::{configure, write_output};
 use crate::refusal::{Done, Stop};
-use crate::world::World;
+use kr_kms::World;
 use kr_base::{Bytes, NoMemory, Sink};
 use kr_config::Settings;
 use std::alloc::Global;

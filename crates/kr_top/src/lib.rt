@@ -5,13 +5,10 @@ mod call;
 mod check;
 mod encrypt;
 mod listing;
-mod mem_world;
 mod message;
 mod phases;
 mod refusal;
 mod seal;
-mod world;
 
 pub use call::run;
-pub use mem_world::MemWorld;
-pub use world::{FileNo, World};
+pub use kr_kms::{FileNo, MemWorld, World};

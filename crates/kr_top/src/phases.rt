@@ -3,11 +3,11 @@ ghost use Rattle.std.specs.Prelude.{◌≡◌, ◌≤◌, length, Some, IfOk, If
 ghost use Rattle.std.specs.Option.{option_copied};
 ghost use Rattle.kr_config.specs.Kept.{rows_of};
 ghost use Rattle.kr_top.specs.Configuration.{configuration, printed, printed_byte};
-ghost use Rattle.kr_top.specs.Outside.{KeepsFiles, KeepsDice, HandsOut};
+ghost use Rattle.kr_kms.specs.Outside.{KeepsFiles, KeepsDice, HandsOut};
 ghost use Rattle.kr_top.specs.Phases.{Configures, ReadsRows, TakesInput, NoDice, WritesOutput};
 
 use crate::refusal::{Object, Refusal, Stop};
-use crate::world::{FileNo, World};
+use kr_kms::{FileNo, World};
 use kr_base::{Bytes, Failed, NoMemory, ReadNo, Sink, Source, Text, read_all, write_all};
 use kr_config::{ConfigErr, Settings, read};
 use std::alloc::Global;

@@ -6,8 +6,8 @@ use Rattle.std.specs.Option.{option_map, option_map_or}
 use Rattle.std.proofs.lemmas.List.Sums.{sum_by-remove, sum_by-append}
 use Rattle.std.proofs.lemmas.Bool.Decides.{Decides-eqb}
 use Rattle.kr_base.specs.Played.{Given}
-use Rattle.kr_top.specs.MemWorld.{dice_of, told_by}
-use Rattle.kr_top.specs.Outside.{at_seat, HandsOut}
+use Rattle.kr_kms.specs.MemWorld.{dice_of, told_by}
+use Rattle.kr_kms.specs.Outside.{at_seat, HandsOut}
 
 -- a seat that is struck counts one less
 pub count-remove : (out : List ℕ) (at seat other : ℕ) → at < length out → get_or out at 0 ≡ seat → count_by (λ s. s == other) (remove out at) + at_seat seat 1 other ≡ count_by (λ s. s == other) out

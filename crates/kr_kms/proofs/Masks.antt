@@ -1,0 +1,41 @@
+-- A mask that is put on twice is off again.
+use Rattle.std.proofs.Common.{◌≡◌, ℕ, List, [], ◌∷◌, ◌≤◌, bit_xor, Some, Ok, Bool, true, false, IsTrue, ◌↔◌, refl, sym, ◌∙◌, ap, subst, arith}
+use Rattle.std.specs.Int.Bits.{xor_assoc, xor_self, xor_zero_r}
+use Rattle.std.proofs.lemmas.List.{length-map}
+use Rattle.kr_kms.specs.Calls.{key_in, Wraps}
+use Rattle.kr_kms.specs.Limits.{IsShort, IsWithinLimits}
+use Rattle.kr_kms.specs.Table.{Table, masked, mask_of, salted, wrapped_by, table_truth, link_of, after_call}
+use Rattle.kr_kms.specs.declared.plugin.Wrapped.{Wrapped}
+
+pub masked_twice : (mask : ℕ) (bytes : List ℕ) → masked mask (masked mask bytes) ≡ bytes
+masked_twice mask [] = refl
+masked_twice mask (byte ∷ bytes) =
+    ap (λ b. b ∷ masked mask (masked mask bytes)) (xor_assoc byte mask mask ∙ ap (bit_xor byte) (xor_self mask) ∙ xor_zero_r byte) ∙ ap (λ l. byte ∷ l) (masked_twice mask bytes)
+
+-- what the plugin wrapped opens to the plain bytes
+pub opens_wrapped : (name : List ℕ) (table : Table) (plain : List ℕ) → table_truth.opens (key_in name (wrapped_by table plain)) ≡ Some plain
+opens_wrapped name table plain = ap Some (masked_twice (mask_of table.key_id (salted table.salt)) plain)
+
+-- it is within the limits where the plain bytes and the key id are
+pub within : (table : Table) (plain : List ℕ) → IsShort plain → IsShort table.key_id → IsWithinLimits (wrapped_by table plain)
+within table plain p k = record {
+  key_id = k;
+  source = subst (λ n. (1 ≤ n) × (n ≤ 1024)) (sym (length-map plain (λ byte. bit_xor byte (mask_of table.key_id (salted table.salt))))) p;
+  annotations = (omega arith, omega arith);
+}
+
+pub within_back : (table : Table) (plain : List ℕ) → IsWithinLimits (wrapped_by table plain) → IsShort plain × IsShort table.key_id
+within_back table plain w = (subst (λ n. (1 ≤ n) × (n ≤ 1024)) (length-map plain (λ byte. bit_xor byte (mask_of table.key_id (salted table.salt)))) w.source, w.key_id)
+
+-- an answer that it gave is as a link's must be
+pub wraps : (old new : Table) (plain : List ℕ) (wrapped : Wrapped) → IsWithinLimits (wrapped_by old plain) → new ≡ after_call old → wrapped ≡ wrapped_by new plain → Wraps table_truth (link_of old) plain (Ok wrapped) (link_of new)
+wraps old new plain wrapped limits after is =
+    subst (λ t. Wraps table_truth (link_of old) plain (Ok wrapped) (link_of t)) (sym after) (subst (λ w. Wraps table_truth (link_of old) plain (Ok w) (link_of (after_call old))) (sym (is ∙ ap (λ t. wrapped_by t plain) after)) (
+      record { name = refl; status = refl; later = omega arith; failed = λ e. cc },
+      (λ t. opens_wrapped old.name old plain, limits),
+    ))
+
+-- what was tested and isn't denied is so
+pub is_so : {P : Type 0} (test : Bool) → (IsTrue test ↔ P) → ((IsTrue test → ⊥) → ⊥) → P
+is_so true says n = says.0 refl
+is_so false says n = absurd (n (λ e. cc))

@@ -1,0 +1,43 @@
+-- What the calls of a link answer.
+use Rattle.std.specs.Prelude.{◌≡◌, ℕ, ◌≤◌, List, Option, Result, IfOk, IsErrOf}
+use Rattle.kr_base.specs.Faults.{Rose}
+use Rattle.kr_base.specs.Told.{Agrees}
+use Rattle.kr_base.specs.Pairs.{Pairs}
+use Rattle.kr_kms.specs.Limits.{IsWithinLimits}
+use Rattle.kr_kms.specs.Truth.{Truth, TellsOf}
+use Rattle.kr_kms.specs.declared.plugin.Status.{Status}
+use Rattle.kr_kms.specs.declared.plugin.Wrapped.{Wrapped}
+use Rattle.kr_kms.specs.declared.plugin.KmsNo.{KmsNo}
+use Rattle.kr_kms.specs.declared.plugin.KmsNo.TheVariants.{Failed}
+use Rattle.kr_kms.specs.declared.seeds.SeedKey.{SeedKey}
+
+-- a link: its plugin's name, its count of faults, and the status that it tells, if it tells one
+pub record Link : Type 0 where
+  pub name : List ℕ
+  pub count : ℕ
+  pub status : Option Status
+
+-- the name and the told status stay, the count never falls, and it rose where the call failed
+pub record Asks {T : Type 0} (old : Link) (result : Result T KmsNo) (new : Link) : Type 0 where
+  pub name : new.name ≡ old.name
+  pub status : new.status ≡ old.status
+  pub later : old.count ≤ new.count
+  pub failed : IsErrOf result Failed → Rose old.count new.count
+
+-- the status is the told one
+abbrev pub Says : Link → Result Status KmsNo → Link → Type 0
+Says old result new = Asks old result new × IfOk result (λ status. Agrees old.status status)
+
+-- what names the seed that was wrapped
+abbrev pub key_in : List ℕ → Wrapped → SeedKey
+key_in name wrapped = record { name = name; key_id = wrapped.key_id; annotations = wrapped.annotations; source = wrapped.cipher }
+
+-- what was wrapped opens to the plain bytes, and is within the limits
+abbrev pub Wraps : Truth → Link → List ℕ → Result Wrapped KmsNo → Link → Type 0
+Wraps truth old plain result new =
+    Asks old result new × IfOk result (λ wrapped. TellsOf truth (key_in old.name wrapped) plain × IsWithinLimits wrapped)
+
+-- the bytes are those that the source opens to
+abbrev pub Unwraps : Truth → Link → List ℕ → Pairs → List ℕ → Result (List ℕ) KmsNo → Link → Type 0
+Unwraps truth old key_id annotations source result new =
+    Asks old result new × IfOk result (λ bytes. TellsOf truth (record { name = old.name; key_id = key_id; annotations = annotations; source = source }) bytes)

@@ -1,0 +1,67 @@
+//! A link to a plugin, which keeps the keys and wraps short secrets with them.
+ghost use Rattle.std.specs.Prelude.{◌≡◌};
+ghost use Rattle.kr_kms.specs.Truth.{Truth};
+ghost use Rattle.kr_kms.specs.Calls.{Link, Says, Wraps, Unwraps};
+
+use kr_base::{Annotations, Bytes, Text};
+use std::alloc::Global;
+
+/// What a plugin says of itself: its version, its health and the id of the key that it wraps with.
+#[derive(Debug, Drop)]
+pub struct Status {
+    pub version: Text,
+    pub healthz: Text,
+    pub key_id: Text,
+}
+
+/// What a plugin made of plain bytes: the wrapped source, the id of its key, and what it wants to see again when it
+/// unwraps.
+#[derive(Debug, Drop)]
+pub struct Wrapped {
+    pub cipher: Bytes,
+    pub key_id: Text,
+    pub annotations: Annotations,
+}
+
+/// Why a plugin gave no answer.
+#[derive(Clone, Copy, Debug, PartialEq, Eq)]
+pub enum KmsNo {
+    /// The plugin failed or refused, or its answer can't be used; its count of faults tells so.
+    Failed,
+    /// There was no memory for the answer.
+    NoMemory,
+}
+
+/// A link to a plugin. No call changes its name or the status that it tells.
+pub trait Kms {
+    // What the type tells of the truth: one function for all links of it.
+    ghost truth: { Truth };
+
+    ghost link: { Self → Link };
+
+    /// The plugin's name. It needs no memory.
+    fn name(&self) -> &str
+        ensures { result.now ≡ (link self.now).name };
+
+    /// How often it failed so far, up to the greatest number.
+    fn faults(&self) -> u64
+        ensures { result ≡ (link self.now).count };
+
+    /// Asks for the status.
+    fn status(&mut self, alloc: Global) -> Result<Status, KmsNo>
+        ensures { Says (link self.old) result (link self.new) };
+
+    /// Wraps plain bytes with the plugin's current key. An answer that passes a limit of wrapped sources is a fault.
+    fn wrap(&mut self, alloc: Global, plain: &[u8]) -> Result<Wrapped, KmsNo>
+        ensures { Wraps truth (link self.old) plain.now result (link self.new) };
+
+    /// Unwraps what was wrapped under this key id with these annotations.
+    fn unwrap_source(
+        &mut self,
+        alloc: Global,
+        key_id: &str,
+        annotations: &Annotations,
+        source: &[u8],
+    ) -> Result<Bytes, KmsNo>
+        ensures { Unwraps truth (link self.old) key_id.now annotations.now source.now result (link self.new) };
+}

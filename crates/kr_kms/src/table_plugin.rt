@@ -1,0 +1,255 @@
+//! A plugin in memory, for tests. It keeps nothing secret.
+ghost use Rattle.std.specs.Prelude.{◌≡◌, ◌⊎◌, ◌↔◌, ◌%◌, ◌≤◌, [], IsTrue, IfOk, length, sum, if◌then◌else◌};
+ghost use Rattle.std.specs.Bool.{OnTrue};
+ghost use Rattle.kr_base.specs.Faults.{Rose};
+ghost use Rattle.kr_kms.specs.Calls.{Says, Wraps, Unwraps};
+ghost use Rattle.kr_kms.specs.Limits.{IsShort, IsWithinLimits};
+ghost use Rattle.kr_kms.specs.Table.{IsListed, after_call, after_fault, Answers, salt_in, mask_of, masked, salted, wrapped_by, status_of, table_truth, link_of};
+
+use crate::plugin::{Kms, KmsNo, Status, Wrapped};
+use kr_base::{Annotations, Bytes, List, NoMemory, Text};
+use std::alloc::Global;
+use std::marker::Model;
+
+/// The annotation that has the salt as its value.
+const SALT_KEY: &str = "test.kmsrest/salt";
+
+/// How many bytes a key id or a wrapped source has at most.
+const SHORT: usize = 1024;
+
+/// A plugin in memory. It masks bytes by the sum of its key id and its salt of one byte. Its calls fail by their
+/// numbers, the first being 1, and a wrap also where its answer would pass a limit.
+#[derive(Debug, Drop)]
+pub struct TablePlugin {
+    name: Text,
+    key_id: Text,
+    salt: u8,
+    version: Text,
+    healthz: Text,
+    fails: List<u64>,
+    made: u64,
+    faults: u64,
+}
+
+impl Model for TablePlugin {
+    ghost use Rattle.kr_kms.specs.Table.{Table};
+
+    ghost Value = { Table };
+
+    ghost view = { λ plugin. record { name = plugin.name; key_id = plugin.key_id; salt = plugin.salt; version = plugin.version; healthz = plugin.healthz; calls = record { fails = plugin.fails.0; made = plugin.made; faults = plugin.faults } } };
+}
+
+impl TablePlugin {
+    /// A plugin with this name, current key id and status; each number in `fails` is that of a call that fails.
+    pub fn new(
+        name: Text,
+        key_id: Text,
+        salt: u8,
+        version: Text,
+        healthz: Text,
+        fails: List<u64>,
+    ) -> TablePlugin
+        ensures { result ≡ record { name = name; key_id = key_id; salt = salt; version = version; healthz = healthz; calls = record { fails = fails.0; made = 0; faults = 0 } } }
+    {
+        TablePlugin {
+            name,
+            key_id,
+            salt,
+            version,
+            healthz,
+            fails,
+            made: 0,
+            faults: 0,
+        }
+    }
+
+    /// Puts another key in the place of the current one. What was wrapped before still opens.
+    pub fn set_key_id(&mut self, key_id: Text)
+        ensures { self.new ≡ record self.old { key_id = key_id } }
+    {
+        self.key_id = key_id;
+    }
+
+    /// Counts one more call, and answers whether it fails.
+    fn fails(&mut self, served: bool) -> bool
+        ensures failed { IsTrue result ↔ (IsListed self.old ⊎ (IsTrue served → ⊥)) }
+        ensures after { self.new ≡ (if result then after_fault self.old else after_call self.old) }
+        ensures later { self.old.calls.faults ≤ self.new.calls.faults }
+        ensures rose { OnTrue result (Rose self.old.calls.faults self.new.calls.faults) }
+    {
+        self.made = self.made.saturating_add(1);
+        let failed = self.fails.as_slice().contains(&self.made) || !served;
+        if failed {
+            self.faults = self.faults.saturating_add(1);
+        }
+        failed
+    }
+}
+
+impl Kms for TablePlugin {
+    ghost truth = { table_truth };
+
+    ghost link = { link_of };
+
+    fn name(&self) -> &str {
+        self.name.as_str()
+    }
+
+    fn faults(&self) -> u64 {
+        self.faults
+    }
+
+    fn status(&mut self, alloc: Global) -> Result<Status, KmsNo>
+        ensures answers { Answers self.old (Unit {0}) (status_of self.old) result self.new }
+
+        // As the trait says.
+        ensures says { Says (link_of self.old) result (link_of self.new) }
+    {
+        if self.fails(true) {
+            return Err(KmsNo::Failed);
+        }
+        let Ok(version) = Text::copy(alloc, self.version.as_str()) else {
+            return Err(KmsNo::NoMemory);
+        };
+        let Ok(healthz) = Text::copy(alloc, self.healthz.as_str()) else {
+            return Err(KmsNo::NoMemory);
+        };
+        let Ok(key_id) = Text::copy(alloc, self.key_id.as_str()) else {
+            return Err(KmsNo::NoMemory);
+        };
+        Ok(Status {
+            version,
+            healthz,
+            key_id,
+        })
+    }
+
+    fn wrap(&mut self, alloc: Global, plain: &[u8]) -> Result<Wrapped, KmsNo>
+        ensures answers { Answers self.old (IsWithinLimits (wrapped_by self.old plain.now)) (wrapped_by self.old plain.now) result self.new }
+
+        // As the trait says.
+        ensures wraps { Wraps table_truth (link_of self.old) plain.now result (link_of self.new) }
+    {
+        if self.fails(serves(self, plain)) {
+            return Err(KmsNo::Failed);
+        }
+        match wrapped(alloc, self, plain) {
+            Ok(wrapped) => Ok(wrapped),
+            Err(NoMemory) => Err(KmsNo::NoMemory),
+        }
+    }
+
+    fn unwrap_source(
+        &mut self,
+        alloc: Global,
+        key_id: &str,
+        annotations: &Annotations,
+        source: &[u8],
+    ) -> Result<Bytes, KmsNo>
+        ensures answers { Answers self.old (Unit {0}) (masked (mask_of key_id.now annotations.now) source.now) result self.new }
+
+        // As the trait says.
+        ensures unwraps { Unwraps table_truth (link_of self.old) key_id.now annotations.now source.now result (link_of self.new) }
+    {
+        if self.fails(true) {
+            return Err(KmsNo::Failed);
+        }
+        match masked(alloc, source, mask_of(key_id, annotations)) {
+            Ok(bytes) => Ok(bytes),
+            Err(NoMemory) => Err(KmsNo::NoMemory),
+        }
+    }
+}
+
+/// Whether a key id or a wrapped source of this many bytes is within the limits.
+fn is_short(bytes: &[u8]) -> bool
+    ensures { IsTrue result ↔ IsShort bytes.now }
+{
+    !bytes.is_empty() && bytes.len() <= SHORT
+}
+
+/// Whether what the plugin makes of the plain bytes is within the limits.
+#[tactic(auto, using(crate::proofs::Masks::within, crate::proofs::Masks::within_back))]
+fn serves(plugin: &TablePlugin, plain: &[u8]) -> bool
+    ensures { IsTrue result ↔ IsWithinLimits (wrapped_by plugin.now plain.now) }
+{
+    is_short(plain) && is_short(plugin.key_id.as_str().as_bytes())
+}
+
+/// What the plugin makes of plain bytes.
+fn wrapped(alloc: Global, plugin: &TablePlugin, plain: &[u8]) -> Result<Wrapped, NoMemory>
+    ensures { IfOk result (λ wrapped. wrapped ≡ wrapped_by plugin.now plain.now) }
+{
+    let Ok(annotations) = salted(alloc, plugin.salt) else {
+        return Err(NoMemory);
+    };
+    let Ok(key_id) = Text::copy(alloc, plugin.key_id.as_str()) else {
+        return Err(NoMemory);
+    };
+    let mask = mask_of(key_id.as_str(), &annotations);
+    let Ok(cipher) = masked(alloc, plain, mask) else {
+        return Err(NoMemory);
+    };
+    Ok(Wrapped {
+        cipher,
+        key_id,
+        annotations,
+    })
+}
+
+/// The one annotation with the salt.
+fn salted(alloc: Global, salt: u8) -> Result<Annotations, NoMemory>
+    ensures { IfOk result (λ annotations. annotations ≡ salted salt) }
+{
+    let Ok(key) = Text::copy(alloc, SALT_KEY) else {
+        return Err(NoMemory);
+    };
+    let Ok(value) = Bytes::copy(alloc, &[salt]) else {
+        return Err(NoMemory);
+    };
+    let mut annotations = Annotations::new(alloc);
+    match annotations.insert(key, value) {
+        Ok(()) => Ok(annotations),
+        Err(_) => Err(NoMemory),
+    }
+}
+
+/// The value of the annotation with the salt; where there is none, no bytes.
+fn salt_in(annotations: &Annotations) -> &[u8]
+    ensures { result.now ≡ salt_in annotations.now }
+{
+    for pair in annotations.pairs() {
+        if SALT_KEY == pair.0.as_str() {
+            return pair.1.as_slice();
+        }
+    }
+    &[]
+}
+
+/// The sum of the bytes, modulo 256.
+fn sum_of(bytes: &[u8]) -> u8
+    ensures { result ≡ sum bytes.now % 256 }
+{
+    let mut sum: u8 = 0;
+    for byte in bytes {
+        sum = sum.wrapping_add(*byte);
+    }
+    sum
+}
+
+/// The mask under a key id with these annotations.
+fn mask_of(key_id: &str, annotations: &Annotations) -> u8
+    ensures { result ≡ mask_of key_id.now annotations.now }
+{
+    sum_of(key_id.as_bytes()).wrapping_add(sum_of(salt_in(annotations)))
+}
+
+/// The bytes, each xor the mask.
+fn masked(alloc: Global, bytes: &[u8], mask: u8) -> Result<Bytes, NoMemory>
+    ensures { IfOk result (λ out. out ≡ masked mask bytes.now) }
+{
+    match bytes.iter().map(|byte| *byte ^ mask).collect(alloc) {
+        Ok(out) => Ok(Bytes::from_vec(out)),
+        Err(_) => Err(NoMemory),
+    }
+}
