@@ -143,18 +143,225 @@ fn plain<'a>(input: &'a [u8]) -> Call<'a> {
     }
 }
 
+/// Providers, as a configuration names them: identity, aescbc under the bytes 0 to 15, 0 to 31, and aesgcm under 16 zeros.
+const BARE: &str = r#"{"identity":{}}"#;
+
+const K16: &str = r#"{"aescbc":{"keys":[{"name":"key1","secret":"AAECAwQFBgcICQoLDA0ODw=="}]}}"#;
+
+const K32: &str =
+    r#"{"aescbc":{"keys":[{"name":"key1","secret":"AAECAwQFBgcICQoLDA0ODxAREhMUFRYXGBkaGxwdHh8="}]}}"#;
+
+const Z16: &str = r#"{"aesgcm":{"keys":[{"name":"g","secret":"AAAAAAAAAAAAAAAAAAAAAA=="}]}}"#;
+
+/// Words without their command: an object at a path, at another, and at the empty one.
+const HERE: &str = "--config|c.json|--resource|secrets|--path|/registry/secrets/d/s";
+
+const EMPTY: &str = "--config|c.json|--resource|secrets|--path|";
+
+/// Bytes as a test writes them: a text, and behind a bar bytes in hex.
+fn bytes(alloc: Global, text: &str) -> Result<Bytes, NoMemory> {
+    let (front, digits) = match text.split_once('|') {
+        Some(parts) => parts,
+        None => (text, ""),
+    };
+    let Ok(mut all) = Vec::from_slice(alloc, front.as_bytes()) else {
+        return Err(NoMemory);
+    };
+    let Ok(rest) = hex::decode(alloc, digits) else {
+        return Err(NoMemory);
+    };
+    match all.extend_from_slice(rest.as_slice()) {
+        Ok(()) => Ok(Bytes::from_vec(all)),
+        Err(_) => Err(NoMemory),
+    }
+}
+
+/// A value under `key1` whose IV makes the padded `hello` the plain text of FIPS 197's example for 16 bytes of key.
+const HELLO: &str =
+    "k8s:enc:aescbc:v1:key1:|68744e5f2b5e6d7c8392a1b0c7d6e5f469c4e0d86a7b0430d8cdb78070b4c55a";
+
+/// Sixteen zero bytes under zeros, as in the GCM specification's second test case.
+const ZEROS: &str =
+    "k8s:enc:aesgcm:v1:g:|0000000000000000000000000388dace60b6a392f328c2b971b2fe78ab6e47d42cec13bdf53a67b21257bddf";
+
+/// `k8s:enc:x` under that key and an IV of zeros, by openssl.
+const LOOKS: &str =
+    "k8s:enc:aescbc:v1:key1:|00000000000000000000000000000000f9528ad9d9301f4d1a31c2be36ca6835";
+
 #[test]
-fn stores_by_identity(rt: HostRuntime) -> Result<(), Fail> {
-    // Input, output, line on errors, status.
-    let cases: [(&[u8], &[u8], &str, u8); 4] = [
-        (b"", b"", "", 0),
-        (b"hello", b"hello", "", 0),
-        (b"k8s\0object", b"k8s\0object", "", 0),
-        (b"k8s:enc:x", b"", "kmsrest: refused 13 LooksEncrypted\n", 1),
+fn encrypts_and_decrypts(rt: HostRuntime) -> Result<(), Fail> {
+    let alloc = rt.alloc();
+    let zeros = "|00000000000000000000000000000000";
+    // Command, words, the first provider and the second, input, what the random source has; output, line, status.
+    let cases: [(&str, &str, &str, &str, &str, &str, &str, &str, u8); 18] = [
+        (
+            "encrypt",
+            HERE,
+            K16,
+            BARE,
+            "hello",
+            "|68744e5f2b5e6d7c8392a1b0c7d6e5f4",
+            HELLO,
+            "",
+            0,
+        ),
+        ("decrypt", HERE, K16, BARE, HELLO, "", "hello", "fresh\n", 0),
+        ("decrypt", HERE, BARE, K16, HELLO, "", "hello", "stale\n", 0),
+        (
+            "decrypt",
+            HERE,
+            BARE,
+            Z16,
+            HELLO,
+            "",
+            "",
+            "kmsrest: refused 12 NoProvider\n",
+            1,
+        ),
+        (
+            "encrypt",
+            HERE,
+            K32,
+            BARE,
+            "",
+            "|10013223544576679889baabdccdfeef",
+            "k8s:enc:aescbc:v1:key1:|10013223544576679889baabdccdfeef8ea2b7ca516745bfeafc49904b496089",
+            "",
+            0,
+        ),
+        (
+            "encrypt",
+            EMPTY,
+            Z16,
+            BARE,
+            zeros,
+            "|000000000000000000000000",
+            ZEROS,
+            "",
+            0,
+        ),
+        ("decrypt", EMPTY, Z16, BARE, ZEROS, "", zeros, "fresh\n", 0),
+        (
+            "decrypt",
+            HERE,
+            Z16,
+            BARE,
+            ZEROS,
+            "",
+            "",
+            "kmsrest: refused 4 BadTag\n",
+            1,
+        ),
+        (
+            "decrypt",
+            HERE,
+            K16,
+            BARE,
+            "k8s:enc:aescbc:v1:key1:|68744e5f2b5e6d7c8392a1b0c7d6e5f4",
+            "",
+            "",
+            "kmsrest: refused 1 Short\n",
+            1,
+        ),
+        (
+            "decrypt",
+            HERE,
+            K16,
+            BARE,
+            "k8s:enc:aescbc:v1:key1:|68744e5f2b5e6d7c8392a1b0c7d6e5f469c4e0d86a7b0430d8cdb78070b4c5",
+            "",
+            "",
+            "kmsrest: refused 2 BadBlock\n",
+            1,
+        ),
+        (
+            "decrypt",
+            HERE,
+            K16,
+            BARE,
+            "k8s:enc:aescbc:v1:key1:|00112233445566778899aabbccddeeff69c4e0d86a7b0430d8cdb78070b4c55a",
+            "",
+            "",
+            "kmsrest: refused 3 BadPadding\n",
+            1,
+        ),
+        (
+            "decrypt",
+            HERE,
+            K16,
+            BARE,
+            "k8s:enc:aescbc:v1:key1:|00112233445566778899aabbccddedfd69c4e0d86a7b0430d8cdb78070b4c55a",
+            "",
+            "",
+            "kmsrest: refused 3 BadPadding\n",
+            1,
+        ),
+        ("encrypt", HERE, BARE, K16, "", "", "", "", 0),
+        ("encrypt", HERE, BARE, K16, "k8s|00", "", "k8s|00", "", 0),
+        (
+            "encrypt",
+            HERE,
+            BARE,
+            K16,
+            "k8s:enc:x",
+            "",
+            "",
+            "kmsrest: refused 13 LooksEncrypted\n",
+            1,
+        ),
+        (
+            "decrypt",
+            HERE,
+            BARE,
+            K16,
+            "k8s:enc:x",
+            "",
+            "",
+            "kmsrest: refused 12 NoProvider\n",
+            1,
+        ),
+        (
+            "encrypt",
+            HERE,
+            K16,
+            BARE,
+            "k8s:enc:x",
+            "|00000000000000000000000000000000",
+            LOOKS,
+            "",
+            0,
+        ),
+        (
+            "decrypt",
+            HERE,
+            K16,
+            BARE,
+            LOOKS,
+            "",
+            "k8s:enc:x",
+            "fresh\n",
+            0,
+        ),
     ];
-    for (input, output, line, status) in cases {
-        let left = left_by(rt.alloc(), &plain(input))?;
-        assert_eq!(rt; left.output.as_slice(), output);
+    for (command, words, first, second, input, drawn, output, line, status) in cases {
+        let config = format!(in alloc;
+            "{}[\"secrets\"],\"providers\":[{},{}]}}]}}",
+            BEGIN, first, second
+        )?;
+        let words = format!(in alloc; "{}|{}", command, words)?;
+        let input = bytes(alloc, input)?;
+        let drawn = bytes(alloc, drawn)?;
+        let left = left_by(
+            alloc,
+            &Call {
+                words: words.as_str(),
+                config: config.as_str(),
+                dice: Some(drawn.as_slice()),
+                ..plain(input.as_slice())
+            },
+        )?;
+        let output = bytes(alloc, output)?;
+        assert_eq!(rt; left.output.as_slice(), output.as_slice());
         assert_eq!(rt; left.errors.as_slice(), line.as_bytes());
         assert_eq!(rt; left.status, status);
         assert!(rt; left.dice_is_back);
@@ -162,62 +369,10 @@ fn stores_by_identity(rt: HostRuntime) -> Result<(), Fail> {
     Ok(())
 }
 
-/// What the random source gives, as an IV.
+/// An IV.
 const IV: &[u8] = &[
     0x10, 0x01, 0x32, 0x23, 0x54, 0x45, 0x76, 0x67, 0x98, 0x89, 0xba, 0xab, 0xdc, 0xcd, 0xfe, 0xef,
 ];
-
-/// The CBC of one block of padding under that key and IV, from another implementation.
-const BLOCK: &[u8] = &[
-    0x8e, 0xa2, 0xb7, 0xca, 0x51, 0x67, 0x45, 0xbf, 0xea, 0xfc, 0x49, 0x90, 0x4b, 0x49, 0x60, 0x89,
-];
-
-#[test]
-fn stores_by_aescbc(rt: HostRuntime) -> Result<(), Fail> {
-    let call = Call {
-        config: AESCBC,
-        dice: Some(IV),
-        ..plain(b"")
-    };
-    let left = left_by(rt.alloc(), &call)?;
-    assert_eq!(rt; left.status, 0);
-    assert_eq!(rt; left.errors.as_slice(), b"".as_slice());
-    assert!(rt; left.dice_is_back);
-    let output = left.output.as_slice();
-    assert_eq!(rt; output.len(), 55);
-    let (prefix, rest) = output.split_at(23);
-    let (iv, body) = rest.split_at(16);
-    assert_eq!(rt; prefix, b"k8s:enc:aescbc:v1:key1:".as_slice());
-    assert_eq!(rt; iv, IV);
-    assert_eq!(rt; body, BLOCK);
-    Ok(())
-}
-
-#[test]
-fn stores_by_the_first_provider(rt: HostRuntime) -> Result<(), Fail> {
-    // The vector of FIPS 197 for a key of 16 bytes: the IV is what makes the padded data its plain text.
-    let iv: &[u8] = &[
-        0x68, 0x74, 0x4e, 0x5f, 0x2b, 0x5e, 0x6d, 0x7c, 0x83, 0x92, 0xa1, 0xb0, 0xc7, 0xd6, 0xe5,
-        0xf4,
-    ];
-    let block: &[u8] = &[
-        0x69, 0xc4, 0xe0, 0xd8, 0x6a, 0x7b, 0x04, 0x30, 0xd8, 0xcd, 0xb7, 0x80, 0x70, 0xb4, 0xc5,
-        0x5a,
-    ];
-    let call = Call {
-        config: TWO,
-        dice: Some(iv),
-        ..plain(b"hello")
-    };
-    let left = left_by(rt.alloc(), &call)?;
-    assert_eq!(rt; left.status, 0);
-    let (prefix, rest) = left.output.as_slice().split_at(23);
-    let (drawn, body) = rest.split_at(16);
-    assert_eq!(rt; prefix, b"k8s:enc:aescbc:v1:key1:".as_slice());
-    assert_eq!(rt; drawn, iv);
-    assert_eq!(rt; body, block);
-    Ok(())
-}
 
 #[test]
 fn shows_configurations(rt: HostRuntime) -> Result<(), Fail> {
@@ -291,6 +446,30 @@ fn limits_the_data(rt: HostRuntime) -> Result<(), Fail> {
         b"kmsrest: limit data 2097152\n".as_slice()
     );
     assert_eq!(rt; left.output.as_slice(), b"".as_slice());
+    let words = "decrypt|--config|c.json|--resource|secrets|--path|";
+    let most = vec![in rt.alloc(); 7u8; 2_162_688]?;
+    let left = left_by(
+        rt.alloc(),
+        &Call {
+            words,
+            ..plain(most.as_slice())
+        },
+    )?;
+    assert_eq!(rt; left.status, 0);
+    assert_eq!(rt; left.output.as_slice(), most.as_slice());
+    let more = vec![in rt.alloc(); 7u8; 2_162_689]?;
+    let left = left_by(
+        rt.alloc(),
+        &Call {
+            words,
+            ..plain(more.as_slice())
+        },
+    )?;
+    assert_eq!(rt; left.status, 6);
+    assert_eq!(rt;
+        left.errors.as_slice(),
+        b"kmsrest: limit value 2162688\n".as_slice()
+    );
     Ok(())
 }
 
@@ -384,8 +563,8 @@ fn refuses_other_words_and_files(rt: HostRuntime) -> Result<(), Fail> {
             3,
         ),
         (
-            "encrypt|--config|c.json|--resource|pods|--path|",
-            THREE,
+            "decrypt|--config|c.json|--resource|secrets|--path|",
+            KMS,
             unserved,
             3,
         ),

@@ -1,11 +1,11 @@
 pub mod Asked
 pub mod CheckSteps
-pub mod EncryptSteps
-pub mod Keys
+pub mod ConvertSteps
+pub mod Directions
 pub mod Listings
 pub mod Pieces
 pub mod Printed
 pub mod Readings
-pub mod Seals
 pub mod Steps
+pub mod Works
 pub mod Worlds

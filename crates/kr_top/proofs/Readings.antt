@@ -6,22 +6,27 @@ use Rattle.std.specs.List.{starts_with}
 use Rattle.std.specs.Str.{bytes_eq}
 use Rattle.std.specs.Io.KnownBytes.{Keeps, Appends}
 use Rattle.kr_base.specs.Faults.{Rose}
-use Rattle.kr_top.specs.Command.{Command, encrypt, check, is_built, Asks, AskNothing, AskReplicas, AskSize, input_limit}
+use Rattle.kr_top.specs.Command.{Command, encrypt, decrypt, check, is_built, Asks, AskNothing, AskReplicas, AskSize, input_limit}
 use Rattle.kr_top.specs.Trace.{Sight, loaded, taken, opened, drawn, Outcome, awaits, refuses, gives, strays, at_last, SawInput, input_of}
 use Rattle.kr_top.specs.Configuration.{configuration}
 use Rattle.kr_top.specs.Check.{shows}
 use Rattle.kr_config.specs.Kept.{Row}
-use Rattle.kr_top.specs.Encrypt.{names_plugin, is_served, first_writer, writer_by, writer_in, by_writer, from_input, from_dice, sealed_by, sealed_by_identity, aescbc_value}
+use Rattle.kr_top.specs.Steps.{served, from_dice, from_input, by_rows, from_file}
+use Rattle.kr_top.specs.Encrypt.{value_outcome, from_draw, sealed_from, sealing}
+use Rattle.kr_top.specs.Decrypt.{freshness, reading_outcome, unsealing}
 use Rattle.kr_top.specs.Message.{status_of, status_of_refusal, line_of}
 use Rattle.kr_top.specs.Ran.{Around, Sunk, Did, Ends, Stops, Answers, Tells, Comes, IsUntouched, outcome_of, count_at, is_cut, IsUsage, IsCaused, IsRefused, IsDone}
 use Rattle.kr_config.specs.Lists.{list_of}
 use Rattle.kr_config.specs.Walk.{rows_in}
 use Rattle.kr_config.specs.declared.refusal.ConfigNo.{ConfigNo}
 use Rattle.kr_config.specs.declared.who.Who.{Who}
-use Rattle.kr_config.specs.declared.who.Who.TheVariants.{Identity, Aescbc, Aesgcm, Kms}
+use Rattle.kr_provider.specs.Publication.{names_plugin}
+use Rattle.kr_provider.specs.Readers.{writer_of}
+use Rattle.kr_provider.specs.Sealing.{draw_size, sealed_by}
+use Rattle.kr_provider.specs.Reading.{Reading, data_of, refused, unopened, reads_by, is_stale}
 use Rattle.kr_top.specs.declared.refusal.Object.{Object}
 use Rattle.kr_top.specs.declared.refusal.Refusal.{Refusal}
-use Rattle.kr_top.specs.declared.refusal.Refusal.TheVariants.{Usage, Replicas, Size, Absent, LongConfiguration, Configuration, NotServed, LongData, LooksEncrypted}
+use Rattle.kr_top.specs.declared.refusal.Refusal.TheVariants.{Usage, Replicas, Size, Absent, LongConfiguration, Configuration, NotServed, LongData, LongValue, Value}
 use Rattle.kr_top.specs.declared.refusal.Stop.{Stop}
 use Rattle.kr_top.specs.declared.refusal.Stop.TheVariants.{Refused, Fault, NoMemory}
 use Rattle.kr_top.specs.declared.refusal.Done.{Done}
@@ -38,7 +43,8 @@ NoWords (refuses LongConfiguration) = Unit {0}
 NoWords (refuses (Configuration why)) = Unit {0}
 NoWords (refuses NotServed) = Unit {0}
 NoWords (refuses LongData) = Unit {0}
-NoWords (refuses LooksEncrypted) = Unit {0}
+NoWords (refuses LongValue) = Unit {0}
+NoWords (refuses (Value number)) = Unit {0}
 NoWords (gives value done) = Unit {0}
 NoWords strays = Unit {0}
 
@@ -50,31 +56,32 @@ either : (q : Bool) (a b : Outcome) → NoWords a → NoWords b → NoWords (if 
 either true a b h k = h
 either false a b h k = k
 
-seal_no_words : (who : Who) (plain : List ℕ) (rest : List Sight) → NoWords (sealed_by who plain rest)
-seal_no_words Identity plain rest = last_no_words rest (sealed_by_identity plain) (either (starts_with nat_eq plain (codes "k8s:enc:")) (refuses LooksEncrypted) (gives plain Silent) tt tt)
-seal_no_words (Aescbc name secret) plain [] = tt
-seal_no_words (Aescbc name secret) plain (loaded file bytes ∷ rest) = tt
-seal_no_words (Aescbc name secret) plain (taken bytes ∷ rest) = tt
-seal_no_words (Aescbc name secret) plain (opened seat ∷ rest) = tt
-seal_no_words (Aescbc name secret) plain (drawn zero iv ∷ rest) = either (length iv == 16) (at_last rest (gives (aescbc_value name secret iv plain) Silent)) strays (last_no_words rest (gives (aescbc_value name secret iv plain) Silent) tt) tt
-seal_no_words (Aescbc name secret) plain (drawn (suc seat) iv ∷ rest) = tt
-seal_no_words (Aesgcm name secret) plain rest = last_no_words rest (refuses NotServed) tt
-seal_no_words (Kms name) plain rest = last_no_words rest (refuses NotServed) tt
+value_no_words : (value : Option (List ℕ)) → NoWords (value_outcome value)
+value_no_words (Some value) = tt
+value_no_words None = tt
 
-dice_no_words : (who : Who) (plain : List ℕ) (rest : List Sight) → NoWords (from_dice who plain rest)
-dice_no_words who plain [] = tt
-dice_no_words who plain (loaded name file ∷ rest) = tt
-dice_no_words who plain (taken bytes ∷ rest) = tt
-dice_no_words who plain (opened zero ∷ rest) = seal_no_words who plain rest
-dice_no_words who plain (opened (suc seat) ∷ rest) = tt
-dice_no_words who plain (drawn seat bytes ∷ rest) = tt
+draw_no_words : (who : Who) (path plain : List ℕ) (rest : List Sight) → NoWords (from_draw who path plain rest)
+draw_no_words who path plain [] = tt
+draw_no_words who path plain (loaded file bytes ∷ rest) = tt
+draw_no_words who path plain (taken bytes ∷ rest) = tt
+draw_no_words who path plain (opened seat ∷ rest) = tt
+draw_no_words who path plain (drawn zero bytes ∷ rest) = either (length bytes == draw_size who) (at_last rest (value_outcome (sealed_by [] who path plain bytes))) strays
+    (last_no_words rest (value_outcome (sealed_by [] who path plain bytes)) (value_no_words (sealed_by [] who path plain bytes))) tt
+draw_no_words who path plain (drawn (suc seat) bytes ∷ rest) = tt
 
-input_no_words : (who : Who) (rest : List Sight) → NoWords (from_input who rest)
-input_no_words who [] = tt
-input_no_words who (loaded name file ∷ rest) = tt
-input_no_words who (taken plain ∷ rest) = either (nat_lt 2097152 (length plain)) (at_last rest (refuses LongData)) (from_dice who plain rest) (last_no_words rest (refuses LongData) tt) (dice_no_words who plain rest)
-input_no_words who (opened seat ∷ rest) = tt
-input_no_words who (drawn seat bytes ∷ rest) = tt
+sealing_no_words : (resource path : List ℕ) (rows : List Row) (plain : List ℕ) (rest : List Sight) → NoWords (sealing resource path rows plain rest)
+sealing_no_words resource path rows plain rest = let who = writer_of (list_of rows resource) in
+    either (draw_size who == 0) (at_last rest (value_outcome (sealed_by [] who path plain []))) (from_draw who path plain rest)
+    (last_no_words rest (value_outcome (sealed_by [] who path plain [])) (value_no_words (sealed_by [] who path plain []))) (draw_no_words who path plain rest)
+
+reading_no_words : (reading : Reading) (stale : Bool) → NoWords (reading_outcome reading stale)
+reading_no_words (data_of plain) stale = tt
+reading_no_words (refused number) stale = tt
+reading_no_words unopened stale = tt
+
+unsealing_no_words : (resource path : List ℕ) (rows : List Row) (bytes : List ℕ) (rest : List Sight) → NoWords (unsealing resource path rows bytes rest)
+unsealing_no_words resource path rows bytes rest = let list = list_of rows resource in
+    last_no_words rest (reading_outcome (reads_by None list path bytes) (is_stale [] list bytes)) (reading_no_words (reads_by None list path bytes) (is_stale [] list bytes))
 
 -- a refusal that isn't one of the words
 abbrev NoWordsIn : {T : Type 0} → Result T Refusal → Type 0
@@ -93,29 +100,46 @@ file_no_words : (name : List ℕ) (file : Option (List ℕ)) → NoWordsIn (conf
 file_no_words name None = tt
 file_no_words name (Some bytes) = chosen (nat_lt 1048576 (length bytes)) (Err LongConfiguration) (result_map_both (λ rows. rows) Configuration (rows_in bytes)) tt (rows_no_words (rows_in bytes))
 
-first_no_words : (list : List Who) → NoWordsIn (first_writer list)
-first_no_words [] = tt
-first_no_words (who ∷ rest) = chosen (is_served who) (Ok who) (Err NotServed) tt tt
+served_no_words : (r : Result (List Row) Refusal) → NoWordsIn r → NoWordsIn (served r)
+served_no_words (Ok rows) h = chosen (names_plugin rows) (Err NotServed) (Ok rows) tt tt
+served_no_words (Err why) h = h
 
-picked_no_words : (resource : List ℕ) (r : Result (List Row) Refusal) → NoWordsIn r → NoWordsIn (writer_by r resource)
-picked_no_words resource (Ok rows) h = chosen (names_plugin rows) (Err NotServed) (first_writer (list_of rows resource)) tt (first_no_words (list_of rows resource))
-picked_no_words resource (Err why) h = h
+-- the steps that encrypt and decrypt have in common
+module _ (limit : ℕ) (long : Refusal) (after : List Row → List ℕ → List Sight → Outcome) (long_is : NoWords (refuses long)) (after_is : (rows : List Row) (bytes : List ℕ) (rest : List Sight) → NoWords (after rows bytes rest)) where
+  dice_no_words : (rows : List Row) (bytes : List ℕ) (rest : List Sight) → NoWords (from_dice limit long after rows bytes rest)
+  dice_no_words rows bytes [] = tt
+  dice_no_words rows bytes (loaded name file ∷ rest) = tt
+  dice_no_words rows bytes (taken other ∷ rest) = tt
+  dice_no_words rows bytes (opened zero ∷ rest) = after_is rows bytes rest
+  dice_no_words rows bytes (opened (suc seat) ∷ rest) = tt
+  dice_no_words rows bytes (drawn seat other ∷ rest) = tt
 
-writer_no_words : (who : Result Who Refusal) (rest : List Sight) → NoWordsIn who → NoWords (by_writer who rest)
-writer_no_words (Ok who) rest h = input_no_words who rest
-writer_no_words (Err why) rest h = last_no_words rest (refuses why) h
+  input_no_words : (rows : List Row) (rest : List Sight) → NoWords (from_input limit long after rows rest)
+  input_no_words rows [] = tt
+  input_no_words rows (loaded name file ∷ rest) = tt
+  input_no_words rows (taken bytes ∷ rest) = either (nat_lt limit (length bytes)) (at_last rest (refuses long)) (from_dice limit long after rows bytes rest) (last_no_words rest (refuses long) long_is) (dice_no_words rows bytes rest)
+  input_no_words rows (opened seat ∷ rest) = tt
+  input_no_words rows (drawn seat bytes ∷ rest) = tt
+
+  rows_no_words_by : (r : Result (List Row) Refusal) (rest : List Sight) → NoWordsIn r → NoWords (by_rows limit long after r rest)
+  rows_no_words_by (Ok rows) rest h = input_no_words rows rest
+  rows_no_words_by (Err why) rest h = last_no_words rest (refuses why) h
+
+  object_no_words : (config : List ℕ) (trace : List Sight) → NoWords (from_file limit long after config trace)
+  object_no_words config [] = tt
+  object_no_words config (loaded name file ∷ rest) = either (bytes_eq name config) (by_rows limit long after (served (configuration config file)) rest) strays
+      (rows_no_words_by (served (configuration config file)) rest (served_no_words (configuration config file) (file_no_words config file))) tt
+  object_no_words config (taken bytes ∷ rest) = tt
+  object_no_words config (opened seat ∷ rest) = tt
+  object_no_words config (drawn seat bytes ∷ rest) = tt
 
 shows_no_words : (resource : Option (List ℕ)) (r : Result (List Row) Refusal) → NoWordsIn r → NoWords (shows r resource)
 shows_no_words resource (Ok rows) h = tt
 shows_no_words resource (Err why) h = h
 
 no_words : (command : Command) (trace : List Sight) → NoWords (outcome_of command trace)
-no_words (encrypt config resource path) [] = tt
-no_words (encrypt config resource path) (loaded name file ∷ rest) = either (bytes_eq name config) (by_writer (writer_in config file resource) rest) strays
-    (writer_no_words (writer_in config file resource) rest (picked_no_words resource (configuration config file) (file_no_words config file))) tt
-no_words (encrypt config resource path) (taken bytes ∷ rest) = tt
-no_words (encrypt config resource path) (opened seat ∷ rest) = tt
-no_words (encrypt config resource path) (drawn seat bytes ∷ rest) = tt
+no_words (encrypt config resource path) trace = object_no_words 2097152 LongData (sealing resource path) tt (sealing_no_words resource path) config trace
+no_words (decrypt config resource path) trace = object_no_words 2162688 LongValue (unsealing resource path) tt (unsealing_no_words resource path) config trace
 no_words (check config resource) [] = tt
 no_words (check config resource) (loaded name file ∷ rest) = either (bytes_eq name config) (at_last rest (shows (configuration config file) resource)) strays
     (last_no_words rest (shows (configuration config file) resource) (shows_no_words resource (configuration config file) (file_no_words config file))) tt
@@ -165,7 +189,8 @@ status_in LongConfiguration = inr (inr (inr refl))
 status_in (Configuration why) = text_or_limit (why.code == 39)
 status_in NotServed = inr (inr (inl refl))
 status_in LongData = inr (inr (inr refl))
-status_in LooksEncrypted = inl refl
+status_in LongValue = inr (inr (inr refl))
+status_in (Value number) = inl refl
 
 not_among : (n k : ℕ) → Statuses n → n ≡ k → (k ≡ 1 → ⊥) → (k ≡ 2 → ⊥) → (k ≡ 3 → ⊥) → (k ≡ 6 → ⊥) → ⊥
 not_among n k (inl h) e one two three six = one (sym e ∙ h)
@@ -193,7 +218,8 @@ not_two LongConfiguration h e = omega arith
 not_two (Configuration why) h e = text_not_two (why.code == 39) _ refl e
 not_two NotServed h e = omega arith
 not_two LongData h e = omega arith
-not_two LooksEncrypted h e = omega arith
+not_two LongValue h e = omega arith
+not_two (Value number) h e = omega arith
 
 -- the words stopped the command
 stops_so : (words : List (List ℕ)) (why : Refusal) → Stops words (Err (Refused why)) → ((status_of_refusal why ≡ 2) × AskNothing words) ⊎ ((status_of_refusal why ≡ 6) × (AskReplicas words ⊎ AskSize words))
@@ -205,10 +231,11 @@ stops_so words LongConfiguration s = absurd s
 stops_so words (Configuration why) s = absurd s
 stops_so words NotServed s = absurd s
 stops_so words LongData s = absurd s
-stops_so words LooksEncrypted s = absurd s
+stops_so words LongValue s = absurd s
+stops_so words (Value number) s = absurd s
 
 usage_means : (words : List (List ℕ)) (old new : Around) (r : Result Done Stop) → Answers words old new r → status_of r ≡ 2 → AskNothing words
-usage_means words old new (Ok Silent) a e = absurd (omega arith)
+usage_means words old new (Ok d) a e = absurd (omega arith)
 usage_means words old new (Err (Refused why)) (inl a) e = absurd (not_two why (by_words a.0 a.2.trace why (refused_outcome _ old new why a.2.ends).0) e)
 usage_means words old new (Err (Refused why)) (inr a) e = elim (stops_so words why a.0) [ inl s ↦ s.1 | inr s ↦ absurd (omega (arith, s.0)) ]
 usage_means words old new (Err (Fault object count)) a e = absurd (omega arith)
@@ -216,6 +243,7 @@ usage_means words old new (Err NoMemory) a e = absurd (omega arith)
 
 asks_something : (words : List (List ℕ)) (command : Command) → Asks words command → AskNothing words → ⊥
 asks_something words (encrypt config resource path) asks none = none asks.verb asks.options asks.means (ap is_built asks.is.0)
+asks_something words (decrypt config resource path) asks none = none asks.verb asks.options asks.means (ap is_built asks.is.0)
 asks_something words (check config resource) asks none = none asks.verb asks.options asks.means (ap is_built asks.is.0)
 
 stopped_so : (words : List (List ℕ)) (r : Result Done Stop) → Stops words r
@@ -235,7 +263,7 @@ usage words old new errors r status a (inl t) = (λ two. usage_means words old n
 usage words old new errors r status a (inr t) = (λ two. absurd (omega (arith, t.0)), λ none. inr (inr (inr (t.0, t.1))))
 
 fault_rose : (words : List (List ℕ)) (old new : Around) (r : Result Done Stop) → Answers words old new r → status_of r ≡ 4 → (object : Object) × Rose (count_at object old) (count_at object new)
-fault_rose words old new (Ok Silent) a e = absurd (omega arith)
+fault_rose words old new (Ok d) a e = absurd (omega arith)
 fault_rose words old new (Err (Refused why)) a e = absurd (not_four why e)
 fault_rose words old new (Err (Fault object count)) (inl a) e = (object, fault_outcome _ old new object count a.2.ends)
 fault_rose words old new (Err (Fault object count)) (inr a) e = absurd a.0
@@ -271,7 +299,7 @@ refused_so words old new why status a e = let o = refused_outcome _ old new why 
     inl (why, comes words old new (Err (Refused why)) a.0 (refuses why) a.1 a.2 refl o.0, sym e, o.1)
 
 refusal_by : (words : List (List ℕ)) (old new : Around) (r : Result Done Stop) (status : ℕ) → Answers words old new r → status ≡ status_of r → IsRefused words old new status
-refusal_by words old new (Ok Silent) status a e which = absurd (not_amid status 0 e (λ q. omega arith) (λ q. omega arith) (λ q. omega arith) which)
+refusal_by words old new (Ok d) status a e which = absurd (not_amid status 0 e (λ q. omega arith) (λ q. omega arith) (λ q. omega arith) which)
 refusal_by words old new (Err (Refused why)) status (inl a) e which = refused_so words old new why status a e
 refusal_by words old new (Err (Refused why)) status (inr a) e which =
     elim (stops_so words why a.0) [ inl s ↦ absurd (not_amid status 2 (e ∙ s.0) (λ q. omega arith) (λ q. omega arith) (λ q. omega arith) which) | inr s ↦ inr (e ∙ s.0, s.1, a.1) ]
@@ -282,14 +310,14 @@ pub refusal : (words : List (List ℕ)) (old new : Around) (errors : Sunk) (r : 
 refusal words old new errors r status a (inl t) which = refusal_by words old new r status a t.0 which
 refusal words old new errors r status a (inr t) which = absurd (not_amid status 4 t.0 (λ q. omega arith) (λ q. omega arith) (λ q. omega arith) which)
 
-done_by : (words : List (List ℕ)) (old new : Around) (r : Result Done Stop) (status : ℕ) → Answers words old new r → status ≡ status_of r → IsDone words old new status
-done_by words old new (Ok Silent) status (inl a) e z = let o = done_outcome _ old new Silent a.2.ends in
-    (o.0, comes words old new (Ok Silent) a.0 (gives o.0 Silent) a.1 a.2 refl o.1, o.2)
-done_by words old new (Ok Silent) status (inr a) e z = absurd a.0
-done_by words old new (Err (Refused why)) status a e z = absurd (not_zero why (sym e ∙ z))
-done_by words old new (Err (Fault object count)) status a e z = absurd (omega arith)
-done_by words old new (Err NoMemory) status a e z = absurd (omega arith)
+done_by : (words : List (List ℕ)) (old new : Around) (errors : Sunk) (r : Result Done Stop) (status : ℕ) → Answers words old new r → status ≡ status_of r → Appends errors.old errors.new (line_of r) → IsDone words old new errors status
+done_by words old new errors (Ok d) status (inl a) e line z = let o = done_outcome _ old new d a.2.ends in
+    (o.0, d, comes words old new (Ok d) a.0 (gives o.0 d) a.1 a.2 refl o.1, o.2, line)
+done_by words old new errors (Ok d) status (inr a) e line z = absurd a.0
+done_by words old new errors (Err (Refused why)) status a e line z = absurd (not_zero why (sym e ∙ z))
+done_by words old new errors (Err (Fault object count)) status a e line z = absurd (omega arith)
+done_by words old new errors (Err NoMemory) status a e line z = absurd (omega arith)
 
-pub done : (words : List (List ℕ)) (old new : Around) (errors : Sunk) (r : Result Done Stop) (status : ℕ) → Answers words old new r → Tells (line_of r) (status_of r) errors status → IsDone words old new status
-done words old new errors r status a (inl t) z = done_by words old new r status a t.0 z
+pub done : (words : List (List ℕ)) (old new : Around) (errors : Sunk) (r : Result Done Stop) (status : ℕ) → Answers words old new r → Tells (line_of r) (status_of r) errors status → IsDone words old new errors status
+done words old new errors r status a (inl t) z = done_by words old new errors r status a t.0 t.1 z
 done words old new errors r status a (inr t) z = absurd (omega (arith, t.0))

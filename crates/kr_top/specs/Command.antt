@@ -8,19 +8,25 @@ use Rattle.kr_words.specs.declared.command.Verb.TheVariants.{Encrypt, Decrypt, C
 pub data Command : Type 0 where
   -- encrypts the input for a resource and a path by a configuration
   encrypt : (config resource path : List ℕ) → Command
+  -- decrypts the input, a stored value
+  decrypt : (config resource path : List ℕ) → Command
   -- shows a configuration, or the providers of one resource by it
   check : (config : List ℕ) (resource : Option (List ℕ)) → Command
 
+abbrev pub IsOfObject : (config resource path : List ℕ) → List (List ℕ × List ℕ) → Type 0
+IsOfObject config resource path options =
+    (value_of options (codes "config") ≡ Some config) × (value_of options (codes "resource") ≡ Some resource) × (value_of options (codes "path") ≡ Some path)
+
 -- the verb with its options is this command
 abbrev pub IsOf : Command → Verb → List (List ℕ × List ℕ) → Type 0
-IsOf (encrypt config resource path) verb options =
-    (verb ≡ Encrypt) × (value_of options (codes "config") ≡ Some config) × (value_of options (codes "resource") ≡ Some resource) × (value_of options (codes "path") ≡ Some path)
+IsOf (encrypt config resource path) verb options = (verb ≡ Encrypt) × IsOfObject config resource path options
+IsOf (decrypt config resource path) verb options = (verb ≡ Decrypt) × IsOfObject config resource path options
 IsOf (check config resource) verb options = (verb ≡ Check) × (value_of options (codes "config") ≡ Some config) × (value_of options (codes "resource") ≡ resource)
 
 -- which commands are built
 abbrev pub is_built : Verb → Bool
 is_built Encrypt = true
-is_built Decrypt = false
+is_built Decrypt = true
 is_built Check = true
 is_built Inspect = false
 is_built Put = false
@@ -55,4 +61,5 @@ AskSize words = (verb : Verb) × (options : List (List ℕ × List ℕ)) × Mean
 -- the most bytes that the command takes as its input
 abbrev pub input_limit : Command → ℕ
 input_limit (encrypt config resource path) = 2097152
+input_limit (decrypt config resource path) = 2162688
 input_limit (check config resource) = 0

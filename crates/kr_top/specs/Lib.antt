@@ -1,8 +1,10 @@
 pub mod Check
 pub mod Command
 pub mod Configuration
+pub mod Decrypt
 pub mod Encrypt
 pub mod Message
 pub mod Phases
 pub mod Ran
+pub mod Steps
 pub mod Trace

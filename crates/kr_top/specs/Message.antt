@@ -5,11 +5,11 @@ use Rattle.kr_config.specs.declared.refusal.ConfigNo.{ConfigNo}
 use Rattle.kr_top.specs.declared.refusal.Object.{Object}
 use Rattle.kr_top.specs.declared.refusal.Object.TheVariants.{Input, Output, Files, Dice}
 use Rattle.kr_top.specs.declared.refusal.Refusal.{Refusal}
-use Rattle.kr_top.specs.declared.refusal.Refusal.TheVariants.{Usage, Replicas, Size, Absent, LongConfiguration, Configuration, NotServed, LongData, LooksEncrypted}
+use Rattle.kr_top.specs.declared.refusal.Refusal.TheVariants.{Usage, Replicas, Size, Absent, LongConfiguration, Configuration, NotServed, LongData, LongValue, Value}
 use Rattle.kr_top.specs.declared.refusal.Stop.{Stop}
 use Rattle.kr_top.specs.declared.refusal.Stop.TheVariants.{Refused, Fault, NoMemory}
 use Rattle.kr_top.specs.declared.refusal.Done.{Done}
-use Rattle.kr_top.specs.declared.refusal.Done.TheVariants.{Silent}
+use Rattle.kr_top.specs.declared.refusal.Done.TheVariants.{Silent, Fresh, Stale}
 
 -- code 39 of a configuration is a limit
 abbrev pub status_of_refusal : Refusal → ℕ
@@ -21,10 +21,11 @@ status_of_refusal LongConfiguration = 6
 status_of_refusal (Configuration why) = if why.code == 39 then 6 else 3
 status_of_refusal NotServed = 3
 status_of_refusal LongData = 6
-status_of_refusal LooksEncrypted = 1
+status_of_refusal LongValue = 6
+status_of_refusal (Value number) = 1
 
 abbrev pub status_of : Result Done Stop → ℕ
-status_of (Ok Silent) = 0
+status_of (Ok done) = 0
 status_of (Err (Refused why)) = status_of_refusal why
 status_of (Err (Fault object count)) = 4
 status_of (Err NoMemory) = 5
@@ -38,6 +39,13 @@ configuration_line why = if why.code == 39
     then codes "kmsrest: limit " ++ (counted_text why.first ++ (codes " " ++ (decimal why.second ++ codes "\n")))
     else codes "kmsrest: text " ++ (decimal why.code ++ (codes " " ++ (decimal why.first ++ (codes " " ++ (decimal why.second ++ codes "\n")))))
 
+-- the names of the refusals of a value
+abbrev pub value_text : ℕ → List ℕ
+value_text number = if number == 1 then codes "Short" else if number == 2 then codes "BadBlock" else if number == 3 then codes "BadPadding" else if number == 4 then codes "BadTag"
+    else if number == 5 then codes "Wire" else if number == 6 then codes "KeyId" else if number == 7 then codes "Source" else if number == 8 then codes "Annotations"
+    else if number == 9 then codes "SourceType" else if number == 10 then codes "NoData" else if number == 11 then codes "NotUtf8" else if number == 12 then codes "NoProvider"
+    else if number == 13 then codes "LooksEncrypted" else if number == 14 then codes "TooLarge" else codes "SeedLength"
+
 abbrev pub refusal_line : Refusal → List ℕ
 refusal_line Usage = codes "kmsrest: usage: kmsrest COMMAND OPTIONS\n"
 refusal_line Replicas = codes "kmsrest: limit replicas 16\n"
@@ -47,7 +55,8 @@ refusal_line LongConfiguration = codes "kmsrest: limit config 1048576\n"
 refusal_line (Configuration why) = configuration_line why
 refusal_line NotServed = codes "kmsrest: text 50 0 0\n"
 refusal_line LongData = codes "kmsrest: limit data 2097152\n"
-refusal_line LooksEncrypted = codes "kmsrest: refused 13 LooksEncrypted\n"
+refusal_line LongValue = codes "kmsrest: limit value 2162688\n"
+refusal_line (Value number) = codes "kmsrest: refused " ++ (decimal number ++ (codes " " ++ (value_text number ++ codes "\n")))
 
 abbrev pub object_text : Object → List ℕ
 object_text Input = codes "input"
@@ -63,8 +72,14 @@ abbrev pub joined : List (Bor (List ℕ)) → List ℕ
 joined [] = []
 joined (piece ∷ pieces) = piece.now ++ joined pieces
 
+-- decrypt says whether the value is one that the resource's writer would write today
+abbrev pub done_line : Done → List ℕ
+done_line Silent = []
+done_line Fresh = codes "fresh\n"
+done_line Stale = codes "stale\n"
+
 abbrev pub line_of : Result Done Stop → List ℕ
-line_of (Ok Silent) = []
+line_of (Ok done) = done_line done
 line_of (Err (Refused why)) = refusal_line why
 line_of (Err (Fault object count)) = fault_line object count
 line_of (Err NoMemory) = codes "kmsrest: memory\n"

@@ -4,19 +4,20 @@ use Rattle.std.specs.Io.KnownBytes.{Keeps, Appends, Consumes}
 use Rattle.kr_base.specs.Faults.{Rose}
 use Rattle.kr_base.specs.Streams.{AppendsFront}
 use Rattle.kr_kms.specs.Outside.{Outside, KeepsFiles, KeepsDice}
-use Rattle.kr_top.specs.Command.{Command, encrypt, check, Asks, AskNothing, AskReplicas, AskSize, input_limit}
+use Rattle.kr_top.specs.Command.{Command, encrypt, decrypt, check, Asks, AskNothing, AskReplicas, AskSize, input_limit}
 use Rattle.kr_top.specs.Trace.{Sight, Outcome, awaits, refuses, gives, strays, object_at, SawFiles, SawInput, input_of, drawn_of}
-use Rattle.kr_top.specs.Encrypt.{encrypt_outcome}
+use Rattle.kr_top.specs.Steps.{from_file}
+use Rattle.kr_top.specs.Encrypt.{sealing}
+use Rattle.kr_top.specs.Decrypt.{unsealing}
 use Rattle.kr_top.specs.Check.{check_outcome}
-use Rattle.kr_top.specs.Message.{status_of, status_of_refusal, line_of}
+use Rattle.kr_top.specs.Message.{status_of, status_of_refusal, line_of, done_line}
 use Rattle.kr_top.specs.declared.refusal.Object.{Object}
 use Rattle.kr_top.specs.declared.refusal.Object.TheVariants.{Input, Output, Files, Dice}
 use Rattle.kr_top.specs.declared.refusal.Refusal.{Refusal}
-use Rattle.kr_top.specs.declared.refusal.Refusal.TheVariants.{Usage, Replicas, Size, Absent, LongConfiguration, Configuration, NotServed, LongData, LooksEncrypted}
+use Rattle.kr_top.specs.declared.refusal.Refusal.TheVariants.{Usage, Replicas, Size, Absent, LongConfiguration, Configuration, NotServed, LongData, LongValue, Value}
 use Rattle.kr_top.specs.declared.refusal.Stop.{Stop}
 use Rattle.kr_top.specs.declared.refusal.Stop.TheVariants.{Refused, Fault, NoMemory}
 use Rattle.kr_top.specs.declared.refusal.Done.{Done}
-use Rattle.kr_top.specs.declared.refusal.Done.TheVariants.{Silent}
 
 -- what is around a command: the world, the input and the output, each with what it tells and its count of faults
 pub record Around : Type 0 where
@@ -35,7 +36,8 @@ pub record Sunk : Type 0 where
 
 -- what the steps of a command make of what it saw
 abbrev pub outcome_of : Command → List Sight → Outcome
-outcome_of (encrypt config resource path) trace = encrypt_outcome config resource path trace
+outcome_of (encrypt config resource path) trace = from_file 2097152 LongData (sealing resource path) config trace
+outcome_of (decrypt config resource path) trace = from_file 2162688 LongValue (unsealing resource path) config trace
 outcome_of (check config resource) trace = check_outcome config resource trace
 
 abbrev pub count_at : Object → Around → ℕ
@@ -109,7 +111,8 @@ Stops words (Err (Refused LongConfiguration)) = ⊥
 Stops words (Err (Refused (Configuration why))) = ⊥
 Stops words (Err (Refused NotServed)) = ⊥
 Stops words (Err (Refused LongData)) = ⊥
-Stops words (Err (Refused LooksEncrypted)) = ⊥
+Stops words (Err (Refused LongValue)) = ⊥
+Stops words (Err (Refused (Value number))) = ⊥
 Stops words (Err (Fault object count)) = ⊥
 Stops words (Err NoMemory) = ⊤
 
@@ -162,7 +165,7 @@ IsRefused words old new status =
     → ((why : Refusal) × Comes words old new (refuses why) × (status_of_refusal why ≡ status) × Keeps old.output new.output)
     ⊎ ((status ≡ 6) × (AskReplicas words ⊎ AskSize words) × IsUntouched old new)
 
--- status 0 comes only where the steps give a value, and then just that was written
-abbrev pub IsDone : List (List ℕ) → Around → Around → ℕ → Type 0
-IsDone words old new status =
-    status ≡ 0 → (value : List ℕ) × Comes words old new (gives value Silent) × Appends old.output new.output value
+-- status 0 comes only where the steps give a value, and then just that was written, and its line
+abbrev pub IsDone : List (List ℕ) → Around → Around → Sunk → ℕ → Type 0
+IsDone words old new errors status =
+    status ≡ 0 → (value : List ℕ) × (done : Done) × Comes words old new (gives value done) × Appends old.output new.output value × Appends errors.old errors.new (done_line done)

@@ -1,13 +1,13 @@
-ghost use Rattle.std.specs.Prelude.{◌≡◌};
+ghost use Rattle.std.specs.Prelude.{◌≡◌, ◌⊎◌, ◌≤◌, length};
 ghost use Rattle.std.specs.Option.{option_copied};
 ghost use Rattle.kr_words.specs.Grammar.{texts};
 ghost use Rattle.kr_words.specs.Options.{value_of};
 ghost use Rattle.kr_words.specs.Rules.{IsCommand};
-ghost use Rattle.kr_top.specs.Command.{Command, encrypt, check, IsOf};
+ghost use Rattle.kr_top.specs.Command.{Command, check, IsOf, IsOfObject};
 ghost use Rattle.kr_top.specs.Ran.{Around, Sunk, Ran, Answers, IsUsage, IsCaused, IsRefused, IsDone};
 
 use crate::check::{CheckWords, check};
-use crate::encrypt::{EncryptWords, encrypt};
+use crate::convert::{Direction, ObjectWords, convert};
 use crate::message::tell;
 use crate::refusal::{Done, Refusal, Stop};
 use kr_base::{Sink, Source};
@@ -48,6 +48,7 @@ pub fn run<W: World, I: Source, O: Sink, E: Sink>(
     ensures done { IsDone (texts words.now)
         (record { world = W.told world.old; input = I.left input.old; input_faults = I.count input.old; output = O.held output.old; output_faults = O.count output.old })
         (record { world = W.told world.new; input = I.left input.new; input_faults = I.count input.new; output = O.held output.new; output_faults = O.count output.new })
+        (record { old = E.held errors.old; new = E.held errors.new; old_faults = E.count errors.old; new_faults = E.count errors.new })
         result }
 {
     let answer = answer(alloc, words, world, input, output);
@@ -75,19 +76,35 @@ fn answer<W: World, I: Source, O: Sink>(
         Err(WordsNo::NoMemory) => return Err(Stop::NoMemory),
     };
     match command.verb {
-        Verb::Encrypt => encrypt(alloc, encrypt_words(&command), world, input, output),
+        Verb::Encrypt => convert(
+            alloc,
+            Direction::Encrypt,
+            object_words(&command),
+            world,
+            input,
+            output,
+        ),
+        Verb::Decrypt => convert(
+            alloc,
+            Direction::Decrypt,
+            object_words(&command),
+            world,
+            input,
+            output,
+        ),
         Verb::Check => check(alloc, check_words(&command), world, output),
         _ => Err(Stop::Refused(Refusal::Usage)),
     }
 }
 
-/// The words of `encrypt`.
-fn encrypt_words(command: &kr_words::Command) -> EncryptWords<'_>
+/// The words of `encrypt` and `decrypt`.
+fn object_words(command: &kr_words::Command) -> ObjectWords<'_>
     requires whole { IsCommand command.now.verb command.now.options.0 }
-    requires verb { command.now.verb ≡ Verb.Encrypt }
-    ensures { IsOf (encrypt result.config.now result.resource.now result.path.now) command.now.verb command.now.options.0 }
+    requires verb { (command.now.verb ≡ Verb.Encrypt) ⊎ (command.now.verb ≡ Verb.Decrypt) }
+    ensures words { IsOfObject result.config.now result.resource.now result.path.now command.now.options.0 }
+    ensures path { length result.path.now ≤ 1024 }
 {
-    EncryptWords {
+    ObjectWords {
         config: command.value("config").unwrap(),
         resource: command.value("resource").unwrap(),
         path: command.value("path").unwrap(),

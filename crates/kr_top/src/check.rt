@@ -9,9 +9,9 @@ ghost use Rattle.kr_top.specs.Ran.{Around, Did};
 use crate::listing::{entry_lines, provider_lines};
 use crate::phases::{configure, write_output};
 use crate::refusal::{Done, Stop};
-use kr_kms::World;
 use kr_base::{Bytes, NoMemory, Sink};
 use kr_config::Settings;
+use kr_kms::World;
 use std::alloc::Global;
 
 /// The words of `check`.

@@ -3,12 +3,12 @@
 
 mod call;
 mod check;
-mod encrypt;
+mod convert;
 mod listing;
 mod message;
 mod phases;
 mod refusal;
-mod seal;
+mod work;
 
 pub use call::run;
 pub use kr_kms::{FileNo, MemWorld, World};

@@ -2,7 +2,7 @@ ghost use Rattle.std.specs.Prelude.{◌≡◌, ◌≤◌, ◌++◌, OnOk, OnErr,
 ghost use Rattle.std.specs.Io.KnownBytes.{Appends};
 ghost use Rattle.kr_base.specs.Faults.{IsCounted};
 ghost use Rattle.kr_base.specs.Streams.{AppendsFront};
-ghost use Rattle.kr_top.specs.Message.{status_of, status_of_refusal, refusal_line, counted_text, configuration_line, object_text, fault_line, line_of, joined};
+ghost use Rattle.kr_top.specs.Message.{status_of, status_of_refusal, refusal_line, value_text, done_line, counted_text, configuration_line, object_text, fault_line, line_of, joined};
 ghost use Rattle.kr_top.specs.Ran.{Tells};
 
 use crate::refusal::{Done, Object, Refusal, Stop};
@@ -17,7 +17,7 @@ fn status_of_refusal(why: &Refusal) -> u8
     ensures { result ≡ status_of_refusal why.now }
 {
     match why {
-        Refusal::LooksEncrypted => 1,
+        Refusal::Value(_) => 1,
         Refusal::Usage => 2,
         Refusal::Absent(_) => 3,
         Refusal::NotServed => 3,
@@ -26,6 +26,7 @@ fn status_of_refusal(why: &Refusal) -> u8
         Refusal::Size => 6,
         Refusal::LongConfiguration => 6,
         Refusal::LongData => 6,
+        Refusal::LongValue => 6,
     }
 }
 
@@ -34,7 +35,7 @@ fn status_of(answer: &Result<Done, Stop>) -> u8
     ensures { result ≡ status_of answer.now }
 {
     match answer {
-        Ok(Done::Silent) => 0,
+        Ok(_) => 0,
         Err(Stop::Refused(why)) => status_of_refusal(why),
         Err(Stop::Fault(_object, _count)) => 4,
         Err(Stop::NoMemory) => 5,
@@ -59,7 +60,7 @@ fn write_line<E: Sink>(errors: &mut E, answer: &Result<Done, Stop>) -> Result<()
     ensures cause { IsCounted (E.count errors.old) (E.count errors.new) result }
 {
     match answer {
-        Ok(Done::Silent) => write_all(errors, &[]),
+        Ok(done) => write_all(errors, done_line(*done).as_bytes()),
         Err(Stop::Refused(why)) => write_refusal(errors, why),
         Err(Stop::Fault(object, count)) => write_fault(errors, *object, *count),
         Err(Stop::NoMemory) => write_all(errors, b"kmsrest: memory\n"),
@@ -80,7 +81,55 @@ fn write_refusal<E: Sink>(errors: &mut E, why: &Refusal) -> Result<(), Failed>
         Refusal::Configuration(why) => write_configuration(errors, *why),
         Refusal::NotServed => write_all(errors, b"kmsrest: text 50 0 0\n"),
         Refusal::LongData => write_all(errors, b"kmsrest: limit data 2097152\n"),
-        Refusal::LooksEncrypted => write_all(errors, b"kmsrest: refused 13 LooksEncrypted\n"),
+        Refusal::LongValue => write_all(errors, b"kmsrest: limit value 2162688\n"),
+        Refusal::Value(number) => write_value(errors, *number),
+    }
+}
+
+fn done_line(done: Done) -> &'static str
+    ensures { result.now ≡ done_line done }
+{
+    match done {
+        Done::Silent => "",
+        Done::Fresh => "fresh\n",
+        Done::Stale => "stale\n",
+    }
+}
+
+/// Writes the line of a refused value.
+fn write_value<E: Sink>(errors: &mut E, number: u8) -> Result<(), Failed>
+    ensures ok { OnOk result (Appends (E.held errors.old) (E.held errors.new) (refusal_line (Refusal.Value number))) }
+    ensures err { OnErr result (AppendsFront (E.held errors.old) (E.held errors.new) (refusal_line (Refusal.Value number))) }
+    ensures cause { IsCounted (E.count errors.old) (E.count errors.new) result }
+{
+    let mut buffer = Buffer::new();
+    let digits = buffer.format(number);
+    write_each(
+        errors,
+        &["kmsrest: refused ", digits, " ", value_text(number), "\n"],
+    )
+}
+
+/// The name of a refusal of a value.
+fn value_text(number: u8) -> &'static str
+    ensures { result.now ≡ value_text number }
+{
+    match number {
+        1 => "Short",
+        2 => "BadBlock",
+        3 => "BadPadding",
+        4 => "BadTag",
+        5 => "Wire",
+        6 => "KeyId",
+        7 => "Source",
+        8 => "Annotations",
+        9 => "SourceType",
+        10 => "NoData",
+        11 => "NotUtf8",
+        12 => "NoProvider",
+        13 => "LooksEncrypted",
+        14 => "TooLarge",
+        _ => "SeedLength",
     }
 }
 

@@ -1,15 +1,17 @@
 //! The phases that commands are made of.
-ghost use Rattle.std.specs.Prelude.{◌≡◌, ◌≤◌, length, Some, IfOk, IfErr, OnErr};
+ghost use Rattle.std.specs.Prelude.{◌≡◌, ◌≤◌, length, Some, false, IfOk, IfErr, OnErr};
 ghost use Rattle.std.specs.Option.{option_copied};
 ghost use Rattle.kr_config.specs.Kept.{rows_of};
+ghost use Rattle.kr_provider.specs.Publication.{names_plugin};
 ghost use Rattle.kr_top.specs.Configuration.{configuration, printed, printed_byte};
 ghost use Rattle.kr_kms.specs.Outside.{KeepsFiles, KeepsDice, HandsOut};
-ghost use Rattle.kr_top.specs.Phases.{Configures, ReadsRows, TakesInput, NoDice, WritesOutput};
+ghost use Rattle.kr_top.specs.Phases.{Configures, Serves, ReadsRows, TakesInput, NoDice, WritesOutput};
 
 use crate::refusal::{Object, Refusal, Stop};
-use kr_kms::{FileNo, World};
 use kr_base::{Bytes, Failed, NoMemory, ReadNo, Sink, Source, Text, read_all, write_all};
 use kr_config::{ConfigErr, Settings, read};
+use kr_kms::{FileNo, World};
+use kr_provider::names_plugin;
 use std::alloc::Global;
 
 /// The most bytes of a configuration file.
@@ -34,6 +36,23 @@ pub fn configure<W: World>(alloc: Global, world: &mut W, name: &str) -> Result<S
         Err(FileNo::NoMemory) => return Err(Stop::NoMemory),
     };
     read_settings(alloc, name, file.as_slice())
+}
+
+/// Loads a configuration that is served: one that names no plugin.
+pub fn serve<W: World>(alloc: Global, world: &mut W, name: &str) -> Result<Settings, Stop>
+    ensures settings { Serves (W.told world.old) (W.told world.new) name.now result }
+    ensures no_plugin { IfOk result (λ settings. names_plugin (rows_of settings.entries.0) ≡ false) }
+    ensures files { KeepsFiles (W.told world.old) (W.told world.new) }
+    ensures dice { KeepsDice (W.told world.old) (W.told world.new) }
+{
+    let settings = match configure(alloc, world, name) {
+        Ok(settings) => settings,
+        Err(stop) => return Err(stop),
+    };
+    if names_plugin(&settings) {
+        return Err(Stop::Refused(Refusal::NotServed));
+    }
+    Ok(settings)
 }
 
 /// The configuration by its bytes.
@@ -76,14 +95,19 @@ fn printed_byte(byte: u8) -> u8
     }
 }
 
-/// Takes the whole input, of at most `limit` bytes.
-pub fn take_input<I: Source>(alloc: Global, input: &mut I, limit: u64) -> Result<Bytes, Stop>
-    ensures taken { TakesInput limit (I.left input.old) (I.left input.new) (I.count input.old) (I.count input.new) result }
+/// Takes the whole input, of at most `limit` bytes; `long` is the refusal where there are more.
+pub fn take_input<I: Source>(
+    alloc: Global,
+    input: &mut I,
+    limit: u64,
+    long: Refusal,
+) -> Result<Bytes, Stop>
+    ensures taken { TakesInput limit long (I.left input.old) (I.left input.new) (I.count input.old) (I.count input.new) result }
     ensures later { I.count input.old ≤ I.count input.new }
 {
     match read_all(alloc, input, limit) {
         Ok(bytes) => Ok(bytes),
-        Err(ReadNo::TooLong) => Err(Stop::Refused(Refusal::LongData)),
+        Err(ReadNo::TooLong) => Err(Stop::Refused(long)),
         Err(ReadNo::Failed) => Err(Stop::Fault(Object::Input, input.faults())),
         Err(ReadNo::NoMemory) => Err(Stop::NoMemory),
     }

@@ -31,12 +31,14 @@ pub enum Refusal {
     LongConfiguration,
     /// The configuration breaks a rule or passes a limit.
     Configuration(ConfigNo),
-    /// The configuration names a plugin, or aesgcm is the writer.
+    /// The configuration names a plugin.
     NotServed,
     /// The input has more bytes than an object may have.
     LongData,
-    /// Identity would write data that it couldn't read back.
-    LooksEncrypted,
+    /// The input has more bytes than a stored value may have.
+    LongValue,
+    /// The data can't be sealed or the value can't be read; its number is that of the refusal, 1 to 15.
+    Value(u8),
 }
 
 /// Why a command wasn't done.
@@ -50,9 +52,13 @@ pub enum Stop {
     NoMemory,
 }
 
-/// What a command that is done says beside its output.
+/// What a command that is done says beside its output. The status is 0.
 #[derive(Clone, Copy, Debug, PartialEq, Eq)]
 pub enum Done {
-    /// Nothing; the status is 0.
+    /// Nothing.
     Silent,
+    /// The writer of the resource would write the value so today.
+    Fresh,
+    /// The value is of another provider than the writer.
+    Stale,
 }

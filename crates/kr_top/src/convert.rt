@@ -1,0 +1,100 @@
+//! `encrypt` and `decrypt`: configuration, input, random source, seal or unseal, write.
+ghost use Rattle.std.specs.Prelude.{◌≡◌, ◌≤◌, [], length};
+ghost use Rattle.kr_top.specs.Phases.{command_of, long_input};
+ghost use Rattle.kr_top.specs.Command.{input_limit};
+ghost use Rattle.kr_top.specs.Ran.{Around, Did};
+
+use crate::phases::{open_dice, serve, take_input, write_output};
+use crate::refusal::{Done, Refusal, Stop};
+use crate::work::make;
+use kr_base::{Sink, Source};
+use kr_kms::World;
+use std::alloc::Global;
+
+/// Which way an object goes.
+#[derive(Clone, Copy, Debug, PartialEq, Eq)]
+pub enum Direction {
+    /// Its data are sealed.
+    Encrypt,
+    /// Its stored value is read.
+    Decrypt,
+}
+
+impl Direction {
+    /// The most bytes of the input: of an object's data, or of a stored value.
+    fn limit(self) -> u64
+        ensures { result ≡ input_limit (command_of self [] [] []) }
+    {
+        match self {
+            Direction::Encrypt => 2_097_152,
+            Direction::Decrypt => 2_162_688,
+        }
+    }
+
+    fn long_input(self) -> Refusal
+        ensures { result ≡ long_input self }
+    {
+        match self {
+            Direction::Encrypt => Refusal::LongData,
+            Direction::Decrypt => Refusal::LongValue,
+        }
+    }
+}
+
+/// The words of `encrypt` and `decrypt`.
+#[derive(Clone, Copy)]
+pub struct ObjectWords<'a> {
+    /// The name of the configuration file.
+    pub config: &'a str,
+    /// The resource of the object.
+    pub resource: &'a str,
+    /// The path that the object is stored at; it may be empty.
+    pub path: &'a str,
+}
+
+/// Encrypts or decrypts the input to the output.
+pub fn convert<W: World, I: Source, O: Sink>(
+    alloc: Global,
+    direction: Direction,
+    words: ObjectWords<'_>,
+    world: &mut W,
+    input: &mut I,
+    output: &mut O,
+) -> Result<Done, Stop>
+    requires path { length words.path.now ≤ 1024 }
+    ensures { Did (command_of direction words.entry.config.now words.entry.resource.now words.entry.path.now)
+        (record { world = W.told world.old; input = I.left input.old; input_faults = I.count input.old; output = O.held output.old; output_faults = O.count output.old })
+        (record { world = W.told world.new; input = I.left input.new; input_faults = I.count input.new; output = O.held output.new; output_faults = O.count output.new })
+        result }
+{
+    let settings = match serve(alloc, world, words.config) {
+        Ok(settings) => settings,
+        Err(stop) => return Err(stop),
+    };
+    let bytes = match take_input(alloc, input, direction.limit(), direction.long_input()) {
+        Ok(bytes) => bytes,
+        Err(stop) => return Err(stop),
+    };
+    let dice = match open_dice(alloc, world, 0) {
+        Ok(dice) => dice,
+        Err(stop) => return Err(stop),
+    };
+    let (made, dice) = make::<W::Link, W::Rand>(
+        alloc,
+        direction,
+        settings,
+        dice,
+        words.resource,
+        words.path,
+        bytes.as_slice(),
+    );
+    world.back_dice(0, dice);
+    let made = match made {
+        Ok(made) => made,
+        Err(stop) => return Err(stop),
+    };
+    match write_output(output, made.bytes.as_slice()) {
+        Ok(()) => Ok(made.done),
+        Err(stop) => Err(stop),
+    }
+}
