@@ -2,6 +2,7 @@ ghost use Rattle.std.specs.Prelude.{◌≡◌, None, slice_index_or};
 
 use crate::streams::StdSource;
 use kr_base::{Bytes, Dice, Failed, ReadNo, read_all};
+use kr_kms::TablePlugin;
 use kr_top::{FileNo, World};
 use std::alloc::Global;
 use std::fs::File;
@@ -63,6 +64,9 @@ impl<'a, R: Files<File = File>> RealWorld<'a, R> {
 
 impl<'a, R: Files<File = File>> World for RealWorld<'a, R> {
     type Rand = UrandomDice;
+
+    // No call hands out a link.
+    type Link = TablePlugin;
 
     ghost told = { λ world. record { file = λ name. None; file_faults = world.faults; dice = λ seat. None; dice_faults = λ seat. slice_index_or world.dice_faults seat 0; out = λ seat. slice_index_or world.out seat 0 } };
 

@@ -1,4 +1,5 @@
 use kr_base::{Bytes, List, MemDice, MemSink, MemSource, NoMemory, Text};
+use kr_kms::TablePlugin;
 use kr_top::{MemWorld, run};
 use std::alloc::Global;
 use std::test::Fail;
@@ -59,7 +60,7 @@ fn owned(alloc: Global, words: &str) -> Result<Vec<String>, NoMemory> {
     Ok(all)
 }
 
-fn world(alloc: Global, call: &Call<'_>) -> Result<MemWorld, NoMemory> {
+fn world(alloc: Global, call: &Call<'_>) -> Result<MemWorld<TablePlugin>, NoMemory> {
     let mut files = List::new(alloc);
     match files.push((
         Text::copy(alloc, "c.json")?,
@@ -78,7 +79,7 @@ fn world(alloc: Global, call: &Call<'_>) -> Result<MemWorld, NoMemory> {
             Err(_) => return Err(NoMemory),
         }
     }
-    Ok(MemWorld::new(alloc, files, all))
+    Ok(MemWorld::new(alloc, files, all, List::new(alloc)))
 }
 
 fn left_by(alloc: Global, call: &Call<'_>) -> Result<Left, NoMemory> {

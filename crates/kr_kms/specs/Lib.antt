@@ -1,4 +1,6 @@
 pub mod Calls
 pub mod Limits
+pub mod MemWorld
+pub mod Outside
 pub mod Table
 pub mod Truth

@@ -9,7 +9,7 @@ use Rattle.std.proofs.lemmas.Bool.Decides.{Decides-ltb, Decides-eqb}
 use Rattle.kr_base.specs.Faults.{Rose}
 use Rattle.kr_base.specs.Told.{Agrees}
 use Rattle.kr_base.specs.Streams.{TakesAtMost, AppendsFront}
-use Rattle.kr_top.specs.Outside.{Outside, KeepsFiles, KeepsDice, HandsOut, TakesBack}
+use Rattle.kr_kms.specs.Outside.{Outside, KeepsFiles, KeepsDice, HandsOut, TakesBack}
 use Rattle.kr_top.specs.Command.{encrypt}
 use Rattle.kr_top.specs.Trace.{Sight, loaded, taken, opened, Outcome, awaits, refuses, gives, strays, load_file, take_input, open_dice, object_at, at_last, SawFiles, SawInput, input_of, drawn_of}
 use Rattle.kr_top.specs.Encrypt.{writer_in, by_writer, from_input, from_dice, encrypt_outcome}

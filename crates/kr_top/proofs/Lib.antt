@@ -2,7 +2,6 @@ pub mod Asked
 pub mod EncryptSteps
 pub mod Keys
 pub mod Pieces
-pub mod Shelf
 pub mod Readings
 pub mod Seals
 pub mod Singles

@@ -2,7 +2,7 @@
 use Rattle.std.proofs.Common.{◌≡◌, ◌≢◌, ℕ, zero, suc, ◌+◌, ◌≤◌, List, [], ◌++◌, Option, None, Some, refl, sym, ◌∙◌, ap, subst, arith}
 use Rattle.std.specs.Io.KnownBytes.{Consumes, Keeps}
 use Rattle.std.proofs.KnownBytes.{Consumes-nil}
-use Rattle.kr_top.specs.Outside.{Outside, KeepsFiles, KeepsDice}
+use Rattle.kr_kms.specs.Outside.{Outside, KeepsFiles, KeepsDice}
 use Rattle.kr_top.specs.Ran.{Around, IsUntouched}
 
 pub files_trans : {a b c : Outside} → KeepsFiles a b → KeepsFiles b c → KeepsFiles a c

@@ -1,9 +1,7 @@
 pub mod Command
 pub mod Config
 pub mod Encrypt
-pub mod MemWorld
 pub mod Message
-pub mod Outside
 pub mod Phases
 pub mod Ran
 pub mod Trace

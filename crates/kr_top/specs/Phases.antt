@@ -5,7 +5,7 @@ use Rattle.kr_aes.specs.KeyExpansion.{IsKeyLength}
 use Rattle.kr_base.specs.Faults.{Rose}
 use Rattle.kr_base.specs.Told.{Agrees}
 use Rattle.kr_base.specs.Streams.{AppendsFront, TakesAtMost}
-use Rattle.kr_top.specs.Outside.{Outside}
+use Rattle.kr_kms.specs.Outside.{Outside}
 use Rattle.kr_top.specs.Encrypt.{writer_in, sealed_by}
 use Rattle.kr_top.specs.Trace.{Sight, drawn, draw, awaits, refuses, gives}
 use Rattle.kr_top.specs.declared.refusal.Done.TheVariants.{Silent}

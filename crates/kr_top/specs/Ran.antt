@@ -3,7 +3,7 @@ use Rattle.std.specs.Prelude.{◌≡◌, ℕ, ◌≤◌, ◌⊎◌, Bool, true, 
 use Rattle.std.specs.Io.KnownBytes.{Keeps, Appends, Consumes}
 use Rattle.kr_base.specs.Faults.{Rose}
 use Rattle.kr_base.specs.Streams.{AppendsFront}
-use Rattle.kr_top.specs.Outside.{Outside, KeepsFiles, KeepsDice}
+use Rattle.kr_kms.specs.Outside.{Outside, KeepsFiles, KeepsDice}
 use Rattle.kr_top.specs.Command.{Command, encrypt, Asks, AskNothing, AskReplicas, AskSize, input_limit}
 use Rattle.kr_top.specs.Trace.{Sight, Outcome, awaits, refuses, gives, strays, object_at, SawFiles, SawInput, input_of, drawn_of}
 use Rattle.kr_top.specs.Encrypt.{encrypt_outcome}

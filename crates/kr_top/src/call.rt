@@ -9,8 +9,8 @@ ghost use Rattle.kr_top.specs.Ran.{Around, Sunk, Ran, Answers, IsUsage, IsCaused
 use crate::encrypt::{EncryptWords, encrypt};
 use crate::message::tell;
 use crate::refusal::{Done, Refusal, Stop};
-use crate::world::World;
 use kr_base::{Sink, Source};
+use kr_kms::World;
 use kr_words::{Verb, WordsNo, one_meaning, read_words};
 use std::alloc::Global;
 

@@ -6,8 +6,8 @@ ghost use Rattle.kr_top.specs.Ran.{Around, Did};
 use crate::phases::{configure, open_dice, take_input, write_output};
 use crate::refusal::{Done, Stop};
 use crate::seal::seal;
-use crate::world::World;
 use kr_base::{Sink, Source};
+use kr_kms::World;
 use std::alloc::Global;
 
 /// The words of `encrypt`.

@@ -4,13 +4,10 @@
 mod call;
 mod config;
 mod encrypt;
-mod mem_world;
 mod message;
 mod phases;
 mod refusal;
 mod seal;
-mod world;
 
 pub use call::run;
-pub use mem_world::MemWorld;
-pub use world::{FileNo, World};
+pub use kr_kms::{FileNo, MemWorld, World};

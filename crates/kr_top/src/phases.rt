@@ -1,13 +1,13 @@
 //! The phases that commands are made of.
 ghost use Rattle.std.specs.Prelude.{◌≡◌, ◌≤◌, length, Some, IfOk, IfErr, OnErr};
 ghost use Rattle.kr_top.specs.Encrypt.{writer_in};
-ghost use Rattle.kr_top.specs.Outside.{KeepsFiles, KeepsDice, HandsOut};
+ghost use Rattle.kr_kms.specs.Outside.{KeepsFiles, KeepsDice, HandsOut};
 ghost use Rattle.kr_top.specs.Phases.{Configures, ReadsWriter, TakesInput, NoDice, WritesOutput};
 
 use crate::config::{Config, ConfigErr, Who, read_config};
 use crate::refusal::{Object, Refusal, Stop};
-use crate::world::{FileNo, World};
 use kr_base::{Bytes, Failed, ReadNo, Sink, Source, read_all, write_all};
+use kr_kms::{FileNo, World};
 use std::alloc::Global;
 
 /// The most bytes of a configuration file.

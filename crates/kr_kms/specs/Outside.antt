@@ -2,8 +2,8 @@
 use Rattle.std.specs.Prelude.{◌≡◌, ◌≢◌, ℕ, ◌+◌, ◌<◌, ◌≤◌, ◌==◌, List, length, Option, None, Some, Result, Ok, Err, ⊤, if◌then◌else◌}
 use Rattle.kr_base.specs.Faults.{Rose}
 use Rattle.kr_base.specs.Told.{Agrees}
-use Rattle.kr_top.specs.declared.world.FileNo.{FileNo}
-use Rattle.kr_top.specs.declared.world.FileNo.TheVariants.{Absent, TooLong, Failed, NoMemory}
+use Rattle.kr_kms.specs.declared.world.FileNo.{FileNo}
+use Rattle.kr_kms.specs.declared.world.FileNo.TheVariants.{Absent, TooLong, Failed, NoMemory}
 
 pub record Outside : Type 0 where
   -- a file by its name: none where the world doesn't tell; else absent, or its bytes

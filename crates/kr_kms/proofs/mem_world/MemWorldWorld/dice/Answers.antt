@@ -1,11 +1,11 @@
 use Rattle.std.proofs.Common.{◌≡◌, ℕ, ◌<◌, Some, length, get_or, sym, ◌∙◌, ap, subst}
 use Rattle.kr_base.specs.Played.{Given}
-use Rattle.kr_top.specs.MemWorld.{dice_of}
-use Rattle.kr_top.proofs.Shelf.{handed_out}
-use Rattle.kr_top.proofs.mem_world.MemWorldWorld.dice.Goals as goal
+use Rattle.kr_kms.specs.MemWorld.{dice_of}
+use Rattle.kr_kms.proofs.Shelf.{handed_out}
+use Rattle.kr_kms.proofs.mem_world.MemWorldWorld.dice.Goals as goal
 
 pub returns-clause-ok : goal.returns-clause-ok
-returns-clause-ok c =
+returns-clause-ok g c =
     let dice = c.args.self.now.dice.items in let at = c.in-Some.at in
     let same = c.deref.ensures.value in
     let within : at < length dice = subst (λ l. at < length l) same c.in-Some.ensures.0 in

@@ -1,13 +1,13 @@
 -- Counts of seats, and random sources that go out and come back.
-use Rattle.std.proofs.Common.{◌≡◌, ◌≢◌, ℕ, zero, suc, Some, ◌+◌, ◌<◌, ◌≤◌, ◌==◌, List, [], ◌∷◌, ◌++◌, length, get_or, drop, Bool, true, false, cond, zero-add, refl, sym, ◌∙◌, ap, arith}
-use Rattle.std.specs.Prelude.{count_by, if◌then◌else◌}
+use Rattle.std.proofs.Common.{◌≡◌, ◌≢◌, ℕ, zero, suc, Some, ◌+◌, ◌<◌, ◌==◌, List, [], ◌∷◌, ◌++◌, length, get_or, Bool, true, false, cond, zero-add, refl, sym, ◌∙◌, ap, arith}
+use Rattle.std.specs.Prelude.{count_by}
 use Rattle.std.specs.List.{remove}
 use Rattle.std.specs.Option.{option_map, option_map_or}
 use Rattle.std.proofs.lemmas.List.Sums.{sum_by-remove, sum_by-append}
 use Rattle.std.proofs.lemmas.Bool.Decides.{Decides-eqb}
 use Rattle.kr_base.specs.Played.{Given}
-use Rattle.kr_top.specs.MemWorld.{dice_of, told_by}
-use Rattle.kr_top.specs.Outside.{at_seat, HandsOut}
+use Rattle.kr_kms.specs.MemWorld.{dice_of, told_by}
+use Rattle.kr_kms.specs.Outside.{at_seat, HandsOut}
 
 -- a seat that is struck counts one less
 pub count-remove : (out : List ℕ) (at seat other : ℕ) → at < length out → get_or out at 0 ≡ seat → count_by (λ s. s == other) (remove out at) + at_seat seat 1 other ≡ count_by (λ s. s == other) out

@@ -1,33 +1,42 @@
 ghost use Rattle.std.specs.Prelude.{◌≡◌, ℕ, ◌∷◌, [], ◌<◌, ◌+◌, ◌==◌, ◌≤◌, length, count_by, vec_len, vec_capacity, MatchOption, None, Some, slice_index_or};
-ghost use Rattle.kr_top.specs.Outside.{at_seat};
+ghost use Rattle.kr_kms.specs.Outside.{at_seat};
 ghost use Rattle.std.specs.Option.{option_copied};
 ghost use Rattle.kr_base.specs.Played.{Given};
-ghost use Rattle.kr_top.specs.MemWorld.{file_of, dice_of, told_by};
+ghost use Rattle.kr_kms.specs.MemWorld.{file_of, dice_of, link_of, told_by};
 
+use crate::plugin::Kms;
 use crate::world::{FileNo, World};
 use kr_base::{Bytes, List, MemDice, Text};
 use std::alloc::Global;
 
-/// A world in memory. Files stand with their names, random sources with their seats; of two with one name or one seat
-/// the first counts.
+/// A world in memory. Files stand with their names, random sources and links with their seats; of two with one name or
+/// one seat the first counts. A link's plugin is its own name.
 #[derive(Debug, Drop)]
-pub struct MemWorld {
+pub struct MemWorld<L: Kms + Send> {
     files: Vec<(Text, Bytes)>,
     dice: Vec<(u32, MemDice)>,
+    links: Vec<(u32, L)>,
     out: Vec<u32>,
     faults: u64,
     // What is out finds its room again.
     ghost room: { vec_len dice + vec_len out ≤ vec_capacity dice },
 }
 
-impl MemWorld {
-    /// A world of these files and random sources; nothing is handed out.
-    pub fn new(alloc: Global, files: List<(Text, Bytes)>, dice: List<(u32, MemDice)>) -> MemWorld
-        ensures { ⟦<MemWorld as World>⟧.told result ≡ told_by files.0 dice.0 [] 0 }
+impl<L: Kms + Send> MemWorld<L> {
+    /// A world of these files, random sources and links; nothing is handed out.
+    pub fn new(
+        alloc: Global,
+        files: List<(Text, Bytes)>,
+        dice: List<(u32, MemDice)>,
+        links: List<(u32, L)>,
+    ) -> MemWorld<L>
+        ensures told { ⟦<MemWorld<L> as World>⟧.told result ≡ told_by files.0 dice.0 [] 0 }
+        ensures links { result.links.items ≡ links.0 }
     {
         MemWorld {
             files: files.into_vec(),
             dice: dice.into_vec(),
+            links: links.into_vec(),
             out: Vec::new(alloc),
             faults: 0,
         }
@@ -42,10 +51,24 @@ impl MemWorld {
             None => None,
         }
     }
+
+    /// Lends the link of the seat to the plugin, if it is there.
+    pub fn link_of(&self, seat: u32, plugin: &str) -> Option<&L>
+        ensures { option_copied result ≡ link_of (λ link. (L.link link).name) self.now.links.items seat plugin.now }
+    {
+        for link in &self.links {
+            if link.0 == seat && link.1.name() == plugin {
+                return Some(&link.1);
+            }
+        }
+        None
+    }
 }
 
-impl World for MemWorld {
+impl<L: Kms + Send> World for MemWorld<L> {
     type Rand = MemDice;
+
+    type Link = L;
 
     ghost told = { λ world. told_by world.files.items world.dice.items world.out.items world.faults };
 

@@ -1,8 +1,8 @@
-use Rattle.std.proofs.Common.{◌≡◌, ◌+◌, ◌<◌, ◌==◌, length, get_or, sym, ◌∙◌, ap, subst}
+use Rattle.std.proofs.Common.{◌≡◌, ◌+◌, ◌<◌, ◌==◌, length, get_or, ◌∙◌, ap, subst}
 use Rattle.std.specs.Prelude.{count_by}
-use Rattle.kr_top.specs.Outside.{at_seat}
-use Rattle.kr_top.proofs.Shelf.{count-remove}
-use Rattle.kr_top.proofs.mem_world.strike.Goals as goal
+use Rattle.kr_kms.specs.Outside.{at_seat}
+use Rattle.kr_kms.proofs.Shelf.{count-remove}
+use Rattle.kr_kms.proofs.mem_world.strike.Goals as goal
 
 pub returns-clause-counts : goal.returns-clause-counts
 returns-clause-counts c other =

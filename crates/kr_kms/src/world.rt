@@ -1,8 +1,9 @@
 //! The world that a command runs in: its files, and the random source of each seat.
 ghost use Rattle.std.specs.Prelude.{◌≡◌, ◌<◌, ◌⊎◌, IfOk, IfErr, OnErr, IsErrOf};
 ghost use Rattle.kr_base.specs.Faults.{Rose};
-ghost use Rattle.kr_top.specs.Outside.{Outside, Loads, KeepsFiles, KeepsDice, HandsOut, TakesBack};
+ghost use Rattle.kr_kms.specs.Outside.{Outside, Loads, KeepsFiles, KeepsDice, HandsOut, TakesBack};
 
+use crate::plugin::Kms;
 use kr_base::{Bytes, Dice};
 use std::alloc::Global;
 
@@ -24,6 +25,9 @@ pub enum FileNo {
 pub trait World {
     /// The random source of a seat. It can move to a thread.
     type Rand: Dice + Send;
+
+    /// The link to a plugin. It can move to a thread.
+    type Link: Kms + Send;
 
     ghost told: { Self → Outside };
 
