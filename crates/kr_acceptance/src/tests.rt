@@ -12,6 +12,22 @@ const IDENTITY: &str =
 const AESCBC: &str =
     r#"{"apiVersion":"apiserver.config.k8s.io/v1","kind":"EncryptionConfiguration","resources":[{"resources":["secrets"],"providers":[{"aescbc":{"keys":[{"name":"key1","secret":"AAECAwQFBgcICQoLDA0ODxAREhMUFRYXGBkaGxwdHh8="}]}}]}]}"#;
 
+/// Secrets are stored by identity; other resources of the core group by aesgcm; all others by aescbc.
+const THREE: &str =
+    r#"{"apiVersion":"apiserver.config.k8s.io/v1","kind":"EncryptionConfiguration","resources":[{"resources":["secrets"],"providers":[{"identity":{}}]},{"resources":["*."],"providers":[{"aesgcm":{"keys":[{"name":"k","secret":"c2VjcmV0IGlzIHNlY3VyZQ=="}]}}]},{"resources":["*.*"],"providers":[{"aescbc":{"keys":[{"name":"k","secret":"dGhpcyBpcyBwYXNzd29yZA=="}]}}]}]}"#;
+
+/// Secrets are stored by aescbc under the key of bytes 0 to 15, named `key1`, and what is stored bare is read.
+const TWO: &str =
+    r#"{"apiVersion":"apiserver.config.k8s.io/v1","kind":"EncryptionConfiguration","resources":[{"resources":["secrets","pods.apps"],"providers":[{"aescbc":{"keys":[{"name":"key1","secret":"AAECAwQFBgcICQoLDA0ODw=="}]}},{"identity":{}}]}]}"#;
+
+/// Resources of one group are stored by a plugin.
+const KMS: &str =
+    r#"{"apiVersion":"apiserver.config.k8s.io/v1","kind":"EncryptionConfiguration","resources":[{"resources":["*.apps"],"providers":[{"kms":{"apiVersion":"v2","name":"p","endpoint":"unix:///run/p"}}]}]}"#;
+
+/// What begins a configuration with one entry, up to its patterns.
+const BEGIN: &str =
+    r#"{"apiVersion":"apiserver.config.k8s.io/v1","kind":"EncryptionConfiguration","resources":[{"resources":"#;
+
 /// A call: its words parted by bars, the file `c.json`, the input, and which first calls fail.
 #[derive(Drop)]
 struct Call<'a> {
@@ -178,6 +194,90 @@ fn stores_by_aescbc(rt: HostRuntime) -> Result<(), Fail> {
 }
 
 #[test]
+fn stores_by_the_first_provider(rt: HostRuntime) -> Result<(), Fail> {
+    // The vector of FIPS 197 for a key of 16 bytes: the IV is what makes the padded data its plain text.
+    let iv: &[u8] = &[
+        0x68, 0x74, 0x4e, 0x5f, 0x2b, 0x5e, 0x6d, 0x7c, 0x83, 0x92, 0xa1, 0xb0, 0xc7, 0xd6, 0xe5,
+        0xf4,
+    ];
+    let block: &[u8] = &[
+        0x69, 0xc4, 0xe0, 0xd8, 0x6a, 0x7b, 0x04, 0x30, 0xd8, 0xcd, 0xb7, 0x80, 0x70, 0xb4, 0xc5,
+        0x5a,
+    ];
+    let call = Call {
+        config: TWO,
+        dice: Some(iv),
+        ..plain(b"hello")
+    };
+    let left = left_by(rt.alloc(), &call)?;
+    assert_eq!(rt; left.status, 0);
+    let (prefix, rest) = left.output.as_slice().split_at(23);
+    let (drawn, body) = rest.split_at(16);
+    assert_eq!(rt; prefix, b"k8s:enc:aescbc:v1:key1:".as_slice());
+    assert_eq!(rt; drawn, iv);
+    assert_eq!(rt; body, block);
+    Ok(())
+}
+
+#[test]
+fn shows_configurations(rt: HostRuntime) -> Result<(), Fail> {
+    let all = "check|--config|c.json";
+    let cases: [(&str, &str, &str); 9] = [
+        (
+            all,
+            THREE,
+            "entry 0: secrets: identity\nentry 1: *.: aesgcm:k\nentry 2: *.*: aescbc:k\n",
+        ),
+        (
+            all,
+            TWO,
+            "entry 0: secrets,pods.apps: aescbc:key1,identity\n",
+        ),
+        (all, KMS, "entry 0: *.apps: kms:p\n"),
+        (
+            "check|--config|c.json|--resource|secrets",
+            THREE,
+            "identity\n",
+        ),
+        (
+            "check|--resource|configmaps|--config=c.json",
+            THREE,
+            "aesgcm:k\n",
+        ),
+        (
+            "check|--config|c.json|--resource|deployments.apps",
+            THREE,
+            "aescbc:k\n",
+        ),
+        (
+            "check|--config|c.json|--resource|deployments.apps",
+            KMS,
+            "kms:p\n",
+        ),
+        (
+            "check|--config|c.json|--resource|secrets",
+            TWO,
+            "aescbc:key1\nidentity\n",
+        ),
+        ("check|--config|c.json|--resource|pods", TWO, "identity\n"),
+    ];
+    for (words, config, output) in cases {
+        let left = left_by(
+            rt.alloc(),
+            &Call {
+                words,
+                config,
+                ..plain(b"")
+            },
+        )?;
+        assert_eq!(rt; left.output.as_slice(), output.as_bytes());
+        assert_eq!(rt; left.errors.as_slice(), b"".as_slice());
+        assert_eq!(rt; left.status, 0);
+    }
+    Ok(())
+}
+
+#[test]
 fn limits_the_data(rt: HostRuntime) -> Result<(), Fail> {
     let most = vec![in rt.alloc(); 7u8; 2_097_152]?;
     let left = left_by(rt.alloc(), &plain(most.as_slice()))?;
@@ -235,8 +335,8 @@ const MANY: &str =
 #[test]
 fn refuses_other_words_and_files(rt: HostRuntime) -> Result<(), Fail> {
     let usage = "kmsrest: usage: kmsrest COMMAND OPTIONS\n";
-    let unread = "kmsrest: text 50 0 0\n";
-    let cases: [(&str, &str, &str, u8); 12] = [
+    let unserved = "kmsrest: text 50 0 0\n";
+    let cases: [(&str, &str, &str, u8); 16] = [
         ("", IDENTITY, usage, 2),
         ("encrypt", IDENTITY, usage, 2),
         ("list|--store|s", IDENTITY, usage, 2),
@@ -268,21 +368,40 @@ fn refuses_other_words_and_files(rt: HostRuntime) -> Result<(), Fail> {
         (
             "encrypt|--config|none|--resource|secrets|--path|",
             IDENTITY,
-            unread,
+            "kmsrest: text 40 none\n",
             3,
         ),
         (
             "encrypt|--config|c.json|--resource|secrets|--path|",
             "{",
-            unread,
+            "kmsrest: text 20 0 0\n",
             3,
         ),
         (
             "encrypt|--config|c.json|--resource|secrets|--path|",
             "{}",
-            unread,
+            "kmsrest: text 23 0 0\n",
             3,
         ),
+        (
+            "encrypt|--config|c.json|--resource|pods|--path|",
+            THREE,
+            unserved,
+            3,
+        ),
+        (
+            "encrypt|--config|c.json|--resource|secrets|--path|",
+            KMS,
+            unserved,
+            3,
+        ),
+        (
+            "check|--config|n\u{e9}.yaml",
+            IDENTITY,
+            "kmsrest: text 40 n??.yaml\n",
+            3,
+        ),
+        ("check|--config=", IDENTITY, "kmsrest: text 40 \n", 3),
         (
             "encrypt|--config|c.json|--resource|pods|--path|",
             IDENTITY,
@@ -302,6 +421,77 @@ fn refuses_other_words_and_files(rt: HostRuntime) -> Result<(), Fail> {
         assert_eq!(rt; left.errors.as_slice(), line.as_bytes());
         assert_eq!(rt; left.status, status);
         assert!(rt; left.dice_is_back);
+    }
+    Ok(())
+}
+
+#[test]
+fn refuses_configurations(rt: HostRuntime) -> Result<(), Fail> {
+    let alloc = rt.alloc();
+    // The patterns of the one entry, its providers, the line.
+    let cases: [(&str, &str, &str); 4] = [
+        (
+            r#"["secrets"]"#,
+            r#"{"kms":{"name":"p","endpoint":"unix:///run/p"}}"#,
+            "kmsrest: text 29 0 0\n",
+        ),
+        (
+            r#"["secrets"]"#,
+            r#"{"secretbox":{"keys":[]}}"#,
+            "kmsrest: text 28 0 0\n",
+        ),
+        (
+            r#"["secrets"]"#,
+            r#"{"aescbc":{"keys":[{"name":"k","secret":"AAECAwQFBgcICQoLDA0O"}]}}"#,
+            "kmsrest: text 34 0 0\n",
+        ),
+        (
+            r#"["*.*","secrets"]"#,
+            r#"{"identity":{}}"#,
+            "kmsrest: text 37 0 1\n",
+        ),
+    ];
+    for (patterns, provider, line) in cases {
+        let config = format!(in alloc; "{}{},\"providers\":[{}]}}]}}", BEGIN, patterns, provider)?;
+        let left = left_by(
+            alloc,
+            &Call {
+                words: "check|--config|c.json",
+                config: config.as_str(),
+                ..plain(b"")
+            },
+        )?;
+        assert_eq!(rt; left.errors.as_slice(), line.as_bytes());
+        assert_eq!(rt; left.output.as_slice(), b"".as_slice());
+        assert_eq!(rt; left.status, 3);
+    }
+    Ok(())
+}
+
+#[test]
+fn limits_configurations(rt: HostRuntime) -> Result<(), Fail> {
+    let alloc = rt.alloc();
+    let long = " ".repeat(alloc, 1_048_577)?;
+    let entries = r#"{},"#.repeat(alloc, 64)?;
+    let many = format!(in alloc;
+        "{{\"apiVersion\":\"apiserver.config.k8s.io/v1\",\"kind\":\"EncryptionConfiguration\",\"resources\":[{}{{}}]}}",
+        entries.as_str()
+    )?;
+    let cases: [(&str, &str); 2] = [
+        (long.as_str(), "kmsrest: limit config 1048576\n"),
+        (many.as_str(), "kmsrest: limit entries 64\n"),
+    ];
+    for (config, line) in cases {
+        let left = left_by(
+            alloc,
+            &Call {
+                words: "check|--config|c.json",
+                config,
+                ..plain(b"")
+            },
+        )?;
+        assert_eq!(rt; left.errors.as_slice(), line.as_bytes());
+        assert_eq!(rt; left.status, 6);
     }
     Ok(())
 }

@@ -1,30 +1,30 @@
 -- What the words of a command line ask for.
-use Rattle.std.proofs.Common.{◌≡◌, ℕ, ◌≤◌, List, codes, Option, None, Some, Bor, refl, sym, ◌∙◌, subst, arith}
-use Rattle.std.specs.Prelude.{Contains, IsSome, Err}
+use Rattle.std.proofs.Common.{◌≡◌, ℕ, List, Option, None, Some, Bor, refl, sym, subst, arith}
+use Rattle.std.specs.Prelude.{Contains, IsSome, IsTrue, Err}
 use Rattle.std.specs.Option.{option_copied}
 use Rattle.kr_words.specs.Grammar.{Means, Reads}
 use Rattle.kr_words.specs.Options.{value_of}
 use Rattle.kr_words.specs.Rules.{IsCommand}
 use Rattle.kr_words.specs.Names.{required, text_of}
 use Rattle.kr_words.specs.declared.command.Verb.{Verb}
-use Rattle.kr_words.specs.declared.command.Verb.TheVariants.{Encrypt}
+use Rattle.kr_words.specs.declared.command.Verb.TheVariants.{Encrypt, Check}
 use Rattle.kr_words.specs.declared.name.OptionName.{OptionName}
 use Rattle.kr_words.specs.declared.name.OptionName.TheVariants.{Config, Resource, Path}
 use Rattle.kr_words.proofs.Values.{value_some}
 use Rattle.kr_words.proofs.Meanings.{mean_one}
 use Rattle.kr_words.specs.declared.command.WordsNo.{WordsNo}
 use Rattle.kr_words.specs.declared.command.WordsNo.TheVariants.{Usage}
-use Rattle.kr_top.specs.Command.{AskNothing}
+use Rattle.kr_top.specs.Command.{AskNothing, is_built}
 
-pub asks_nothing : (words : List (List ℕ)) (verb : Verb) (options : List (List ℕ × List ℕ)) → Means words verb options → (verb ≡ Encrypt → ⊥) → AskNothing words
-asks_nothing words verb options means other v o m e = other ((mean_one words verb v options o means m).0 ∙ e)
+pub asks_nothing : (words : List (List ℕ)) (verb : Verb) (options : List (List ℕ × List ℕ)) → Means words verb options → (IsTrue (is_built verb) → ⊥) → AskNothing words
+asks_nothing words verb options means other v o m built = other (subst (λ w. IsTrue (is_built w)) (sym (mean_one words verb v options o means m).0) built)
 
 -- words that mean nothing ask for nothing
 pub means_nothing : (words : List (List ℕ)) (why : WordsNo) → why ≡ Usage → Reads words (Err why) → AskNothing words
 means_nothing words why e r verb options means is = subst (λ w. Reads words (Err w)) e r verb options means
 
-pub required_some : (options : List (List ℕ × List ℕ)) (verb : Verb) (name : OptionName) → IsCommand verb options → verb ≡ Encrypt → Contains (required Encrypt) name → IsSome (value_of options (text_of name))
-required_some options verb name command e has = value_some {verb = verb} {options = options} name command (subst (λ v. Contains (required v) name) (sym e) has)
+pub required_some : (options : List (List ℕ × List ℕ)) (verb wanted : Verb) (name : OptionName) → IsCommand verb options → verb ≡ wanted → Contains (required wanted) name → IsSome (value_of options (text_of name))
+required_some options verb wanted name command e has = value_some {verb = verb} {options = options} name command (subst (λ v. Contains (required v) name) (sym e) has)
 
 some_copied : (r : Option (Bor (List ℕ))) (o : Option (List ℕ)) → option_copied r ≡ o → IsSome o → IsSome r
 some_copied (Some x) o e h = refl
@@ -39,6 +39,9 @@ has_resource = (1, omega arith, refl)
 pub has_path : Contains (required Encrypt) Path
 has_path = (2, omega arith, refl)
 
+pub check_has_config : Contains (required Check) Config
+check_has_config = (0, omega arith, refl)
+
 -- the value at a required option is found
-pub found : (r : Option (Bor (List ℕ))) (options : List (List ℕ × List ℕ)) (verb : Verb) (name : OptionName) → IsCommand verb options → verb ≡ Encrypt → Contains (required Encrypt) name → option_copied r ≡ value_of options (text_of name) → IsSome r
-found r options verb name command e has is = some_copied r _ is (required_some options verb name command e has)
+pub found : (r : Option (Bor (List ℕ))) (options : List (List ℕ × List ℕ)) (verb wanted : Verb) (name : OptionName) → IsCommand verb options → verb ≡ wanted → Contains (required wanted) name → option_copied r ≡ value_of options (text_of name) → IsSome r
+found r options verb wanted name command e has is = some_copied r _ is (required_some options verb wanted name command e has)

@@ -1,82 +1,60 @@
 -- How `encrypt` ends at each of its steps.
-use Rattle.std.proofs.Common.{◌≡◌, ℕ, zero, suc, ◌+◌, ◌<◌, ◌≤◌, List, [], ◌∷◌, ◌++◌, ◌==◌, length, Bool, true, false, Option, None, Some, Ok, Err, refl, sym, ◌∙◌, ap, subst, inl, inr, arith, append-nil}
-use Rattle.std.specs.Prelude.{Result, nat_lt, ⊤, if◌then◌else◌}
-use Rattle.std.specs.Str.{bytes_eq}
-use Rattle.std.specs.Io.KnownBytes.{Appends, Consumes, Keeps, IsAtEnd}
-use Rattle.std.proofs.KnownBytes.{Consumes-nil}
+use Rattle.std.proofs.Common.{◌≡◌, ℕ, zero, suc, ◌≤◌, List, [], ◌∷◌, length, Bool, true, false, Option, None, Some, Ok, Err, refl, sym, ◌∙◌, ap, subst, inl, inr, arith}
+use Rattle.std.specs.Prelude.{nat_lt, if◌then◌else◌}
+use Rattle.std.specs.Io.KnownBytes.{Appends, Consumes}
 use Rattle.std.proofs.lemmas.Slice.Eq.{bytes_eq-Decides}
-use Rattle.std.proofs.lemmas.Bool.Decides.{Decides-ltb, Decides-eqb}
+use Rattle.std.proofs.lemmas.Bool.Decides.{Decides-ltb}
 use Rattle.kr_base.specs.Faults.{Rose}
 use Rattle.kr_base.specs.Told.{Agrees}
-use Rattle.kr_base.specs.Streams.{TakesAtMost, AppendsFront}
 use Rattle.kr_kms.specs.Outside.{Outside, KeepsFiles, KeepsDice, HandsOut, TakesBack}
 use Rattle.kr_top.specs.Command.{encrypt}
-use Rattle.kr_top.specs.Trace.{Sight, loaded, taken, opened, Outcome, awaits, refuses, gives, strays, load_file, take_input, open_dice, object_at, at_last, SawFiles, SawInput, input_of, drawn_of}
-use Rattle.kr_top.specs.Encrypt.{writer_in, by_writer, from_input, from_dice, encrypt_outcome}
+use Rattle.kr_top.specs.Trace.{Sight, loaded, taken, opened, refuses, strays, at_last, SawFiles, SawInput, input_of, drawn_of}
+use Rattle.kr_top.specs.Encrypt.{writer_of, writer_by, writer_in, by_writer, from_input, from_dice, encrypt_outcome}
 use Rattle.kr_top.specs.Phases.{Configures, TakesInput, NoDice, Seals, WritesOutput, draws_of, bytes_of}
-use Rattle.kr_top.specs.Ran.{Around, Did, IsHome, Ends, IsFault, count_at}
-use Rattle.kr_top.specs.declared.config.Who.{Who}
-use Rattle.kr_top.specs.declared.refusal.Object.{Object}
+use Rattle.kr_top.specs.Ran.{Did, IsHome, Ends}
+use Rattle.kr_config.specs.Kept.{rows_of}
+use Rattle.kr_config.specs.declared.settings.Settings.{Settings}
+use Rattle.kr_config.specs.declared.who.Who.{Who}
 use Rattle.kr_top.specs.declared.refusal.Object.TheVariants.{Input, Output, Files, Dice}
 use Rattle.kr_top.specs.declared.refusal.Refusal.{Refusal}
-use Rattle.kr_top.specs.declared.refusal.Refusal.TheVariants.{Configuration, LongData}
+use Rattle.kr_top.specs.declared.refusal.Refusal.TheVariants.{LongData}
 use Rattle.kr_top.specs.declared.refusal.Stop.{Stop}
 use Rattle.kr_top.specs.declared.refusal.Stop.TheVariants.{Refused, Fault, NoMemory}
-use Rattle.kr_top.specs.declared.refusal.Done.{Done}
 use Rattle.kr_top.specs.declared.refusal.Done.TheVariants.{Silent}
 use Rattle.kr_base.proofs.Counting.{Rose-later}
+use Rattle.kr_top.proofs.Steps.{around, fault_of, home, nothing_taken, to_false, drawn_here, drawn_there}
 use Rattle.kr_top.proofs.Worlds.{Keeps-refl, kept_nothing, files_trans, dice_trans, by_seat}
-
-abbrev pub around : Outside → Option (List ℕ) → ℕ → Option (List ℕ) → ℕ → Around
-around world input input_faults output output_faults = record { world = world; input = input; input_faults = input_faults; output = output; output_faults = output_faults }
-
-to_false : (q : Bool) → (q ≡ true → ⊥) → q ≡ false
-to_false true h = absurd (h refl)
-to_false false h = refl
-
--- nothing was taken
-nothing_taken : (i : Option (List ℕ)) → TakesAtMost i i 2097152
-nothing_taken i = ([], Consumes-nil i, omega arith)
-
--- a fault of a known object
-pub fault_of : (o p : Object) (count : ℕ) (old new : Around) → o ≡ p → Rose (count_at p old) (count_at p new) → count ≡ count_at p new → IsFault o count old new
-fault_of o p count old new e r n = subst (λ q. IsFault q count old new) (sym e) (r, n)
-
-pub home : (old new : Outside) (i j : Option (List ℕ)) (m n : ℕ) (o p : Option (List ℕ)) (k l : ℕ) → KeepsFiles old new → KeepsDice old new → m ≤ n → k ≤ l → IsHome (around old i m o k) (around new j n p l)
-home old new i j m n o p k l files dice more most = record { files = files; out = dice.out; dice = λ s. omega (arith, dice.faults s); input = more; output = most }
-
--- what a seat's random source gave, where seat 0 was drawn from once or not at all
-drawn_here : (d : Option (List ℕ)) → drawn_of 0 (draws_of d) ≡ bytes_of d
-drawn_here None = refl
-drawn_here (Some bytes) = append-nil bytes
-
-drawn_there : (s : ℕ) (d : Option (List ℕ)) → drawn_of (suc s) (draws_of d) ≡ []
-drawn_there s None = refl
-drawn_there s (Some bytes) = ap (λ q. (if q then bytes else []) ++ []) (to_false (0 == suc s) (λ t. absurd (omega (arith, (Decides-eqb 0 (suc s)).0 t))))
 
 module _ (config resource path : List ℕ) where
   -- the outcome once the configuration was loaded
-  loaded_outcome : (file : Option (List ℕ)) (rest : List Sight) → encrypt_outcome config resource path (loaded config file ∷ rest) ≡ by_writer (writer_in file resource) rest
-  loaded_outcome file rest = ap (λ q. if q then by_writer (writer_in file resource) rest else strays) ((bytes_eq-Decides config config).1 refl)
+  loaded_outcome : (file : Option (List ℕ)) (rest : List Sight) → encrypt_outcome config resource path (loaded config file ∷ rest) ≡ by_writer (writer_in config file resource) rest
+  loaded_outcome file rest = ap (λ q. if q then by_writer (writer_in config file resource) rest else strays) ((bytes_eq-Decides config config).1 refl)
 
-  writer_outcome : (file : Option (List ℕ)) (who : Who) (rest : List Sight) → writer_in file resource ≡ Some who → encrypt_outcome config resource path (loaded config file ∷ rest) ≡ from_input who rest
+  writer_outcome : (file : Option (List ℕ)) (who : Who) (rest : List Sight) → writer_in config file resource ≡ Ok who → encrypt_outcome config resource path (loaded config file ∷ rest) ≡ from_input who rest
   writer_outcome file who rest e = loaded_outcome file rest ∙ ap (λ w. by_writer w rest) e
 
-  -- no writer
-  pub not_configured : (old new : Outside) (i o : Option (List ℕ)) (m k : ℕ) (stop : Stop) → KeepsFiles old new → KeepsDice old new → Configures old new config resource (Err stop)
+  -- the writer by a file that was loaded
+  abbrev pub Picks : Outside → Who → Type 0
+  Picks old who = (file : Option (List ℕ)) × Agrees (old.file config) file × (writer_in config file resource ≡ Ok who)
+
+  pub picks : (old new : Outside) (settings : Settings) (who : Who) → Configures old new config (Ok settings) → writer_of (rows_of settings.entries.0) resource ≡ Ok who → Picks old who
+  picks old new settings who w e = (w.0, w.1, ap (λ r. writer_by r resource) w.2 ∙ e)
+
+  -- no configuration
+  pub not_configured : (old new : Outside) (i o : Option (List ℕ)) (m k : ℕ) (stop : Stop) → KeepsFiles old new → KeepsDice old new → Configures old new config (Err stop)
       → Did (encrypt config resource path) (around old i m o k) (around new i m o k) (Err stop)
   not_configured old new i o m k (Refused why) files dice w = record {
-    trace = loaded config w.1.0 ∷ [];
-    files = (w.1.1, tt);
+    trace = loaded config w.0 ∷ [];
+    files = (w.1, tt);
     input = Keeps-refl i;
     dice = λ s. kept_nothing _ _ (dice.dice s);
-    ends = subst (λ out. Ends out (around old i m o k) (around new i m o k) (Err (Refused why))) (sym (loaded_outcome w.1.0 [] ∙ ap (λ v. by_writer v []) w.1.2)) (w.0, Keeps-refl o);
+    ends = subst (λ out. Ends out (around old i m o k) (around new i m o k) (Err (Refused why))) (sym (loaded_outcome w.0 [] ∙ ap (λ v. by_writer (writer_by v resource) []) w.2)) (refl, Keeps-refl o);
     home = home old new i i m m o o k k files dice (omega arith) (omega arith);
   }
   not_configured old new i o m k (Fault object count) files dice w = record {
     trace = [];
     files = tt;
-    input = nothing_taken i;
+    input = nothing_taken i 2097152;
     dice = λ s. kept_nothing _ _ (dice.dice s);
     ends = (w.0, fault_of object Files count (around old i m o k) (around new i m o k) w.0 w.1 w.2, Keeps-refl o);
     home = home old new i i m m o o k k files dice (omega arith) (omega arith);
@@ -84,14 +62,26 @@ module _ (config resource path : List ℕ) where
   not_configured old new i o m k NoMemory files dice w = record {
     trace = [];
     files = tt;
-    input = nothing_taken i;
+    input = nothing_taken i 2097152;
     dice = λ s. kept_nothing _ _ (dice.dice s);
     ends = Keeps-refl o;
     home = home old new i i m m o o k k files dice (omega arith) (omega arith);
   }
 
+  -- no writer
+  pub not_served : (old new : Outside) (settings : Settings) (i o : Option (List ℕ)) (m k : ℕ) (why : Refusal) → KeepsFiles old new → KeepsDice old new → Configures old new config (Ok settings)
+      → writer_of (rows_of settings.entries.0) resource ≡ Err why → Did (encrypt config resource path) (around old i m o k) (around new i m o k) (Err (Refused why))
+  not_served old new settings i o m k why files dice w e = record {
+    trace = loaded config w.0 ∷ [];
+    files = (w.1, tt);
+    input = Keeps-refl i;
+    dice = λ s. kept_nothing _ _ (dice.dice s);
+    ends = subst (λ out. Ends out (around old i m o k) (around new i m o k) (Err (Refused why))) (sym (loaded_outcome w.0 [] ∙ ap (λ v. by_writer (writer_by v resource) []) w.2 ∙ ap (λ v. by_writer v []) e)) (refl, Keeps-refl o);
+    home = home old new i i m m o o k k files dice (omega arith) (omega arith);
+  }
+
   -- no input
-  pub not_taken : (who : Who) (old new : Outside) (i j o : Option (List ℕ)) (m n k : ℕ) (stop : Stop) → KeepsFiles old new → KeepsDice old new → Configures old new config resource (Ok who)
+  pub not_taken : (who : Who) (old new : Outside) (i j o : Option (List ℕ)) (m n k : ℕ) (stop : Stop) → KeepsFiles old new → KeepsDice old new → Picks old who
       → TakesInput 2097152 i j m n (Err stop) → m ≤ n → Did (encrypt config resource path) (around old i m o k) (around new j n o k) (Err stop)
   not_taken who old new i j o m n k (Refused why) files dice w t more = record {
     trace = loaded config w.0 ∷ taken t.1.0 ∷ [];
@@ -121,13 +111,13 @@ module _ (config resource path : List ℕ) where
   }
 
   -- the outcome once the input was taken
-  taken_outcome : (file : Option (List ℕ)) (who : Who) (plain : List ℕ) (rest : List Sight) → writer_in file resource ≡ Some who → length plain ≤ 2097152
+  taken_outcome : (file : Option (List ℕ)) (who : Who) (plain : List ℕ) (rest : List Sight) → writer_in config file resource ≡ Ok who → length plain ≤ 2097152
       → encrypt_outcome config resource path (loaded config file ∷ taken plain ∷ rest) ≡ from_dice who plain rest
   taken_outcome file who plain rest e short = writer_outcome file who (taken plain ∷ rest) e
       ∙ ap (λ q. if q then at_last rest (refuses LongData) else from_dice who plain rest) (to_false _ (λ t. absurd (omega (arith, (Decides-ltb 2097152 (length plain)).0 t))))
 
   -- no random source
-  pub not_opened : (who : Who) (old mid new : Outside) (i j o : Option (List ℕ)) (m n k : ℕ) (plain : List ℕ) (stop : Stop) → KeepsFiles old mid → KeepsDice old mid → Configures old mid config resource (Ok who)
+  pub not_opened : (who : Who) (old mid new : Outside) (i j o : Option (List ℕ)) (m n k : ℕ) (plain : List ℕ) (stop : Stop) → KeepsFiles old mid → KeepsDice old mid → Picks old who
       → TakesInput 2097152 i j m n (Ok plain) → m ≤ n → KeepsFiles mid new → KeepsDice mid new → NoDice mid new stop
       → Did (encrypt config resource path) (around old i m o k) (around new j n o k) (Err stop)
   not_opened who old mid new i j o m n k plain (Refused why) files dice w t more after same d = absurd d
@@ -151,7 +141,7 @@ module _ (config resource path : List ℕ) where
 
   -- the random source came back with what a seal left of it
   module _ (who : Who) (old mid out new : Outside) (given left : Option (List ℕ)) (first count : ℕ) (i j : Option (List ℕ)) (m n : ℕ) (plain : List ℕ)
-      (files : KeepsFiles old mid) (dice : KeepsDice old mid) (w : Configures old mid config resource (Ok who)) (t : TakesInput 2097152 i j m n (Ok plain)) (more : m ≤ n)
+      (files : KeepsFiles old mid) (dice : KeepsDice old mid) (w : Picks old who) (t : TakesInput 2097152 i j m n (Ok plain)) (more : m ≤ n)
       (opens : HandsOut mid out 0 given first) (opened_files : KeepsFiles mid out) (later : first ≤ count) (back : TakesBack out new 0 left count) (back_files : KeepsFiles out new) where
     all_files : KeepsFiles old new
     all_files = files_trans files (files_trans opened_files back_files)

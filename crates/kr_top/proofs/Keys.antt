@@ -1,97 +1,65 @@
--- The key of a configured provider has 16, 24 or 32 bytes.
-use Rattle.std.proofs.Common.{◌≡◌, ℕ, ◌⊎◌, ◌==◌, List, length, Bool, true, false, arith, Option, None, Some, IfSome, refl, subst, ap, sym, ◌∙◌, inl, inr, codes}
-use Rattle.std.specs.Prelude.{option_and_then, if◌then◌else◌, nat_lt, ◌&&◌, ◌||◌}
-use Rattle.std.specs.Option.{option_map}
-use Rattle.std.specs.Result.{result_ok}
-use Rattle.std.specs.Str.{bytes_eq, is_utf8}
+-- The key of a writer has 16, 24 or 32 bytes.
+use Rattle.std.proofs.Common.{◌≡◌, ℕ, ◌⊎◌, ◌==◌, ◌<◌, get_or, List, [], ◌∷◌, length, Bool, true, false, arith, refl, ap, sym, ◌∙◌, inl, inr}
+use Rattle.std.specs.Prelude.{if◌then◌else◌, ◌||◌, IsTrue}
+use Rattle.std.specs.List.{list_all, list_any}
 use Rattle.std.proofs.lemmas.Bool.Decides.{Decides-eqb}
-use Rattle.serde_json.specs.Data.{Data, Members}
-use Rattle.base64.specs.Engines.{standard}
-use Rattle.base64.specs.GeneralPurpose.{decode_of}
-use Rattle.serde_json.specs.Find.{as_object}
 use Rattle.kr_aes.specs.KeyExpansion.{IsKeyLength, IsKeyOf}
 use Rattle.kr_aes.specs.declared.Rounds.{Rounds}
 use Rattle.kr_aes.specs.declared.Rounds.TheVariants.{Ten, Twelve, Fourteen}
-use Rattle.kr_top.specs.Config.{secret_of, key_of, key_name, provider_by, provider_of, entry_of, config_in, config_of, item_at, text_at, has_text, member_of, pattern_of, json_of}
-use Rattle.kr_top.specs.Encrypt.{writer_of, writer_in}
-use Rattle.kr_top.specs.Phases.{HasKey}
-use Rattle.kr_top.specs.declared.config.Config.{Config}
-use Rattle.kr_top.specs.declared.config.Who.{Who}
-use Rattle.kr_top.specs.declared.config.Who.TheVariants.{Identity, Aescbc}
+use Rattle.kr_base.specs.Rules.{is_name}
+use Rattle.kr_config.specs.Kept.{Row, rows_of, keeps, keeps_row, keeps_patterns, keeps_providers}
+use Rattle.kr_config.specs.Lists.{first_list, list_of}
+use Rattle.kr_config.specs.Providers.{is_secret, is_provider, is_kms}
+use Rattle.kr_config.specs.declared.pattern.Pattern.{Pattern}
+use Rattle.kr_config.specs.declared.settings.Entry.{Entry}
+use Rattle.kr_config.specs.declared.who.Who.{Who}
+use Rattle.kr_config.specs.declared.who.Who.TheVariants.{Identity, Aescbc, Aesgcm, Kms}
+use Rattle.kr_config.proofs.Inversions.{left, right}
+use Rattle.kr_top.specs.Encrypt.{is_served, names_plugin}
+use Rattle.kr_top.specs.Phases.{IsWriter}
 
-and_then : {A B : Type 0} (P : B → Type 0) (f : A → Option B) (o : Option A) → ((x : A) → IfSome (f x) P) → IfSome (option_and_then f o) P
-and_then P f None h = tt
-and_then P f (Some x) h = h x
+one_of : (a b c : Bool) → (a || b || c) ≡ true → (a ≡ true) ⊎ (b ≡ true) ⊎ (c ≡ true)
+one_of true b c h = inl refl
+one_of false true c h = inr (inl refl)
+one_of false false c h = inr (inr h)
 
-mapped : {A B : Type 0} (P : B → Type 0) (f : A → B) (o : Option A) → IfSome o (λ x. P (f x)) → IfSome (option_map f o) P
-mapped P f None h = tt
-mapped P f (Some x) h = h
+key_length : (secret : List ℕ) → is_secret secret ≡ true → IsKeyLength (length secret)
+key_length secret h = elim (one_of (length secret == 16) (length secret == 24) (length secret == 32) h) [
+  | inl t ↦ inl ((Decides-eqb (length secret) 16).0 t)
+  | inr t ↦ elim t [ inl u ↦ inr (inl ((Decides-eqb (length secret) 24).0 u)) | inr u ↦ inr (inr ((Decides-eqb (length secret) 32).0 u)) ]
+]
 
-always : {A : Type 0} (P : A → Type 0) (o : Option A) → ((x : A) → P x) → IfSome o P
-always P None h = tt
-always P (Some x) h = h x
+pub writer_key : (who : Who) → is_provider who ≡ true → is_served who ≡ true → IsWriter who
+writer_key Identity h s = tt
+writer_key (Aescbc name secret) h s = key_length secret (right (is_name name) (is_secret secret) h)
+writer_key (Aesgcm name secret) h s = absurd cc
+writer_key (Kms name) h s = absurd cc
 
-chosen : {A : Type 0} (P : A → Type 0) (q : Bool) (a b : Option A) → IfSome a P → IfSome b P → IfSome (if q then a else b) P
-chosen P true a b h k = h
-chosen P false a b h k = k
+row_provides : (row : Row) → keeps_row row ≡ true → list_all is_provider row.providers ≡ true
+row_provides row h = right _ _ (left _ _ (right (keeps_patterns row.patterns) (keeps_providers row.providers) h))
 
-sized : {A : Type 0} (P : A → Type 0) (x : A) (a b c : Bool) → (a ≡ true → P x) → (b ≡ true → P x) → (c ≡ true → P x) → IfSome (if a || b || c then Some x else None) P
-sized P x true b c f g h = f refl
-sized P x false true c f g h = g refl
-sized P x false false true f g h = h refl
-sized P x false false false f g h = tt
+either_provides : (q : Bool) (a b : List Who) → list_all is_provider a ≡ true → list_all is_provider b ≡ true → list_all is_provider (if q then a else b) ≡ true
+either_provides true a b h k = h
+either_provides false a b h k = k
 
-secret_has : (text : List ℕ) → IfSome (secret_of text) (λ secret. IsKeyLength (length secret))
-unfolding secret_of
-secret_has text = and_then {A = List ℕ} {B = List ℕ} (λ secret. IsKeyLength (length secret)) (λ s. if (length s == 16) || (length s == 24) || (length s == 32) then Some s else None) (result_ok (decode_of standard text))
-    (λ s. sized {A = List ℕ} (λ secret. IsKeyLength (length secret)) s (length s == 16) (length s == 24) (length s == 32)
-    (λ t. inl ((Decides-eqb (length s) 16).0 t)) (λ t. inr (inl ((Decides-eqb (length s) 24).0 t))) (λ t. inr (inr ((Decides-eqb (length s) 32).0 t))))
+first_provides : (test : Pattern → Bool) (rows : List Row) → list_all keeps_row rows ≡ true → list_all is_provider (first_list test rows) ≡ true
+first_provides test [] h = refl
+first_provides test (row ∷ rows) h = either_provides (list_any test row.patterns) row.providers (first_list test rows) (row_provides row (left (keeps_row row) (list_all keeps_row rows) h))
+    (first_provides test rows (right (keeps_row row) (list_all keeps_row rows) h))
 
-key_has : (d : Data) → IfSome (key_of d) HasKey
-unfolding key_of
-key_has d = and_then {A = List ℕ} {B = Who} HasKey (λ name. option_map (λ secret. Aescbc name secret) (option_and_then secret_of (text_at (codes "secret") d))) (key_name d)
-    (λ name. mapped {A = List ℕ} {B = Who} HasKey (λ secret. Aescbc name secret) (option_and_then secret_of (text_at (codes "secret") d))
-    (and_then {A = List ℕ} {B = List ℕ} (λ secret. IsKeyLength (length secret)) secret_of (text_at (codes "secret") d) secret_has))
+-- each provider of a resource's list is of its form
+pub list_provides : (rows : List Row) (resource : List ℕ) → IsTrue (keeps rows) → list_all is_provider (list_of rows resource) ≡ true
+unfolding keeps
+list_provides rows resource h = first_provides _ rows (right _ _ (left _ _ (left _ _ (left _ _ h))))
 
-kind_has : (kind : List ℕ) (d : Data) → IfSome (provider_by kind d) HasKey
-unfolding provider_by
-kind_has kind d = chosen {A = Who} HasKey (bytes_eq kind (codes "identity")) (option_map (λ _. Identity) (as_object d)) (if bytes_eq kind (codes "aescbc") then option_and_then key_of (item_at (codes "keys") d) else None)
-    (mapped {A = Members} {B = Who} HasKey (λ _. Identity) (as_object d) (always {A = Members} (λ _. HasKey Identity) (as_object d) (λ _. tt)))
-    (chosen {A = Who} HasKey (bytes_eq kind (codes "aescbc")) (option_and_then key_of (item_at (codes "keys") d)) None (and_then {A = Data} {B = Who} HasKey key_of (item_at (codes "keys") d) key_has) tt)
+pub first_of : (list : List Who) (who : Who) → 0 < length list → ((d : Who) → who ≡ get_or list 0 d) → list_all is_provider list ≡ true → is_provider who ≡ true
+first_of [] who h at all = absurd (omega arith)
+first_of (x ∷ rest) who h at all = ap is_provider (at x) ∙ left (is_provider x) (list_all is_provider rest) all
 
-provider_has : (d : Data) → IfSome (provider_of d) HasKey
-unfolding provider_of
-provider_has d = and_then {A = List ℕ × Data} {B = Who} HasKey (λ m. provider_by m.0 m.1) (member_of d) (λ m. kind_has m.0 m.1)
-
-entry_has : (d : Data) → IfSome (entry_of d) (λ config. HasKey config.who)
-unfolding entry_of
-entry_has d = and_then {A = List ℕ} {B = Config} (λ config. HasKey config.who) (λ pattern. option_map (λ who. record { pattern = pattern; who = who }) (option_and_then provider_of (item_at (codes "providers") d))) (option_and_then pattern_of (item_at (codes "resources") d))
-    (λ pattern. mapped {A = Who} {B = Config} (λ config. HasKey config.who) (λ who. record { pattern = pattern; who = who }) (option_and_then provider_of (item_at (codes "providers") d))
-    (and_then {A = Data} {B = Who} HasKey provider_of (item_at (codes "providers") d) provider_has))
-
-whole_has : (d : Data) → IfSome (config_in d) (λ config. HasKey config.who)
-unfolding config_in
-whole_has d = chosen {A = Config} (λ config. HasKey config.who) (has_text (codes "apiVersion") (codes "apiserver.config.k8s.io/v1") d && has_text (codes "kind") (codes "EncryptionConfiguration") d) (option_and_then entry_of (item_at (codes "resources") d)) None
-    (and_then {A = Data} {B = Config} (λ config. HasKey config.who) entry_of (item_at (codes "resources") d) entry_has) tt
-
-config_has : (bytes : List ℕ) → IfSome (config_of bytes) (λ config. HasKey config.who)
-config_has bytes = and_then {A = Data} {B = Config} (λ config. HasKey config.who) config_in (json_of bytes) whole_has
-
-either_has : (q : Bool) (who : Who) → HasKey who → HasKey (if q then who else Identity)
-either_has true who h = h
-either_has false who h = tt
-
-writer_has : (file : Option (List ℕ)) (resource : List ℕ) → IfSome (writer_in file resource) HasKey
-writer_has None resource = tt
-writer_has (Some bytes) resource = chosen {A = Who} HasKey (nat_lt 1048576 (length bytes)) None (option_map (λ config. writer_of config resource) (config_of bytes)) tt
-    (mapped {A = Config} {B = Who} HasKey (λ config. writer_of config resource) (config_of bytes) (weaker (config_of bytes) (λ config. either_has (bytes_eq config.pattern resource) config.who) (config_has bytes)))
-  where
-    weaker : (o : Option Config) → ((config : Config) → HasKey config.who → HasKey (writer_of config resource)) → IfSome o (λ config. HasKey config.who) → IfSome o (λ config. HasKey (writer_of config resource))
-    weaker None f h = tt
-    weaker (Some config) f h = f config h
-
-pub key_of_writer : (file : Option (List ℕ)) (resource : List ℕ) (who : Who) → writer_in file resource ≡ Some who → HasKey who
-key_of_writer file resource who e = subst (λ o. IfSome o HasKey) e (writer_has file resource)
+-- an entry's row has its providers
+pub any_row : (entries : List Entry) → list_any (λ entry. list_any is_kms entry.providers.0) entries ≡ names_plugin (rows_of entries)
+any_row [] = refl
+any_row (entry ∷ entries) = ap (λ q. list_any is_kms entry.providers.0 || q) (any_row entries)
 
 -- the rounds of a key
 pub rounds_of : (n : ℕ) (rounds : Rounds) → IsKeyLength n → IsKeyOf n rounds → rounds ≡ (if n == 16 then Ten else if n == 24 then Twelve else Fourteen)

@@ -1,8 +1,11 @@
 pub mod Asked
+pub mod CheckSteps
 pub mod EncryptSteps
 pub mod Keys
+pub mod Listings
 pub mod Pieces
+pub mod Printed
 pub mod Readings
 pub mod Seals
-pub mod Singles
+pub mod Steps
 pub mod Worlds

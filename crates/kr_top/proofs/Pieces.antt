@@ -1,12 +1,15 @@
 -- Pieces of text that were written one behind another.
-use Rattle.std.proofs.Common.{◌≡◌, ℕ, suc, ◌+◌, ◌<◌, ◌≤◌, List, [], ◌∷◌, ◌++◌, length, take, drop, Option, Bor, refl, sym, ◌∙◌, ap, subst, append_assoc, append-nil, arith, get_or, add-one}
+use Rattle.std.proofs.Common.{◌≡◌, ℕ, suc, ◌+◌, ◌<◌, ◌≤◌, List, ◌++◌, length, take, drop, Option, Bor, sym, ◌∙◌, ap, subst, append_assoc, append-nil, arith, get_or, add-one}
 use Rattle.std.proofs.Math.Seq.{drop-cons, take-append-add}
 use Rattle.std.proofs.lemmas.List.{take-append-le, drop_all, length-append}
 use Rattle.std.specs.Io.KnownBytes.{Appends}
 use Rattle.std.proofs.KnownBytes.{Appends-trans}
 use Rattle.kr_base.specs.Streams.{AppendsFront}
 use Rattle.std.specs.Prelude.{codes, decimal}
-use Rattle.kr_top.specs.Message.{joined, object_text, fault_line}
+use Rattle.kr_config.specs.declared.refusal.ConfigNo.{ConfigNo}
+use Rattle.std.specs.Prelude.{if◌then◌else◌}
+use Rattle.std.proofs.lemmas.Bool.Decides.{Decides-eqb}
+use Rattle.kr_top.specs.Message.{joined, object_text, fault_line, counted_text, configuration_line}
 use Rattle.kr_top.specs.declared.refusal.Object.{Object}
 
 -- the first pieces were written, and how many bytes they are in all is left open
@@ -50,3 +53,12 @@ pub fault_pieces : (name seat digits : List ℕ) (object : Object) (count : ℕ)
 fault_pieces name seat digits object count named numbered =
     ap (λ l. codes "kmsrest: fault " ++ l) (sym (append_assoc name seat (codes " " ++ (digits ++ codes "\n"))) ∙ ap (λ l. l ++ (codes " " ++ (digits ++ codes "\n"))) named
     ∙ ap (λ d. object_text object ++ (codes " " ++ (d ++ codes "\n"))) numbered)
+
+-- the pieces of the line of a limit of configurations
+pub limit_pieces : (why : ConfigNo) (which digits : List ℕ) → why.code ≡ 39 → which ≡ counted_text why.first → digits ≡ decimal why.second
+    → codes "kmsrest: limit " ++ (which ++ (codes " " ++ (digits ++ codes "\n"))) ≡ configuration_line why
+limit_pieces why which digits code named numbered =
+    ap (λ w. codes "kmsrest: limit " ++ (w ++ (codes " " ++ (digits ++ codes "\n")))) named
+    ∙ ap (λ d. codes "kmsrest: limit " ++ (counted_text why.first ++ (codes " " ++ (d ++ codes "\n")))) numbered
+    ∙ ap (λ q. if q then codes "kmsrest: limit " ++ (counted_text why.first ++ (codes " " ++ (decimal why.second ++ codes "\n")))
+    else codes "kmsrest: text " ++ (decimal why.code ++ (codes " " ++ (decimal why.first ++ (codes " " ++ (decimal why.second ++ codes "\n")))))) (sym ((Decides-eqb why.code 39).1 code))

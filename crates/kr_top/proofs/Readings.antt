@@ -1,20 +1,27 @@
 -- What readers take from the relation of a call.
 use Rattle.std.proofs.Common.{◌≡◌, ℕ, zero, suc, ◌⊎◌, List, [], ◌∷◌, Bool, true, false, Option, None, Some, Ok, Err, refl, sym, ◌∙◌, ap, subst, inl, inr, arith}
+use Rattle.std.specs.Result.{result_map_both}
 use Rattle.std.specs.Prelude.{Result, nat_lt, nat_eq, ◌==◌, length, codes, if◌then◌else◌}
 use Rattle.std.specs.List.{starts_with}
 use Rattle.std.specs.Str.{bytes_eq}
 use Rattle.std.specs.Io.KnownBytes.{Keeps, Appends}
 use Rattle.kr_base.specs.Faults.{Rose}
-use Rattle.kr_top.specs.Command.{Command, encrypt, Asks, AskNothing, AskReplicas, AskSize, input_limit}
+use Rattle.kr_top.specs.Command.{Command, encrypt, check, is_built, Asks, AskNothing, AskReplicas, AskSize, input_limit}
 use Rattle.kr_top.specs.Trace.{Sight, loaded, taken, opened, drawn, Outcome, awaits, refuses, gives, strays, at_last, SawInput, input_of}
-use Rattle.kr_top.specs.Encrypt.{writer_in, by_writer, from_input, from_dice, sealed_by, sealed_by_identity, aescbc_value, encrypt_outcome}
+use Rattle.kr_top.specs.Configuration.{configuration}
+use Rattle.kr_top.specs.Check.{shows}
+use Rattle.kr_config.specs.Kept.{Row}
+use Rattle.kr_top.specs.Encrypt.{names_plugin, is_served, first_writer, writer_by, writer_in, by_writer, from_input, from_dice, sealed_by, sealed_by_identity, aescbc_value}
 use Rattle.kr_top.specs.Message.{status_of, status_of_refusal, line_of}
 use Rattle.kr_top.specs.Ran.{Around, Sunk, Did, Ends, Stops, Answers, Tells, Comes, IsUntouched, outcome_of, count_at, is_cut, IsUsage, IsCaused, IsRefused, IsDone}
-use Rattle.kr_top.specs.declared.config.Who.{Who}
-use Rattle.kr_top.specs.declared.config.Who.TheVariants.{Identity, Aescbc}
+use Rattle.kr_config.specs.Lists.{list_of}
+use Rattle.kr_config.specs.Walk.{rows_in}
+use Rattle.kr_config.specs.declared.refusal.ConfigNo.{ConfigNo}
+use Rattle.kr_config.specs.declared.who.Who.{Who}
+use Rattle.kr_config.specs.declared.who.Who.TheVariants.{Identity, Aescbc, Aesgcm, Kms}
 use Rattle.kr_top.specs.declared.refusal.Object.{Object}
 use Rattle.kr_top.specs.declared.refusal.Refusal.{Refusal}
-use Rattle.kr_top.specs.declared.refusal.Refusal.TheVariants.{Usage, Replicas, Size, LooksEncrypted, Configuration, LongData}
+use Rattle.kr_top.specs.declared.refusal.Refusal.TheVariants.{Usage, Replicas, Size, Absent, LongConfiguration, Configuration, NotServed, LongData, LooksEncrypted}
 use Rattle.kr_top.specs.declared.refusal.Stop.{Stop}
 use Rattle.kr_top.specs.declared.refusal.Stop.TheVariants.{Refused, Fault, NoMemory}
 use Rattle.kr_top.specs.declared.refusal.Done.{Done}
@@ -26,9 +33,12 @@ NoWords (awaits step) = Unit {0}
 NoWords (refuses Usage) = ⊥
 NoWords (refuses Replicas) = ⊥
 NoWords (refuses Size) = ⊥
-NoWords (refuses LooksEncrypted) = Unit {0}
-NoWords (refuses Configuration) = Unit {0}
+NoWords (refuses (Absent name)) = Unit {0}
+NoWords (refuses LongConfiguration) = Unit {0}
+NoWords (refuses (Configuration why)) = Unit {0}
+NoWords (refuses NotServed) = Unit {0}
 NoWords (refuses LongData) = Unit {0}
+NoWords (refuses LooksEncrypted) = Unit {0}
 NoWords (gives value done) = Unit {0}
 NoWords strays = Unit {0}
 
@@ -48,6 +58,8 @@ seal_no_words (Aescbc name secret) plain (taken bytes ∷ rest) = tt
 seal_no_words (Aescbc name secret) plain (opened seat ∷ rest) = tt
 seal_no_words (Aescbc name secret) plain (drawn zero iv ∷ rest) = either (length iv == 16) (at_last rest (gives (aescbc_value name secret iv plain) Silent)) strays (last_no_words rest (gives (aescbc_value name secret iv plain) Silent) tt) tt
 seal_no_words (Aescbc name secret) plain (drawn (suc seat) iv ∷ rest) = tt
+seal_no_words (Aesgcm name secret) plain rest = last_no_words rest (refuses NotServed) tt
+seal_no_words (Kms name) plain rest = last_no_words rest (refuses NotServed) tt
 
 dice_no_words : (who : Who) (plain : List ℕ) (rest : List Sight) → NoWords (from_dice who plain rest)
 dice_no_words who plain [] = tt
@@ -64,16 +76,52 @@ input_no_words who (taken plain ∷ rest) = either (nat_lt 2097152 (length plain
 input_no_words who (opened seat ∷ rest) = tt
 input_no_words who (drawn seat bytes ∷ rest) = tt
 
-writer_no_words : (who : Option Who) (rest : List Sight) → NoWords (by_writer who rest)
-writer_no_words None rest = last_no_words rest (refuses Configuration) tt
-writer_no_words (Some who) rest = input_no_words who rest
+-- a refusal that isn't one of the words
+abbrev NoWordsIn : {T : Type 0} → Result T Refusal → Type 0
+NoWordsIn (Ok x) = Unit {0}
+NoWordsIn (Err why) = NoWords (refuses why)
+
+chosen : {T : Type 0} (q : Bool) (a b : Result T Refusal) → NoWordsIn a → NoWordsIn b → NoWordsIn (if q then a else b)
+chosen true a b h k = h
+chosen false a b h k = k
+
+rows_no_words : (r : Result (List Row) ConfigNo) → NoWordsIn (result_map_both (λ rows. rows) Configuration r)
+rows_no_words (Ok rows) = tt
+rows_no_words (Err why) = tt
+
+file_no_words : (name : List ℕ) (file : Option (List ℕ)) → NoWordsIn (configuration name file)
+file_no_words name None = tt
+file_no_words name (Some bytes) = chosen (nat_lt 1048576 (length bytes)) (Err LongConfiguration) (result_map_both (λ rows. rows) Configuration (rows_in bytes)) tt (rows_no_words (rows_in bytes))
+
+first_no_words : (list : List Who) → NoWordsIn (first_writer list)
+first_no_words [] = tt
+first_no_words (who ∷ rest) = chosen (is_served who) (Ok who) (Err NotServed) tt tt
+
+picked_no_words : (resource : List ℕ) (r : Result (List Row) Refusal) → NoWordsIn r → NoWordsIn (writer_by r resource)
+picked_no_words resource (Ok rows) h = chosen (names_plugin rows) (Err NotServed) (first_writer (list_of rows resource)) tt (first_no_words (list_of rows resource))
+picked_no_words resource (Err why) h = h
+
+writer_no_words : (who : Result Who Refusal) (rest : List Sight) → NoWordsIn who → NoWords (by_writer who rest)
+writer_no_words (Ok who) rest h = input_no_words who rest
+writer_no_words (Err why) rest h = last_no_words rest (refuses why) h
+
+shows_no_words : (resource : Option (List ℕ)) (r : Result (List Row) Refusal) → NoWordsIn r → NoWords (shows r resource)
+shows_no_words resource (Ok rows) h = tt
+shows_no_words resource (Err why) h = h
 
 no_words : (command : Command) (trace : List Sight) → NoWords (outcome_of command trace)
 no_words (encrypt config resource path) [] = tt
-no_words (encrypt config resource path) (loaded name file ∷ rest) = either (bytes_eq name config) (by_writer (writer_in file resource) rest) strays (writer_no_words (writer_in file resource) rest) tt
+no_words (encrypt config resource path) (loaded name file ∷ rest) = either (bytes_eq name config) (by_writer (writer_in config file resource) rest) strays
+    (writer_no_words (writer_in config file resource) rest (picked_no_words resource (configuration config file) (file_no_words config file))) tt
 no_words (encrypt config resource path) (taken bytes ∷ rest) = tt
 no_words (encrypt config resource path) (opened seat ∷ rest) = tt
 no_words (encrypt config resource path) (drawn seat bytes ∷ rest) = tt
+no_words (check config resource) [] = tt
+no_words (check config resource) (loaded name file ∷ rest) = either (bytes_eq name config) (at_last rest (shows (configuration config file) resource)) strays
+    (last_no_words rest (shows (configuration config file) resource) (shows_no_words resource (configuration config file) (file_no_words config file))) tt
+no_words (check config resource) (taken bytes ∷ rest) = tt
+no_words (check config resource) (opened seat ∷ rest) = tt
+no_words (check config resource) (drawn seat bytes ∷ rest) = tt
 
 -- ---- a refusal
 
@@ -100,31 +148,80 @@ by_words command trace why e = subst NoWords e (no_words command trace)
 
 -- ---- the readings, by the result of the command
 
+-- the statuses of refusals
+abbrev Statuses : ℕ → Type 0
+Statuses n = (n ≡ 1) ⊎ (n ≡ 2) ⊎ (n ≡ 3) ⊎ (n ≡ 6)
+
+text_or_limit : (q : Bool) → Statuses (if q then 6 else 3)
+text_or_limit true = inr (inr (inr refl))
+text_or_limit false = inr (inr (inl refl))
+
+status_in : (why : Refusal) → Statuses (status_of_refusal why)
+status_in Usage = inr (inl refl)
+status_in Replicas = inr (inr (inr refl))
+status_in Size = inr (inr (inr refl))
+status_in (Absent name) = inr (inr (inl refl))
+status_in LongConfiguration = inr (inr (inr refl))
+status_in (Configuration why) = text_or_limit (why.code == 39)
+status_in NotServed = inr (inr (inl refl))
+status_in LongData = inr (inr (inr refl))
+status_in LooksEncrypted = inl refl
+
+not_among : (n k : ℕ) → Statuses n → n ≡ k → (k ≡ 1 → ⊥) → (k ≡ 2 → ⊥) → (k ≡ 3 → ⊥) → (k ≡ 6 → ⊥) → ⊥
+not_among n k (inl h) e one two three six = one (sym e ∙ h)
+not_among n k (inr (inl h)) e one two three six = two (sym e ∙ h)
+not_among n k (inr (inr (inl h))) e one two three six = three (sym e ∙ h)
+not_among n k (inr (inr (inr h))) e one two three six = six (sym e ∙ h)
+
+not_zero : (why : Refusal) → status_of_refusal why ≡ 0 → ⊥
+not_zero why e = not_among _ 0 (status_in why) e (λ q. omega arith) (λ q. omega arith) (λ q. omega arith) (λ q. omega arith)
+
+not_four : (why : Refusal) → status_of_refusal why ≡ 4 → ⊥
+not_four why e = not_among _ 4 (status_in why) e (λ q. omega arith) (λ q. omega arith) (λ q. omega arith) (λ q. omega arith)
+
+-- a step has no status 2
+text_not_two : (q : Bool) (n : ℕ) → n ≡ (if q then 6 else 3) → n ≡ 2 → ⊥
+text_not_two true n is e = omega arith
+text_not_two false n is e = omega arith
+
+not_two : (why : Refusal) → NoWords (refuses why) → status_of_refusal why ≡ 2 → ⊥
+not_two Usage h e = h
+not_two Replicas h e = h
+not_two Size h e = h
+not_two (Absent name) h e = omega arith
+not_two LongConfiguration h e = omega arith
+not_two (Configuration why) h e = text_not_two (why.code == 39) _ refl e
+not_two NotServed h e = omega arith
+not_two LongData h e = omega arith
+not_two LooksEncrypted h e = omega arith
+
+-- the words stopped the command
+stops_so : (words : List (List ℕ)) (why : Refusal) → Stops words (Err (Refused why)) → ((status_of_refusal why ≡ 2) × AskNothing words) ⊎ ((status_of_refusal why ≡ 6) × (AskReplicas words ⊎ AskSize words))
+stops_so words Usage s = inl (refl, s)
+stops_so words Replicas s = inr (refl, inl s)
+stops_so words Size s = inr (refl, inr s)
+stops_so words (Absent name) s = absurd s
+stops_so words LongConfiguration s = absurd s
+stops_so words (Configuration why) s = absurd s
+stops_so words NotServed s = absurd s
+stops_so words LongData s = absurd s
+stops_so words LooksEncrypted s = absurd s
+
 usage_means : (words : List (List ℕ)) (old new : Around) (r : Result Done Stop) → Answers words old new r → status_of r ≡ 2 → AskNothing words
 usage_means words old new (Ok Silent) a e = absurd (omega arith)
-usage_means words old new (Err (Refused Usage)) (inl a) e = absurd (by_words a.0 a.2.trace Usage (refused_outcome _ old new Usage a.2.ends).0)
-usage_means words old new (Err (Refused Usage)) (inr a) e = a.0
-usage_means words old new (Err (Refused Replicas)) a e = absurd (omega arith)
-usage_means words old new (Err (Refused Size)) a e = absurd (omega arith)
-usage_means words old new (Err (Refused LooksEncrypted)) a e = absurd (omega arith)
-usage_means words old new (Err (Refused Configuration)) a e = absurd (omega arith)
-usage_means words old new (Err (Refused LongData)) a e = absurd (omega arith)
+usage_means words old new (Err (Refused why)) (inl a) e = absurd (not_two why (by_words a.0 a.2.trace why (refused_outcome _ old new why a.2.ends).0) e)
+usage_means words old new (Err (Refused why)) (inr a) e = elim (stops_so words why a.0) [ inl s ↦ s.1 | inr s ↦ absurd (omega (arith, s.0)) ]
 usage_means words old new (Err (Fault object count)) a e = absurd (omega arith)
 usage_means words old new (Err NoMemory) a e = absurd (omega arith)
 
 asks_something : (words : List (List ℕ)) (command : Command) → Asks words command → AskNothing words → ⊥
-asks_something words (encrypt config resource path) asks none = none asks.verb asks.options asks.means asks.is.0
+asks_something words (encrypt config resource path) asks none = none asks.verb asks.options asks.means (ap is_built asks.is.0)
+asks_something words (check config resource) asks none = none asks.verb asks.options asks.means (ap is_built asks.is.0)
 
--- the words stopped the command
 stopped_so : (words : List (List ℕ)) (r : Result Done Stop) → Stops words r
     → (status_of r ≡ 2) ⊎ (status_of r ≡ 5) ⊎ ((status_of r ≡ 6) × (AskReplicas words ⊎ AskSize words))
 stopped_so words (Ok d) s = absurd s
-stopped_so words (Err (Refused Usage)) s = inl refl
-stopped_so words (Err (Refused Replicas)) s = inr (inr (refl, inl s))
-stopped_so words (Err (Refused Size)) s = inr (inr (refl, inr s))
-stopped_so words (Err (Refused LooksEncrypted)) s = absurd s
-stopped_so words (Err (Refused Configuration)) s = absurd s
-stopped_so words (Err (Refused LongData)) s = absurd s
+stopped_so words (Err (Refused why)) s = elim (stops_so words why s) [ inl q ↦ inl q.0 | inr q ↦ inr (inr q) ]
 stopped_so words (Err (Fault object count)) s = absurd s
 stopped_so words (Err NoMemory) s = inr (inl refl)
 
@@ -139,12 +236,7 @@ usage words old new errors r status a (inr t) = (λ two. absurd (omega (arith, t
 
 fault_rose : (words : List (List ℕ)) (old new : Around) (r : Result Done Stop) → Answers words old new r → status_of r ≡ 4 → (object : Object) × Rose (count_at object old) (count_at object new)
 fault_rose words old new (Ok Silent) a e = absurd (omega arith)
-fault_rose words old new (Err (Refused Usage)) a e = absurd (omega arith)
-fault_rose words old new (Err (Refused Replicas)) a e = absurd (omega arith)
-fault_rose words old new (Err (Refused Size)) a e = absurd (omega arith)
-fault_rose words old new (Err (Refused LooksEncrypted)) a e = absurd (omega arith)
-fault_rose words old new (Err (Refused Configuration)) a e = absurd (omega arith)
-fault_rose words old new (Err (Refused LongData)) a e = absurd (omega arith)
+fault_rose words old new (Err (Refused why)) a e = absurd (not_four why e)
 fault_rose words old new (Err (Fault object count)) (inl a) e = (object, fault_outcome _ old new object count a.2.ends)
 fault_rose words old new (Err (Fault object count)) (inr a) e = absurd a.0
 fault_rose words old new (Err NoMemory) a e = absurd (omega arith)
@@ -180,17 +272,9 @@ refused_so words old new why status a e = let o = refused_outcome _ old new why 
 
 refusal_by : (words : List (List ℕ)) (old new : Around) (r : Result Done Stop) (status : ℕ) → Answers words old new r → status ≡ status_of r → IsRefused words old new status
 refusal_by words old new (Ok Silent) status a e which = absurd (not_amid status 0 e (λ q. omega arith) (λ q. omega arith) (λ q. omega arith) which)
-refusal_by words old new (Err (Refused Usage)) status a e which = absurd (not_amid status 2 e (λ q. omega arith) (λ q. omega arith) (λ q. omega arith) which)
-refusal_by words old new (Err (Refused Replicas)) status (inl a) e which = refused_so words old new Replicas status a e
-refusal_by words old new (Err (Refused Replicas)) status (inr a) e which = inr (e, inl a.0, a.1)
-refusal_by words old new (Err (Refused Size)) status (inl a) e which = refused_so words old new Size status a e
-refusal_by words old new (Err (Refused Size)) status (inr a) e which = inr (e, inr a.0, a.1)
-refusal_by words old new (Err (Refused LooksEncrypted)) status (inl a) e which = refused_so words old new LooksEncrypted status a e
-refusal_by words old new (Err (Refused LooksEncrypted)) status (inr a) e which = absurd a.0
-refusal_by words old new (Err (Refused Configuration)) status (inl a) e which = refused_so words old new Configuration status a e
-refusal_by words old new (Err (Refused Configuration)) status (inr a) e which = absurd a.0
-refusal_by words old new (Err (Refused LongData)) status (inl a) e which = refused_so words old new LongData status a e
-refusal_by words old new (Err (Refused LongData)) status (inr a) e which = absurd a.0
+refusal_by words old new (Err (Refused why)) status (inl a) e which = refused_so words old new why status a e
+refusal_by words old new (Err (Refused why)) status (inr a) e which =
+    elim (stops_so words why a.0) [ inl s ↦ absurd (not_amid status 2 (e ∙ s.0) (λ q. omega arith) (λ q. omega arith) (λ q. omega arith) which) | inr s ↦ inr (e ∙ s.0, s.1, a.1) ]
 refusal_by words old new (Err (Fault object count)) status a e which = absurd (not_amid status 4 e (λ q. omega arith) (λ q. omega arith) (λ q. omega arith) which)
 refusal_by words old new (Err NoMemory) status a e which = absurd (not_amid status 5 e (λ q. omega arith) (λ q. omega arith) (λ q. omega arith) which)
 
@@ -202,12 +286,7 @@ done_by : (words : List (List ℕ)) (old new : Around) (r : Result Done Stop) (s
 done_by words old new (Ok Silent) status (inl a) e z = let o = done_outcome _ old new Silent a.2.ends in
     (o.0, comes words old new (Ok Silent) a.0 (gives o.0 Silent) a.1 a.2 refl o.1, o.2)
 done_by words old new (Ok Silent) status (inr a) e z = absurd a.0
-done_by words old new (Err (Refused Usage)) status a e z = absurd (omega arith)
-done_by words old new (Err (Refused Replicas)) status a e z = absurd (omega arith)
-done_by words old new (Err (Refused Size)) status a e z = absurd (omega arith)
-done_by words old new (Err (Refused LooksEncrypted)) status a e z = absurd (omega arith)
-done_by words old new (Err (Refused Configuration)) status a e z = absurd (omega arith)
-done_by words old new (Err (Refused LongData)) status a e z = absurd (omega arith)
+done_by words old new (Err (Refused why)) status a e z = absurd (not_zero why (sym e ∙ z))
 done_by words old new (Err (Fault object count)) status a e z = absurd (omega arith)
 done_by words old new (Err NoMemory) status a e z = absurd (omega arith)
 

@@ -1,12 +1,12 @@
 -- A sealed value: a prefix, and what was written behind it.
-use Rattle.std.proofs.Common.{◌≡◌, ℕ, ◌+◌, ◌-◌, ◌≤◌, ◌==◌, List, [], ◌∷◌, ◌++◌, length, take, drop, replicate, Bool, true, false, refl, sym, ◌∙◌, ap, subst, arith}
+use Rattle.std.proofs.Common.{◌≡◌, ℕ, ◌+◌, ◌-◌, ◌==◌, List, [], ◌∷◌, ◌++◌, length, take, drop, replicate, sym, ◌∙◌, ap, subst, arith}
 use Rattle.std.specs.Prelude.{if◌then◌else◌}
 use Rattle.std.proofs.Math.Seq.{take-length}
 use Rattle.std.proofs.lemmas.List.{take-append-le, length-append, length-replicate}
 use Rattle.kr_modes.specs.Cbc.{cbc}
 use Rattle.kr_modes.specs.Padding.{pad}
 use Rattle.kr_top.specs.Encrypt.{aescbc_prefix, aescbc_value, cipher_under, sealed_by_aescbc}
-use Rattle.kr_top.specs.Trace.{Sight, drawn, Outcome, gives, strays, at_last}
+use Rattle.kr_top.specs.Trace.{drawn, gives, strays}
 use Rattle.kr_top.specs.declared.refusal.Done.TheVariants.{Silent}
 
 front : (xs ys : List ℕ) (n : ℕ) → n ≡ length xs → take n (xs ++ ys) ≡ xs

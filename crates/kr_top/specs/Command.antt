@@ -1,18 +1,35 @@
 -- The commands that are built, and the words that mean them.
-use Rattle.std.specs.Prelude.{◌≡◌, ℕ, ◌≤◌, ◌<◌, ◌⊎◌, List, codes, Some}
+use Rattle.std.specs.Prelude.{◌≡◌, ℕ, ◌≤◌, ◌<◌, List, codes, Option, Some, Bool, true, false, IsTrue}
 use Rattle.kr_words.specs.Grammar.{Means, replicas_of, IsAboveSize, IsWithinSize}
 use Rattle.kr_words.specs.Options.{value_of}
 use Rattle.kr_words.specs.declared.command.Verb.{Verb}
-use Rattle.kr_words.specs.declared.command.Verb.TheVariants.{Encrypt}
+use Rattle.kr_words.specs.declared.command.Verb.TheVariants.{Encrypt, Decrypt, Check, Inspect, Put, Get, Rows, Judge, Rewrite, Fleet, Gen}
 
 pub data Command : Type 0 where
   -- encrypts the input for a resource and a path by a configuration
   encrypt : (config resource path : List ℕ) → Command
+  -- shows a configuration, or the providers of one resource by it
+  check : (config : List ℕ) (resource : Option (List ℕ)) → Command
 
 -- the verb with its options is this command
 abbrev pub IsOf : Command → Verb → List (List ℕ × List ℕ) → Type 0
 IsOf (encrypt config resource path) verb options =
     (verb ≡ Encrypt) × (value_of options (codes "config") ≡ Some config) × (value_of options (codes "resource") ≡ Some resource) × (value_of options (codes "path") ≡ Some path)
+IsOf (check config resource) verb options = (verb ≡ Check) × (value_of options (codes "config") ≡ Some config) × (value_of options (codes "resource") ≡ resource)
+
+-- which commands are built
+abbrev pub is_built : Verb → Bool
+is_built Encrypt = true
+is_built Decrypt = false
+is_built Check = true
+is_built Inspect = false
+is_built Put = false
+is_built Get = false
+is_built Rows = false
+is_built Judge = false
+is_built Rewrite = false
+is_built Fleet = false
+is_built Gen = false
 
 -- the words mean the command, and no limit of the command line is passed
 pub record Asks (words : List (List ℕ)) (command : Command) : Type 0 where
@@ -25,7 +42,7 @@ pub record Asks (words : List (List ℕ)) (command : Command) : Type 0 where
 
 -- the words mean no command, or one that isn't built
 abbrev pub AskNothing : List (List ℕ) → Type 0
-AskNothing words = (verb : Verb) (options : List (List ℕ × List ℕ)) → Means words verb options → verb ≡ Encrypt → ⊥
+AskNothing words = (verb : Verb) (options : List (List ℕ × List ℕ)) → Means words verb options → IsTrue (is_built verb) → ⊥
 
 -- the words mean a command that has too many replicas
 abbrev pub AskReplicas : List (List ℕ) → Type 0
@@ -38,3 +55,4 @@ AskSize words = (verb : Verb) × (options : List (List ℕ × List ℕ)) × Mean
 -- the most bytes that the command takes as its input
 abbrev pub input_limit : Command → ℕ
 input_limit (encrypt config resource path) = 2097152
+input_limit (check config resource) = 0

@@ -1,5 +1,6 @@
+pub mod Check
 pub mod Command
-pub mod Config
+pub mod Configuration
 pub mod Encrypt
 pub mod Message
 pub mod Phases

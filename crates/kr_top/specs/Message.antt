@@ -1,22 +1,27 @@
 -- What a command says at its end: its status, and its line on the errors sink.
-use Rattle.std.specs.Prelude.{ℕ, List, [], ◌∷◌, ◌++◌, codes, decimal, Result, Ok, Err}
+use Rattle.std.specs.Prelude.{ℕ, ◌==◌, List, [], ◌∷◌, ◌++◌, codes, decimal, Result, Ok, Err, if◌then◌else◌}
 use Rattle.std.specs.Borrow.{Bor}
+use Rattle.kr_config.specs.declared.refusal.ConfigNo.{ConfigNo}
 use Rattle.kr_top.specs.declared.refusal.Object.{Object}
 use Rattle.kr_top.specs.declared.refusal.Object.TheVariants.{Input, Output, Files, Dice}
 use Rattle.kr_top.specs.declared.refusal.Refusal.{Refusal}
-use Rattle.kr_top.specs.declared.refusal.Refusal.TheVariants.{Usage, Replicas, Size, LooksEncrypted, Configuration, LongData}
+use Rattle.kr_top.specs.declared.refusal.Refusal.TheVariants.{Usage, Replicas, Size, Absent, LongConfiguration, Configuration, NotServed, LongData, LooksEncrypted}
 use Rattle.kr_top.specs.declared.refusal.Stop.{Stop}
 use Rattle.kr_top.specs.declared.refusal.Stop.TheVariants.{Refused, Fault, NoMemory}
 use Rattle.kr_top.specs.declared.refusal.Done.{Done}
 use Rattle.kr_top.specs.declared.refusal.Done.TheVariants.{Silent}
 
+-- code 39 of a configuration is a limit
 abbrev pub status_of_refusal : Refusal → ℕ
-status_of_refusal LooksEncrypted = 1
 status_of_refusal Usage = 2
 status_of_refusal Replicas = 6
 status_of_refusal Size = 6
-status_of_refusal Configuration = 3
+status_of_refusal (Absent name) = 3
+status_of_refusal LongConfiguration = 6
+status_of_refusal (Configuration why) = if why.code == 39 then 6 else 3
+status_of_refusal NotServed = 3
 status_of_refusal LongData = 6
+status_of_refusal LooksEncrypted = 1
 
 abbrev pub status_of : Result Done Stop → ℕ
 status_of (Ok Silent) = 0
@@ -24,13 +29,25 @@ status_of (Err (Refused why)) = status_of_refusal why
 status_of (Err (Fault object count)) = 4
 status_of (Err NoMemory) = 5
 
+-- what a configuration has too many of
+abbrev pub counted_text : ℕ → List ℕ
+counted_text which = if which == 1 then codes "entries" else if which == 2 then codes "patterns" else if which == 3 then codes "keys" else codes "kms"
+
+abbrev pub configuration_line : ConfigNo → List ℕ
+configuration_line why = if why.code == 39
+    then codes "kmsrest: limit " ++ (counted_text why.first ++ (codes " " ++ (decimal why.second ++ codes "\n")))
+    else codes "kmsrest: text " ++ (decimal why.code ++ (codes " " ++ (decimal why.first ++ (codes " " ++ (decimal why.second ++ codes "\n")))))
+
 abbrev pub refusal_line : Refusal → List ℕ
-refusal_line LooksEncrypted = codes "kmsrest: refused 13 LooksEncrypted\n"
 refusal_line Usage = codes "kmsrest: usage: kmsrest COMMAND OPTIONS\n"
 refusal_line Replicas = codes "kmsrest: limit replicas 16\n"
 refusal_line Size = codes "kmsrest: limit size 10000\n"
-refusal_line Configuration = codes "kmsrest: text 50 0 0\n"
+refusal_line (Absent name) = codes "kmsrest: text 40 " ++ (name ++ codes "\n")
+refusal_line LongConfiguration = codes "kmsrest: limit config 1048576\n"
+refusal_line (Configuration why) = configuration_line why
+refusal_line NotServed = codes "kmsrest: text 50 0 0\n"
 refusal_line LongData = codes "kmsrest: limit data 2097152\n"
+refusal_line LooksEncrypted = codes "kmsrest: refused 13 LooksEncrypted\n"
 
 abbrev pub object_text : Object → List ℕ
 object_text Input = codes "input"

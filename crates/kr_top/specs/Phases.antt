@@ -1,36 +1,38 @@
 -- What the phases of a command give to it: each result is said by cases, and want of memory alone is free.
-use Rattle.std.specs.Prelude.{◌≡◌, ℕ, ◌+◌, ◌≤◌, ◌⊎◌, List, [], ◌∷◌, length, Option, None, Some, Result, Ok, Err, ⊤}
+use Rattle.std.specs.Prelude.{◌≡◌, ℕ, ◌+◌, ◌≤◌, List, [], ◌∷◌, length, Option, None, Some, Result, Ok, Err, ⊤}
 use Rattle.std.specs.Io.KnownBytes.{Appends, Consumes, IsAtEnd}
 use Rattle.kr_aes.specs.KeyExpansion.{IsKeyLength}
 use Rattle.kr_base.specs.Faults.{Rose}
 use Rattle.kr_base.specs.Told.{Agrees}
 use Rattle.kr_base.specs.Streams.{AppendsFront, TakesAtMost}
 use Rattle.kr_kms.specs.Outside.{Outside}
-use Rattle.kr_top.specs.Encrypt.{writer_in, sealed_by}
+use Rattle.kr_config.specs.Kept.{Row, rows_of}
+use Rattle.kr_config.specs.declared.settings.Settings.{Settings}
+use Rattle.kr_config.specs.declared.who.Who.{Who}
+use Rattle.kr_config.specs.declared.who.Who.TheVariants.{Identity, Aescbc, Aesgcm, Kms}
+use Rattle.kr_top.specs.Configuration.{configuration}
+use Rattle.kr_top.specs.Encrypt.{sealed_by}
 use Rattle.kr_top.specs.Trace.{Sight, drawn, draw, awaits, refuses, gives}
 use Rattle.kr_top.specs.declared.refusal.Done.TheVariants.{Silent}
-use Rattle.kr_top.specs.declared.config.Who.{Who}
-use Rattle.kr_top.specs.declared.config.Who.TheVariants.{Identity, Aescbc}
-use Rattle.kr_top.specs.declared.refusal.Object.{Object}
 use Rattle.kr_top.specs.declared.refusal.Object.TheVariants.{Input, Output, Files, Dice}
 use Rattle.kr_top.specs.declared.refusal.Refusal.{Refusal}
-use Rattle.kr_top.specs.declared.refusal.Refusal.TheVariants.{Configuration, LongData}
+use Rattle.kr_top.specs.declared.refusal.Refusal.TheVariants.{LongData}
 use Rattle.kr_top.specs.declared.refusal.Stop.{Stop}
 use Rattle.kr_top.specs.declared.refusal.Stop.TheVariants.{Refused, Fault, NoMemory}
 
--- the writer, where there is one
-abbrev pub ReadsWriter : Option Who → Result Who Stop → Type 0
-ReadsWriter wanted (Ok who) = wanted ≡ Some who
-ReadsWriter wanted (Err (Refused why)) = (why ≡ Configuration) × (wanted ≡ None)
-ReadsWriter wanted (Err (Fault object count)) = ⊥
-ReadsWriter wanted (Err NoMemory) = ⊤
+-- the settings of these rows, or the refusal
+abbrev pub ReadsRows : Result (List Row) Refusal → Result Settings Stop → Type 0
+ReadsRows wanted (Ok settings) = wanted ≡ Ok (rows_of settings.entries.0)
+ReadsRows wanted (Err (Refused why)) = wanted ≡ Err why
+ReadsRows wanted (Err (Fault object count)) = ⊥
+ReadsRows wanted (Err NoMemory) = ⊤
 
--- the writer by the configuration file, or none
-abbrev pub Configures : Outside → Outside → (name resource : List ℕ) → Result Who Stop → Type 0
-Configures old new name resource (Ok who) = (file : Option (List ℕ)) × Agrees (old.file name) file × (writer_in file resource ≡ Some who)
-Configures old new name resource (Err (Refused why)) = (why ≡ Configuration) × ((file : Option (List ℕ)) × Agrees (old.file name) file × (writer_in file resource ≡ None))
-Configures old new name resource (Err (Fault object count)) = (object ≡ Files) × Rose old.file_faults new.file_faults × (count ≡ new.file_faults)
-Configures old new name resource (Err NoMemory) = ⊤
+-- the configuration in a file, or why it wasn't read
+abbrev pub Configures : Outside → Outside → List ℕ → Result Settings Stop → Type 0
+Configures old new name (Ok settings) = (file : Option (List ℕ)) × Agrees (old.file name) file × (configuration name file ≡ Ok (rows_of settings.entries.0))
+Configures old new name (Err (Refused why)) = (file : Option (List ℕ)) × Agrees (old.file name) file × (configuration name file ≡ Err why)
+Configures old new name (Err (Fault object count)) = (object ≡ Files) × Rose old.file_faults new.file_faults × (count ≡ new.file_faults)
+Configures old new name (Err NoMemory) = ⊤
 
 -- the whole input of at most so many bytes, or one more
 abbrev pub TakesInput : ℕ → Option (List ℕ) → Option (List ℕ) → ℕ → ℕ → Result (List ℕ) Stop → Type 0
@@ -52,10 +54,12 @@ WritesOutput value old new before count (Err (Refused why)) = ⊥
 WritesOutput value old new before count (Err (Fault object n)) = (object ≡ Output) × Rose before count × (n ≡ count) × AppendsFront old new value
 WritesOutput value old new before count (Err NoMemory) = ⊥
 
--- the key of a provider has 16, 24 or 32 bytes
-abbrev pub HasKey : Who → Type 0
-HasKey Identity = ⊤
-HasKey (Aescbc name secret) = IsKeyLength (length secret)
+-- a provider that is served as a writer; its key has 16, 24 or 32 bytes
+abbrev pub IsWriter : Who → Type 0
+IsWriter Identity = ⊤
+IsWriter (Aescbc name secret) = IsKeyLength (length secret)
+IsWriter (Aesgcm name secret) = ⊥
+IsWriter (Kms name) = ⊥
 
 -- what was seen of the random source: one draw, or none
 abbrev pub draws_of : Option (List ℕ) → List Sight

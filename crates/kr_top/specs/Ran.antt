@@ -4,14 +4,15 @@ use Rattle.std.specs.Io.KnownBytes.{Keeps, Appends, Consumes}
 use Rattle.kr_base.specs.Faults.{Rose}
 use Rattle.kr_base.specs.Streams.{AppendsFront}
 use Rattle.kr_kms.specs.Outside.{Outside, KeepsFiles, KeepsDice}
-use Rattle.kr_top.specs.Command.{Command, encrypt, Asks, AskNothing, AskReplicas, AskSize, input_limit}
+use Rattle.kr_top.specs.Command.{Command, encrypt, check, Asks, AskNothing, AskReplicas, AskSize, input_limit}
 use Rattle.kr_top.specs.Trace.{Sight, Outcome, awaits, refuses, gives, strays, object_at, SawFiles, SawInput, input_of, drawn_of}
 use Rattle.kr_top.specs.Encrypt.{encrypt_outcome}
+use Rattle.kr_top.specs.Check.{check_outcome}
 use Rattle.kr_top.specs.Message.{status_of, status_of_refusal, line_of}
 use Rattle.kr_top.specs.declared.refusal.Object.{Object}
 use Rattle.kr_top.specs.declared.refusal.Object.TheVariants.{Input, Output, Files, Dice}
 use Rattle.kr_top.specs.declared.refusal.Refusal.{Refusal}
-use Rattle.kr_top.specs.declared.refusal.Refusal.TheVariants.{Usage, Replicas, Size, LooksEncrypted, Configuration, LongData}
+use Rattle.kr_top.specs.declared.refusal.Refusal.TheVariants.{Usage, Replicas, Size, Absent, LongConfiguration, Configuration, NotServed, LongData, LooksEncrypted}
 use Rattle.kr_top.specs.declared.refusal.Stop.{Stop}
 use Rattle.kr_top.specs.declared.refusal.Stop.TheVariants.{Refused, Fault, NoMemory}
 use Rattle.kr_top.specs.declared.refusal.Done.{Done}
@@ -35,6 +36,7 @@ pub record Sunk : Type 0 where
 -- what the steps of a command make of what it saw
 abbrev pub outcome_of : Command → List Sight → Outcome
 outcome_of (encrypt config resource path) trace = encrypt_outcome config resource path trace
+outcome_of (check config resource) trace = check_outcome config resource trace
 
 abbrev pub count_at : Object → Around → ℕ
 count_at Input around = around.input_faults
@@ -102,9 +104,12 @@ Stops words (Ok done) = ⊥
 Stops words (Err (Refused Usage)) = AskNothing words
 Stops words (Err (Refused Replicas)) = AskReplicas words
 Stops words (Err (Refused Size)) = AskSize words
-Stops words (Err (Refused LooksEncrypted)) = ⊥
-Stops words (Err (Refused Configuration)) = ⊥
+Stops words (Err (Refused (Absent name))) = ⊥
+Stops words (Err (Refused LongConfiguration)) = ⊥
+Stops words (Err (Refused (Configuration why))) = ⊥
+Stops words (Err (Refused NotServed)) = ⊥
 Stops words (Err (Refused LongData)) = ⊥
+Stops words (Err (Refused LooksEncrypted)) = ⊥
 Stops words (Err (Fault object count)) = ⊥
 Stops words (Err NoMemory) = ⊤
 

@@ -3,9 +3,10 @@ ghost use Rattle.std.specs.Option.{option_copied};
 ghost use Rattle.kr_words.specs.Grammar.{texts};
 ghost use Rattle.kr_words.specs.Options.{value_of};
 ghost use Rattle.kr_words.specs.Rules.{IsCommand};
-ghost use Rattle.kr_top.specs.Command.{Command, encrypt, IsOf};
+ghost use Rattle.kr_top.specs.Command.{Command, encrypt, check, IsOf};
 ghost use Rattle.kr_top.specs.Ran.{Around, Sunk, Ran, Answers, IsUsage, IsCaused, IsRefused, IsDone};
 
+use crate::check::{CheckWords, check};
 use crate::encrypt::{EncryptWords, encrypt};
 use crate::message::tell;
 use crate::refusal::{Done, Refusal, Stop};
@@ -50,7 +51,7 @@ pub fn run<W: World, I: Source, O: Sink, E: Sink>(
         result }
 {
     let answer = answer(alloc, words, world, input, output);
-    tell(errors, answer)
+    tell(errors, &answer)
 }
 
 /// Does the command that the words mean.
@@ -75,6 +76,7 @@ fn answer<W: World, I: Source, O: Sink>(
     };
     match command.verb {
         Verb::Encrypt => encrypt(alloc, encrypt_words(&command), world, input, output),
+        Verb::Check => check(alloc, check_words(&command), world, output),
         _ => Err(Stop::Refused(Refusal::Usage)),
     }
 }
@@ -89,5 +91,17 @@ fn encrypt_words(command: &kr_words::Command) -> EncryptWords<'_>
         config: command.value("config").unwrap(),
         resource: command.value("resource").unwrap(),
         path: command.value("path").unwrap(),
+    }
+}
+
+/// The words of `check`.
+fn check_words(command: &kr_words::Command) -> CheckWords<'_>
+    requires whole { IsCommand command.now.verb command.now.options.0 }
+    requires verb { command.now.verb ≡ Verb.Check }
+    ensures { IsOf (check result.config.now (option_copied result.resource)) command.now.verb command.now.options.0 }
+{
+    CheckWords {
+        config: command.value("config").unwrap(),
+        resource: command.value("resource"),
     }
 }

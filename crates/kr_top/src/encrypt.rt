@@ -5,7 +5,7 @@ ghost use Rattle.kr_top.specs.Ran.{Around, Did};
 
 use crate::phases::{configure, open_dice, take_input, write_output};
 use crate::refusal::{Done, Stop};
-use crate::seal::seal;
+use crate::seal::{seal, writer};
 use kr_base::{Sink, Source};
 use kr_kms::World;
 use std::alloc::Global;
@@ -37,9 +37,13 @@ pub fn encrypt<W: World, I: Source, O: Sink>(
         (record { world = W.told world.new; input = I.left input.new; input_faults = I.count input.new; output = O.held output.new; output_faults = O.count output.new })
         result }
 {
-    let who = match configure(alloc, world, words.config, words.resource) {
-        Ok(who) => who,
+    let settings = match configure(alloc, world, words.config) {
+        Ok(settings) => settings,
         Err(stop) => return Err(stop),
+    };
+    let who = match writer(&settings, words.resource) {
+        Ok(who) => who,
+        Err(why) => return Err(Stop::Refused(why)),
     };
     let plain = match take_input(alloc, input, DATA_LIMIT) {
         Ok(plain) => plain,
@@ -49,7 +53,7 @@ pub fn encrypt<W: World, I: Source, O: Sink>(
         Ok(dice) => dice,
         Err(stop) => return Err(stop),
     };
-    let sealed = seal(alloc, &who, plain, &mut dice);
+    let sealed = seal(alloc, who, plain, &mut dice);
     world.back_dice(0, dice);
     let value = match sealed {
         Ok(value) => value,

@@ -2,8 +2,9 @@
 #![tactic(auto)]
 
 mod call;
-mod config;
+mod check;
 mod encrypt;
+mod listing;
 mod message;
 mod phases;
 mod refusal;

@@ -2,43 +2,36 @@ ghost use Rattle.std.specs.Prelude.{◌≡◌, ◌≤◌, ◌++◌, OnOk, OnErr,
 ghost use Rattle.std.specs.Io.KnownBytes.{Appends};
 ghost use Rattle.kr_base.specs.Faults.{IsCounted};
 ghost use Rattle.kr_base.specs.Streams.{AppendsFront};
-ghost use Rattle.kr_top.specs.Message.{status_of, status_of_refusal, refusal_line, object_text, fault_line, line_of, joined};
+ghost use Rattle.kr_top.specs.Message.{status_of, status_of_refusal, refusal_line, counted_text, configuration_line, object_text, fault_line, line_of, joined};
 ghost use Rattle.kr_top.specs.Ran.{Tells};
 
 use crate::refusal::{Done, Object, Refusal, Stop};
 use itoa::Buffer;
 use kr_base::{Failed, Sink, write_all};
+use kr_config::ConfigNo;
 
-/// The line of a refusal.
-fn refusal_line(why: Refusal) -> &'static str
-    ensures { result.now ≡ refusal_line why }
-{
-    match why {
-        Refusal::LooksEncrypted => "kmsrest: refused 13 LooksEncrypted\n",
-        Refusal::Usage => "kmsrest: usage: kmsrest COMMAND OPTIONS\n",
-        Refusal::Replicas => "kmsrest: limit replicas 16\n",
-        Refusal::Size => "kmsrest: limit size 10000\n",
-        Refusal::Configuration => "kmsrest: text 50 0 0\n",
-        Refusal::LongData => "kmsrest: limit data 2097152\n",
-    }
-}
+/// The number of the limit of a configuration among its codes.
+const LIMIT_PASSED: u8 = 39;
 
-fn status_of_refusal(why: Refusal) -> u8
-    ensures { result ≡ status_of_refusal why }
+fn status_of_refusal(why: &Refusal) -> u8
+    ensures { result ≡ status_of_refusal why.now }
 {
     match why {
         Refusal::LooksEncrypted => 1,
         Refusal::Usage => 2,
+        Refusal::Absent(_) => 3,
+        Refusal::NotServed => 3,
+        Refusal::Configuration(why) => { if why.code == LIMIT_PASSED { 6 } else { 3 } }
         Refusal::Replicas => 6,
         Refusal::Size => 6,
-        Refusal::Configuration => 3,
+        Refusal::LongConfiguration => 6,
         Refusal::LongData => 6,
     }
 }
 
 /// The status of a command by how it ended.
-fn status_of(answer: Result<Done, Stop>) -> u8
-    ensures { result ≡ status_of answer }
+fn status_of(answer: &Result<Done, Stop>) -> u8
+    ensures { result ≡ status_of answer.now }
 {
     match answer {
         Ok(Done::Silent) => 0,
@@ -50,8 +43,8 @@ fn status_of(answer: Result<Done, Stop>) -> u8
 
 /// Writes the line of how a command ended, and answers its status; 4 where the line can't be written. It takes no
 /// memory.
-pub fn tell<E: Sink>(errors: &mut E, answer: Result<Done, Stop>) -> u8
-    ensures told { Tells (line_of answer) (status_of answer) (record { old = E.held errors.old; new = E.held errors.new; old_faults = E.count errors.old; new_faults = E.count errors.new }) result }
+pub fn tell<E: Sink>(errors: &mut E, answer: &Result<Done, Stop>) -> u8
+    ensures told { Tells (line_of answer.now) (status_of answer.now) (record { old = E.held errors.old; new = E.held errors.new; old_faults = E.count errors.old; new_faults = E.count errors.new }) result }
     ensures later { E.count errors.old ≤ E.count errors.new }
 {
     match write_line(errors, answer) {
@@ -60,16 +53,76 @@ pub fn tell<E: Sink>(errors: &mut E, answer: Result<Done, Stop>) -> u8
     }
 }
 
-fn write_line<E: Sink>(errors: &mut E, answer: Result<Done, Stop>) -> Result<(), Failed>
-    ensures ok { OnOk result (Appends (E.held errors.old) (E.held errors.new) (line_of answer)) }
-    ensures err { OnErr result (AppendsFront (E.held errors.old) (E.held errors.new) (line_of answer)) }
+fn write_line<E: Sink>(errors: &mut E, answer: &Result<Done, Stop>) -> Result<(), Failed>
+    ensures ok { OnOk result (Appends (E.held errors.old) (E.held errors.new) (line_of answer.now)) }
+    ensures err { OnErr result (AppendsFront (E.held errors.old) (E.held errors.new) (line_of answer.now)) }
     ensures cause { IsCounted (E.count errors.old) (E.count errors.new) result }
 {
     match answer {
         Ok(Done::Silent) => write_all(errors, &[]),
-        Err(Stop::Refused(why)) => write_all(errors, refusal_line(why).as_bytes()),
-        Err(Stop::Fault(object, count)) => write_fault(errors, object, count),
+        Err(Stop::Refused(why)) => write_refusal(errors, why),
+        Err(Stop::Fault(object, count)) => write_fault(errors, *object, *count),
         Err(Stop::NoMemory) => write_all(errors, b"kmsrest: memory\n"),
+    }
+}
+
+fn write_refusal<E: Sink>(errors: &mut E, why: &Refusal) -> Result<(), Failed>
+    ensures ok { OnOk result (Appends (E.held errors.old) (E.held errors.new) (refusal_line why.now)) }
+    ensures err { OnErr result (AppendsFront (E.held errors.old) (E.held errors.new) (refusal_line why.now)) }
+    ensures cause { IsCounted (E.count errors.old) (E.count errors.new) result }
+{
+    match why {
+        Refusal::Usage => write_all(errors, b"kmsrest: usage: kmsrest COMMAND OPTIONS\n"),
+        Refusal::Replicas => write_all(errors, b"kmsrest: limit replicas 16\n"),
+        Refusal::Size => write_all(errors, b"kmsrest: limit size 10000\n"),
+        Refusal::Absent(name) => write_each(errors, &["kmsrest: text 40 ", name.as_str(), "\n"]),
+        Refusal::LongConfiguration => write_all(errors, b"kmsrest: limit config 1048576\n"),
+        Refusal::Configuration(why) => write_configuration(errors, *why),
+        Refusal::NotServed => write_all(errors, b"kmsrest: text 50 0 0\n"),
+        Refusal::LongData => write_all(errors, b"kmsrest: limit data 2097152\n"),
+        Refusal::LooksEncrypted => write_all(errors, b"kmsrest: refused 13 LooksEncrypted\n"),
+    }
+}
+
+/// Writes the line of a configuration's breach.
+fn write_configuration<E: Sink>(errors: &mut E, why: ConfigNo) -> Result<(), Failed>
+    ensures ok { OnOk result (Appends (E.held errors.old) (E.held errors.new) (configuration_line why)) }
+    ensures err { OnErr result (AppendsFront (E.held errors.old) (E.held errors.new) (configuration_line why)) }
+    ensures cause { IsCounted (E.count errors.old) (E.count errors.new) result }
+{
+    let mut second_buffer = Buffer::new();
+    let second = second_buffer.format(why.second);
+    if why.code == LIMIT_PASSED {
+        return write_each(
+            errors,
+            &[
+                "kmsrest: limit ",
+                counted_text(why.first),
+                " ",
+                second,
+                "\n",
+            ],
+        );
+    }
+    let mut code_buffer = Buffer::new();
+    let code = code_buffer.format(why.code);
+    let mut first_buffer = Buffer::new();
+    let first = first_buffer.format(why.first);
+    write_each(
+        errors,
+        &["kmsrest: text ", code, " ", first, " ", second, "\n"],
+    )
+}
+
+/// What a configuration has too many of.
+fn counted_text(which: u32) -> &'static str
+    ensures { result.now ≡ counted_text which }
+{
+    match which {
+        1 => "entries",
+        2 => "patterns",
+        3 => "keys",
+        _ => "kms",
     }
 }
 

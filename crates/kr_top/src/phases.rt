@@ -1,54 +1,78 @@
 //! The phases that commands are made of.
 ghost use Rattle.std.specs.Prelude.{◌≡◌, ◌≤◌, length, Some, IfOk, IfErr, OnErr};
-ghost use Rattle.kr_top.specs.Encrypt.{writer_in};
+ghost use Rattle.std.specs.Option.{option_copied};
+ghost use Rattle.kr_config.specs.Kept.{rows_of};
+ghost use Rattle.kr_top.specs.Configuration.{configuration, printed, printed_byte};
 ghost use Rattle.kr_kms.specs.Outside.{KeepsFiles, KeepsDice, HandsOut};
-ghost use Rattle.kr_top.specs.Phases.{Configures, ReadsWriter, TakesInput, NoDice, WritesOutput};
+ghost use Rattle.kr_top.specs.Phases.{Configures, ReadsRows, TakesInput, NoDice, WritesOutput};
 
-use crate::config::{Config, ConfigErr, Who, read_config};
 use crate::refusal::{Object, Refusal, Stop};
-use kr_base::{Bytes, Failed, ReadNo, Sink, Source, read_all, write_all};
+use kr_base::{Bytes, Failed, NoMemory, ReadNo, Sink, Source, Text, read_all, write_all};
+use kr_config::{ConfigErr, Settings, read};
 use kr_kms::{FileNo, World};
 use std::alloc::Global;
 
 /// The most bytes of a configuration file.
 const CONFIG_LIMIT: u64 = 1_048_576;
 
-/// Loads a configuration and gives the writer for the resource.
-pub fn configure<W: World>(
-    alloc: Global,
-    world: &mut W,
-    name: &str,
-    resource: &str,
-) -> Result<Who, Stop>
-    ensures writer { Configures (W.told world.old) (W.told world.new) name.now resource.now result }
+/// Loads a configuration. What is printed where there is no such file is made first, so that this refusal needs no
+/// memory.
+pub fn configure<W: World>(alloc: Global, world: &mut W, name: &str) -> Result<Settings, Stop>
+    ensures settings { Configures (W.told world.old) (W.told world.new) name.now result }
     ensures files { KeepsFiles (W.told world.old) (W.told world.new) }
     ensures dice { KeepsDice (W.told world.old) (W.told world.new) }
 {
+    let absent = match printed(alloc, name) {
+        Ok(text) => text,
+        Err(_) => return Err(Stop::NoMemory),
+    };
     let file: Bytes = match world.load(alloc, name, CONFIG_LIMIT) {
         Ok(file) => file,
-        Err(FileNo::Absent) => return Err(Stop::Refused(Refusal::Configuration)),
-        Err(FileNo::TooLong) => return Err(Stop::Refused(Refusal::Configuration)),
+        Err(FileNo::Absent) => return Err(Stop::Refused(Refusal::Absent(absent))),
+        Err(FileNo::TooLong) => return Err(Stop::Refused(Refusal::LongConfiguration)),
         Err(FileNo::Failed) => return Err(Stop::Fault(Object::Files, world.faults())),
         Err(FileNo::NoMemory) => return Err(Stop::NoMemory),
     };
-    read_writer(alloc, file.as_slice(), resource)
+    read_settings(alloc, name, file.as_slice())
 }
 
-/// The writer for the resource by the bytes of a configuration.
-fn read_writer(alloc: Global, bytes: &[u8], resource: &str) -> Result<Who, Stop>
+/// The configuration by its bytes.
+fn read_settings(alloc: Global, name: &str, bytes: &[u8]) -> Result<Settings, Stop>
     requires { length bytes.now ≤ 1048576 }
-    ensures { ReadsWriter (writer_in (Some bytes.now) resource.now) result }
+    ensures { ReadsRows (configuration name.now (Some bytes.now)) result }
 {
-    match read_config(alloc, bytes) {
-        Ok(Config { pattern, who }) => {
-            if pattern.as_str() == resource {
-                Ok(who)
-            } else {
-                Ok(Who::Identity)
-            }
-        }
-        Err(ConfigErr::Form) => Err(Stop::Refused(Refusal::Configuration)),
+    match read(alloc, bytes) {
+        Ok(settings) => Ok(settings),
+        Err(ConfigErr::No(why)) => Err(Stop::Refused(Refusal::Configuration(why))),
         Err(ConfigErr::NoMemory) => Err(Stop::NoMemory),
+    }
+}
+
+/// The text as it is printed: a byte outside 20 to 7E hex is a `?`.
+fn printed(alloc: Global, text: &str) -> Result<Text, NoMemory>
+    ensures { IfOk result (λ copy. copy ≡ printed text.now) }
+{
+    let Ok(mut bytes) = Vec::with_capacity(alloc, text.len()) else {
+        return Err(NoMemory);
+    };
+    for byte in text.as_bytes() {
+        if bytes.push(printed_byte(*byte)).is_err() {
+            return Err(NoMemory);
+        }
+    }
+    match String::from_utf8(bytes) {
+        Ok(string) => Ok(Text::from_string(string)),
+        Err(_) => unreachable!(),
+    }
+}
+
+fn printed_byte(byte: u8) -> u8
+    ensures { result ≡ printed_byte byte }
+{
+    if byte >= 0x20 && byte <= 0x7E {
+        byte
+    } else {
+        b'?'
     }
 }
 

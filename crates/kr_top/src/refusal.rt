@@ -1,5 +1,8 @@
 //! How a command ends: done, refused by what it saw, or cut short.
 
+use kr_base::Text;
+use kr_config::ConfigNo;
+
 /// An object of the outside, as a fault's line names it.
 #[derive(Clone, Copy, Debug, PartialEq, Eq)]
 pub enum Object {
@@ -14,7 +17,7 @@ pub enum Object {
 }
 
 /// Why a command was refused: by its words, or by the first of its steps that refuses what it saw.
-#[derive(Clone, Copy, Debug, PartialEq, Eq)]
+#[derive(Debug, Drop, PartialEq, Eq)]
 pub enum Refusal {
     /// The words mean no command, or one that isn't built.
     Usage,
@@ -22,16 +25,22 @@ pub enum Refusal {
     Replicas,
     /// The words mean a command whose size is above 10,000.
     Size,
-    /// Identity would write data that it couldn't read back.
-    LooksEncrypted,
-    /// The configuration is absent, too long, or not of the form that is read so far.
-    Configuration,
+    /// There is no file of this name, which stands here as it is printed.
+    Absent(Text),
+    /// The configuration file has more than 1,048,576 bytes.
+    LongConfiguration,
+    /// The configuration breaks a rule or passes a limit.
+    Configuration(ConfigNo),
+    /// The configuration names a plugin, or aesgcm is the writer.
+    NotServed,
     /// The input has more bytes than an object may have.
     LongData,
+    /// Identity would write data that it couldn't read back.
+    LooksEncrypted,
 }
 
 /// Why a command wasn't done.
-#[derive(Clone, Copy, Debug, PartialEq, Eq)]
+#[derive(Debug, Drop, PartialEq, Eq)]
 pub enum Stop {
     /// It was refused.
     Refused(Refusal),

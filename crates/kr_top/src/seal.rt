@@ -1,15 +1,19 @@
 //! Seals: what a provider makes of an object's data.
-ghost use Rattle.std.specs.Prelude.{◌≡◌, ◌≤◌, ◌+◌, ◌-◌, ◌%◌, ◌++◌, length, take, replicate, IfSome};
+ghost use Rattle.std.specs.Prelude.{◌≡◌, ◌≤◌, ◌+◌, ◌-◌, ◌%◌, ◌++◌, length, take, replicate, IfSome, IfOk};
 ghost use Rattle.kr_aes.specs.KeyExpansion.{IsKeyLength};
 ghost use Rattle.kr_modes.specs.Cbc.{cbc};
 ghost use Rattle.kr_modes.specs.Padding.{pad};
-ghost use Rattle.kr_top.specs.Encrypt.{aescbc_prefix, cipher_under};
-ghost use Rattle.kr_top.specs.Phases.{Seals, HasKey};
+ghost use Rattle.std.specs.List.{list_any};
+ghost use Rattle.std.specs.Result.{result_map_both};
+ghost use Rattle.kr_config.specs.Kept.{rows_of};
+ghost use Rattle.kr_config.specs.Providers.{is_kms};
+ghost use Rattle.kr_top.specs.Encrypt.{aescbc_prefix, cipher_under, names_plugin, is_served, writer_of, first_writer};
+ghost use Rattle.kr_top.specs.Phases.{Seals, IsWriter};
 
-use crate::config::Who;
 use crate::refusal::{Object, Refusal, Stop};
 use kr_aes::expand;
 use kr_base::{Bytes, Dice, Failed};
+use kr_config::{Entry, Settings, Who};
 use kr_modes::{cbc_length, cbc_seal};
 use std::alloc::Global;
 
@@ -22,9 +26,45 @@ const AESCBC: &[u8] = b"k8s:enc:aescbc:v1:";
 /// The bytes of an IV.
 const IV: usize = 16;
 
+/// Who writes the values of the resource: the first of its providers.
+#[tactic(auto, using(crate::proofs::Keys::any_row))]
+pub fn writer<'a>(settings: &'a Settings, resource: &str) -> Result<&'a Who, Refusal>
+    ensures writer { result_map_both (λ who. who.now) (λ why. why) result ≡ writer_of (rows_of settings.now.entries.0) resource.now }
+    ensures served { IfOk result (λ who. IsWriter who.now) }
+{
+    if names_plugin(settings.entries.as_slice()) {
+        return Err(Refusal::NotServed);
+    }
+    let list = settings.list_for(resource);
+    match list.first() {
+        Some(who) if is_writer(who) => Ok(who),
+        _ => Err(Refusal::NotServed),
+    }
+}
+
+/// Whether the provider is served as a writer.
+fn is_writer(who: &Who) -> bool
+    ensures { result ≡ is_served who.now }
+{
+    matches!(who, Who::Identity | Who::Aescbc(_, _))
+}
+
+/// Whether a provider of some entry is a plugin.
+fn names_plugin(entries: &[Entry]) -> bool
+    ensures { result ≡ list_any (λ entry. list_any is_kms entry.providers.0) entries.now }
+{
+    entries.iter().any(|entry| has_plugin(entry))
+}
+
+fn has_plugin(entry: &Entry) -> bool
+    ensures { result ≡ list_any is_kms entry.now.providers.0 }
+{
+    entry.providers.as_slice().iter().any(|who| who.is_kms())
+}
+
 /// The value of the data by the provider.
 pub fn seal<D: Dice>(alloc: Global, who: &Who, plain: Bytes, dice: &mut D) -> Result<Bytes, Stop>
-    requires key { HasKey who.now }
+    requires writer { IsWriter who.now }
     requires fits { length plain ≤ 2097152 }
     ensures sealed { Seals who.now plain (D.left dice.old) (D.left dice.new) (D.count dice.old) (D.count dice.new) result }
     ensures later { D.count dice.old ≤ D.count dice.new }
@@ -45,6 +85,7 @@ pub fn seal<D: Dice>(alloc: Global, who: &Who, plain: Bytes, dice: &mut D) -> Re
                 dice,
             )
         }
+        Who::Aesgcm(_, _) | Who::Kms(_) => unreachable!(),
     }
 }
 
