@@ -65,7 +65,7 @@ impl<'a, R: Files<File = File>> RealWorld<'a, R> {
 impl<'a, R: Files<File = File>> World for RealWorld<'a, R> {
     type Rand = UrandomDice;
 
-    // It makes no links.
+    // No call hands out a link.
     type Link = TablePlugin;
 
     ghost told = { λ world. record { file = λ name. None; file_faults = world.faults; dice = λ seat. None; dice_faults = λ seat. slice_index_or world.dice_faults seat 0; out = λ seat. slice_index_or world.out seat 0 } };

@@ -1,5 +1,5 @@
 -- Objects in memory that play those of the outside: which of their calls fail, and what they hold.
-use Rattle.std.specs.Prelude.{◌≡◌, ℕ, ◌+◌, ◌-◌, ◌^◌, ◌⊎◌, ◌↔◌, min, List, Contains, Result, IsErr, is_err, if◌then◌else◌}
+use Rattle.std.specs.Prelude.{◌≡◌, ℕ, ◌+◌, ◌-◌, ◌/◌, ◌^◌, ◌⊎◌, ◌↔◌, min, Bool, List, Contains, Result, IsErr, is_err, if◌then◌else◌}
 
 -- the numbers of the calls that fail, from 1; how many calls were made, and how many of them failed
 pub record Calls : Type 0 where
@@ -28,3 +28,18 @@ pub record Taken : Type 0 where
   pub bytes : List ℕ
   pub room : ℕ
   pub calls : Calls
+
+-- a tape with the bytes that it holds, the bytes that it has room for in all, and its calls that read and that write
+pub record Held : Type 0 where
+  pub bytes : List ℕ
+  pub room : ℕ
+  pub reads : Calls
+  pub writes : Calls
+
+-- how many of its calls failed in all, up to the greatest number
+abbrev pub faults_of : Held → ℕ
+faults_of tape = min (tape.reads.faults + tape.writes.faults) (2 ^ 64 - 1)
+
+-- how many bytes a write that failed has left at its place: none where there is no room for all of them, else half of them
+abbrev pub left_by_fault : ℕ → Bool → ℕ
+left_by_fault length above = if above then 0 else length / 2

@@ -10,6 +10,7 @@ mod list;
 mod mem_dice;
 mod mem_sink;
 mod mem_source;
+mod mem_tape;
 mod rules;
 mod seeded_dice;
 #[cfg(test)]
@@ -25,8 +26,9 @@ pub use list::List;
 pub use mem_dice::MemDice;
 pub use mem_sink::MemSink;
 pub use mem_source::MemSource;
+pub use mem_tape::MemTape;
 pub use rules::{name_ok, path_ok, resource_ok};
 pub use seeded_dice::SeededDice;
 pub use text::Text;
-pub use traits::{Dice, Sink, Source};
+pub use traits::{Dice, Sink, Source, Tape};
 pub use whole::{read_all, write_all};

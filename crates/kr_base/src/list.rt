@@ -88,7 +88,7 @@ impl<T> List<T> {
     /// Takes the last item. Its room stays.
     pub fn pop(&mut self) -> Option<T>
         ensures items { MatchOption result ((self.old.0 ≡ []) × (self.new.0 ≡ [])) (λ last. self.old.0 ≡ self.new.0 ++ last ∷ []) }
-        ensures room { self.old.1 ≤ self.new.1 }
+        ensures room { MatchOption result (self.new.1 ≡ self.old.1) (λ _. self.new.1 ≡ self.old.1 + 1) }
     {
         self.items.pop()
     }

@@ -1,9 +1,10 @@
 //! The outside as the crates above see it: what is told of its content, and how often it failed.
 //! A count of faults never falls, and a call answers `Failed` only where it rose.
-ghost use Rattle.std.specs.Prelude.{◌≡◌, ℕ, List, length, Option, IfOk, MatchResult};
+ghost use Rattle.std.specs.Prelude.{◌≡◌, ℕ, ◌≤◌, List, length, Option, IfOk, IfSome, MatchResult};
 ghost use Rattle.std.specs.Io.{ReadsAtMost, WritesAtMost};
 ghost use Rattle.std.specs.Io.KnownBytes.{ReadConsumes, WriteAppends, Consumes, Keeps};
 ghost use Rattle.kr_base.specs.Faults.{IsCounted};
+ghost use Rattle.kr_base.specs.Tapes.{ReadsAt, PutsAt, Cuts};
 
 use crate::answers::Failed;
 
@@ -54,6 +55,45 @@ pub trait Dice {
     /// Fills the buffer with the next bytes. After a fault the buffer holds any bytes, and what is told is still to come.
     fn fill(&mut self, into: &mut [u8]) -> Result<(), Failed>
         ensures bytes { MatchResult result (λ _. Consumes (left self.old) (left self.new) into.new) (λ _. Keeps (left self.old) (left self.new)) }
+        ensures cause { IsCounted (count self.old) (count self.new) result };
+
+    /// How often it failed so far, up to the greatest number.
+    fn faults(&self) -> u64
+        ensures { result ≡ count self.now };
+}
+
+/// What is read and written at any place: a file, bytes in memory.
+pub trait Tape {
+    // The bytes that it holds, where the type tells them.
+    ghost told: { Self → Option (List ℕ) };
+
+    ghost count: { Self → ℕ };
+
+    /// How many bytes it holds.
+    fn len(&mut self) -> Result<u64, Failed>
+        ensures length { IfOk result (λ n. IfSome (told self.old) (λ bytes. n ≡ length bytes)) }
+        ensures same { told self.new ≡ told self.old }
+        ensures cause { IsCounted (count self.old) (count self.new) result };
+
+    /// Reads the bytes from `at` to the front of the buffer, as many as fit and are there.
+    fn read_at(&mut self, at: u64, into: &mut [u8]) -> Result<usize, Failed>
+        requires { IfSome (told self.old) (λ bytes. at ≤ length bytes) }
+        ensures bound { ReadsAtMost result into.new }
+        ensures bytes { IfOk result (λ n. ReadsAt (told self.old) at n into.new) }
+        ensures same { told self.new ≡ told self.old }
+        ensures cause { IsCounted (count self.old) (count self.new) result };
+
+    /// Puts the bytes at `at`; those behind them stay. After a fault the bytes before `at` are as before, and the rest
+    /// is any bytes.
+    fn put_at(&mut self, at: u64, bytes: &[u8]) -> Result<(), Failed>
+        requires { IfSome (told self.old) (λ held. at ≤ length held) }
+        ensures bytes { PutsAt (told self.old) (told self.new) at bytes.now result }
+        ensures cause { IsCounted (count self.old) (count self.new) result };
+
+    /// Lets the tape end at `len`. After a fault the bytes before it are as before, and the rest is any bytes.
+    fn cut(&mut self, len: u64) -> Result<(), Failed>
+        requires { IfSome (told self.old) (λ bytes. len ≤ length bytes) }
+        ensures bytes { Cuts (told self.old) (told self.new) len result }
         ensures cause { IsCounted (count self.old) (count self.new) result };
 
     /// How often it failed so far, up to the greatest number.

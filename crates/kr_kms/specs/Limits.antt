@@ -1,4 +1,5 @@
--- The limits of what a plugin wraps. They follow KEP-3299, which bounds key ids, encrypted seeds and annotations.
+-- The limits of what a plugin wraps. They follow KEP-3299, which bounds key ids, encrypted seeds and annotations by their
+-- bytes; how many annotations there are is bounded here alone.
 use Rattle.std.specs.Prelude.{ℕ, ◌+◌, ◌≤◌, List, length, sum_by}
 use Rattle.kr_base.specs.Pairs.{Pairs}
 use Rattle.kr_kms.specs.declared.plugin.Wrapped.{Wrapped}

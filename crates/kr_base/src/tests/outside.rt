@@ -1,6 +1,6 @@
 use crate::{
-    Bytes, Dice, Failed, List, MemDice, MemSink, MemSource, ReadNo, SeededDice, Sink, Source,
-    read_all, write_all,
+    Bytes, Dice, Failed, List, MemDice, MemSink, MemSource, MemTape, ReadNo, SeededDice, Sink,
+    Source, Tape, read_all, write_all,
 };
 use rand_chacha::ChaCha20Rng;
 use rand_core::SeedableRng;
@@ -100,4 +100,29 @@ fn draws_from_a_generator(rt: HostRuntime) {
         0x76b8e0ada0f13d90405d6ae55386bd28_u128.to_be_bytes()
     );
     assert_eq!(rt; dice.faults(), 0);
+}
+
+#[test]
+fn reads_and_writes_at_places(rt: HostRuntime) -> Result<(), Fail> {
+    let alloc = rt.alloc();
+    let content = Bytes::copy(alloc, b"abcdef")?;
+    let mut tape = MemTape::new(content, 8, calls(alloc, &[2])?, calls(alloc, &[2, 4])?)?;
+    let mut into = *b"---";
+    assert_eq!(rt; tape.len(), Ok(6));
+    assert_eq!(rt; tape.read_at(0, &mut into), Err(Failed));
+    assert_eq!(rt; tape.read_at(4, &mut into), Ok(2));
+    assert_eq!(rt; into, *b"ef-");
+    assert_eq!(rt; tape.read_at(6, &mut into), Ok(0));
+    assert_eq!(rt; tape.put_at(5, b"xy"), Ok(()));
+    assert_eq!(rt; tape.bytes(), b"abcdexy".as_slice());
+    assert_eq!(rt; tape.cut(2), Err(Failed));
+    assert_eq!(rt; tape.bytes(), b"abcdexy".as_slice());
+    assert_eq!(rt; tape.cut(4), Ok(()));
+    assert_eq!(rt; tape.bytes(), b"abcd".as_slice());
+    assert_eq!(rt; tape.put_at(1, b"1234"), Err(Failed));
+    assert_eq!(rt; tape.bytes(), b"a12d".as_slice());
+    assert_eq!(rt; tape.put_at(0, b"123456789"), Err(Failed));
+    assert_eq!(rt; tape.bytes(), b"a12d".as_slice());
+    assert_eq!(rt; tape.faults(), 4);
+    Ok(())
 }

@@ -1,0 +1,3 @@
+mod plugins;
+mod silent_link;
+mod worlds;
