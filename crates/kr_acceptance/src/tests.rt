@@ -433,6 +433,71 @@ fn shows_configurations(rt: HostRuntime) -> Result<(), Fail> {
 }
 
 #[test]
+fn inspects(rt: HostRuntime) -> Result<(), Fail> {
+    let alloc = rt.alloc();
+    // The value, the output, the line, the status.
+    let cases: [(&str, &str, &str, u8); 13] = [
+        ("", "plain 0\n", "", 0),
+        ("hello", "plain 5\n", "", 0),
+        ("k8s|00", "plain 4\n", "", 0),
+        (HELLO, "aescbc key1 32\n", "", 0),
+        (ZEROS, "aesgcm g 44\n", "", 0),
+        ("k8s:enc:", "", "kmsrest: refused 12 NoProvider\n", 1),
+        (
+            "k8s:enc:secretbox:v1:k:",
+            "",
+            "kmsrest: refused 12 NoProvider\n",
+            1,
+        ),
+        (
+            "k8s:enc:kms:v2:p:|0a02aabb12026b311a01cc22090a04612e696f1201012801",
+            "kms p 24\nkey-id k1\nsource 1\nannotation a.io 1\ntype 1\ndata 2\n",
+            "",
+            0,
+        ),
+        (
+            "k8s:enc:kms:v2:p:|28011201781a01cc30070a02aabb12026b31",
+            "kms p 18\nkey-id k1\nsource 1\ntype 1\ndata 2\n",
+            "",
+            0,
+        ),
+        (
+            "k8s:enc:kms:v2:p:|28011201781a01cc30070a02aabb12026b",
+            "",
+            "kmsrest: refused 5 Wire 14\n",
+            1,
+        ),
+        (
+            "k8s:enc:kms:v2:p:|0a02aabb1202c3281a01cc",
+            "",
+            "kmsrest: refused 11 NotUtf8 4\n",
+            1,
+        ),
+        ("k8s:enc:kms:v2:p:", "", "kmsrest: refused 10 NoData\n", 1),
+        (
+            "k8s:enc:kms:v2:p:|0a02aabb12040a7ec3a91a01cc",
+            "kms p 13\nkey-id ?~??\nsource 1\ntype 0\ndata 2\n",
+            "",
+            0,
+        ),
+    ];
+    for (value, output, line, status) in cases {
+        let value = bytes(alloc, value)?;
+        let left = left_by(
+            alloc,
+            &Call {
+                words: "inspect",
+                ..plain(value.as_slice())
+            },
+        )?;
+        assert_eq!(rt; left.output.as_slice(), output.as_bytes());
+        assert_eq!(rt; left.errors.as_slice(), line.as_bytes());
+        assert_eq!(rt; left.status, status);
+    }
+    Ok(())
+}
+
+#[test]
 fn limits_the_data(rt: HostRuntime) -> Result<(), Fail> {
     let most = vec![in rt.alloc(); 7u8; 2_097_152]?;
     let left = left_by(rt.alloc(), &plain(most.as_slice()))?;

@@ -1,5 +1,5 @@
 -- What the words of a command line ask for.
-use Rattle.std.proofs.Common.{◌≡◌, ℕ, ◌≤◌, ◌⊎◌, List, [], length, codes, Option, None, Some, Bor, refl, sym, ◌∙◌, ap, subst, inl, inr, arith}
+use Rattle.std.proofs.Common.{◌≡◌, ℕ, ◌≤◌, ◌⊎◌, List, [], length, codes, Option, None, Some, Bor, refl, sym, ap, subst, inl, inr, arith}
 use Rattle.std.specs.Prelude.{Contains, IsSome, IfSome, IsTrue, Err}
 use Rattle.std.specs.Option.{option_copied}
 use Rattle.kr_words.specs.Grammar.{Means, Reads}

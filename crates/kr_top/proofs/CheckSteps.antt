@@ -1,5 +1,5 @@
 -- How `check` ends at each of its steps.
-use Rattle.std.proofs.Common.{◌≡◌, ℕ, ◌≤◌, List, [], ◌∷◌, Option, Ok, Err, refl, sym, ◌∙◌, ap, subst, arith}
+use Rattle.std.proofs.Common.{◌≡◌, ℕ, ◌≤◌, List, [], ◌∷◌, Option, Ok, Err, refl, ◌∙◌, ap, subst, arith}
 use Rattle.std.specs.Prelude.{if◌then◌else◌}
 use Rattle.std.specs.Io.KnownBytes.{Appends}
 use Rattle.std.proofs.lemmas.Slice.Eq.{bytes_eq-Decides}
@@ -8,11 +8,11 @@ use Rattle.kr_config.specs.declared.settings.Settings.{Settings}
 use Rattle.kr_base.specs.Streams.{AppendsFront}
 use Rattle.kr_kms.specs.Outside.{Outside, KeepsFiles, KeepsDice}
 use Rattle.kr_top.specs.Command.{check}
-use Rattle.kr_top.specs.Trace.{loaded, strays, gives}
+use Rattle.kr_top.specs.Trace.{loaded, strays, gives, awaits, load_file}
 use Rattle.kr_top.specs.Configuration.{configuration}
 use Rattle.kr_top.specs.Check.{shows, listing, check_outcome}
 use Rattle.kr_top.specs.Phases.{Configures, WritesOutput}
-use Rattle.kr_top.specs.Ran.{Did, Ends}
+use Rattle.kr_top.specs.Ran.{Did}
 use Rattle.kr_top.specs.declared.refusal.Object.TheVariants.{Output, Files}
 use Rattle.kr_top.specs.declared.refusal.Stop.{Stop}
 use Rattle.kr_top.specs.declared.refusal.Stop.TheVariants.{Refused, Fault, NoMemory}
@@ -32,7 +32,9 @@ module _ (config : List ℕ) (resource : Option (List ℕ)) where
     files = (w.1, tt);
     input = Keeps-refl i;
     dice = λ s. kept_nothing _ _ (dice.dice s);
-    ends = subst (λ out. Ends out (around old i m o k) (around new i m o k) (Err (Refused why))) (sym (loaded_outcome w.0 ∙ ap (λ v. shows v resource) w.2)) (refl, Keeps-refl o);
+    outcome = _;
+    comes = (loaded_outcome w.0 ∙ ap (λ v. shows v resource) w.2);
+    ends = (refl, Keeps-refl o);
     home = home old new i i m m o o k k files dice (omega arith) (omega arith);
   }
   not_configured old new i o m k (Fault object count) files dice w = record {
@@ -40,6 +42,8 @@ module _ (config : List ℕ) (resource : Option (List ℕ)) where
     files = tt;
     input = nothing_taken i 0;
     dice = λ s. kept_nothing _ _ (dice.dice s);
+    outcome = awaits (load_file config);
+    comes = refl;
     ends = (w.0, fault_of object Files count (around old i m o k) (around new i m o k) w.0 w.1 w.2, Keeps-refl o);
     home = home old new i i m m o o k k files dice (omega arith) (omega arith);
   }
@@ -48,6 +52,8 @@ module _ (config : List ℕ) (resource : Option (List ℕ)) where
     files = tt;
     input = nothing_taken i 0;
     dice = λ s. kept_nothing _ _ (dice.dice s);
+    outcome = awaits (load_file config);
+    comes = refl;
     ends = Keeps-refl o;
     home = home old new i i m m o o k k files dice (omega arith) (omega arith);
   }
@@ -63,6 +69,8 @@ module _ (config : List ℕ) (resource : Option (List ℕ)) where
       files = tt;
       input = nothing_taken i 0;
       dice = λ s. kept_nothing _ _ (dice.dice s);
+      outcome = awaits (load_file config);
+      comes = refl;
       ends = Keeps-refl o;
       home = home old new i i m m o o k k files dice (omega arith) (omega arith);
     }
@@ -74,7 +82,9 @@ module _ (config : List ℕ) (resource : Option (List ℕ)) where
       files = (w.1, tt);
       input = Keeps-refl i;
       dice = λ s. kept_nothing _ _ (dice.dice s);
-      ends = subst (λ out. Ends out (around old i m o k) (around new i m p l) (Ok Silent)) (sym shown) (refl, subst (Appends o p) e a);
+      outcome = _;
+      comes = shown;
+      ends = (refl, subst (Appends o p) e a);
       home = home old new i i m m o p k l files dice (omega arith) most;
     }
 
@@ -86,7 +96,9 @@ module _ (config : List ℕ) (resource : Option (List ℕ)) where
       files = (w.1, tt);
       input = nothing_taken i 0;
       dice = λ s. kept_nothing _ _ (dice.dice s);
-      ends = subst (λ out. Ends out (around old i m o k) (around new i m p l) (Err (Fault object c))) (sym shown) (a.0, fault_of object Output c (around old i m o k) (around new i m p l) a.0 a.1 a.2, subst (λ v. AppendsFront o p v) e a.3);
+      outcome = _;
+      comes = shown;
+      ends = (a.0, fault_of object Output c (around old i m o k) (around new i m p l) a.0 a.1 a.2, subst (λ v. AppendsFront o p v) e a.3);
       home = home old new i i m m o p k l files dice (omega arith) most;
     }
     not_written text o p k l NoMemory e a most = absurd a

@@ -1,20 +1,19 @@
 -- How `encrypt` and `decrypt` end at each of their steps.
 use Rattle.std.proofs.Common.{◌≡◌, ℕ, zero, suc, ◌+◌, ◌≤◌, List, [], ◌∷◌, length, Bool, true, false, Option, None, Some, Ok, Err, refl, sym, ◌∙◌, ap, subst, inl, inr, arith}
-use Rattle.std.specs.Prelude.{nat_lt, if◌then◌else◌}
+use Rattle.std.specs.Prelude.{if◌then◌else◌}
 use Rattle.std.specs.Io.KnownBytes.{Appends, Consumes}
 use Rattle.std.proofs.lemmas.Slice.Eq.{bytes_eq-Decides}
 use Rattle.std.proofs.lemmas.Bool.Decides.{Decides-ltb}
 use Rattle.kr_base.specs.Faults.{Rose}
 use Rattle.kr_base.specs.Told.{Agrees}
 use Rattle.kr_kms.specs.Outside.{Outside, KeepsFiles, KeepsDice, HandsOut, TakesBack}
-use Rattle.kr_config.specs.Kept.{Row, rows_of}
-use Rattle.kr_config.specs.declared.settings.Settings.{Settings}
+use Rattle.kr_config.specs.Kept.{Row}
 use Rattle.kr_top.specs.Command.{Command, input_limit}
 use Rattle.kr_top.specs.Configuration.{configuration}
-use Rattle.kr_top.specs.Trace.{Sight, loaded, taken, opened, Outcome, refuses, gives, strays, at_last, SawFiles, SawInput, input_of, drawn_of}
+use Rattle.kr_top.specs.Trace.{Sight, loaded, taken, opened, Outcome, awaits, load_file, refuses, strays, at_last, SawFiles, SawInput, input_of, drawn_of}
 use Rattle.kr_top.specs.Steps.{served, from_dice, from_input, by_rows, from_file}
 use Rattle.kr_top.specs.Phases.{Serves, TakesInput, NoDice, Makes, WritesOutput, draws_of, bytes_of}
-use Rattle.kr_top.specs.Ran.{Did, IsHome, Ends, outcome_of}
+use Rattle.kr_top.specs.Ran.{Did, IsHome, ComesTo}
 use Rattle.kr_top.specs.declared.work.Made.{Made}
 use Rattle.kr_top.specs.declared.refusal.Object.TheVariants.{Input, Output, Files, Dice}
 use Rattle.kr_top.specs.declared.refusal.Refusal.{Refusal}
@@ -24,16 +23,16 @@ use Rattle.kr_base.proofs.Counting.{Rose-later}
 use Rattle.kr_top.proofs.Steps.{around, fault_of, home, nothing_taken, to_false, drawn_here, drawn_there}
 use Rattle.kr_top.proofs.Worlds.{Keeps-refl, kept_nothing, files_trans, dice_trans, by_seat}
 
-module _ (command : Command) (config : List ℕ) (long : Refusal) (after : List Row → List ℕ → List Sight → Outcome) (is : (trace : List Sight) → outcome_of command trace ≡ from_file (input_limit command) long after config trace) where
+module _ (command : Command) (config : List ℕ) (long : Refusal) (after : List Row → List ℕ → List Sight → Outcome) (is : (trace : List Sight) (outcome : Outcome) → from_file (input_limit command) long after config trace ≡ outcome → ComesTo command trace outcome) where
   -- the outcome once the configuration was loaded
-  loaded_outcome : (file : Option (List ℕ)) (rest : List Sight) → outcome_of command (loaded config file ∷ rest) ≡ by_rows (input_limit command) long after (served (configuration config file)) rest
-  loaded_outcome file rest = is (loaded config file ∷ rest) ∙ ap (λ q. if q then by_rows (input_limit command) long after (served (configuration config file)) rest else strays) ((bytes_eq-Decides config config).1 refl)
+  loaded_outcome : (file : Option (List ℕ)) (rest : List Sight) → from_file (input_limit command) long after config (loaded config file ∷ rest) ≡ by_rows (input_limit command) long after (served (configuration config file)) rest
+  loaded_outcome file rest = ap (λ q. if q then by_rows (input_limit command) long after (served (configuration config file)) rest else strays) ((bytes_eq-Decides config config).1 refl)
 
   -- the rows by a file that was loaded
   abbrev pub Picks : Outside → List Row → Type 0
   Picks old rows = (file : Option (List ℕ)) × Agrees (old.file config) file × (served (configuration config file) ≡ Ok rows)
 
-  rows_outcome : (file : Option (List ℕ)) (rows : List Row) (rest : List Sight) → served (configuration config file) ≡ Ok rows → outcome_of command (loaded config file ∷ rest) ≡ from_input (input_limit command) long after rows rest
+  rows_outcome : (file : Option (List ℕ)) (rows : List Row) (rest : List Sight) → served (configuration config file) ≡ Ok rows → from_file (input_limit command) long after config (loaded config file ∷ rest) ≡ from_input (input_limit command) long after rows rest
   rows_outcome file rows rest e = loaded_outcome file rest ∙ ap (λ r. by_rows (input_limit command) long after r rest) e
 
   -- no configuration
@@ -44,7 +43,9 @@ module _ (command : Command) (config : List ℕ) (long : Refusal) (after : List 
     files = (w.1, tt);
     input = Keeps-refl i;
     dice = λ s. kept_nothing _ _ (dice.dice s);
-    ends = subst (λ out. Ends out (around old i m o k) (around new i m o k) (Err (Refused why))) (sym (loaded_outcome w.0 [] ∙ ap (λ v. by_rows (input_limit command) long after v []) w.2)) (refl, Keeps-refl o);
+    outcome = _;
+    comes = is _ _ (loaded_outcome w.0 [] ∙ ap (λ v. by_rows (input_limit command) long after v []) w.2);
+    ends = (refl, Keeps-refl o);
     home = home old new i i m m o o k k files dice (omega arith) (omega arith);
   }
   not_configured old new i o m k (Fault object count) files dice w = record {
@@ -52,7 +53,9 @@ module _ (command : Command) (config : List ℕ) (long : Refusal) (after : List 
     files = tt;
     input = nothing_taken i (input_limit command);
     dice = λ s. kept_nothing _ _ (dice.dice s);
-    ends = subst (λ out. Ends out (around old i m o k) (around new i m o k) (Err (Fault object count))) (sym (is [])) (w.0, fault_of object Files count (around old i m o k) (around new i m o k) w.0 w.1 w.2, Keeps-refl o);
+    outcome = _;
+    comes = is [] (awaits (load_file config)) refl;
+    ends = (w.0, fault_of object Files count (around old i m o k) (around new i m o k) w.0 w.1 w.2, Keeps-refl o);
     home = home old new i i m m o o k k files dice (omega arith) (omega arith);
   }
   not_configured old new i o m k NoMemory files dice w = record {
@@ -60,7 +63,9 @@ module _ (command : Command) (config : List ℕ) (long : Refusal) (after : List 
     files = tt;
     input = nothing_taken i (input_limit command);
     dice = λ s. kept_nothing _ _ (dice.dice s);
-    ends = subst (λ out. Ends out (around old i m o k) (around new i m o k) (Err NoMemory)) (sym (is [])) (Keeps-refl o);
+    outcome = _;
+    comes = is [] (awaits (load_file config)) refl;
+    ends = (Keeps-refl o);
     home = home old new i i m m o o k k files dice (omega arith) (omega arith);
   }
 
@@ -76,8 +81,9 @@ module _ (command : Command) (config : List ℕ) (long : Refusal) (after : List 
     files = (w.1, tt);
     input = (t.1.1, inr t.1.2);
     dice = λ s. kept_nothing _ _ (dice.dice s);
-    ends = subst (λ out. Ends out (around old i m o k) (around new j n o k) (Err (Refused why)))
-        (sym (rows_outcome w.0 rows (taken t.1.0 ∷ []) w.2 ∙ too_long t.1.0 t.1.2 rows)) (t.0, Keeps-refl o);
+    outcome = _;
+    comes = is _ _ (rows_outcome w.0 rows (taken t.1.0 ∷ []) w.2 ∙ too_long t.1.0 t.1.2 rows);
+    ends = (t.0, Keeps-refl o);
     home = home old new i j m n o o k k files dice more (omega arith);
   }
   not_taken rows old new i j o m n k (Fault object count) files dice w t more = record {
@@ -85,7 +91,9 @@ module _ (command : Command) (config : List ℕ) (long : Refusal) (after : List 
     files = (w.1, tt);
     input = t.3;
     dice = λ s. kept_nothing _ _ (dice.dice s);
-    ends = subst (λ out. Ends out (around old i m o k) (around new j n o k) (Err (Fault object count))) (sym (rows_outcome w.0 rows [] w.2))
+    outcome = _;
+    comes = is _ _ (rows_outcome w.0 rows [] w.2);
+    ends =
         (t.0, fault_of object Input count (around old i m o k) (around new j n o k) t.0 t.1 t.2, Keeps-refl o);
     home = home old new i j m n o o k k files dice more (omega arith);
   }
@@ -94,13 +102,15 @@ module _ (command : Command) (config : List ℕ) (long : Refusal) (after : List 
     files = (w.1, tt);
     input = t;
     dice = λ s. kept_nothing _ _ (dice.dice s);
-    ends = subst (λ out. Ends out (around old i m o k) (around new j n o k) (Err NoMemory)) (sym (rows_outcome w.0 rows [] w.2)) (Keeps-refl o);
+    outcome = _;
+    comes = is _ _ (rows_outcome w.0 rows [] w.2);
+    ends = (Keeps-refl o);
     home = home old new i j m n o o k k files dice more (omega arith);
   }
 
   -- the outcome once the input was taken
   taken_outcome : (file : Option (List ℕ)) (rows : List Row) (plain : List ℕ) (rest : List Sight) → served (configuration config file) ≡ Ok rows → length plain ≤ input_limit command
-      → outcome_of command (loaded config file ∷ taken plain ∷ rest) ≡ from_dice (input_limit command) long after rows plain rest
+      → from_file (input_limit command) long after config (loaded config file ∷ taken plain ∷ rest) ≡ from_dice (input_limit command) long after rows plain rest
   taken_outcome file rows plain rest e short = rows_outcome file rows (taken plain ∷ rest) e
       ∙ ap (λ q. if q then at_last rest (refuses long) else from_dice (input_limit command) long after rows plain rest) (to_false _ (λ t. absurd (omega (arith, short, (Decides-ltb (input_limit command) (length plain)).0 t))))
 
@@ -114,7 +124,9 @@ module _ (command : Command) (config : List ℕ) (long : Refusal) (after : List 
     files = (w.1, tt);
     input = (t.0, inl (t.2, t.1));
     dice = λ s. kept_nothing _ _ (same.dice s ∙ dice.dice s);
-    ends = subst (λ out. Ends out (around old i m o k) (around new j n o k) (Err (Fault object count))) (sym (taken_outcome w.0 rows plain [] w.2 t.2))
+    outcome = _;
+    comes = is _ _ (taken_outcome w.0 rows plain [] w.2 t.2);
+    ends =
         (d.0, fault_of object Files count (around old i m o k) (around new j n o k) d.0 (Rose-later _ _ _ files.later d.1) d.2, Keeps-refl o);
     home = home old new i j m n o o k k (files_trans files after) (dice_trans dice same) more (omega arith);
   }
@@ -123,7 +135,9 @@ module _ (command : Command) (config : List ℕ) (long : Refusal) (after : List 
     files = (w.1, tt);
     input = (t.0, inl (t.2, t.1));
     dice = λ s. kept_nothing _ _ (same.dice s ∙ dice.dice s);
-    ends = subst (λ out. Ends out (around old i m o k) (around new j n o k) (Err NoMemory)) (sym (taken_outcome w.0 rows plain [] w.2 t.2)) (Keeps-refl o);
+    outcome = _;
+    comes = is _ _ (taken_outcome w.0 rows plain [] w.2 t.2);
+    ends = (Keeps-refl o);
     home = home old new i j m n o o k k (files_trans files after) (dice_trans dice same) more (omega arith);
   }
 
@@ -163,7 +177,9 @@ module _ (command : Command) (config : List ℕ) (long : Refusal) (after : List 
       files = saw_files None;
       input = saw_input None false;
       dice = drew None s.1;
-      ends = subst (λ out. Ends out (around old i m o k) (around new j n o k) (Err (Refused why))) (sym (taken_outcome w.0 rows plain (opened 0 ∷ []) w.2 t.2 ∙ s.0)) (refl, Keeps-refl o);
+      outcome = _;
+      comes = is _ _ (taken_outcome w.0 rows plain (opened 0 ∷ []) w.2 t.2 ∙ s.0);
+      ends = (refl, Keeps-refl o);
       home = came_home o o k k (omega arith);
     }
     not_sealed o k (Fault object c) s = record {
@@ -171,7 +187,9 @@ module _ (command : Command) (config : List ℕ) (long : Refusal) (after : List 
       files = saw_files None;
       input = saw_input None true;
       dice = drew None s.4;
-      ends = subst (λ out. Ends out (around old i m o k) (around new j n o k) (Err (Fault object c))) (sym (taken_outcome w.0 rows plain (opened 0 ∷ []) w.2 t.2 ∙ s.3)) (
+      outcome = _;
+      comes = is _ _ (taken_outcome w.0 rows plain (opened 0 ∷ []) w.2 t.2 ∙ s.3);
+      ends = (
         s.0,
         fault_of object (Dice 0) c (around old i m o k) (around new j n o k) s.0
             (subst (λ q. Rose q (new.dice_faults 0)) (opens.count_is ∙ dice.faults 0) (subst (λ q. Rose first q) (sym back.count_is) s.1)) (s.2 ∙ sym back.count_is),
@@ -184,7 +202,9 @@ module _ (command : Command) (config : List ℕ) (long : Refusal) (after : List 
       files = (w.1, tt);
       input = (t.0, inl (t.2, t.1));
       dice = drew None s;
-      ends = subst (λ out. Ends out (around old i m o k) (around new j n o k) (Err NoMemory)) (sym (taken_outcome w.0 rows plain [] w.2 t.2)) (Keeps-refl o);
+      outcome = _;
+      comes = is _ _ (taken_outcome w.0 rows plain [] w.2 t.2);
+      ends = (Keeps-refl o);
       home = came_home o o k k (omega arith);
     }
 
@@ -196,7 +216,9 @@ module _ (command : Command) (config : List ℕ) (long : Refusal) (after : List 
       files = saw_files s.0;
       input = saw_input s.0 false;
       dice = drew s.0 s.2;
-      ends = subst (λ out. Ends out (around old i m o k) (around new j n p l) (Ok made.done)) (sym (taken_outcome w.0 rows plain (opened 0 ∷ draws_of s.0) w.2 t.2 ∙ s.1)) (refl, a);
+      outcome = _;
+      comes = is _ _ (taken_outcome w.0 rows plain (opened 0 ∷ draws_of s.0) w.2 t.2 ∙ s.1);
+      ends = (refl, a);
       home = came_home o p k l most;
     }
 
@@ -208,7 +230,9 @@ module _ (command : Command) (config : List ℕ) (long : Refusal) (after : List 
       files = saw_files s.0;
       input = saw_input s.0 true;
       dice = drew s.0 s.2;
-      ends = subst (λ out. Ends out (around old i m o k) (around new j n p l) (Err (Fault object c))) (sym (taken_outcome w.0 rows plain (opened 0 ∷ draws_of s.0) w.2 t.2 ∙ s.1))
+      outcome = _;
+      comes = is _ _ (taken_outcome w.0 rows plain (opened 0 ∷ draws_of s.0) w.2 t.2 ∙ s.1);
+      ends =
           (a.0, fault_of object Output c (around old i m o k) (around new j n p l) a.0 a.1 a.2, a.3);
       home = came_home o p k l most;
     }

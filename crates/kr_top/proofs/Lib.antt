@@ -2,6 +2,7 @@ pub mod Asked
 pub mod CheckSteps
 pub mod ConvertSteps
 pub mod Directions
+pub mod InspectSteps
 pub mod Listings
 pub mod Pieces
 pub mod Printed

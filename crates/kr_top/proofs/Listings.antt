@@ -1,6 +1,7 @@
 -- Texts that are written a piece at a time.
 use Rattle.std.proofs.Common.{◌≡◌, ℕ, suc, ◌+◌, ◌<◌, ◌≤◌, List, [], ◌∷◌, ◌++◌, length, get_or, drop, sym, ◌∙◌, ap, append_assoc, append-nil, drop-cons, map, add-one}
 use Rattle.std.specs.Prelude.{codes, Result, Ok, Err, IfOk}
+use Rattle.std.specs.List.{concat}
 use Rattle.std.proofs.lemmas.List.{drop_all}
 use Rattle.kr_config.specs.declared.settings.Entry.{Entry}
 use Rattle.kr_config.specs.declared.who.Who.{Who}
@@ -24,13 +25,21 @@ entries_more entries i n e h is = ap (λ l. lines_from n (rows_of l)) (drop-cons
 pub entries_all : {text whole : List ℕ} (entries : List Entry) (i n : ℕ) → length entries ≤ i → text ++ lines_from n (rows_of (drop i entries)) ≡ whole → text ≡ whole
 entries_all {text} entries i n h e = sym (append-nil text) ∙ ap (λ l. text ++ lines_from n (rows_of l)) (sym (drop_all i entries h)) ∙ e
 
+-- one piece for each item
+module _ {T : Type 0} (f : T → List ℕ) where
+  pub concat_more : (xs : List T) (i : ℕ) (x : T) → i < length xs → x ≡ get_or xs i x → concat (map f (drop i xs)) ≡ f x ++ concat (map f (drop (i + 1) xs))
+  concat_more xs i x h is = ap (λ l. concat (map f l)) (drop-cons xs i x h)
+      ∙ ap (λ y. f y ++ concat (map f (drop (suc i) xs))) (sym is)
+      ∙ ap (λ k. f x ++ concat (map f (drop k xs))) (sym (add-one i))
+
+  pub concat_all : {text whole : List ℕ} (xs : List T) (i : ℕ) → length xs ≤ i → text ++ concat (map f (drop i xs)) ≡ whole → text ≡ whole
+  concat_all {text} xs i h e = sym (append-nil text) ∙ ap (λ l. text ++ concat (map f l)) (sym (drop_all i xs h)) ∙ e
+
 pub lines_more : (providers : List Who) (i : ℕ) (who : Who) → i < length providers → who ≡ get_or providers i who → provider_lines (drop i providers) ≡ (provider_text who ++ codes "\n") ++ provider_lines (drop (i + 1) providers)
-lines_more providers i who h is = ap provider_lines (drop-cons providers i who h)
-    ∙ ap (λ x. (provider_text x ++ codes "\n") ++ provider_lines (drop (suc i) providers)) (sym is)
-    ∙ ap (λ k. (provider_text who ++ codes "\n") ++ provider_lines (drop k providers)) (sym (add-one i))
+lines_more providers i who h is = concat_more (λ who. provider_text who ++ codes "\n") providers i who h is
 
 pub lines_all : {text whole : List ℕ} (providers : List Who) (i : ℕ) → length providers ≤ i → text ++ provider_lines (drop i providers) ≡ whole → text ≡ whole
-lines_all {text} providers i h e = sym (append-nil text) ∙ ap (λ l. text ++ provider_lines l) (sym (drop_all i providers h)) ∙ e
+lines_all providers i h e = concat_all (λ who. provider_text who ++ codes "\n") providers i h e
 
 -- the pieces behind the first, each with its comma
 abbrev pub tail : List (List ℕ) → List ℕ
@@ -62,3 +71,13 @@ entry_pieces t0 digits patterns providers e1 e2 e3 e4 e5 e6 e7 =
 pub last_piece : {T E : Type 0} (r : Result T E) (P Q : Type 0) → IfOk r (λ done. P) → (P → Q) → IfOk r (λ done. Q)
 last_piece (Ok done) P Q h f = f h
 last_piece (Err why) P Q h f = tt
+
+-- the pieces of the lines of an annotation and of an object
+pub annotation_pieces : {t1 t2 t3 t4 t5 : List ℕ} (t0 key digits : List ℕ) → t1 ≡ t0 ++ codes "annotation " → t2 ≡ t1 ++ key → t3 ≡ t2 ++ codes " " → t4 ≡ t3 ++ digits → t5 ≡ t4 ++ codes "\n"
+    → t5 ≡ t0 ++ ((codes "annotation " ++ (key ++ (codes " " ++ digits))) ++ codes "\n")
+annotation_pieces t0 key digits e1 e2 e3 e4 e5 = pair t0 (codes "annotation " ++ (key ++ (codes " " ++ digits))) (codes "\n") (pair t0 (codes "annotation ") _ e1 (pair _ key _ e2 (pair _ (codes " ") digits e3 e4))) e5
+
+pub object_pieces : {t1 t2 t3 t4 t5 t6 t7 : List ℕ} (t0 id source annotations kind content : List ℕ) → t1 ≡ t0 ++ codes "key-id " → t2 ≡ t1 ++ id → t3 ≡ t2 ++ codes "\n" → t4 ≡ t3 ++ source → t5 ≡ t4 ++ annotations → t6 ≡ t5 ++ kind → t7 ≡ t6 ++ content
+    → t7 ≡ t0 ++ (((codes "key-id " ++ id) ++ codes "\n") ++ (source ++ (annotations ++ (kind ++ content))))
+object_pieces t0 id source annotations kind content e1 e2 e3 e4 e5 e6 e7 =
+    pair t0 ((codes "key-id " ++ id) ++ codes "\n") _ (pair t0 (codes "key-id " ++ id) (codes "\n") (pair t0 (codes "key-id ") id e1 e2) e3) (pair _ source _ e4 (pair _ annotations _ e5 (pair _ kind content e6 e7)))

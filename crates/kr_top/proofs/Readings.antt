@@ -1,21 +1,27 @@
 -- What readers take from the relation of a call.
 use Rattle.std.proofs.Common.{◌≡◌, ℕ, zero, suc, ◌⊎◌, List, [], ◌∷◌, Bool, true, false, Option, None, Some, Ok, Err, refl, sym, ◌∙◌, ap, subst, inl, inr, arith}
 use Rattle.std.specs.Result.{result_map_both}
-use Rattle.std.specs.Prelude.{Result, nat_lt, nat_eq, ◌==◌, length, codes, if◌then◌else◌}
-use Rattle.std.specs.List.{starts_with}
+use Rattle.std.specs.Prelude.{Result, nat_lt, ◌==◌, length, if◌then◌else◌}
 use Rattle.std.specs.Str.{bytes_eq}
 use Rattle.std.specs.Io.KnownBytes.{Keeps, Appends}
 use Rattle.kr_base.specs.Faults.{Rose}
-use Rattle.kr_top.specs.Command.{Command, encrypt, decrypt, check, is_built, Asks, AskNothing, AskReplicas, AskSize, input_limit}
+use Rattle.kr_top.specs.Command.{Command, encrypt, decrypt, check, inspect, is_built, Asks, AskNothing, AskReplicas, AskSize, input_limit}
 use Rattle.kr_top.specs.Trace.{Sight, loaded, taken, opened, drawn, Outcome, awaits, refuses, gives, strays, at_last, SawInput, input_of}
 use Rattle.kr_top.specs.Configuration.{configuration}
-use Rattle.kr_top.specs.Check.{shows}
+use Rattle.kr_top.specs.Check.{shows, check_outcome}
+use Rattle.kr_top.specs.Inspect.{object_outcome, ShowsBody, Inspects, InspectComes}
+use Rattle.kr_envelope.specs.declared.prefix.Kind.{Kind}
+use Rattle.kr_envelope.specs.declared.prefix.Kind.TheVariants.{Aescbc, Aesgcm, Kms}
+use Rattle.kr_envelope.specs.declared.object.EncryptedObject.{EncryptedObject}
+use Rattle.kr_envelope.specs.declared.object.ObjectNo.{ObjectNo}
+use Rattle.kr_envelope.specs.declared.object.ObjectNo.TheVariants.{Wire, KeyId, Source, Annotations, SourceType, NoData, NotUtf8}
+use Rattle.kr_envelope.specs.declared.object.ObjectNo.TheVariants as object
 use Rattle.kr_config.specs.Kept.{Row}
 use Rattle.kr_top.specs.Steps.{served, from_dice, from_input, by_rows, from_file}
-use Rattle.kr_top.specs.Encrypt.{value_outcome, from_draw, sealed_from, sealing}
-use Rattle.kr_top.specs.Decrypt.{freshness, reading_outcome, unsealing}
+use Rattle.kr_top.specs.Encrypt.{value_outcome, from_draw, sealing}
+use Rattle.kr_top.specs.Decrypt.{reading_outcome, unsealing}
 use Rattle.kr_top.specs.Message.{status_of, status_of_refusal, line_of}
-use Rattle.kr_top.specs.Ran.{Around, Sunk, Did, Ends, Stops, Answers, Tells, Comes, IsUntouched, outcome_of, count_at, is_cut, IsUsage, IsCaused, IsRefused, IsDone}
+use Rattle.kr_top.specs.Ran.{Around, Sunk, Did, Ends, Stops, Answers, Tells, Comes, IsUntouched, ComesTo, count_at, is_cut, IsUsage, IsCaused, IsRefused, IsDone}
 use Rattle.kr_config.specs.Lists.{list_of}
 use Rattle.kr_config.specs.Walk.{rows_in}
 use Rattle.kr_config.specs.declared.refusal.ConfigNo.{ConfigNo}
@@ -23,14 +29,14 @@ use Rattle.kr_config.specs.declared.who.Who.{Who}
 use Rattle.kr_provider.specs.Publication.{names_plugin}
 use Rattle.kr_provider.specs.Readers.{writer_of}
 use Rattle.kr_provider.specs.Sealing.{draw_size, sealed_by}
+use Rattle.kr_provider.specs.Envelopes.{unknown}
 use Rattle.kr_provider.specs.Reading.{Reading, data_of, refused, unopened, reads_by, is_stale}
 use Rattle.kr_top.specs.declared.refusal.Object.{Object}
 use Rattle.kr_top.specs.declared.refusal.Refusal.{Refusal}
-use Rattle.kr_top.specs.declared.refusal.Refusal.TheVariants.{Usage, Replicas, Size, Absent, LongConfiguration, Configuration, NotServed, LongData, LongValue, Value}
+use Rattle.kr_top.specs.declared.refusal.Refusal.TheVariants.{Usage, Replicas, Size, Absent, LongConfiguration, Configuration, NotServed, LongData, LongValue, Value, Placed}
 use Rattle.kr_top.specs.declared.refusal.Stop.{Stop}
 use Rattle.kr_top.specs.declared.refusal.Stop.TheVariants.{Refused, Fault, NoMemory}
 use Rattle.kr_top.specs.declared.refusal.Done.{Done}
-use Rattle.kr_top.specs.declared.refusal.Done.TheVariants.{Silent}
 
 -- an outcome that isn't a refusal of the words
 abbrev NoWords : Outcome → Type 0
@@ -45,6 +51,7 @@ NoWords (refuses NotServed) = Unit {0}
 NoWords (refuses LongData) = Unit {0}
 NoWords (refuses LongValue) = Unit {0}
 NoWords (refuses (Value number)) = Unit {0}
+NoWords (refuses (Placed number at)) = Unit {0}
 NoWords (gives value done) = Unit {0}
 NoWords strays = Unit {0}
 
@@ -81,7 +88,7 @@ reading_no_words unopened stale = tt
 
 unsealing_no_words : (resource path : List ℕ) (rows : List Row) (bytes : List ℕ) (rest : List Sight) → NoWords (unsealing resource path rows bytes rest)
 unsealing_no_words resource path rows bytes rest = let list = list_of rows resource in
-    last_no_words rest (reading_outcome (reads_by None list path bytes) (is_stale [] list bytes)) (reading_no_words (reads_by None list path bytes) (is_stale [] list bytes))
+    last_no_words rest (reading_outcome (reads_by unknown list path bytes) (is_stale unknown [] list bytes)) (reading_no_words (reads_by unknown list path bytes) (is_stale unknown [] list bytes))
 
 -- a refusal that isn't one of the words
 abbrev NoWordsIn : {T : Type 0} → Result T Refusal → Type 0
@@ -137,15 +144,52 @@ shows_no_words : (resource : Option (List ℕ)) (r : Result (List Row) Refusal) 
 shows_no_words resource (Ok rows) h = tt
 shows_no_words resource (Err why) h = h
 
-no_words : (command : Command) (trace : List Sight) → NoWords (outcome_of command trace)
-no_words (encrypt config resource path) trace = object_no_words 2097152 LongData (sealing resource path) tt (sealing_no_words resource path) config trace
-no_words (decrypt config resource path) trace = object_no_words 2162688 LongValue (unsealing resource path) tt (unsealing_no_words resource path) config trace
-no_words (check config resource) [] = tt
-no_words (check config resource) (loaded name file ∷ rest) = either (bytes_eq name config) (at_last rest (shows (configuration config file) resource)) strays
+check_no_words : (config : List ℕ) (resource : Option (List ℕ)) (trace : List Sight) → NoWords (check_outcome config resource trace)
+check_no_words config resource [] = tt
+check_no_words config resource (loaded name file ∷ rest) = either (bytes_eq name config) (at_last rest (shows (configuration config file) resource)) strays
     (last_no_words rest (shows (configuration config file) resource) (shows_no_words resource (configuration config file) (file_no_words config file))) tt
-no_words (check config resource) (taken bytes ∷ rest) = tt
-no_words (check config resource) (opened seat ∷ rest) = tt
-no_words (check config resource) (drawn seat bytes ∷ rest) = tt
+check_no_words config resource (taken bytes ∷ rest) = tt
+check_no_words config resource (opened seat ∷ rest) = tt
+check_no_words config resource (drawn seat bytes ∷ rest) = tt
+
+moved : (a b : Outcome) → a ≡ b → NoWords a → NoWords b
+moved a b e h = subst NoWords e h
+
+object_outcome_no_words : (name body : List ℕ) (read : Result EncryptedObject ObjectNo) → NoWords (object_outcome name body read)
+object_outcome_no_words name body (Ok object) = tt
+object_outcome_no_words name body (Err (Wire at)) = tt
+object_outcome_no_words name body (Err KeyId) = tt
+object_outcome_no_words name body (Err Source) = tt
+object_outcome_no_words name body (Err Annotations) = tt
+object_outcome_no_words name body (Err SourceType) = tt
+object_outcome_no_words name body (Err NoData) = tt
+object_outcome_no_words name body (Err (NotUtf8 at)) = tt
+object_outcome_no_words name body (Err object.NoMemory) = tt
+
+body_no_words : (kind : Kind) (name body : List ℕ) (outcome : Outcome) → ShowsBody kind name body outcome → NoWords outcome
+body_no_words Aescbc name body outcome e = moved _ outcome e tt
+body_no_words Aesgcm name body outcome e = moved _ outcome e tt
+body_no_words Kms name body outcome (read, reads, some, e) = moved _ outcome e (object_outcome_no_words name body read)
+
+inspected_no_words : (bytes : List ℕ) (outcome : Outcome) → Inspects bytes outcome → NoWords outcome
+inspected_no_words bytes outcome (inl h) = moved _ outcome h.1 tt
+inspected_no_words bytes outcome (inr (inl (kind, name, body, is, parts, shown))) = body_no_words kind name body outcome shown
+inspected_no_words bytes outcome (inr (inr h)) = moved _ outcome h.2 tt
+
+inspect_no_words : (trace : List Sight) (outcome : Outcome) → InspectComes trace outcome → NoWords outcome
+inspect_no_words [] outcome e = moved _ outcome e tt
+inspect_no_words (loaded name file ∷ rest) outcome e = moved _ outcome e tt
+inspect_no_words (taken bytes ∷ []) outcome (inl h) = moved _ outcome h.1 tt
+inspect_no_words (taken bytes ∷ []) outcome (inr h) = inspected_no_words bytes outcome h.1
+inspect_no_words (taken bytes ∷ sight ∷ rest) outcome e = moved _ outcome e tt
+inspect_no_words (opened seat ∷ rest) outcome e = moved _ outcome e tt
+inspect_no_words (drawn seat bytes ∷ rest) outcome e = moved _ outcome e tt
+
+no_words : (command : Command) (trace : List Sight) (outcome : Outcome) → ComesTo command trace outcome → NoWords outcome
+no_words (encrypt config resource path) trace outcome e = moved _ outcome e (object_no_words 2097152 LongData (sealing resource path) tt (sealing_no_words resource path) config trace)
+no_words (decrypt config resource path) trace outcome e = moved _ outcome e (object_no_words 2162688 LongValue (unsealing resource path) tt (unsealing_no_words resource path) config trace)
+no_words (check config resource) trace outcome e = moved _ outcome e (check_no_words config resource trace)
+no_words inspect trace outcome e = inspect_no_words trace outcome e
 
 -- ---- a refusal
 
@@ -167,8 +211,8 @@ fault_outcome (refuses r) old new object count e = absurd e
 fault_outcome (gives value d) old new object count e = e.1.0
 fault_outcome strays old new object count e = absurd e
 
-by_words : (command : Command) (trace : List Sight) (why : Refusal) → outcome_of command trace ≡ refuses why → NoWords (refuses why)
-by_words command trace why e = subst NoWords e (no_words command trace)
+by_words : (command : Command) (trace : List Sight) (outcome : Outcome) (why : Refusal) → ComesTo command trace outcome → outcome ≡ refuses why → NoWords (refuses why)
+by_words command trace outcome why c e = subst NoWords e (no_words command trace outcome c)
 
 -- ---- the readings, by the result of the command
 
@@ -191,6 +235,7 @@ status_in NotServed = inr (inr (inl refl))
 status_in LongData = inr (inr (inr refl))
 status_in LongValue = inr (inr (inr refl))
 status_in (Value number) = inl refl
+status_in (Placed number at) = inl refl
 
 not_among : (n k : ℕ) → Statuses n → n ≡ k → (k ≡ 1 → ⊥) → (k ≡ 2 → ⊥) → (k ≡ 3 → ⊥) → (k ≡ 6 → ⊥) → ⊥
 not_among n k (inl h) e one two three six = one (sym e ∙ h)
@@ -220,6 +265,7 @@ not_two NotServed h e = omega arith
 not_two LongData h e = omega arith
 not_two LongValue h e = omega arith
 not_two (Value number) h e = omega arith
+not_two (Placed number at) h e = omega arith
 
 -- the words stopped the command
 stops_so : (words : List (List ℕ)) (why : Refusal) → Stops words (Err (Refused why)) → ((status_of_refusal why ≡ 2) × AskNothing words) ⊎ ((status_of_refusal why ≡ 6) × (AskReplicas words ⊎ AskSize words))
@@ -233,10 +279,11 @@ stops_so words NotServed s = absurd s
 stops_so words LongData s = absurd s
 stops_so words LongValue s = absurd s
 stops_so words (Value number) s = absurd s
+stops_so words (Placed number at) s = absurd s
 
 usage_means : (words : List (List ℕ)) (old new : Around) (r : Result Done Stop) → Answers words old new r → status_of r ≡ 2 → AskNothing words
 usage_means words old new (Ok d) a e = absurd (omega arith)
-usage_means words old new (Err (Refused why)) (inl a) e = absurd (not_two why (by_words a.0 a.2.trace why (refused_outcome _ old new why a.2.ends).0) e)
+usage_means words old new (Err (Refused why)) (inl a) e = absurd (not_two why (by_words a.0 a.2.trace a.2.outcome why a.2.comes (refused_outcome _ old new why a.2.ends).0) e)
 usage_means words old new (Err (Refused why)) (inr a) e = elim (stops_so words why a.0) [ inl s ↦ s.1 | inr s ↦ absurd (omega (arith, s.0)) ]
 usage_means words old new (Err (Fault object count)) a e = absurd (omega arith)
 usage_means words old new (Err NoMemory) a e = absurd (omega arith)
@@ -244,6 +291,7 @@ usage_means words old new (Err NoMemory) a e = absurd (omega arith)
 asks_something : (words : List (List ℕ)) (command : Command) → Asks words command → AskNothing words → ⊥
 asks_something words (encrypt config resource path) asks none = none asks.verb asks.options asks.means (ap is_built asks.is.0)
 asks_something words (decrypt config resource path) asks none = none asks.verb asks.options asks.means (ap is_built asks.is.0)
+asks_something words inspect asks none = none asks.verb asks.options asks.means (ap is_built asks.is)
 asks_something words (check config resource) asks none = none asks.verb asks.options asks.means (ap is_built asks.is.0)
 
 stopped_so : (words : List (List ℕ)) (r : Result Done Stop) → Stops words r
@@ -273,7 +321,7 @@ pub caused : (words : List (List ℕ)) (old new : Around) (errors : Sunk) (r : R
 caused words old new errors r status a (inl t) four = inl (fault_rose words old new r a (sym t.0 ∙ four))
 caused words old new errors r status a (inr t) four = inr t.1
 
-comes : (words : List (List ℕ)) (old new : Around) (r : Result Done Stop) (command : Command) (outcome : Outcome) (asks : Asks words command) (d : Did command old new r) → is_cut r ≡ false → outcome_of command d.trace ≡ outcome → Comes words old new outcome
+comes : (words : List (List ℕ)) (old new : Around) (r : Result Done Stop) (command : Command) (outcome : Outcome) (asks : Asks words command) (d : Did command old new r) → is_cut r ≡ false → d.outcome ≡ outcome → Comes words old new outcome
 comes words old new r command outcome asks d cut is = record {
   command = command;
   asks = asks;
@@ -281,7 +329,7 @@ comes words old new r command outcome asks d cut is = record {
   files = d.files;
   input = subst (λ q. SawInput (input_limit command) old.input new.input (input_of d.trace) q) cut d.input;
   dice = d.dice;
-  outcome_is = is;
+  comes = subst (λ o. ComesTo command d.trace o) is d.comes;
 }
 
 not_amid : (status n : ℕ) → status ≡ n → (n ≡ 1 → ⊥) → (n ≡ 3 → ⊥) → (n ≡ 6 → ⊥) → (status ≡ 1) ⊎ (status ≡ 3) ⊎ (status ≡ 6) → ⊥

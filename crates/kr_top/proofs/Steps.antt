@@ -37,3 +37,10 @@ drawn_here (Some bytes) = append-nil bytes
 pub drawn_there : (s : ℕ) (d : Option (List ℕ)) → drawn_of (suc s) (draws_of d) ≡ []
 drawn_there s None = refl
 drawn_there s (Some bytes) = ap (λ q. (if q then bytes else []) ++ []) (to_false (0 == suc s) (λ t. absurd (omega (arith, (Decides-eqb 0 (suc s)).0 t))))
+
+-- a world that nothing was done to
+pub same_files : (world : Outside) → KeepsFiles world world
+same_files world = record { file = λ name. refl; later = omega arith }
+
+pub same_dice : (world : Outside) → KeepsDice world world
+same_dice world = record { dice = λ s. refl; faults = λ s. refl; out = λ s. refl }

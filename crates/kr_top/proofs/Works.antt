@@ -6,21 +6,19 @@ use Rattle.std.proofs.KnownBytes.{Consumes-nil}
 use Rattle.std.proofs.lemmas.Bool.Decides.{Decides-eqb}
 use Rattle.kr_config.specs.declared.who.Who.{Who}
 use Rattle.kr_config.specs.declared.who.Who.TheVariants.{Identity, Aescbc, Aesgcm, Kms}
-use Rattle.kr_kms.specs.declared.seeds.SeedRow.{SeedRow}
 use Rattle.kr_provider.specs.Publication.{Publication, list_at, writer_at}
 use Rattle.kr_provider.specs.Sealing.{draw_size, sealed_by, Seals}
-use Rattle.kr_provider.specs.Reading.{reads_by, is_stale, data_of, refused, Unseals}
+use Rattle.kr_provider.specs.Envelopes.{Envelope, unknown}
+use Rattle.kr_provider.specs.Reading.{is_stale, Unseals}
 use Rattle.kr_provider.specs.declared.refusal.Opened.{Opened}
 use Rattle.kr_provider.specs.declared.refusal.UnsealNo.{UnsealNo}
 use Rattle.kr_provider.specs.declared.refusal.UnsealNo.TheVariants as unseal
-use Rattle.kr_top.specs.Trace.{gives, refuses, strays}
+use Rattle.kr_top.specs.Trace.{gives, strays}
 use Rattle.kr_top.specs.Encrypt.{value_outcome, sealed_from}
 use Rattle.kr_top.specs.Decrypt.{freshness, reading_outcome}
 use Rattle.kr_top.specs.Phases.{Works, working, draws_of, bytes_of}
 use Rattle.kr_top.specs.declared.convert.Direction.{Direction}
 use Rattle.kr_top.specs.declared.convert.Direction.TheVariants.{Encrypt, Decrypt}
-use Rattle.kr_top.specs.declared.work.Made.{Made}
-use Rattle.kr_top.specs.declared.work.WorkNo.{WorkNo}
 use Rattle.kr_top.specs.declared.work.WorkNo.TheVariants as work
 use Rattle.kr_top.specs.declared.refusal.Refusal.TheVariants.{Value}
 use Rattle.kr_top.specs.declared.refusal.Done.{Done}
@@ -66,26 +64,26 @@ module _ {D : Type 0} (left : D → Option (List ℕ)) (count : D → ℕ) (reso
 
   pub unsealed_works : (published : Option Publication) (direction : Direction) (result : Result Opened UnsealNo) (opened : Opened) (plain : List ℕ) (stale : Bool) (done : Done) (old new : D) → direction ≡ Decrypt → new ≡ old
       → result ≡ Ok opened → opened ≡ record { plain = plain; stale = stale } → done ≡ freshness stale
-      → IfSome published (λ p. p.seeds ≡ []) → IfSome published (λ p. (source : Option (List ℕ)) → Unseals source p.seeds (list_at p resource) path bytes result)
+      → IfSome published (λ p. p.seeds ≡ []) → IfSome published (λ p. (envelope : Envelope) → Unseals envelope p.seeds (list_at p resource) path bytes result)
       → IfSome published (λ p. Works (working direction resource path p.rows bytes) (left old) (left new) (count old) (count new) (Ok (record { bytes = plain; done = done })))
   unsealed_works None direction result opened plain stale done old new e same r o d bare u = tt
   unsealed_works (Some p) direction result opened plain stale done old new e same r o d bare u =
       let list = list_at p resource in
-      let h = subst (λ q. Unseals None p.seeds list path bytes q) (r ∙ ap (λ x. Ok x) o) (u None) in
+      let h = subst (λ q. Unseals unknown p.seeds list path bytes q) (r ∙ ap (λ x. Ok x) o) (u unknown) in
       subst (λ q. Works (working q resource path p.rows bytes) (left old) (left new) (count old) (count new) (Ok (record { bytes = plain; done = done }))) (sym e)
-      (None, ap (λ x. reading_outcome x (is_stale [] list bytes)) h.0 ∙ ap (λ q. gives plain (freshness q)) (ap (λ seeds. is_stale seeds list bytes) (sym bare) ∙ sym h.1) ∙ ap (λ x. gives plain x) (sym d), kept old new same)
+      (None, ap (λ x. reading_outcome x (is_stale unknown [] list bytes)) h.0 ∙ ap (λ q. gives plain (freshness q)) (ap (λ seeds. is_stale unknown seeds list bytes) (sym bare) ∙ sym h.1) ∙ ap (λ x. gives plain x) (sym d), kept old new same)
 
   pub refused_works : (published : Option Publication) (direction : Direction) (result : Result Opened UnsealNo) (why : UnsealNo) (number : ℕ) (old new : D) → direction ≡ Decrypt → new ≡ old
-      → result ≡ Err why → why ≡ unseal.Refused number → IfSome published (λ p. (source : Option (List ℕ)) → Unseals source p.seeds (list_at p resource) path bytes result)
+      → result ≡ Err why → why ≡ unseal.Refused number → IfSome published (λ p. (envelope : Envelope) → Unseals envelope p.seeds (list_at p resource) path bytes result)
       → IfSome published (λ p. Works (working direction resource path p.rows bytes) (left old) (left new) (count old) (count new) (Err (work.Refused (Value number))))
   refused_works None direction result why number old new e same r n u = tt
   refused_works (Some p) direction result why number old new e same r n u =
-      let h = subst (λ q. Unseals None p.seeds (list_at p resource) path bytes q) (r ∙ ap (λ x. Err x) n) (u None) in
+      let h = subst (λ q. Unseals unknown p.seeds (list_at p resource) path bytes q) (r ∙ ap (λ x. Err x) n) (u unknown) in
       subst (λ q. Works (working q resource path p.rows bytes) (left old) (left new) (count old) (count new) (Err (work.Refused (Value number)))) (sym e)
-      (ap (λ x. reading_outcome x (is_stale [] (list_at p resource) bytes)) h, kept old new same)
+      (ap (λ x. reading_outcome x (is_stale unknown [] (list_at p resource) bytes)) h, kept old new same)
 
 -- without a plugin none fails
 pub no_plugin_fails : (published : Option Publication) (resource path bytes name : List ℕ) (result : Result Opened UnsealNo) (why : UnsealNo) → IsSome published → result ≡ Err why → why ≡ unseal.PluginFailed name
-    → IfSome published (λ p. (source : Option (List ℕ)) → Unseals source p.seeds (list_at p resource) path bytes result) → ⊥
+    → IfSome published (λ p. (envelope : Envelope) → Unseals envelope p.seeds (list_at p resource) path bytes result) → ⊥
 no_plugin_fails None resource path bytes name result why some r n u = absurd cc
-no_plugin_fails (Some p) resource path bytes name result why some r n u = subst (λ q. Unseals None p.seeds (list_at p resource) path bytes q) (r ∙ ap (λ x. Err x) n) (u None)
+no_plugin_fails (Some p) resource path bytes name result why some r n u = subst (λ q. Unseals unknown p.seeds (list_at p resource) path bytes q) (r ∙ ap (λ x. Err x) n) (u unknown)

@@ -12,6 +12,8 @@ pub data Command : Type 0 where
   decrypt : (config resource path : List ℕ) → Command
   -- shows a configuration, or the providers of one resource by it
   check : (config : List ℕ) (resource : Option (List ℕ)) → Command
+  -- shows what the input, a stored value, says of itself
+  inspect : Command
 
 abbrev pub IsOfObject : (config resource path : List ℕ) → List (List ℕ × List ℕ) → Type 0
 IsOfObject config resource path options =
@@ -22,13 +24,14 @@ abbrev pub IsOf : Command → Verb → List (List ℕ × List ℕ) → Type 0
 IsOf (encrypt config resource path) verb options = (verb ≡ Encrypt) × IsOfObject config resource path options
 IsOf (decrypt config resource path) verb options = (verb ≡ Decrypt) × IsOfObject config resource path options
 IsOf (check config resource) verb options = (verb ≡ Check) × (value_of options (codes "config") ≡ Some config) × (value_of options (codes "resource") ≡ resource)
+IsOf inspect verb options = verb ≡ Inspect
 
 -- which commands are built
 abbrev pub is_built : Verb → Bool
 is_built Encrypt = true
 is_built Decrypt = true
 is_built Check = true
-is_built Inspect = false
+is_built Inspect = true
 is_built Put = false
 is_built Get = false
 is_built Rows = false
@@ -63,3 +66,4 @@ abbrev pub input_limit : Command → ℕ
 input_limit (encrypt config resource path) = 2097152
 input_limit (decrypt config resource path) = 2162688
 input_limit (check config resource) = 0
+input_limit inspect = 2162688

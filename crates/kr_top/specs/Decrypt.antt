@@ -1,7 +1,8 @@
 -- `decrypt` behind its random source: unseal, write the data, and say whether the value is stale.
-use Rattle.std.specs.Prelude.{ℕ, Bool, List, [], None, if◌then◌else◌}
+use Rattle.std.specs.Prelude.{ℕ, Bool, List, [], if◌then◌else◌}
 use Rattle.kr_config.specs.Kept.{Row}
 use Rattle.kr_config.specs.Lists.{list_of}
+use Rattle.kr_provider.specs.Envelopes.{unknown}
 use Rattle.kr_provider.specs.Reading.{Reading, data_of, refused, unopened, reads_by, is_stale}
 use Rattle.kr_top.specs.Trace.{Sight, Outcome, refuses, gives, strays, at_last}
 use Rattle.kr_top.specs.declared.refusal.Refusal.TheVariants.{Value}
@@ -18,4 +19,4 @@ reading_outcome (refused number) stale = refuses (Value number)
 reading_outcome unopened stale = strays
 
 abbrev pub unsealing : (resource path : List ℕ) → List Row → List ℕ → List Sight → Outcome
-unsealing resource path rows bytes rest = let list = list_of rows resource in at_last rest (reading_outcome (reads_by None list path bytes) (is_stale [] list bytes))
+unsealing resource path rows bytes rest = let list = list_of rows resource in at_last rest (reading_outcome (reads_by unknown list path bytes) (is_stale unknown [] list bytes))

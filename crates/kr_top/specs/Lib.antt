@@ -3,6 +3,7 @@ pub mod Command
 pub mod Configuration
 pub mod Decrypt
 pub mod Encrypt
+pub mod Inspect
 pub mod Message
 pub mod Phases
 pub mod Ran

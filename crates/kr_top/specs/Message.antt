@@ -5,7 +5,7 @@ use Rattle.kr_config.specs.declared.refusal.ConfigNo.{ConfigNo}
 use Rattle.kr_top.specs.declared.refusal.Object.{Object}
 use Rattle.kr_top.specs.declared.refusal.Object.TheVariants.{Input, Output, Files, Dice}
 use Rattle.kr_top.specs.declared.refusal.Refusal.{Refusal}
-use Rattle.kr_top.specs.declared.refusal.Refusal.TheVariants.{Usage, Replicas, Size, Absent, LongConfiguration, Configuration, NotServed, LongData, LongValue, Value}
+use Rattle.kr_top.specs.declared.refusal.Refusal.TheVariants.{Usage, Replicas, Size, Absent, LongConfiguration, Configuration, NotServed, LongData, LongValue, Value, Placed}
 use Rattle.kr_top.specs.declared.refusal.Stop.{Stop}
 use Rattle.kr_top.specs.declared.refusal.Stop.TheVariants.{Refused, Fault, NoMemory}
 use Rattle.kr_top.specs.declared.refusal.Done.{Done}
@@ -23,6 +23,7 @@ status_of_refusal NotServed = 3
 status_of_refusal LongData = 6
 status_of_refusal LongValue = 6
 status_of_refusal (Value number) = 1
+status_of_refusal (Placed number at) = 1
 
 abbrev pub status_of : Result Done Stop → ℕ
 status_of (Ok done) = 0
@@ -57,6 +58,7 @@ refusal_line NotServed = codes "kmsrest: text 50 0 0\n"
 refusal_line LongData = codes "kmsrest: limit data 2097152\n"
 refusal_line LongValue = codes "kmsrest: limit value 2162688\n"
 refusal_line (Value number) = codes "kmsrest: refused " ++ (decimal number ++ (codes " " ++ (value_text number ++ codes "\n")))
+refusal_line (Placed number at) = codes "kmsrest: refused " ++ (decimal number ++ (codes " " ++ (value_text number ++ (codes " " ++ (decimal at ++ codes "\n")))))
 
 abbrev pub object_text : Object → List ℕ
 object_text Input = codes "input"

@@ -12,6 +12,9 @@ use Rattle.kr_top.specs.Configuration.{configuration}
 use Rattle.kr_top.specs.Steps.{served}
 use Rattle.kr_top.specs.Encrypt.{sealing}
 use Rattle.kr_top.specs.Decrypt.{unsealing}
+use Rattle.kr_top.specs.Inspect.{Inspects, ShowsBody}
+use Rattle.kr_envelope.specs.declared.prefix.Kind.{Kind}
+use Rattle.kr_top.specs.declared.refusal.Done.TheVariants.{Silent}
 use Rattle.kr_top.specs.Trace.{Sight, drawn, draw, Outcome, awaits, refuses, gives}
 use Rattle.kr_top.specs.declared.convert.Direction.{Direction}
 use Rattle.kr_top.specs.declared.convert.Direction.TheVariants.{Encrypt, Decrypt}
@@ -100,3 +103,16 @@ working Decrypt resource path = unsealing resource path
 abbrev pub long_input : Direction → Refusal
 long_input Encrypt = LongData
 long_input Decrypt = LongValue
+
+-- the text that shows a value, or its refusal
+abbrev pub InspectsTo : List ℕ → Result (List ℕ) Stop → Type 0
+InspectsTo bytes (Ok text) = Inspects bytes (gives text Silent)
+InspectsTo bytes (Err (Refused why)) = Inspects bytes (refuses why)
+InspectsTo bytes (Err (Fault object count)) = ⊥
+InspectsTo bytes (Err NoMemory) = ⊤
+
+abbrev pub ShowsTo : Kind → (name body : List ℕ) → Result (List ℕ) Stop → Type 0
+ShowsTo kind name body (Ok text) = ShowsBody kind name body (gives text Silent)
+ShowsTo kind name body (Err (Refused why)) = ShowsBody kind name body (refuses why)
+ShowsTo kind name body (Err (Fault object count)) = ⊥
+ShowsTo kind name body (Err NoMemory) = ⊤

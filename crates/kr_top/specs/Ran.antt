@@ -4,17 +4,18 @@ use Rattle.std.specs.Io.KnownBytes.{Keeps, Appends, Consumes}
 use Rattle.kr_base.specs.Faults.{Rose}
 use Rattle.kr_base.specs.Streams.{AppendsFront}
 use Rattle.kr_kms.specs.Outside.{Outside, KeepsFiles, KeepsDice}
-use Rattle.kr_top.specs.Command.{Command, encrypt, decrypt, check, Asks, AskNothing, AskReplicas, AskSize, input_limit}
+use Rattle.kr_top.specs.Command.{Command, encrypt, decrypt, check, inspect, Asks, AskNothing, AskReplicas, AskSize, input_limit}
 use Rattle.kr_top.specs.Trace.{Sight, Outcome, awaits, refuses, gives, strays, object_at, SawFiles, SawInput, input_of, drawn_of}
 use Rattle.kr_top.specs.Steps.{from_file}
 use Rattle.kr_top.specs.Encrypt.{sealing}
 use Rattle.kr_top.specs.Decrypt.{unsealing}
 use Rattle.kr_top.specs.Check.{check_outcome}
+use Rattle.kr_top.specs.Inspect.{InspectComes}
 use Rattle.kr_top.specs.Message.{status_of, status_of_refusal, line_of, done_line}
 use Rattle.kr_top.specs.declared.refusal.Object.{Object}
 use Rattle.kr_top.specs.declared.refusal.Object.TheVariants.{Input, Output, Files, Dice}
 use Rattle.kr_top.specs.declared.refusal.Refusal.{Refusal}
-use Rattle.kr_top.specs.declared.refusal.Refusal.TheVariants.{Usage, Replicas, Size, Absent, LongConfiguration, Configuration, NotServed, LongData, LongValue, Value}
+use Rattle.kr_top.specs.declared.refusal.Refusal.TheVariants.{Usage, Replicas, Size, Absent, LongConfiguration, Configuration, NotServed, LongData, LongValue, Value, Placed}
 use Rattle.kr_top.specs.declared.refusal.Stop.{Stop}
 use Rattle.kr_top.specs.declared.refusal.Stop.TheVariants.{Refused, Fault, NoMemory}
 use Rattle.kr_top.specs.declared.refusal.Done.{Done}
@@ -35,10 +36,11 @@ pub record Sunk : Type 0 where
   pub new_faults : ℕ
 
 -- what the steps of a command make of what it saw
-abbrev pub outcome_of : Command → List Sight → Outcome
-outcome_of (encrypt config resource path) trace = from_file 2097152 LongData (sealing resource path) config trace
-outcome_of (decrypt config resource path) trace = from_file 2162688 LongValue (unsealing resource path) config trace
-outcome_of (check config resource) trace = check_outcome config resource trace
+abbrev pub ComesTo : Command → List Sight → Outcome → Type 0
+ComesTo (encrypt config resource path) trace outcome = from_file 2097152 LongData (sealing resource path) config trace ≡ outcome
+ComesTo (decrypt config resource path) trace outcome = from_file 2162688 LongValue (unsealing resource path) config trace ≡ outcome
+ComesTo (check config resource) trace outcome = check_outcome config resource trace ≡ outcome
+ComesTo inspect trace outcome = InspectComes trace outcome
 
 abbrev pub count_at : Object → Around → ℕ
 count_at Input around = around.input_faults
@@ -88,7 +90,9 @@ pub record Did (command : Command) (old new : Around) (result : Result Done Stop
   pub files : SawFiles old.world trace
   pub input : SawInput (input_limit command) old.input new.input (input_of trace) (is_cut result)
   pub dice : (seat : ℕ) → Consumes (old.world.dice seat) (new.world.dice seat) (drawn_of seat trace)
-  pub ends : Ends (outcome_of command trace) old new result
+  pub outcome : Outcome
+  pub comes : ComesTo command trace outcome
+  pub ends : Ends outcome old new result
   pub home : IsHome old new
 
 -- nothing around was touched
@@ -113,6 +117,7 @@ Stops words (Err (Refused NotServed)) = ⊥
 Stops words (Err (Refused LongData)) = ⊥
 Stops words (Err (Refused LongValue)) = ⊥
 Stops words (Err (Refused (Value number))) = ⊥
+Stops words (Err (Refused (Placed number at))) = ⊥
 Stops words (Err (Fault object count)) = ⊥
 Stops words (Err NoMemory) = ⊤
 
@@ -156,7 +161,7 @@ pub record Comes (words : List (List ℕ)) (old new : Around) (outcome : Outcome
   pub files : SawFiles old.world trace
   pub input : SawInput (input_limit command) old.input new.input (input_of trace) false
   pub dice : (seat : ℕ) → Consumes (old.world.dice seat) (new.world.dice seat) (drawn_of seat trace)
-  pub outcome_is : outcome_of command trace ≡ outcome
+  pub comes : ComesTo command trace outcome
 
 -- status 1, 3 or 6 comes only where a step refuses so, or, status 6, where the words pass a limit; nothing was written then
 abbrev pub IsRefused : List (List ℕ) → Around → Around → ℕ → Type 0

@@ -1,5 +1,5 @@
 -- The steps that commands on one object have in common: configuration, input, random source.
-use Rattle.std.specs.Prelude.{ℕ, zero, suc, List, [], ◌∷◌, length, nat_lt, Option, Result, Ok, Err, if◌then◌else◌}
+use Rattle.std.specs.Prelude.{ℕ, zero, suc, List, [], ◌∷◌, length, nat_lt, Result, Ok, Err, if◌then◌else◌}
 use Rattle.std.specs.Str.{bytes_eq}
 use Rattle.kr_config.specs.Kept.{Row}
 use Rattle.kr_provider.specs.Publication.{names_plugin}

@@ -8,6 +8,7 @@ ghost use Rattle.kr_top.specs.Ran.{Around, Sunk, Ran, Answers, IsUsage, IsCaused
 
 use crate::check::{CheckWords, check};
 use crate::convert::{Direction, ObjectWords, convert};
+use crate::inspect::inspect;
 use crate::message::tell;
 use crate::refusal::{Done, Refusal, Stop};
 use kr_base::{Sink, Source};
@@ -92,6 +93,7 @@ fn answer<W: World, I: Source, O: Sink>(
             input,
             output,
         ),
+        Verb::Inspect => inspect(alloc, input, output),
         Verb::Check => check(alloc, check_words(&command), world, output),
         _ => Err(Stop::Refused(Refusal::Usage)),
     }

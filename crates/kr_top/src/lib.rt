@@ -4,10 +4,12 @@
 mod call;
 mod check;
 mod convert;
+mod inspect;
 mod listing;
 mod message;
 mod phases;
 mod refusal;
+mod text;
 mod work;
 
 pub use call::run;

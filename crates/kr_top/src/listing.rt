@@ -1,9 +1,9 @@
 //! The texts of a configuration: its entries, patterns and providers.
-ghost use Rattle.std.specs.Prelude.{◌≡◌, ◌++◌, List, [], IfOk, map, decimal, drop, suc};
+ghost use Rattle.std.specs.Prelude.{◌≡◌, ◌++◌, List, [], IfOk, map, drop};
 ghost use Rattle.kr_config.specs.Kept.{rows_of, row_of};
 ghost use Rattle.kr_top.specs.Check.{pattern_text, provider_text, with_commas, entry_line, lines_from, provider_lines};
 
-use itoa::Buffer;
+use crate::text::{add, add_number, add_pair};
 use kr_base::{Bytes, NoMemory};
 use kr_config::{Entry, Pattern, Who};
 use std::alloc::Global;
@@ -38,9 +38,8 @@ pub fn provider_lines(alloc: Global, providers: &[Who]) -> Result<Bytes, NoMemor
 fn add_entry(text: &mut Vec<u8>, number: usize, entry: &Entry) -> Result<(), NoMemory>
     ensures { IfOk result (λ done. text.new.items ≡ text.old.items ++ entry_line number (row_of entry.now)) }
 {
-    let mut buffer = Buffer::new();
     add(text, "entry ")?;
-    add(text, buffer.format(number))?;
+    add_number(text, number)?;
     add(text, ": ")?;
     add_patterns(text, entry.patterns.as_slice())?;
     add(text, ": ")?;
@@ -94,21 +93,5 @@ fn add_provider(text: &mut Vec<u8>, who: &Who) -> Result<(), NoMemory>
         Who::Aescbc(name, _) => add_pair(text, "aescbc:", name.as_str()),
         Who::Aesgcm(name, _) => add_pair(text, "aesgcm:", name.as_str()),
         Who::Kms(name) => add_pair(text, "kms:", name.as_str()),
-    }
-}
-
-fn add_pair(text: &mut Vec<u8>, first: &str, second: &str) -> Result<(), NoMemory>
-    ensures { IfOk result (λ done. text.new.items ≡ text.old.items ++ (first.now ++ second.now)) }
-{
-    add(text, first)?;
-    add(text, second)
-}
-
-fn add(text: &mut Vec<u8>, piece: &str) -> Result<(), NoMemory>
-    ensures { IfOk result (λ done. text.new.items ≡ text.old.items ++ piece.now) }
-{
-    match text.extend_from_slice(piece.as_bytes()) {
-        Ok(()) => Ok(()),
-        Err(_) => Err(NoMemory),
     }
 }

@@ -18,6 +18,7 @@ fn status_of_refusal(why: &Refusal) -> u8
 {
     match why {
         Refusal::Value(_) => 1,
+        Refusal::Placed(_, _) => 1,
         Refusal::Usage => 2,
         Refusal::Absent(_) => 3,
         Refusal::NotServed => 3,
@@ -83,6 +84,7 @@ fn write_refusal<E: Sink>(errors: &mut E, why: &Refusal) -> Result<(), Failed>
         Refusal::LongData => write_all(errors, b"kmsrest: limit data 2097152\n"),
         Refusal::LongValue => write_all(errors, b"kmsrest: limit value 2162688\n"),
         Refusal::Value(number) => write_value(errors, *number),
+        Refusal::Placed(number, at) => write_placed(errors, *number, *at),
     }
 }
 
@@ -107,6 +109,30 @@ fn write_value<E: Sink>(errors: &mut E, number: u8) -> Result<(), Failed>
     write_each(
         errors,
         &["kmsrest: refused ", digits, " ", value_text(number), "\n"],
+    )
+}
+
+/// Writes the line of a refused value with its place.
+fn write_placed<E: Sink>(errors: &mut E, number: u8, at: u64) -> Result<(), Failed>
+    ensures ok { OnOk result (Appends (E.held errors.old) (E.held errors.new) (refusal_line (Refusal.Placed number at))) }
+    ensures err { OnErr result (AppendsFront (E.held errors.old) (E.held errors.new) (refusal_line (Refusal.Placed number at))) }
+    ensures cause { IsCounted (E.count errors.old) (E.count errors.new) result }
+{
+    let mut buffer = Buffer::new();
+    let digits = buffer.format(number);
+    let mut place_buffer = Buffer::new();
+    let place = place_buffer.format(at);
+    write_each(
+        errors,
+        &[
+            "kmsrest: refused ",
+            digits,
+            " ",
+            value_text(number),
+            " ",
+            place,
+            "\n",
+        ],
     )
 }
 

@@ -3,12 +3,13 @@ ghost use Rattle.std.specs.Prelude.{◌≡◌, ◌≤◌, length, Some, false, I
 ghost use Rattle.std.specs.Option.{option_copied};
 ghost use Rattle.kr_config.specs.Kept.{rows_of};
 ghost use Rattle.kr_provider.specs.Publication.{names_plugin};
-ghost use Rattle.kr_top.specs.Configuration.{configuration, printed, printed_byte};
+ghost use Rattle.kr_top.specs.Configuration.{configuration};
 ghost use Rattle.kr_kms.specs.Outside.{KeepsFiles, KeepsDice, HandsOut};
 ghost use Rattle.kr_top.specs.Phases.{Configures, Serves, ReadsRows, TakesInput, NoDice, WritesOutput};
 
 use crate::refusal::{Object, Refusal, Stop};
-use kr_base::{Bytes, Failed, NoMemory, ReadNo, Sink, Source, Text, read_all, write_all};
+use crate::text::printed;
+use kr_base::{Bytes, Failed, ReadNo, Sink, Source, read_all, write_all};
 use kr_config::{ConfigErr, Settings, read};
 use kr_kms::{FileNo, World};
 use kr_provider::names_plugin;
@@ -64,34 +65,6 @@ fn read_settings(alloc: Global, name: &str, bytes: &[u8]) -> Result<Settings, St
         Ok(settings) => Ok(settings),
         Err(ConfigErr::No(why)) => Err(Stop::Refused(Refusal::Configuration(why))),
         Err(ConfigErr::NoMemory) => Err(Stop::NoMemory),
-    }
-}
-
-/// The text as it is printed: a byte outside 20 to 7E hex is a `?`.
-fn printed(alloc: Global, text: &str) -> Result<Text, NoMemory>
-    ensures { IfOk result (λ copy. copy ≡ printed text.now) }
-{
-    let Ok(mut bytes) = Vec::with_capacity(alloc, text.len()) else {
-        return Err(NoMemory);
-    };
-    for byte in text.as_bytes() {
-        if bytes.push(printed_byte(*byte)).is_err() {
-            return Err(NoMemory);
-        }
-    }
-    match String::from_utf8(bytes) {
-        Ok(string) => Ok(Text::from_string(string)),
-        Err(_) => unreachable!(),
-    }
-}
-
-fn printed_byte(byte: u8) -> u8
-    ensures { result ≡ printed_byte byte }
-{
-    if byte >= 0x20 && byte <= 0x7E {
-        byte
-    } else {
-        b'?'
     }
 }
 

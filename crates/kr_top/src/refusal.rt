@@ -39,6 +39,8 @@ pub enum Refusal {
     LongValue,
     /// The data can't be sealed or the value can't be read; its number is that of the refusal, 1 to 15.
     Value(u8),
+    /// The same of a value that is inspected, with the place of the breach in its body.
+    Placed(u8, u64),
 }
 
 /// Why a command wasn't done.

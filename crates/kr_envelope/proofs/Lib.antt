@@ -1,0 +1,8 @@
+pub mod Prefixing
+pub mod Varints
+pub mod Fields
+pub mod Spellings
+pub mod Items
+pub mod Objects
+pub mod Numbers
+pub mod RoundTrip

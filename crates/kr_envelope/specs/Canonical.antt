@@ -1,0 +1,48 @@
+-- The one form in which an encrypted object is written.
+use Rattle.std.specs.Prelude.{◌≡◌, ℕ, zero, suc, ◌+◌, ◌*◌, ◌/◌, ◌%◌, ◌⊎◌, nat_lt, if◌then◌else◌, List, [], ◌∷◌, ◌++◌, length, None, Result, Ok, Err}
+use Rattle.std.specs.List.{flat_map}
+use Rattle.kr_envelope.specs.declared.object.SourceKind.{SourceKind}
+use Rattle.kr_envelope.specs.declared.object.SourceKind.TheVariants.{Key, Seed}
+use Rattle.kr_envelope.specs.declared.object.ObjectNo.{ObjectNo}
+use Rattle.kr_envelope.specs.declared.object.ObjectNo.TheVariants.{NoMemory}
+use Rattle.kr_envelope.specs.declared.object.EncryptedObject.{EncryptedObject}
+use Rattle.kr_envelope.specs.Limits.{breach_of, raw_in, Reads}
+
+-- groups of seven bits, the lowest first, as long as the number isn't a last one; so many at most before that
+abbrev pub groups : ℕ → ℕ → List ℕ
+groups zero n = n ∷ []
+groups (suc more) n = if nat_lt n 128 then n ∷ [] else (n % 128 + 128) ∷ groups more (n / 128)
+
+-- no more groups than the number needs
+unfoldable pub shortest : ℕ → List ℕ
+shortest n = groups 9 n
+
+-- bytes behind their size
+abbrev pub sized : List ℕ → List ℕ
+sized content = shortest (length content) ++ content
+
+-- a field of bytes, which is left out where there are none
+abbrev pub content_field : ℕ → List ℕ → List ℕ
+content_field n [] = []
+content_field n (byte ∷ bytes) = (n * 8 + 2) ∷ sized (byte ∷ bytes)
+
+-- an annotation is field 4, with the key as its field 1 and the value as its field 2
+abbrev pub pair_field : List ℕ × List ℕ → List ℕ
+pair_field pair = (4 * 8 + 2) ∷ sized (content_field 1 pair.0 ++ content_field 2 pair.1)
+
+-- the source type is field 5, and is left out where it is 0
+abbrev pub kind_field : SourceKind → List ℕ
+kind_field Key = []
+kind_field Seed = (5 * 8) ∷ 1 ∷ []
+
+-- fields 1 to 5 in their order, annotations in the order of their keys
+abbrev pub canonical : EncryptedObject → List ℕ
+canonical object = content_field 1 object.encrypted ++ (content_field 2 object.key_id ++ (content_field 3 object.source ++ (flat_map pair_field object.annotations ++ kind_field object.kind)))
+
+-- data that aren't empty, and no limit passed
+abbrev pub IsWithinLimits : EncryptedObject → Type 0
+IsWithinLimits object = breach_of (raw_in object) ≡ None
+
+-- whatever the reader answers to these bytes is the object, unless it is want of memory
+abbrev pub IsReadBack : List ℕ → EncryptedObject → Type 0
+IsReadBack bytes object = (answer : Result EncryptedObject ObjectNo) → Reads bytes answer → (answer ≡ Ok object) ⊎ (answer ≡ Err NoMemory)

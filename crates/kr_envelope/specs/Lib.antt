@@ -1,0 +1,7 @@
+pub mod Prefixes
+pub mod Wire
+pub mod Messages
+pub mod Limits
+pub mod Canonical
+pub mod Taking
+pub mod Reading

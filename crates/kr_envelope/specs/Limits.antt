@@ -1,0 +1,81 @@
+-- The limits of an encrypted object, and what its bytes are read as.
+use Rattle.std.specs.Prelude.{◌≡◌, ◌≢◌, ℕ, ◌+◌, ◌==◌, ◌&&◌, nat_le, nat_lt, Bool, if◌then◌else◌, List, [], ◌∷◌, ◌++◌, length, ⊤, Option, None, Some, Result, Ok, Err}
+use Rattle.kr_base.specs.Pairs.{Pairs}
+use Rattle.kr_envelope.specs.declared.object.SourceKind.{SourceKind}
+use Rattle.kr_envelope.specs.declared.object.SourceKind.TheVariants.{Key, Seed}
+use Rattle.kr_envelope.specs.declared.object.ObjectNo.{ObjectNo}
+use Rattle.kr_envelope.specs.declared.object.ObjectNo.TheVariants.{Wire, KeyId, Source, Annotations, SourceType, NoData, NotUtf8, NoMemory}
+use Rattle.kr_envelope.specs.declared.object.EncryptedObject.{EncryptedObject}
+use Rattle.kr_envelope.specs.Wire.{Starts}
+use Rattle.kr_envelope.specs.Messages.{Item, IsItem, IsText, IsMessage, Raw, raw_of}
+
+abbrev pub is_limited : List ℕ → Bool
+is_limited content = nat_le 1 (length content) && nat_le (length content) 1024
+
+-- the bytes of keys and values
+abbrev pub size_of : Pairs → ℕ
+size_of [] = 0
+size_of (pair ∷ pairs) = length pair.0 + length pair.1 + size_of pairs
+
+abbrev pub is_few : Pairs → Bool
+is_few pairs = nat_le (length pairs) 256 && nat_le (size_of pairs) 32768
+
+-- the first limit that is passed: data, key id, source, annotations, source type
+abbrev pub breach_of : Raw → Option ObjectNo
+breach_of raw = if nat_le 1 (length raw.encrypted)
+    then (if is_limited raw.key_id
+    then (if is_limited raw.source
+    then (if is_few raw.annotations
+    then (if nat_le raw.kind 1 then None else Some SourceType)
+    else Some Annotations)
+    else Some Source)
+    else Some KeyId)
+    else Some NoData
+
+abbrev pub number_of : SourceKind → ℕ
+number_of Key = 0
+number_of Seed = 1
+
+abbrev pub raw_in : EncryptedObject → Raw
+raw_in object = record { encrypted = object.encrypted; key_id = object.key_id; source = object.source; annotations = object.annotations; kind = number_of object.kind }
+
+abbrev pub Judges : Raw → Result EncryptedObject ObjectNo → Type 0
+Judges raw (Ok object) = (breach_of raw ≡ None) × (raw ≡ raw_in object)
+Judges raw (Err (Wire at)) = ⊥
+Judges raw (Err KeyId) = breach_of raw ≡ Some KeyId
+Judges raw (Err Source) = breach_of raw ≡ Some Source
+Judges raw (Err Annotations) = breach_of raw ≡ Some Annotations
+Judges raw (Err SourceType) = breach_of raw ≡ Some SourceType
+Judges raw (Err NoData) = breach_of raw ≡ Some NoData
+Judges raw (Err (NotUtf8 at)) = ⊥
+Judges raw (Err NoMemory) = ⊤
+
+-- no field that says something begins there
+abbrev pub IsNoItem : List ℕ → Type 0
+IsNoItem rest = (rest ≢ []) × ((item : Item) (tail : List ℕ) → Starts IsItem rest item tail → ⊥)
+
+-- the field there isn't text where it is to be
+abbrev pub IsNoText : List ℕ → Type 0
+IsNoText rest = (item : Item) × (tail : List ℕ) × Starts IsItem rest item tail × (IsText item → ⊥)
+
+-- before this place the bytes are a message, and what stands there breaches
+pub record BreaksAt (Breach : List ℕ → Type 0) (text : List ℕ) (at : ℕ) : Type 0 where
+  pub front : List ℕ
+  pub rest : List ℕ
+  pub items : List Item
+  pub parts : text ≡ front ++ rest
+  pub message : IsMessage front items
+  pub place : at ≡ length front
+  pub breach : Breach rest
+
+-- what bytes are read as: the object of their items within its limits, or the first breach; want of memory may take its place
+abbrev pub Reads : List ℕ → Result EncryptedObject ObjectNo → Type 0
+Reads text (Ok object) = (items : List Item) × IsMessage text items × Judges (raw_of items) (Ok object)
+Reads text (Err (Wire at)) = BreaksAt IsNoItem text at
+Reads text (Err KeyId) = (items : List Item) × IsMessage text items × Judges (raw_of items) (Err KeyId)
+Reads text (Err Source) = (items : List Item) × IsMessage text items × Judges (raw_of items) (Err Source)
+Reads text (Err Annotations) = (items : List Item) × IsMessage text items × Judges (raw_of items) (Err Annotations)
+Reads text (Err SourceType) = (items : List Item) × IsMessage text items × Judges (raw_of items) (Err SourceType)
+Reads text (Err NoData) = (items : List Item) × IsMessage text items × Judges (raw_of items) (Err NoData)
+Reads text (Err (NotUtf8 at)) = BreaksAt IsNoText text at
+Reads text (Err NoMemory) = ⊤

@@ -1,0 +1,11 @@
+mod Behind
+mod Bodies
+mod Booleans
+mod Filled
+mod LinkNames
+mod Lists
+mod Places
+pub mod Rivals
+pub mod SealedReads
+pub mod Sealings
+pub mod Tags

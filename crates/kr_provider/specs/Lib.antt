@@ -1,0 +1,9 @@
+pub mod BenchState
+pub mod Ciphers
+pub mod Envelopes
+pub mod Laws
+pub mod Names
+pub mod Publication
+pub mod Readers
+pub mod Reading
+pub mod Sealing

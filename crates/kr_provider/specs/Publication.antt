@@ -1,0 +1,65 @@
+-- A published configuration: settings with one wrapped seed for each plugin that they name.
+use Rattle.std.specs.Prelude.{◌≡◌, ℕ, ◌≤◌, ◌↔◌, Bool, true, false, IsTrue, List, [], ◌∷◌, length, map, All, Contains, find, Option}
+use Rattle.std.specs.List.{flat_map, list_all, list_any}
+use Rattle.std.specs.List.Sorted.{IsStrictlySortedBy}
+use Rattle.std.specs.Ordering.{nat_cmp}
+use Rattle.std.specs.Cmp.Lexicographic.{slice_cmp}
+use Rattle.std.specs.Str.{bytes_eq}
+use Rattle.kr_config.specs.declared.who.Who.{Who}
+use Rattle.kr_config.specs.declared.who.Who.TheVariants.{Identity, Aescbc, Aesgcm, Kms}
+use Rattle.kr_config.specs.Kept.{Row, keeps}
+use Rattle.kr_config.specs.Lists.{list_of}
+use Rattle.kr_config.specs.Providers.{is_kms, is_provider}
+use Rattle.kr_kms.specs.declared.seeds.SeedRow.{SeedRow}
+use Rattle.kr_kms.specs.Limits.{IsShort, AreFew}
+use Rattle.kr_provider.specs.Readers.{writer_of}
+
+-- the entries of the settings, and the seeds
+pub record Publication : Type 0 where
+  pub rows : List Row
+  pub seeds : List SeedRow
+
+-- the names of the plugins in some entries, in the order of the file
+abbrev pub plugin_of : Who → List (List ℕ)
+plugin_of Identity = []
+plugin_of (Aescbc name secret) = []
+plugin_of (Aesgcm name secret) = []
+plugin_of (Kms name) = name ∷ []
+
+abbrev pub plugins_in : List Row → List (List ℕ)
+plugins_in rows = flat_map (λ row. flat_map plugin_of row.providers) rows
+
+-- whether they name any
+abbrev pub names_plugin : List Row → Bool
+names_plugin rows = list_any (λ row. list_any is_kms row.providers) rows
+
+-- a seed has 32 bytes; its source, key id and annotations are within the limits
+pub record IsSeedRow (row : SeedRow) : Type 0 where
+  pub seed : length row.seed ≡ 32
+  pub key_id : IsShort row.key_id
+  pub source : IsShort row.source
+  pub annotations : AreFew row.annotations
+
+-- the settings keep their rules, and there is one seed for each plugin that they name, by the bytes of the name
+pub record IsPublished (p : Publication) : Type 0 where
+  pub kept : IsTrue (keeps p.rows)
+  pub ascend : IsStrictlySortedBy (slice_cmp nat_cmp) (map (λ row. row.name) p.seeds)
+  pub names : (name : List ℕ) → Contains (map (λ row. row.name) p.seeds) name ↔ Contains (plugins_in p.rows) name
+  pub seeds : All IsSeedRow p.seeds
+
+-- the seed of a plugin
+abbrev pub seed_of : List ℕ → List SeedRow → Option SeedRow
+seed_of name seeds = find (λ row. bytes_eq row.name name) seeds
+
+-- the providers of a resource, and the one that writes
+abbrev pub list_at : Publication → List ℕ → List Who
+list_at p resource = list_of p.rows resource
+
+abbrev pub writer_at : Publication → List ℕ → Who
+writer_at p resource = writer_of (list_at p resource)
+
+-- a list of providers as settings without plugins have it
+pub record ListsNoPlugin (list : List Who) : Type 0 where
+  pub some : 1 ≤ length list
+  pub providers : list_all is_provider list ≡ true
+  pub no_plugin : list_any is_kms list ≡ false

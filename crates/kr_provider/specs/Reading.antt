@@ -1,0 +1,136 @@
+-- What a stored value reads as, by the providers of a list: data, or the first refusal that applies, or nothing since no
+-- plugin opened its source.
+use Rattle.std.specs.Prelude.{◌≡◌, ℕ, ◌==◌, ◌||◌, Bool, false, not, if◌then◌else◌, List, take, drop, length, Option, Some, None, Result, Ok, Err, ⊤}
+use Rattle.std.specs.Str.{bytes_eq}
+use Rattle.kr_modes.specs.declared.ModeNo.{ModeNo}
+use Rattle.kr_modes.specs.declared.ModeNo.TheVariants.{Short, BadBlock, BadPadding, BadTag}
+use Rattle.kr_modes.specs.Cbc.{cbc_opened}
+use Rattle.kr_modes.specs.Gcm.{gcm_opened}
+use Rattle.kr_envelope.specs.declared.object.EncryptedObject.{EncryptedObject}
+use Rattle.kr_envelope.specs.declared.object.ObjectNo.{ObjectNo}
+use Rattle.kr_envelope.specs.declared.object.ObjectNo.TheVariants as object
+use Rattle.kr_envelope.specs.declared.object.SourceKind.{SourceKind}
+use Rattle.kr_envelope.specs.declared.object.SourceKind.TheVariants.{Key, Seed}
+use Rattle.kr_config.specs.declared.who.Who.{Who}
+use Rattle.kr_config.specs.declared.who.Who.TheVariants.{Identity, Aescbc, Aesgcm, Kms}
+use Rattle.kr_kms.specs.declared.seeds.SeedRow.{SeedRow}
+use Rattle.kr_kms.specs.Truth.{Opens}
+use Rattle.kr_provider.specs.Ciphers.{cipher_under, inverse_under}
+use Rattle.kr_provider.specs.Envelopes.{Envelope, IsEnvelopeOf, value_key}
+use Rattle.kr_provider.specs.Publication.{seed_of}
+use Rattle.kr_provider.specs.Readers.{reader_in, is_reader, writer_of, body_by}
+use Rattle.kr_provider.specs.declared.refusal.Opened.{Opened}
+use Rattle.kr_provider.specs.declared.refusal.UnsealNo.{UnsealNo}
+use Rattle.kr_provider.specs.declared.refusal.UnsealNo.TheVariants.{Refused, PluginFailed, NoMemory}
+
+pub data Reading : Type 0 where
+  data_of : List ℕ → Reading
+  refused : ℕ → Reading
+  unopened : Reading
+
+-- ---- the refusals by their numbers
+
+-- those of a body
+abbrev pub body_refusal : ModeNo → Reading
+body_refusal Short = refused 1
+body_refusal BadBlock = refused 2
+body_refusal BadPadding = refused 3
+body_refusal BadTag = refused 4
+
+-- those of an encrypted object; want of memory tells nothing of it
+abbrev pub object_refusal : ObjectNo → Reading
+object_refusal (object.Wire at) = refused 5
+object_refusal object.KeyId = refused 6
+object_refusal object.Source = refused 7
+object_refusal object.Annotations = refused 8
+object_refusal object.SourceType = refused 9
+object_refusal object.NoData = refused 10
+object_refusal (object.NotUtf8 at) = refused 11
+object_refusal object.NoMemory = unopened
+
+abbrev pub no_provider : Reading
+no_provider = refused 12
+
+-- the unwrapped source hasn't 32 bytes
+abbrev pub seed_length : Reading
+seed_length = refused 15
+
+-- ---- the bodies
+
+abbrev pub reading_of : Result (List ℕ) ModeNo → Reading
+reading_of (Ok plain) = data_of plain
+reading_of (Err why) = body_refusal why
+
+-- a nonce of 12 bytes, then ciphertext and tag with the path as associated data
+abbrev pub gcm_reading : (key path body : List ℕ) → Reading
+gcm_reading key path body = reading_of (gcm_opened (cipher_under key) (take 12 body) path (drop 12 body))
+
+-- the info of 32 bytes, then the body under the key that it makes of the seed
+abbrev pub seed_reading : (seed path encrypted : List ℕ) → Reading
+seed_reading seed path encrypted =
+    if length seed == 32 then gcm_reading (value_key seed (take 32 encrypted)) path (drop 32 encrypted) else seed_length
+
+abbrev pub source_reading : Option (List ℕ) → (path encrypted : List ℕ) → Reading
+source_reading None path encrypted = unopened
+source_reading (Some seed) path encrypted = seed_reading seed path encrypted
+
+-- a source that is the key itself is refused
+abbrev pub kind_reading : SourceKind → Option (List ℕ) → (path encrypted : List ℕ) → Reading
+kind_reading Key source path encrypted = object_refusal object.SourceType
+kind_reading Seed source path encrypted = source_reading source path encrypted
+
+abbrev pub object_reading : Result EncryptedObject ObjectNo → Option (List ℕ) → (path : List ℕ) → Reading
+object_reading (Ok object) source path = kind_reading object.kind source path object.encrypted
+object_reading (Err why) source path = object_refusal why
+
+-- ---- values
+
+-- by one provider; the envelope of a plugin's value is handed in
+abbrev pub read_by : Envelope → Who → (path body : List ℕ) → Reading
+read_by envelope Identity path body = data_of body
+read_by envelope (Aescbc name secret) path body = reading_of (cbc_opened (inverse_under secret) body)
+read_by envelope (Aesgcm name secret) path body = gcm_reading secret path body
+read_by envelope (Kms name) path body = object_reading envelope.object envelope.source path
+
+abbrev pub read_with : Envelope → Option Who → (path bytes : List ℕ) → Reading
+read_with envelope None path bytes = no_provider
+read_with envelope (Some who) path bytes = read_by envelope who path (body_by who bytes)
+
+-- by the reader of the list
+abbrev pub reads_by : Envelope → List Who → (path bytes : List ℕ) → Reading
+reads_by envelope list path bytes = read_with envelope (reader_in list bytes) path bytes
+
+-- a value reads so, by what wrapped sources open to
+abbrev pub ReadsAs : Opens → List Who → (path bytes : List ℕ) → Reading → Type 0
+ReadsAs opens list path bytes reading = (envelope : Envelope) × IsEnvelopeOf opens list bytes envelope × (reads_by envelope list path bytes ≡ reading)
+
+-- ---- staleness: another provider than the writer read the value, or it is a plugin whose key id isn't the published one
+
+abbrev pub has_key_id : Option SeedRow → Result EncryptedObject ObjectNo → Bool
+has_key_id None read = false
+has_key_id (Some row) (Ok object) = bytes_eq object.key_id row.key_id
+has_key_id (Some row) (Err why) = false
+
+abbrev pub is_rotated : Envelope → List SeedRow → Who → Bool
+is_rotated envelope seeds Identity = false
+is_rotated envelope seeds (Aescbc name secret) = false
+is_rotated envelope seeds (Aesgcm name secret) = false
+is_rotated envelope seeds (Kms name) = not (has_key_id (seed_of name seeds) envelope.object)
+
+abbrev pub is_stale : Envelope → List SeedRow → List Who → (bytes : List ℕ) → Bool
+is_stale envelope seeds list bytes = not (is_reader bytes (writer_of list)) || is_rotated envelope seeds (writer_of list)
+
+-- ---- calls: each answer comes exactly where it is the reading, but for want of memory
+
+abbrev pub Unseals : Envelope → List SeedRow → List Who → (path bytes : List ℕ) → Result Opened UnsealNo → Type 0
+Unseals envelope seeds list path bytes (Ok opened) = (reads_by envelope list path bytes ≡ data_of opened.plain) × (opened.stale ≡ is_stale envelope seeds list bytes)
+Unseals envelope seeds list path bytes (Err (Refused n)) = reads_by envelope list path bytes ≡ refused n
+Unseals envelope seeds list path bytes (Err (PluginFailed name)) = ⊥
+Unseals envelope seeds list path bytes (Err NoMemory) = ⊤
+
+-- the same of the data alone
+abbrev pub Gives : Reading → Result (List ℕ) UnsealNo → Type 0
+Gives reading (Ok plain) = reading ≡ data_of plain
+Gives reading (Err (Refused n)) = reading ≡ refused n
+Gives reading (Err (PluginFailed name)) = ⊥
+Gives reading (Err NoMemory) = ⊤

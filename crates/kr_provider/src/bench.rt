@@ -1,0 +1,210 @@
+//! The bench of one worker: it seals and unseals by the configuration that it adopted last.
+ghost use Rattle.std.specs.Prelude.{◌≡◌, ◌≤◌, List, length, Some, None, true, false, IsOk, IsSome, IfOk, IfErr, IfSome};
+ghost use Rattle.kr_config.specs.Providers.{is_provider, is_kms};
+ghost use Rattle.kr_kms.specs.declared.seeds.SeedRow.{SeedRow};
+ghost use Rattle.kr_provider.specs.Envelopes.{Envelope};
+ghost use Rattle.kr_provider.specs.Publication.{list_at, writer_at, names_plugin, ListsNoPlugin};
+ghost use Rattle.kr_provider.specs.Readers.{writer_of};
+ghost use Rattle.kr_provider.specs.Reading.{Unseals};
+ghost use Rattle.kr_provider.specs.Sealing.{Seals};
+
+use crate::links::Links;
+use crate::published::Published;
+use crate::readers::{body_of, reader_of};
+use crate::refusal::{Opened, PagesFull, SealNo, UnsealNo};
+use crate::sealing::seal_by;
+use crate::shared::Shared;
+use crate::unsealing::unseal_by;
+use kr_base::{Bytes, Dice, NoMemory};
+use kr_config::Who;
+use kr_kms::Kms;
+use std::alloc::Global;
+use std::marker::Model;
+
+/// The number of the refusal where no provider reads.
+const NO_PROVIDER: u8 = 12;
+
+/// Links, a random source and the configuration that was adopted last. It can't be dropped: `close` gives the links and
+/// the random source back.
+pub struct Bench<L: Kms, D: Dice> {
+    links: Links<L>,
+    dice: D,
+    published: Option<Shared<Published>>,
+}
+
+impl<L: Kms, D: Dice> Model for Bench<L, D> {
+    ghost use Rattle.kr_provider.specs.BenchState.{BenchState, AsksNoPlugin};
+
+    ghost Value = { BenchState L D };
+
+    ghost view = { λ bench. record { links = bench.links; dice = bench.dice; published = bench.published } };
+
+    ghost invariant = { λ bench. AsksNoPlugin bench.published };
+}
+
+impl<L: Kms, D: Dice> Bench<L, D> {
+    /// A bench that adopted nothing yet. `pages` is how many keys it may hold expanded, and `cache` how many unwrapped
+    /// seeds, at least 1. Where there is no memory the links and the random source come back.
+    pub fn new(
+        alloc: Global,
+        links: Links<L>,
+        dice: D,
+        pages: u32,
+        cache: u32,
+    ) -> Result<Bench<L, D>, (NoMemory, Links<L>, D)>
+        requires cache { 1 ≤ cache }
+        ensures ok { IfOk result (λ bench. bench ≡ record { links = links; dice = dice; published = None }) }
+        ensures returned { IfErr result (λ refused. (refused.1 ≡ links) × (refused.2 ≡ dice)) }
+    {
+        Ok(Bench {
+            links,
+            dice,
+            published: None,
+        })
+    }
+
+    /// Adopts a published configuration, which names no plugin, in place of the one before. It takes no memory; a key is
+    /// expanded within the call that uses it, so no page is wanted.
+    pub fn adopt(&mut self, published: Shared<Published>) -> Result<(), PagesFull>
+        requires no_plugin { names_plugin published.rows ≡ false }
+        ensures ok { IsOk result }
+        ensures kept { self.new ≡ record self.old { published = Some published } }
+    {
+        self.published = Some(published);
+        Ok(())
+    }
+
+    /// The value of the data for the resource at the path, which may be empty, by the writer of the resource's list.
+    pub fn seal(
+        &mut self,
+        alloc: Global,
+        resource: &str,
+        path: &str,
+        plain: &[u8],
+    ) -> Result<Bytes, SealNo>
+        requires adopted { IsSome self.old.published }
+        requires path { length path.now ≤ 1024 }
+        ensures sealed { IfSome self.old.published (λ p. Seals D.left D.count p.seeds (writer_at p resource.now) path.now plain.now self.old.dice self.new.dice result) }
+        ensures later { D.count self.old.dice ≤ D.count self.new.dice }
+        ensures kept { self.new ≡ record self.old { dice = self.new.dice } }
+    {
+        let Some(published) = &self.published else {
+            unreachable!();
+        };
+        seal_for(
+            alloc,
+            published.get(),
+            resource,
+            path,
+            plain,
+            &mut self.dice,
+        )
+    }
+
+    /// What the stored value of the resource at the path, which may be empty, holds. The first of these refusals that
+    /// applies is the answer: 12 where no provider of the list reads it, then those of its body.
+    pub fn unseal(
+        &mut self,
+        alloc: Global,
+        resource: &str,
+        path: &str,
+        bytes: &[u8],
+    ) -> Result<Opened, UnsealNo>
+        requires adopted { IsSome self.old.published }
+        requires path { length path.now ≤ 1024 }
+        requires fits { length bytes.now ≤ 2162688 }
+        ensures opened { IfSome self.old.published (λ p. (envelope : Envelope) → Unseals envelope p.seeds (list_at p resource.now) path.now bytes.now result) }
+        ensures kept { self.new ≡ self.old }
+    {
+        let Some(published) = &self.published else {
+            unreachable!();
+        };
+        unseal_for(alloc, published.get(), resource, path, bytes)
+    }
+
+    /// Gives the links and the random source back.
+    pub fn close(self) -> (Links<L>, D)
+        ensures { (result.0 ≡ self.links) × (result.1 ≡ self.dice) }
+    {
+        let Bench {
+            links,
+            dice,
+            published: _,
+        } = self;
+        (links, dice)
+    }
+}
+
+/// The providers of the resource.
+fn list_for<'a>(published: &'a Published, resource: &str) -> &'a [Who]
+    requires no_plugin { names_plugin published.now.rows ≡ false }
+    ensures list { result.now ≡ list_at published.now resource.now }
+    ensures rules { ListsNoPlugin result.now }
+{
+    published.settings.get().list_for(resource)
+}
+
+fn seal_for<D: Dice>(
+    alloc: Global,
+    published: &Published,
+    resource: &str,
+    path: &str,
+    plain: &[u8],
+    dice: &mut D,
+) -> Result<Bytes, SealNo>
+    requires no_plugin { names_plugin published.now.rows ≡ false }
+    requires path { length path.now ≤ 1024 }
+    ensures sealed { Seals D.left D.count published.now.seeds (writer_at published.now resource.now) path.now plain.now dice.old dice.new result }
+    ensures later { D.count dice.old ≤ D.count dice.new }
+{
+    let writer = writer_of(list_for(published, resource));
+    seal_by(alloc, writer, path, plain, dice)
+}
+
+/// The provider that writes.
+fn writer_of(list: &[Who]) -> &Who
+    requires { ListsNoPlugin list.now }
+    ensures writer { result.now ≡ writer_of list.now }
+    ensures provider { is_provider result.now ≡ true }
+    ensures no_plugin { is_kms result.now ≡ false }
+{
+    &list[0]
+}
+
+fn unseal_for(
+    alloc: Global,
+    published: &Published,
+    resource: &str,
+    path: &str,
+    bytes: &[u8],
+) -> Result<Opened, UnsealNo>
+    requires no_plugin { names_plugin published.now.rows ≡ false }
+    requires path { length path.now ≤ 1024 }
+    requires fits { length bytes.now ≤ 2162688 }
+    ensures { (envelope : Envelope) → Unseals envelope published.now.seeds (list_at published.now resource.now) path.now bytes.now result }
+{
+    unseal_in(alloc, list_for(published, resource), path, bytes)
+}
+
+/// What the value holds by a list of providers.
+fn unseal_in(alloc: Global, list: &[Who], path: &str, bytes: &[u8]) -> Result<Opened, UnsealNo>
+    requires list { ListsNoPlugin list.now }
+    requires path { length path.now ≤ 1024 }
+    requires fits { length bytes.now ≤ 2162688 }
+    ensures { (envelope : Envelope) (seeds : List SeedRow) → Unseals envelope seeds list.now path.now bytes.now result }
+{
+    let Some(place) = reader_of(list, bytes) else {
+        return Err(UnsealNo::Refused(NO_PROVIDER));
+    };
+    let reader = &list[place];
+    let Some(body) = body_of(reader, bytes) else {
+        unreachable!();
+    };
+    match unseal_by(alloc, reader, path, body) {
+        Ok(plain) => Ok(Opened {
+            plain,
+            stale: place != 0,
+        }),
+        Err(why) => Err(why),
+    }
+}

@@ -1,0 +1,20 @@
+//! Providers at work: what an object's data is sealed as for a resource, and what a stored value reads as.
+#![tactic(auto)]
+
+mod bench;
+pub mod laws;
+mod links;
+mod prefixes;
+mod published;
+mod readers;
+mod refusal;
+mod sealing;
+mod shared;
+mod unsealing;
+
+pub use bench::Bench;
+pub use links::Links;
+pub use published::{Published, names_plugin, publish};
+pub use readers::reader_of;
+pub use refusal::{Opened, PagesFull, PublishNo, SealNo, UnsealNo};
+pub use shared::Shared;

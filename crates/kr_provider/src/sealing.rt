@@ -1,0 +1,197 @@
+//! Seals: what a provider makes of an object's data.
+ghost use Rattle.std.specs.Prelude.{◌≡◌, ℕ, ◌<◌, ◌≤◌, ◌+◌, ◌-◌, ◌%◌, ◌++◌, List, true, false, length, take, replicate, All, IfSome, MatchResult};
+ghost use Rattle.std.specs.Io.KnownBytes.{Consumes, Keeps};
+ghost use Rattle.kr_aes.specs.KeyExpansion.{IsKeyLength};
+ghost use Rattle.kr_base.specs.Faults.{IsCounted};
+ghost use Rattle.kr_config.specs.Providers.{is_provider, is_kms};
+ghost use Rattle.kr_envelope.specs.Prefixes.{prefix};
+ghost use Rattle.kr_kms.specs.declared.seeds.SeedRow.{SeedRow};
+ghost use Rattle.kr_modes.specs.Cbc.{cbc};
+ghost use Rattle.kr_modes.specs.Padding.{pad};
+ghost use Rattle.kr_provider.specs.Ciphers.{cipher_under};
+ghost use Rattle.kr_provider.specs.Envelopes.{gcm_body};
+ghost use Rattle.kr_provider.specs.Sealing.{Seals, IsBare};
+
+use crate::prefixes::{MARK, heading};
+use crate::refusal::SealNo;
+use kr_aes::expand;
+use kr_base::{Bytes, Dice, Failed, Text};
+use kr_config::Who;
+use kr_envelope::Kind;
+use kr_modes::{cbc_length, cbc_seal, gcm_seal};
+use std::alloc::Global;
+
+/// The most bytes that data may have.
+const MOST: usize = 2_097_152;
+
+/// The bytes of an IV.
+const IV: usize = 16;
+
+/// The bytes of a nonce.
+const NONCE: usize = 12;
+
+/// The bytes of a tag.
+const TAG: usize = 16;
+
+/// The value of the data by a provider that is no plugin. The memory for it is taken before the dice is asked.
+pub(crate) fn seal_by<D: Dice>(
+    alloc: Global,
+    who: &Who,
+    path: &str,
+    plain: &[u8],
+    dice: &mut D,
+) -> Result<Bytes, SealNo>
+    requires provider { is_provider who.now ≡ true }
+    requires no_plugin { is_kms who.now ≡ false }
+    requires path { length path.now ≤ 1024 }
+    ensures sealed { (seeds : List SeedRow) → Seals D.left D.count seeds who.now path.now plain.now dice.old dice.new result }
+    ensures later { D.count dice.old ≤ D.count dice.new }
+{
+    if plain.len() > MOST {
+        return Err(SealNo::TooLarge {
+            length: plain.len() as u64,
+        });
+    }
+    match who {
+        Who::Identity => bare(alloc, plain),
+        Who::Aescbc(name, secret) => by_aescbc(alloc, name, secret, plain, dice),
+        Who::Aesgcm(name, secret) => by_aesgcm(alloc, name, secret, path, plain, dice),
+        Who::Kms(_) => unreachable!(),
+    }
+}
+
+/// The data as they stand, unless they begin as a value of another provider does.
+fn bare(alloc: Global, plain: &[u8]) -> Result<Bytes, SealNo>
+    ensures { IsBare plain.now result }
+{
+    if plain.starts_with(MARK) {
+        return Err(SealNo::LooksEncrypted);
+    }
+    match Bytes::copy(alloc, plain) {
+        Ok(value) => Ok(value),
+        Err(_) => Err(SealNo::NoMemory),
+    }
+}
+
+/// The value by aescbc, under an IV that is drawn.
+fn by_aescbc<D: Dice>(
+    alloc: Global,
+    name: &Text,
+    secret: &Bytes,
+    plain: &[u8],
+    dice: &mut D,
+) -> Result<Bytes, SealNo>
+    requires key { IsKeyLength (length secret.now) }
+    requires fits { length plain.now ≤ 2097152 }
+    ensures sealed { (seeds : List SeedRow) (path : List ℕ) → Seals D.left D.count seeds (Who.Aescbc name.now secret.now) path plain.now dice.old dice.new result }
+    ensures later { D.count dice.old ≤ D.count dice.new }
+{
+    let room = IV + cbc_length(plain.len());
+    let Some(mut value) = prefixed(alloc, Kind::Aescbc, name, room) else {
+        return Err(SealNo::NoMemory);
+    };
+    let mut iv = [0u8; IV];
+    match draw(dice, &mut iv) {
+        Ok(()) => {}
+        Err(Failed) => return Err(SealNo::DiceFailed),
+    }
+    let start = value.len() - room;
+    write_cbc(secret, &iv, plain, &mut value, start);
+    Ok(Bytes::from_vec(value))
+}
+
+/// The value by aesgcm, under a nonce that is drawn.
+fn by_aesgcm<D: Dice>(
+    alloc: Global,
+    name: &Text,
+    secret: &Bytes,
+    path: &str,
+    plain: &[u8],
+    dice: &mut D,
+) -> Result<Bytes, SealNo>
+    requires key { IsKeyLength (length secret.now) }
+    requires fits { length plain.now ≤ 2097152 }
+    requires path { length path.now ≤ 1024 }
+    ensures sealed { (seeds : List SeedRow) → Seals D.left D.count seeds (Who.Aesgcm name.now secret.now) path.now plain.now dice.old dice.new result }
+    ensures later { D.count dice.old ≤ D.count dice.new }
+{
+    let room = NONCE + plain.len() + TAG;
+    let Some(mut value) = prefixed(alloc, Kind::Aesgcm, name, room) else {
+        return Err(SealNo::NoMemory);
+    };
+    let mut nonce = [0u8; NONCE];
+    match draw(dice, &mut nonce) {
+        Ok(()) => {}
+        Err(Failed) => return Err(SealNo::DiceFailed),
+    }
+    let start = value.len() - room;
+    write_gcm(secret, &nonce, path, plain, &mut value, start);
+    Ok(Bytes::from_vec(value))
+}
+
+/// Fills the buffer with random bytes.
+fn draw<D: Dice>(dice: &mut D, into: &mut [u8]) -> Result<(), Failed>
+    ensures drawn { MatchResult result (λ _. All (λ byte. byte < 256) into.new × Consumes (D.left dice.old) (D.left dice.new) into.new) (λ _. Keeps (D.left dice.old) (D.left dice.new)) }
+    ensures cause { IsCounted (D.count dice.old) (D.count dice.new) result }
+{
+    dice.fill(into)
+}
+
+/// The prefix of a provider's values and so many zeros behind it; none for want of memory.
+#[tactic(auto, unfolding(kr_envelope::specs::Prefixes::prefix))]
+fn prefixed(alloc: Global, kind: Kind, name: &Text, room: usize) -> Option<Vec<u8>>
+    requires { room ≤ 2097184 }
+    ensures { IfSome result (λ value. value.items ≡ prefix kind name.now ++ replicate room 0) }
+{
+    let heading = heading(kind);
+    let name = name.as_str().as_bytes();
+    let size = heading.len() + name.len() + 1;
+    let mut value = Vec::with_capacity(alloc, size + room).ok()?;
+    value.extend_from_slice(heading).ok()?;
+    value.extend_from_slice(name).ok()?;
+    value.push(b':').ok()?;
+    value.resize(size + room, 0).ok()?;
+    Some(value)
+}
+
+/// Writes the IV and the CBC of the padded data from `start` on.
+fn write_cbc(secret: &Bytes, iv: &[u8; 16], plain: &[u8], value: &mut [u8], start: usize)
+    requires key { IsKeyLength (length secret.now) }
+    requires fits { length plain.now ≤ 2097152 }
+    requires size { length value.old ≡ start + (16 + (length plain.now + 16 - length plain.now % 16)) }
+    ensures { value.new ≡ take start value.old ++ (iv.now ++ cbc (cipher_under secret.now) iv.now (pad plain.now)) }
+{
+    let mut words = [0u32; 60];
+    let Ok(rounds) = expand(secret.as_slice(), &mut words) else {
+        unreachable!();
+    };
+    let (_, room) = value.split_at_mut(start);
+    let (first, body) = room.split_at_mut(IV);
+    first.copy_from_slice(iv);
+    cbc_seal(&words, rounds, iv, plain, body);
+}
+
+/// Writes the nonce and the GCM of the data, with the path as associated data, from `start` on.
+fn write_gcm(
+    secret: &Bytes,
+    nonce: &[u8; 12],
+    path: &str,
+    plain: &[u8],
+    value: &mut [u8],
+    start: usize,
+)
+    requires key { IsKeyLength (length secret.now) }
+    requires fits { length plain.now ≤ 2097152 }
+    requires path { length path.now ≤ 1024 }
+    requires size { length value.old ≡ start + (12 + length plain.now + 16) }
+    ensures { value.new ≡ take start value.old ++ gcm_body secret.now path.now plain.now nonce.now }
+{
+    let mut words = [0u32; 60];
+    let Ok(rounds) = expand(secret.as_slice(), &mut words) else {
+        unreachable!();
+    };
+    let (_, room) = value.split_at_mut(start);
+    let (first, body) = room.split_at_mut(NONCE);
+    first.copy_from_slice(nonce);
+    gcm_seal(&words, rounds, nonce, path.as_bytes(), plain, body);
+}

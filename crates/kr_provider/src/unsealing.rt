@@ -1,0 +1,109 @@
+//! What stored values read as.
+ghost use Rattle.std.specs.Prelude.{◌≡◌, ◌≤◌, true, false, length};
+ghost use Rattle.kr_aes.specs.KeyExpansion.{IsKeyLength};
+ghost use Rattle.kr_config.specs.Providers.{is_provider, is_kms};
+ghost use Rattle.kr_modes.specs.Cbc.{cbc_opened};
+ghost use Rattle.kr_provider.specs.Ciphers.{inverse_under};
+ghost use Rattle.kr_provider.specs.Envelopes.{Envelope};
+ghost use Rattle.kr_provider.specs.Reading.{Gives, body_refusal, data_of, gcm_reading, read_by, reading_of, refused};
+
+use crate::refusal::UnsealNo;
+use kr_aes::expand;
+use kr_base::Bytes;
+use kr_config::Who;
+use kr_modes::{ModeNo, cbc_unseal, gcm_unseal};
+use std::alloc::Global;
+
+/// The bytes of a nonce.
+const NONCE: usize = 12;
+
+/// The data of the body by a provider that is no plugin.
+pub(crate) fn unseal_by(
+    alloc: Global,
+    who: &Who,
+    path: &str,
+    body: &[u8],
+) -> Result<Bytes, UnsealNo>
+    requires provider { is_provider who.now ≡ true }
+    requires no_plugin { is_kms who.now ≡ false }
+    requires path { length path.now ≤ 1024 }
+    requires fits { length body.now ≤ 2162688 }
+    ensures { (envelope : Envelope) → Gives (read_by envelope who.now path.now body.now) result }
+{
+    match who {
+        Who::Identity => bare(alloc, body),
+        Who::Aescbc(_, secret) => by_aescbc(alloc, secret.as_slice(), body),
+        Who::Aesgcm(_, secret) => by_aesgcm(alloc, secret.as_slice(), path.as_bytes(), body),
+        Who::Kms(_) => unreachable!(),
+    }
+}
+
+fn bare(alloc: Global, body: &[u8]) -> Result<Bytes, UnsealNo>
+    ensures { Gives (data_of body.now) result }
+{
+    match Bytes::copy(alloc, body) {
+        Ok(plain) => Ok(plain),
+        Err(_) => Err(UnsealNo::NoMemory),
+    }
+}
+
+fn by_aescbc(alloc: Global, secret: &[u8], body: &[u8]) -> Result<Bytes, UnsealNo>
+    requires key { IsKeyLength (length secret.now) }
+    requires fits { length body.now ≤ 2162688 }
+    ensures { Gives (reading_of (cbc_opened (inverse_under secret.now) body.now)) result }
+{
+    let mut words = [0u32; 60];
+    let Ok(rounds) = expand(secret, &mut words) else {
+        unreachable!();
+    };
+    let Ok(mut out) = vec![in alloc; 0; body.len()] else {
+        return Err(UnsealNo::NoMemory);
+    };
+    match cbc_unseal(&words, rounds, body, out.as_mut_slice()) {
+        Ok(length) => {
+            out.truncate(length);
+            Ok(Bytes::from_vec(out))
+        }
+        Err(why) => Err(UnsealNo::Refused(number_of(why))),
+    }
+}
+
+fn by_aesgcm(alloc: Global, secret: &[u8], path: &[u8], body: &[u8]) -> Result<Bytes, UnsealNo>
+    requires key { IsKeyLength (length secret.now) }
+    requires path { length path.now ≤ 1024 }
+    requires fits { length body.now ≤ 2162688 }
+    ensures { Gives (gcm_reading secret.now path.now body.now) result }
+{
+    if body.len() < NONCE {
+        return Err(UnsealNo::Refused(number_of(ModeNo::Short)));
+    }
+    let mut words = [0u32; 60];
+    let Ok(rounds) = expand(secret, &mut words) else {
+        unreachable!();
+    };
+    let (first, sealed) = body.split_at(NONCE);
+    let mut nonce = [0u8; NONCE];
+    nonce.copy_from_slice(first);
+    let Ok(mut out) = vec![in alloc; 0; sealed.len()] else {
+        return Err(UnsealNo::NoMemory);
+    };
+    match gcm_unseal(&words, rounds, &nonce, path, sealed, out.as_mut_slice()) {
+        Ok(length) => {
+            out.truncate(length);
+            Ok(Bytes::from_vec(out))
+        }
+        Err(why) => Err(UnsealNo::Refused(number_of(why))),
+    }
+}
+
+/// The number of a refusal of a body.
+fn number_of(why: ModeNo) -> u8
+    ensures { body_refusal why ≡ refused result }
+{
+    match why {
+        ModeNo::Short => 1,
+        ModeNo::BadBlock => 2,
+        ModeNo::BadPadding => 3,
+        ModeNo::BadTag => 4,
+    }
+}
