@@ -1,14 +1,12 @@
 -- What a field says is one thing, and a text spells at most one list of items.
-use Rattle.std.proofs.Common.{◌≡◌, ◌≢◌, ℕ, ◌+◌, ◌%◌, ◌^◌, ◌<◌, ◌≤◌, List, [], ◌∷◌, ◌++◌, length, Bool, true, false, Option, Some, None, refl, sym, ◌∙◌, ap, subst, arith, append_assoc}
-use Rattle.std.specs.List.{filter_map}
-use Rattle.std.specs.Str.{IsUtf8}
-use Rattle.std.specs.Prelude.{◌==◌, Result, Ok, Err}
+use Rattle.std.proofs.Common.{◌≡◌, ◌≢◌, ℕ, ◌%◌, ◌^◌, List, [], ◌∷◌, length, Bool, true, false, Some, refl, sym, ◌∙◌, ap, subst, arith}
+use Rattle.std.specs.Prelude.{◌==◌, Err}
 use Rattle.std.proofs.lemmas.Bool.Decides.{nat_tests}
 use Rattle.kr_envelope.specs.Reading.{Says, TakesItem}
 use Rattle.kr_envelope.specs.declared.item.ItemNo.{ItemNo}
 use Rattle.kr_envelope.specs.declared.item.ItemNo.TheVariants as no
 use Rattle.kr_envelope.specs.Wire.{Spells, Starts, Payload, varint, fixed64, bytes, fixed32, Field, IsField}
-use Rattle.kr_envelope.specs.Messages.{of_bytes, content_of, bytes_at, last_or, last_bytes, Item, encrypted, key_id, source, annotation, kind, other, is_own, Means, IsItem, IsText}
+use Rattle.kr_envelope.specs.Messages.{of_bytes, content_of, last_bytes, Item, encrypted, key_id, source, annotation, kind, other, is_own, Means, IsItem}
 use Rattle.kr_envelope.proofs.Fields.{one_field, some_field}
 use Rattle.kr_envelope.proofs.Spellings.{IsCode, fields_code, spells_one}
 

@@ -6,3 +6,4 @@ pub mod Items
 pub mod Objects
 pub mod Numbers
 pub mod RoundTrip
+pub mod OneReading

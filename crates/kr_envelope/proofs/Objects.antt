@@ -1,6 +1,6 @@
 -- The object of items, one more item at a time, and of a whole text.
-use Rattle.std.proofs.Common.{◌≡◌, ◌≢◌, ℕ, ◌+◌, ◌-◌, ◌<◌, ◌≤◌, List, [], ◌∷◌, ◌++◌, length, take, drop, get_or, suc, Bool, true, false, Option, Some, None, Result, Ok, Err, refl, sym, ◌∙◌, ap, subst, arith, append_assoc}
-use Rattle.std.specs.List.{filter_map, cons_option, AllByRecursion}
+use Rattle.std.proofs.Common.{◌≡◌, ◌≢◌, ℕ, ◌+◌, ◌-◌, ◌<◌, ◌≤◌, List, [], ◌∷◌, ◌++◌, length, drop, get_or, suc, Bool, true, false, Option, Some, None, Result, Ok, Err, refl, sym, ◌∙◌, ap, subst, arith, append_assoc}
+use Rattle.std.specs.List.{filter_map, cons_option}
 use Rattle.std.specs.declared.cmp.Ordering.{Ordering}
 use Rattle.std.specs.declared.cmp.Ordering.TheVariants.{Less, Equal, Greater}
 use Rattle.std.specs.Ordering.{nat_cmp, match_ordering}
@@ -10,7 +10,7 @@ use Rattle.std.proofs.lemmas.List.Elements.{filter_map-append}
 use Rattle.std.proofs.Math.Seq.{drop-cons}
 use Rattle.kr_base.specs.Pairs.{Pairs, with_pair}
 use Rattle.kr_envelope.specs.Wire.{Spells, Starts, Field, IsField}
-use Rattle.kr_envelope.specs.Messages.{last_or, last_bytes, bytes_at, of_bytes, Means, Item, encrypted, key_id, source, annotation, kind, other, IsItem, IsText, IsMessage, encrypted_in, key_id_in, source_in, annotation_in, kind_in, put_all, Raw, raw_of}
+use Rattle.kr_envelope.specs.Messages.{last_or, bytes_at, of_bytes, Means, Item, encrypted, key_id, source, annotation, kind, other, IsItem, IsText, IsMessage, encrypted_in, key_id_in, source_in, annotation_in, kind_in, put_all, Raw, raw_of}
 use Rattle.kr_envelope.specs.Limits.{size_of, Judges, BreaksAt, Reads}
 use Rattle.kr_envelope.specs.Reading.{put, later, Keeps, Sees, SeesEntry, Walks}
 use Rattle.kr_envelope.specs.declared.found.Found.{Found}

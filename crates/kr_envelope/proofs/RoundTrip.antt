@@ -1,16 +1,15 @@
 -- What is written is a message of the object, and bytes are read as one thing.
-use Rattle.std.proofs.Common.{◌≡◌, ◌≢◌, ℕ, zero, suc, ◌+◌, ◌*◌, ◌%◌, ◌^◌, ◌<◌, ◌≤◌, List, [], ◌∷◌, ◌++◌, length, Bool, true, false, Option, Some, None, Result, Ok, Err, refl, sym, ◌∙◌, ap, subst, arith, append_assoc, inl, inr}
+use Rattle.std.proofs.Common.{Result, ◌≡◌, ℕ, ◌+◌, ◌*◌, ◌^◌, ◌<◌, ◌≤◌, List, [], ◌∷◌, ◌++◌, length, Bool, true, false, Option, Some, None, Ok, Err, refl, sym, ◌∙◌, ap, subst, arith, append_assoc, inl, inr}
 use Rattle.std.specs.Prelude.{◌⊎◌, nat_le, ◌&&◌, map, cond}
 use Rattle.std.specs.List.{filter_map, cons_option, flat_map, AllByRecursion, All}
 use Rattle.std.specs.Str.{IsUtf8}
-use Rattle.std.specs.declared.cmp.Ordering.{Ordering}
-use Rattle.std.specs.declared.cmp.Ordering.TheVariants.{Less, Equal, Greater}
+use Rattle.std.specs.declared.cmp.Ordering.TheVariants.{Less}
 use Rattle.std.specs.Ordering.{nat_cmp, match_ordering, ordering_reverse}
 use Rattle.std.specs.Cmp.Lexicographic.{slice_cmp, nat_list_cmp_total}
 use Rattle.std.specs.List.Sorted.{IsStrictlySortedBy}
 use Rattle.std.specs.Map.{keys_of}
 use Rattle.std.proofs.lemmas.List.{append-nil, length-append}
-use Rattle.std.proofs.lemmas.List.Elements.{filter_map-append, recursion_from_All}
+use Rattle.std.proofs.lemmas.List.Elements.{recursion_from_All}
 use Rattle.std.proofs.lemmas.Bool.Decides.{nat_tests}
 use Rattle.kr_base.specs.Pairs.{Pairs, with_pair, IsSortedByKey}
 use Rattle.kr_envelope.specs.declared.object.SourceKind.{SourceKind}
@@ -18,9 +17,9 @@ use Rattle.kr_envelope.specs.declared.object.SourceKind.TheVariants.{Key, Seed}
 use Rattle.kr_envelope.specs.declared.object.ObjectNo.{ObjectNo}
 use Rattle.kr_envelope.specs.declared.object.ObjectNo.TheVariants.{Wire, KeyId, Source, Annotations, SourceType, NoData, NotUtf8, NoMemory}
 use Rattle.kr_envelope.specs.declared.object.EncryptedObject.{EncryptedObject}
-use Rattle.kr_envelope.specs.Wire.{Spells, Starts, IsVarint, AreGroups, number, Payload, varint, Field, IsField}
-use Rattle.kr_envelope.specs.Messages.{last_or, last_bytes, bytes_at, of_bytes, Item, encrypted, key_id, source, annotation, kind, other, Means, IsItem, IsText, IsMessage, encrypted_in, key_id_in, source_in, annotation_in, kind_in, put_all, Raw, raw_of}
-use Rattle.kr_envelope.specs.Limits.{is_limited, is_few, size_of, breach_of, number_of, raw_in, Judges, IsNoItem, IsNoText, BreaksAt, Reads}
+use Rattle.kr_envelope.specs.Wire.{Spells, Starts, IsVarint, varint, Field, IsField}
+use Rattle.kr_envelope.specs.Messages.{last_or, last_bytes, of_bytes, Item, encrypted, key_id, source, annotation, kind, IsItem, IsText, IsMessage, encrypted_in, key_id_in, source_in, annotation_in, kind_in, put_all, Raw, raw_of}
+use Rattle.kr_envelope.specs.Limits.{Reads, is_few, is_limited, size_of, breach_of, number_of, raw_in}
 use Rattle.kr_envelope.specs.Canonical.{shortest, sized, content_field, pair_field, kind_field, canonical, IsWithinLimits, IsReadBack}
 use Rattle.kr_envelope.specs.Reading.{IsKept}
 use Rattle.kr_envelope.proofs.Spellings.{spells_rest, spells_one, spells_none}
@@ -38,7 +37,7 @@ same_kind Seed Seed e = refl
 object : List ℕ → List ℕ → List ℕ → Pairs → SourceKind → EncryptedObject
 object e k s a n = record { encrypted = e; key_id = k; source = s; annotations = a; kind = n }
 
-same_object : (a b : EncryptedObject) → raw_in a ≡ raw_in b → a ≡ b
+pub same_object : (a b : EncryptedObject) → raw_in a ≡ raw_in b → a ≡ b
 unfolding object
 same_object a b e =
     ap (λ x. object x a.key_id a.source a.annotations a.kind) (ap (λ (r : Raw). r.encrypted) e) ∙ ap (λ x. object b.encrypted x a.source a.annotations a.kind) (ap (λ (r : Raw). r.key_id) e)
@@ -61,7 +60,7 @@ no_breach text items m object r w others n why j =
     let none : breach_of (raw_of others) ≡ None = ap (λ l. breach_of (raw_of l)) same ∙ ap breach_of r ∙ w in
     cc
 
-pub whole_is : (text : List ℕ) (items : List Item) → IsMessage text items → (object : EncryptedObject) → raw_of items ≡ raw_in object → IsWithinLimits object → IsReadBack text object
+pub whole_is : (text : List ℕ) (items : List Item) → IsMessage text items → (object : EncryptedObject) → raw_of items ≡ raw_in object → IsWithinLimits object → (answer : Result EncryptedObject ObjectNo) → Reads text answer → (answer ≡ Ok object) ⊎ (answer ≡ Err NoMemory)
 whole_is text items m object r w (Ok found) (others, n, j) =
     let same : items ≡ others = spells_one IsItem items_code text items others m.0 n.0 in
     inl (ap Ok (same_object found object (sym j.1 ∙ ap raw_of (sym same) ∙ r)))
@@ -295,4 +294,29 @@ message_is o w f u all =
 
 -- and so it is read back
 pub read_back : (text : List ℕ) (o : EncryptedObject) → text ≡ canonical o → IsWithinLimits o → IsKept o → IsReadBack text o
-read_back text o e w k = whole_is text (items_of o) (subst (λ l. IsMessage l (items_of o)) (sym e) (message_is o w k.fits k.key_id k.keys)) o (raw_is o k.sorted) w
+read_back text o e w k =
+    let message : IsMessage text (items_of o) = subst (λ l. IsMessage l (items_of o)) (sym e) (message_is o w k.fits k.key_id k.keys) in
+    let raw : raw_of (items_of o) ≡ raw_in o = raw_is o k.sorted in
+    ((items_of o, message, (ap breach_of raw ∙ w, raw)), whole_is text (items_of o) message o raw w)
+
+kept_limit : (content : List ℕ) → 1 ≤ length content → length content ≤ 1024 → is_limited content ≡ true
+kept_limit content l h = grind (arith, nat_tests)
+
+kept_few : (pairs : Pairs) → length pairs ≤ 256 → size_of pairs ≤ 32768 → is_few pairs ≡ true
+kept_few pairs l h = grind (arith, nat_tests)
+
+kept_data : (content : List ℕ) → 1 ≤ length content → nat_le 1 (length content) ≡ true
+kept_data content l = grind (arith, nat_tests)
+
+kept_kind : (n : SourceKind) → cond (nat_le (number_of n) 1) None (Some SourceType) ≡ None
+kept_kind Key = refl
+kept_kind Seed = refl
+
+-- what a caller knows of the parts of an object that it writes
+pub within_limits : (o : EncryptedObject) → 1 ≤ length o.encrypted → (1 ≤ length o.key_id) × (length o.key_id ≤ 1024) → (1 ≤ length o.source) × (length o.source ≤ 1024)
+    → (length o.annotations ≤ 256) × (size_of o.annotations ≤ 32768) → IsWithinLimits o
+within_limits o d k s a =
+    pass NoData (kept_data o.encrypted d) (pass KeyId (kept_limit o.key_id k.0 k.1) (pass Source (kept_limit o.source s.0 s.1) (pass Annotations (kept_few o.annotations a.0 a.1) (kept_kind o.kind))))
+  where
+    pass : {b : Bool} {x : Option ObjectNo} (why : ObjectNo) → b ≡ true → x ≡ None → cond b x (Some why) ≡ None
+    pass {b} {x} why t e = ap (λ c. cond c x (Some why)) t ∙ e

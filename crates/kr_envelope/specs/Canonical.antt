@@ -43,6 +43,6 @@ canonical object = content_field 1 object.encrypted ++ (content_field 2 object.k
 abbrev pub IsWithinLimits : EncryptedObject → Type 0
 IsWithinLimits object = breach_of (raw_in object) ≡ None
 
--- whatever the reader answers to these bytes is the object, unless it is want of memory
+-- the bytes are read as the object, and whatever the reader answers is that, unless it is want of memory
 abbrev pub IsReadBack : List ℕ → EncryptedObject → Type 0
-IsReadBack bytes object = (answer : Result EncryptedObject ObjectNo) → Reads bytes answer → (answer ≡ Ok object) ⊎ (answer ≡ Err NoMemory)
+IsReadBack bytes object = Reads bytes (Ok object) × ((answer : Result EncryptedObject ObjectNo) → Reads bytes answer → (answer ≡ Ok object) ⊎ (answer ≡ Err NoMemory))

@@ -1,5 +1,5 @@
 -- The limits of an encrypted object, and what its bytes are read as.
-use Rattle.std.specs.Prelude.{◌≡◌, ◌≢◌, ℕ, ◌+◌, ◌==◌, ◌&&◌, nat_le, nat_lt, Bool, if◌then◌else◌, List, [], ◌∷◌, ◌++◌, length, ⊤, Option, None, Some, Result, Ok, Err}
+use Rattle.std.specs.Prelude.{◌≡◌, ◌≢◌, ◌⊎◌, ℕ, ◌+◌, ◌&&◌, nat_le, Bool, if◌then◌else◌, List, [], ◌∷◌, ◌++◌, length, ⊤, Option, None, Some, Result, Ok, Err}
 use Rattle.kr_base.specs.Pairs.{Pairs}
 use Rattle.kr_envelope.specs.declared.object.SourceKind.{SourceKind}
 use Rattle.kr_envelope.specs.declared.object.SourceKind.TheVariants.{Key, Seed}
@@ -79,3 +79,11 @@ Reads text (Err SourceType) = (items : List Item) × IsMessage text items × Jud
 Reads text (Err NoData) = (items : List Item) × IsMessage text items × Judges (raw_of items) (Err NoData)
 Reads text (Err (NotUtf8 at)) = BreaksAt IsNoText text at
 Reads text (Err NoMemory) = ⊤
+
+-- two answers are one, unless one of them is want of memory
+abbrev pub AreOne : Result EncryptedObject ObjectNo → Result EncryptedObject ObjectNo → Type 0
+AreOne a b = (a ≡ Err NoMemory) ⊎ (b ≡ Err NoMemory) ⊎ (a ≡ b)
+
+-- bytes are read as one thing
+abbrev pub ReadsOneThing : Type 0
+ReadsOneThing = (text : List ℕ) (a b : Result EncryptedObject ObjectNo) → Reads text a → Reads text b → AreOne a b

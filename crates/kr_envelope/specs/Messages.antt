@@ -1,5 +1,5 @@
 -- The message EncryptedObject of a KMS plugin's value, after KEP-3299: what its fields say, and the object of the fields.
-use Rattle.std.specs.Prelude.{◌≡◌, ℕ, ◌%◌, ◌^◌, ◌==◌, ◌&&◌, nat_le, Bool, true, false, if◌then◌else◌, List, [], ◌∷◌, ⊤, Option, None, Some}
+use Rattle.std.specs.Prelude.{◌≡◌, ℕ, ◌%◌, ◌^◌, ◌==◌, ◌&&◌, nat_le, Bool, false, if◌then◌else◌, List, [], ◌∷◌, ⊤, Option, None, Some}
 use Rattle.std.specs.List.{filter_map, AllByRecursion}
 use Rattle.std.specs.Str.{IsUtf8}
 use Rattle.kr_base.specs.Pairs.{Pairs, with_pair}

@@ -30,6 +30,7 @@ pub struct EncryptedObject {
     pub source: Bytes,
     /// What the plugin wants back with the source.
     pub annotations: Annotations,
+    /// What the source is.
     pub kind: SourceKind,
 }
 
@@ -79,7 +80,6 @@ impl EncryptedObject {
     }
 
     /// The object's bytes, in their one form. They are read back as the object.
-    #[tactic(auto, using(crate::proofs::RoundTrip::read_back))]
     pub fn write(&self, alloc: Global) -> Result<Bytes, NoMemory>
         requires { IsWithinLimits self.now }
         ensures canonical { IfOk result (λ bytes. bytes ≡ canonical self.now) }
@@ -105,7 +105,7 @@ impl EncryptedObject {
         Ok(out)
     }
 
-    /// At least the bytes that it takes, and few more.
+    /// About as many bytes as it takes, so that the bytes written seldom move.
     fn room(&self) -> usize {
         let mut room = self.encrypted.as_slice().len();
         room = room.saturating_add(self.key_id.as_str().len());

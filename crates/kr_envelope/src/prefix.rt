@@ -12,8 +12,11 @@ const MARK: &[u8] = b"k8s:enc:";
 /// The kinds of provider that write a prefix. Identity writes none.
 #[derive(Clone, Copy, Debug, PartialEq, Eq)]
 pub enum Kind {
+    /// AES-CBC under a key.
     Aescbc,
+    /// AES-GCM under a key.
     Aesgcm,
+    /// A KMS plugin.
     Kms,
 }
 

@@ -43,8 +43,8 @@ impl<L: Kms, D: Dice> Model for Bench<L, D> {
 }
 
 impl<L: Kms, D: Dice> Bench<L, D> {
-    /// A bench that adopted nothing yet. `pages` is how many keys it may hold expanded, and `cache` how many unwrapped
-    /// seeds, at least 1. Where there is no memory the links and the random source come back.
+    /// A bench that adopted nothing yet. `pages` is how many expanded keys it may keep, and `cache` how many unwrapped
+    /// seeds; it keeps none of either. Where there is no memory the links and the random source come back.
     pub fn new(
         alloc: Global,
         links: Links<L>,
@@ -135,13 +135,13 @@ impl<L: Kms, D: Dice> Bench<L, D> {
     }
 }
 
-/// The providers of the resource.
+/// The providers of the resource, none of which is a plugin.
 fn list_for<'a>(published: &'a Published, resource: &str) -> &'a [Who]
     requires no_plugin { names_plugin published.now.rows ≡ false }
     ensures list { result.now ≡ list_at published.now resource.now }
     ensures rules { ListsNoPlugin result.now }
 {
-    published.settings.get().list_for(resource)
+    published.list_for(resource)
 }
 
 fn seal_for<D: Dice>(

@@ -10,6 +10,8 @@ mod readers;
 mod refusal;
 mod sealing;
 mod shared;
+#[cfg(test)]
+mod tests;
 mod unsealing;
 
 pub use bench::Bench;

@@ -2,7 +2,7 @@
 ghost use Rattle.std.specs.Prelude.{◌≡◌, ◌↔◌, [], ◌∷◌, ◌++◌, Contains, IsTrue, IfErr, OnOk, OnErr, MatchOption};
 ghost use Rattle.std.specs.List.{list_any};
 ghost use Rattle.std.specs.Str.{bytes_eq};
-ghost use Rattle.kr_provider.specs.Names.{names_of};
+ghost use Rattle.kr_provider.specs.Names.{AreDistinct, names_of};
 
 use kr_base::{List, NoMemory};
 use kr_kms::Kms;
@@ -48,7 +48,8 @@ impl<L: Kms> Links<L> {
 
     /// Whether there is a link to the plugin of this name.
     pub fn has(&self, name: &str) -> bool
-        ensures { IsTrue result ↔ Contains (names_of L.link self.now) name.now }
+        ensures named { IsTrue result ↔ Contains (names_of L.link self.now) name.now }
+        ensures distinct { AreDistinct L.link self.now }
     {
         any_named(self.items.as_slice(), name)
     }

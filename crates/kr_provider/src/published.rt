@@ -32,6 +32,18 @@ impl Model for Published {
     ghost invariant = { λ published. IsPublished (record { rows = rows_of published.settings.entries.0; seeds = published.seeds.0 }) };
 }
 
+impl Published {
+    ghost use Rattle.kr_provider.specs.Publication.{IsPublished, list_at};
+
+    /// The providers of the resource.
+    pub fn list_for(&self, resource: &str) -> &[Who]
+        ensures list { result.now ≡ list_at self.now resource.now }
+        ensures kept { IsPublished self.now }
+    {
+        self.settings.get().list_for(resource)
+    }
+}
+
 /// Publishes settings that name no plugin. They need no seed, so no link and no dice is asked.
 pub fn publish<L: Kms, D: Dice>(
     alloc: Global,

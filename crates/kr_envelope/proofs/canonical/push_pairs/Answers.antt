@@ -1,6 +1,6 @@
-use Rattle.std.proofs.Common.{length, ap, sym, ◌∙◌, arith, subst}
+use Rattle.std.proofs.Common.{length, ap, ◌∙◌, arith, subst}
 use Rattle.std.specs.Str.{IsUtf8}
-use Rattle.kr_envelope.proofs.Numbers.{Pushes, push_begun, push_more, push_ended, paired, size_at}
+use Rattle.kr_envelope.proofs.Numbers.{push_begun, push_more, push_ended, paired, size_at}
 use Rattle.kr_envelope.proofs.canonical.push_pairs.Goals as goal
 
 pub loop-key-init : goal.loop-key-init

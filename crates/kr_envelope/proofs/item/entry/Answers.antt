@@ -1,4 +1,3 @@
-use Rattle.std.proofs.Common.{◌≢◌, [], sym}
 use Rattle.kr_envelope.specs.Taking.{field_of}
 use Rattle.kr_envelope.specs.Messages.{annotation}
 use Rattle.kr_envelope.proofs.Items.{is_nothing, is_something}

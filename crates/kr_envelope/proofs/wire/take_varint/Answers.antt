@@ -1,4 +1,4 @@
-use Rattle.std.proofs.Common.{◌≡◌, ◌+◌, length, take, ap, sym, ◌∙◌, arith}
+use Rattle.std.proofs.Common.{◌≡◌, ap, sym, ◌∙◌, arith}
 use Rattle.kr_envelope.specs.Wire.{number}
 use Rattle.kr_envelope.proofs.Varints.{varint_end, varint_groups, varint_found}
 use Rattle.kr_envelope.proofs.wire.take_varint.Goals as goal

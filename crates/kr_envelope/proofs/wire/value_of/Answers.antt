@@ -1,4 +1,4 @@
-use Rattle.std.proofs.Common.{◌≤◌, ◌^◌, drop, arith, subst}
+use Rattle.std.proofs.Common.{◌≤◌, ◌^◌, drop, arith}
 use Rattle.kr_envelope.specs.Wire.{number}
 use Rattle.kr_envelope.proofs.Varints.{number_past}
 use Rattle.kr_envelope.proofs.wire.value_of.Goals as goal
