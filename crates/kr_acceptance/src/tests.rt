@@ -610,9 +610,9 @@ fn refuses_other_words_and_files(rt: HostRuntime) -> Result<(), Fail> {
             2,
         ),
         (
-            "encrypt|--config|none|--resource|secrets|--path|",
+            "encrypt|--config|no.yaml|--resource|secrets|--path|",
             IDENTITY,
-            "kmsrest: text 40 none\n",
+            "kmsrest: text 40 no.yaml\n",
             3,
         ),
         (
