@@ -47,7 +47,7 @@ row_envelope opens seeds name path plain drawn value envelope row o a back f e h
     let named : row.name ≡ name = (bytes_eq-Decides row.name name).0 found.0 in
     let object = object_of row path plain drawn in
     let spelled : Reads (canonical object) envelope.object = subst (λ bytes. Reads bytes envelope.object) (behind kind.Kms name (canonical object) value e) h.0 in
-    let is : envelope.object ≡ Ok object = read_back envelope.object object h.1 (back row drawn found.1 envelope.object spelled) in
+    let is : envelope.object ≡ Ok object = read_back envelope.object object h.1 ((back row drawn found.1).1 envelope.object spelled) in
     let P : SeedRow → Type 0 = λ r. opens (key_of r) ≡ Some r.seed in
     let key : seed_key name object ≡ key_of row = ap (λ n. seed_key n object) (sym named) in
     (row, f, (of_all IsSeedRow seeds row a found.1).seed, is, h.2 ∙ ap (source_by opens name) is ∙ ap opens key ∙ of_all P seeds row o found.1)
