@@ -28,16 +28,16 @@ SealedReads = (seeds : List SeedRow) (list : List Who) (who : Who) (path plain d
     → sealed_by seeds who path plain drawn ≡ Some value → IsSealedEnvelope seeds who path plain drawn envelope
     → reads_by envelope list path value ≡ data_of plain
 
--- each object that these seeds make is read back from its bytes, as the writer of objects promises
+-- each object that these seeds and 44 drawn bytes make is read back from its bytes, as the writer of objects promises
 abbrev pub AreReadBack : List SeedRow → (path plain : List ℕ) → Type 0
-AreReadBack seeds path plain = (row : SeedRow) (drawn : List ℕ) → Contains seeds row → IsReadBack (canonical (object_of row path plain drawn)) (object_of row path plain drawn)
+AreReadBack seeds path plain = (row : SeedRow) (drawn : List ℕ) → Contains seeds row → IsBytes 44 drawn → IsReadBack (canonical (object_of row path plain drawn)) (object_of row path plain drawn)
 
 -- so a sealing by a published configuration, each of whose seeds opens, reads as its data and as nothing else
 abbrev pub SealingReads : Type 0
 SealingReads = (opens : Opens) (p : Publication) (list : List Who) (resource path plain value : List ℕ) (reading : Reading)
     → IsPublished p → OpenAll opens p.seeds → AreReadBack p.seeds path plain
     → IsTrue (keeps_providers list) → Contains list (writer_at p resource) → All (λ byte. byte < 256) plain
-    → IsSealing p resource path plain value → ReadsAs opens list path value reading → reading ≡ data_of plain
+    → IsSealing p resource path plain value → ReadsAs opens list path value reading ↔ (reading ≡ data_of plain)
 
 abbrev pub IsData : Reading → Type 0
 IsData (data_of plain) = ⊤

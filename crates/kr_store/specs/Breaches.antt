@@ -1,0 +1,112 @@
+-- What is wrong with bytes that are no file of a store, and where: the first breach.
+use Rattle.std.specs.Prelude.{◌≡◌, ◌≢◌, ℕ, ◌+◌, ◌<◌, ◌⊎◌, ◌==◌, nat_le, nat_lt, Bool, true, if◌then◌else◌, List, [], ◌++◌, length, take, drop, get_or, is_some, Result, Ok, Err}
+use Rattle.std.specs.Int.{w16, w32, w64, from_be_bytes}
+use Rattle.kr_base.specs.Rules.{is_path, is_resource}
+use Rattle.kr_store.specs.Rows.{Change, Put, Delete, Line, live, AreRows, longest_value}
+use Rattle.kr_store.specs.File.{magic, file_bytes}
+use Rattle.kr_store.specs.declared.answers.StoreNo.{StoreNo}
+use Rattle.kr_store.specs.declared.answers.StoreNo.TheVariants as no
+use Rattle.kr_store.specs.declared.reader.Kind.{Kind}
+use Rattle.kr_store.specs.declared.reader.Kind.TheVariants as kind
+use Rattle.kr_store.specs.declared.answers.Cause.{Cause}
+use Rattle.kr_store.specs.declared.answers.Cause.TheVariants.{Torn, BadRow, Order}
+
+-- what is read from the front, and the bytes behind it; or why it can't be read
+abbrev pub Read : Type 0 → Type 0
+Read A = Result (A × List ℕ) Cause
+
+-- the next part is read behind this one
+abbrev pub behind : {A B : Type 0} → Read A → (A → List ℕ → Read B) → Read B
+behind (Err cause) next = Err cause
+behind (Ok found) next = next found.0 found.1
+
+-- n bytes
+abbrev pub part : ℕ → List ℕ → Read (List ℕ)
+part n bytes = if nat_lt (length bytes) n then Err Torn else Ok (take n bytes, drop n bytes)
+
+-- what was read, if it keeps its rule
+abbrev pub kept_if : {A : Type 0} → Bool → Cause → A → List ℕ → Read A
+kept_if holds cause x bytes = if holds then Ok (x, bytes) else Err cause
+
+-- numbers of 2, 4 and 8 bytes
+abbrev pub number_16 : List ℕ → Read ℕ
+number_16 bytes = behind (part 2 bytes) (λ number rest. Ok (from_be_bytes w16 number, rest))
+
+abbrev pub number_32 : List ℕ → Read ℕ
+number_32 bytes = behind (part 4 bytes) (λ number rest. Ok (from_be_bytes w32 number, rest))
+
+abbrev pub number_64 : List ℕ → Read ℕ
+number_64 bytes = behind (part 8 bytes) (λ number rest. Ok (from_be_bytes w64 number, rest))
+
+-- bytes behind their length, which is judged before them
+abbrev pub sized_part : ℕ → List ℕ → Read (List ℕ)
+sized_part most bytes = behind (number_16 bytes) (λ n rest. if nat_le n most then part n rest else Err BadRow)
+
+abbrev pub path_part : List ℕ → Read (List ℕ)
+path_part bytes = behind (sized_part 1024 bytes) (λ path rest. kept_if (is_path path) BadRow path rest)
+
+abbrev pub resource_part : List ℕ → Read (List ℕ)
+resource_part bytes = behind (sized_part 253 bytes) (λ resource rest. kept_if (is_resource resource) BadRow resource rest)
+
+abbrev pub value_part : List ℕ → Read (List ℕ)
+value_part bytes = behind (number_32 bytes) (λ n rest. if nat_le n longest_value then part n rest else Err BadRow)
+
+-- the kind of a row: 1 is a put, 2 a delete
+abbrev pub kind_by : ℕ → List ℕ → Read Kind
+kind_by byte rest = if byte == 1 then Ok (kind.Put, rest) else (if byte == 2 then Ok (kind.Delete, rest) else Err BadRow)
+
+abbrev pub kind_part : List ℕ → Read Kind
+kind_part bytes = behind (part 1 bytes) (λ byte rest. kind_by (get_or byte 0 0) rest)
+
+-- the revision, which has to be k
+abbrev pub revision_part : ℕ → List ℕ → Read ℕ
+revision_part k bytes = behind (number_64 bytes) (λ number rest. kept_if (number == k) Order number rest)
+
+abbrev pub put_part : List ℕ → Read Change
+put_part bytes = behind (resource_part bytes) (λ resource rest. behind (value_part rest) (λ stored rest. Ok (Put resource stored, rest)))
+
+-- what a row does, by its kind
+abbrev pub change_part : Kind → List ℕ → Read Change
+change_part kind.Put bytes = put_part bytes
+change_part kind.Delete bytes = Ok (Delete, bytes)
+
+-- the kind and the path of the row with revision k
+abbrev pub head_part : ℕ → List ℕ → Read (Kind × List ℕ)
+head_part k bytes = behind (kind_part bytes) (λ kind rest. behind (revision_part k rest) (λ _ rest. behind (path_part rest) (λ path rest. Ok ((kind, path), rest))))
+
+-- the row with revision k, its parts from left to right
+abbrev pub line_part : ℕ → List ℕ → Read Line
+line_part k bytes = behind (head_part k bytes) (λ head rest. behind (change_part head.0 rest) (λ change rest. Ok (record { path = head.1; change = change }, rest)))
+
+-- a delete needs a live row
+abbrev pub may_change : List Line → List ℕ → Change → Bool
+may_change before path (Put resource stored) = true
+may_change before path Delete = is_some (live before path)
+
+-- the row behind those before it
+abbrev pub next_line : List Line → List ℕ → Read Line
+next_line before bytes = behind (line_part (length before + 1) bytes) (λ line rest. kept_if (may_change before line.path line.change) BadRow line rest)
+
+-- the bytes are a file of some rows, and then what breaks at this place
+pub record BreaksAt (bytes : List ℕ) (at : ℕ) (cause : Cause) : Type 0 where
+  pub rows : List Line
+  pub rest : List ℕ
+  pub good : AreRows rows
+  pub split : bytes ≡ file_bytes rows ++ rest
+  pub more : rest ≢ []
+  pub breaks : next_line rows rest ≡ Err cause
+  pub place : at ≡ length (file_bytes rows)
+
+-- the bytes are not empty and end inside the magic
+abbrev pub IsTornMagic : List ℕ → Type 0
+IsTornMagic bytes = (0 < length bytes) × (length bytes < length magic) × (bytes ≡ take (length bytes) magic)
+
+-- the first breach, by its kind
+abbrev pub IsBreach : List ℕ → StoreNo → Type 0
+IsBreach bytes no.Magic = take (length magic) bytes ≢ take (length bytes) magic
+IsBreach bytes (no.Torn at) = ((at ≡ 0) × IsTornMagic bytes) ⊎ BreaksAt bytes at Torn
+IsBreach bytes (no.BadRow at) = BreaksAt bytes at BadRow
+IsBreach bytes (no.Order at) = BreaksAt bytes at Order
+IsBreach bytes no.TooLong = ⊥
+IsBreach bytes no.Failed = ⊥
+IsBreach bytes no.NoMemory = ⊥

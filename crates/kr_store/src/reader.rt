@@ -1,0 +1,433 @@
+ghost use Rattle.std.specs.Prelude.{◌≡◌, ◌≢◌, ℕ, ◌+◌, ◌^◌, ◌<◌, ◌≤◌, min, get_or, [], ◌∷◌, length, IfSome, IfOk, IsErrOf, MatchOption, IsTrue, ◌↔◌};
+ghost use Rattle.std.specs.Int.{w16, w32, w64, to_be_bytes};
+ghost use Rattle.kr_base.specs.Faults.{Rose};
+ghost use Rattle.kr_base.specs.Rules.{IsPath, IsResource};
+ghost use Rattle.kr_store.specs.Rows.{longest_value, IsEntry};
+ghost use Rattle.kr_store.specs.File.{magic, text_bytes, value_bytes, byte_of};
+ghost use Rattle.kr_store.specs.Breaches.{part, number_16, number_32, number_64, sized_part, path_part, resource_part, value_part, kind_part, revision_part, head_part, put_part, line_part};
+ghost use Rattle.kr_store.specs.Reading.{Moves, Begins, Fills, IsShort, IsNamed, Names, Gives, items_of, sized_bytes, head_bytes, put_bytes, entry_bytes};
+
+use crate::answers::{Cause, Stop, StoreNo};
+use crate::encode::MAGIC;
+use crate::entry::Entry;
+use crate::limits::LONGEST_VALUE;
+use crate::row::Row;
+use kr_base::{Bytes, Failed, Tape, Text, path_ok, resource_ok};
+use std::alloc::Global;
+use std::marker::Model;
+use std::sync::Arc;
+
+/// What a row does, as its first byte says.
+#[derive(Clone, Copy, Debug, PartialEq, Eq)]
+pub(crate) enum Kind {
+    Put,
+    Delete,
+}
+
+// What the type says of each byte.
+fn known(bytes: &[u8])
+    ensures { (i : ℕ) → get_or bytes.now i 0 < 2 ^ 8 }
+{}
+
+fn named(front: &[u8]) -> Result<(), StoreNo>
+    requires { length front.now ≤ length magic }
+    ensures { IsNamed front.now result }
+{
+    if front != &MAGIC[..front.len()] {
+        return Err(StoreNo::Magic);
+    }
+    if front.len() < MAGIC.len() {
+        return Err(StoreNo::Torn { at: 0 });
+    }
+    Ok(())
+}
+
+fn kind_of(byte: u8) -> Option<Kind>
+    ensures { MatchOption result ((byte ≢ 1) × (byte ≢ 2)) (λ kind. byte_of kind ≡ byte) }
+{
+    match byte {
+        1 => Some(Kind::Put),
+        2 => Some(Kind::Delete),
+        _ => None,
+    }
+}
+
+/// The bytes of a tape from front to back.
+#[derive(Drop)]
+pub(crate) struct Reader<T: Tape> {
+    tape: T,
+    place: u64,
+    end: u64,
+}
+
+impl<T: Tape> Model for Reader<T> {
+    ghost use Rattle.std.specs.Prelude.{◌≡◌, ◌≤◌, length, drop, IfSome};
+    ghost use Rattle.std.specs.Option.{option_map};
+    ghost use Rattle.kr_store.specs.Reading.{Ahead};
+
+    ghost Value = { Ahead };
+
+    ghost view = { λ reader. record { told = T.told reader.tape; left = option_map (λ bytes. drop reader.place bytes) (T.told reader.tape); place = reader.place; end = reader.end; count = T.count reader.tape } };
+
+    ghost invariant = { λ reader. (reader.place ≤ reader.end) × IfSome (T.told reader.tape) (λ bytes. reader.end ≡ length bytes) };
+}
+
+impl<T: Tape> Reader<T> {
+    /// A reader of a tape with so many bytes.
+    pub fn new(tape: T, end: u64) -> Reader<T>
+        requires { IfSome (T.told tape) (λ bytes. end ≡ length bytes) }
+        ensures { result ≡ record { told = T.told tape; left = T.told tape; place = 0; end = end; count = T.count tape } }
+    {
+        Reader {
+            tape,
+            place: 0,
+            end,
+        }
+    }
+
+    /// Gives the tape back.
+    pub fn into_tape(self) -> T
+        ensures told { T.told result ≡ self.told }
+        ensures count { T.count result ≡ self.count }
+    {
+        let Reader {
+            tape,
+            place: _,
+            end: _,
+        } = self;
+        tape
+    }
+
+    /// The place that is read next.
+    pub fn place(&self) -> u64
+        ensures { result ≡ self.now.place }
+    {
+        self.place
+    }
+
+    /// Whether no byte is left.
+    pub fn is_at_end(&self) -> bool
+        ensures at { IsTrue result ↔ (self.now.place ≡ self.now.end) }
+        ensures moves { Moves self.now self.now }
+    {
+        self.place == self.end
+    }
+
+    // The next bytes, at least one.
+    fn some(&mut self, into: &mut [u8]) -> Result<usize, Stop>
+        requires some { 0 < length into.old }
+        requires within { self.old.place + length into.old ≤ self.old.end }
+        ensures moves { Moves self.old self.new }
+        ensures failed { IsErrOf result Stop.Failed → Rose self.old.count self.new.count }
+        ensures read { Begins self.old self.new into.new result }
+    {
+        let n = match self.tape.read_at(self.place, into) {
+            Ok(n) => n,
+            Err(Failed) => return Err(Stop::Failed),
+        };
+        if n == 0 {
+            return Err(Stop::Breach(Cause::Torn));
+        }
+        self.place += n as u64;
+        Ok(n)
+    }
+
+    // The next bytes, as many as the buffer holds.
+    fn fill(&mut self, into: &mut [u8]) -> Result<(), Stop>
+        ensures moves { Moves self.old self.new }
+        ensures failed { IsErrOf result Stop.Failed → Rose self.old.count self.new.count }
+        ensures read { Fills self.old self.new into.new result }
+        ensures short { IsShort self.old (length into.old) result }
+    {
+        if self.end - self.place < into.len() as u64 {
+            return Err(Stop::Breach(Cause::Torn));
+        }
+        let mut done = 0;
+        while done < into.len() {
+            match self.some(&mut into[done..]) {
+                Ok(n) => done += n,
+                Err(stop) => return Err(stop),
+            }
+        }
+        Ok(())
+    }
+
+    /// The 8 bytes that name the format, of a tape that isn't empty.
+    pub fn magic(&mut self) -> Result<(), StoreNo>
+        requires start { self.old.place ≡ 0 }
+        requires some { 0 < self.old.end }
+        ensures moves { Moves self.old self.new }
+        ensures failed { IsErrOf result StoreNo.Failed → Rose self.old.count self.new.count }
+        ensures names { Names self.old self.new result }
+    {
+        let mut front = [0; MAGIC.len()];
+        let n = self.end.min(MAGIC.len() as u64) as usize;
+        self.front(&mut front[..n])
+    }
+
+    // As many bytes as the file has of those that name the format.
+    fn front(&mut self, front: &mut [u8]) -> Result<(), StoreNo>
+        requires start { self.old.place ≡ 0 }
+        requires some { 0 < length front.old }
+        requires size { length front.old ≡ min self.old.end (length magic) }
+        ensures moves { Moves self.old self.new }
+        ensures failed { IsErrOf result StoreNo.Failed → Rose self.old.count self.new.count }
+        ensures names { Names self.old self.new result }
+    {
+        match self.fill(front) {
+            Ok(()) => {}
+            Err(Stop::Breach(_)) => return Err(StoreNo::Torn { at: 0 }),
+            Err(Stop::Failed) => return Err(StoreNo::Failed),
+            Err(Stop::NoMemory) => unreachable!(),
+        }
+        named(front)
+    }
+
+    fn number_16(&mut self) -> Result<u16, Stop>
+        ensures moves { Moves self.old self.new }
+        ensures failed { IsErrOf result Stop.Failed → Rose self.old.count self.new.count }
+        ensures read { Gives self.old self.new (to_be_bytes w16) number_16 result }
+        ensures fits { IfOk result (λ n. n < 2 ^ 16) }
+    {
+        let mut bytes = [0; 2];
+        match self.fill(&mut bytes) {
+            Ok(()) => {
+                known(&bytes);
+                Ok(u16::from_be_bytes(bytes))
+            }
+            Err(stop) => Err(stop),
+        }
+    }
+
+    fn number_32(&mut self) -> Result<u32, Stop>
+        ensures moves { Moves self.old self.new }
+        ensures failed { IsErrOf result Stop.Failed → Rose self.old.count self.new.count }
+        ensures read { Gives self.old self.new (to_be_bytes w32) number_32 result }
+        ensures fits { IfOk result (λ n. n < 2 ^ 32) }
+    {
+        let mut bytes = [0; 4];
+        match self.fill(&mut bytes) {
+            Ok(()) => {
+                known(&bytes);
+                Ok(u32::from_be_bytes(bytes))
+            }
+            Err(stop) => Err(stop),
+        }
+    }
+
+    fn number_64(&mut self) -> Result<u64, Stop>
+        ensures moves { Moves self.old self.new }
+        ensures failed { IsErrOf result Stop.Failed → Rose self.old.count self.new.count }
+        ensures read { Gives self.old self.new (to_be_bytes w64) number_64 result }
+        ensures fits { IfOk result (λ n. n < 2 ^ 64) }
+    {
+        let mut bytes = [0; 8];
+        match self.fill(&mut bytes) {
+            Ok(()) => {
+                known(&bytes);
+                Ok(u64::from_be_bytes(bytes))
+            }
+            Err(stop) => Err(stop),
+        }
+    }
+
+    // The next n bytes.
+    fn part(&mut self, alloc: Global, n: usize) -> Result<Vec<u8>, Stop>
+        ensures moves { Moves self.old self.new }
+        ensures failed { IsErrOf result Stop.Failed → Rose self.old.count self.new.count }
+        ensures read { Gives self.old self.new items_of (part n) result }
+        ensures length { IfOk result (λ bytes. length bytes.items ≡ n) }
+    {
+        if self.end - self.place < n as u64 {
+            return Err(Stop::Breach(Cause::Torn));
+        }
+        let mut bytes = match vec![in alloc; 0; n] {
+            Ok(bytes) => bytes,
+            Err(_) => return Err(Stop::NoMemory),
+        };
+        match self.fill(&mut bytes) {
+            Ok(()) => Ok(bytes),
+            Err(stop) => Err(stop),
+        }
+    }
+
+    // Bytes behind their length.
+    fn sized(&mut self, alloc: Global, most: u16) -> Result<Vec<u8>, Stop>
+        ensures moves { Moves self.old self.new }
+        ensures failed { IsErrOf result Stop.Failed → Rose self.old.count self.new.count }
+        ensures read { Gives self.old self.new sized_bytes (sized_part most) result }
+        ensures length { IfOk result (λ bytes. length bytes.items ≤ most) }
+    {
+        let n = match self.number_16() {
+            Ok(n) => n,
+            Err(stop) => return Err(stop),
+        };
+        if n > most {
+            return Err(Stop::Breach(Cause::BadRow));
+        }
+        match self.part(alloc, n as usize) {
+            Ok(bytes) => Ok(bytes),
+            Err(stop) => Err(stop),
+        }
+    }
+
+    // A value behind its length.
+    fn value(&mut self, alloc: Global) -> Result<Bytes, Stop>
+        ensures moves { Moves self.old self.new }
+        ensures failed { IsErrOf result Stop.Failed → Rose self.old.count self.new.count }
+        ensures read { Gives self.old self.new value_bytes value_part result }
+        ensures length { IfOk result (λ value. length value ≤ longest_value) }
+    {
+        let n = match self.number_32() {
+            Ok(n) => n,
+            Err(stop) => return Err(stop),
+        };
+        if n > LONGEST_VALUE {
+            return Err(Stop::Breach(Cause::BadRow));
+        }
+        match self.part(alloc, n as usize) {
+            Ok(bytes) => Ok(Bytes::from_vec(bytes)),
+            Err(stop) => Err(stop),
+        }
+    }
+
+    fn path(&mut self, alloc: Global) -> Result<Text, Stop>
+        ensures moves { Moves self.old self.new }
+        ensures failed { IsErrOf result Stop.Failed → Rose self.old.count self.new.count }
+        ensures read { Gives self.old self.new text_bytes path_part result }
+        ensures rule { IfOk result (λ path. IsPath path) }
+    {
+        let bytes = match self.sized(alloc, 1024) {
+            Ok(bytes) => bytes,
+            Err(stop) => return Err(stop),
+        };
+        let Ok(text) = String::from_utf8(bytes) else {
+            return Err(Stop::Breach(Cause::BadRow));
+        };
+        if !path_ok(text.as_str()) {
+            return Err(Stop::Breach(Cause::BadRow));
+        }
+        Ok(Text::from_string(text))
+    }
+
+    fn resource(&mut self, alloc: Global) -> Result<Text, Stop>
+        ensures moves { Moves self.old self.new }
+        ensures failed { IsErrOf result Stop.Failed → Rose self.old.count self.new.count }
+        ensures read { Gives self.old self.new text_bytes resource_part result }
+        ensures rule { IfOk result (λ resource. IsResource resource) }
+    {
+        let bytes = match self.sized(alloc, 253) {
+            Ok(bytes) => bytes,
+            Err(stop) => return Err(stop),
+        };
+        let Ok(text) = String::from_utf8(bytes) else {
+            return Err(Stop::Breach(Cause::BadRow));
+        };
+        if !resource_ok(text.as_str()) {
+            return Err(Stop::Breach(Cause::BadRow));
+        }
+        Ok(Text::from_string(text))
+    }
+
+    fn kind(&mut self) -> Result<Kind, Stop>
+        ensures moves { Moves self.old self.new }
+        ensures failed { IsErrOf result Stop.Failed → Rose self.old.count self.new.count }
+        ensures read { Gives self.old self.new (λ kind. byte_of kind ∷ []) kind_part result }
+    {
+        let mut byte = [0; 1];
+        match self.fill(&mut byte) {
+            Ok(()) => {}
+            Err(stop) => return Err(stop),
+        }
+        match kind_of(byte[0]) {
+            Some(kind) => Ok(kind),
+            None => Err(Stop::Breach(Cause::BadRow)),
+        }
+    }
+
+    // The revision, which has to be this one.
+    fn revision(&mut self, revision: u64) -> Result<(), Stop>
+        ensures moves { Moves self.old self.new }
+        ensures failed { IsErrOf result Stop.Failed → Rose self.old.count self.new.count }
+        ensures read { Gives self.old self.new (λ _. to_be_bytes w64 revision) (revision_part revision) result }
+    {
+        let found = match self.number_64() {
+            Ok(found) => found,
+            Err(stop) => return Err(stop),
+        };
+        if found != revision {
+            return Err(Stop::Breach(Cause::Order));
+        }
+        Ok(())
+    }
+
+    fn head(&mut self, alloc: Global, revision: u64) -> Result<(Kind, Text), Stop>
+        ensures moves { Moves self.old self.new }
+        ensures failed { IsErrOf result Stop.Failed → Rose self.old.count self.new.count }
+        ensures read { Gives self.old self.new (head_bytes revision) (head_part revision) result }
+        ensures rule { IfOk result (λ head. IsPath head.1) }
+    {
+        let kind = match self.kind() {
+            Ok(kind) => kind,
+            Err(stop) => return Err(stop),
+        };
+        match self.revision(revision) {
+            Ok(()) => {}
+            Err(stop) => return Err(stop),
+        }
+        match self.path(alloc) {
+            Ok(path) => Ok((kind, path)),
+            Err(stop) => Err(stop),
+        }
+    }
+
+    // The resource and the value of a put.
+    fn put(&mut self, alloc: Global) -> Result<(Text, Bytes), Stop>
+        ensures moves { Moves self.old self.new }
+        ensures failed { IsErrOf result Stop.Failed → Rose self.old.count self.new.count }
+        ensures read { Gives self.old self.new put_bytes put_part result }
+        ensures resource { IfOk result (λ put. IsResource put.0) }
+        ensures length { IfOk result (λ put. length put.1 ≤ longest_value) }
+    {
+        let resource = match self.resource(alloc) {
+            Ok(resource) => resource,
+            Err(stop) => return Err(stop),
+        };
+        match self.value(alloc) {
+            Ok(stored) => Ok((resource, stored)),
+            Err(stop) => Err(stop),
+        }
+    }
+
+    /// The row with this revision.
+    pub fn entry(&mut self, alloc: Global, revision: u64) -> Result<Entry, Stop>
+        ensures moves { Moves self.old self.new }
+        ensures failed { IsErrOf result Stop.Failed → Rose self.old.count self.new.count }
+        ensures read { Gives self.old self.new (entry_bytes revision) (line_part revision) result }
+        ensures rule { IfOk result (λ entry. IsEntry revision entry) }
+    {
+        let (kind, path) = match self.head(alloc, revision) {
+            Ok(head) => head,
+            Err(stop) => return Err(stop),
+        };
+        match kind {
+            Kind::Delete => Ok(Entry::Delete(path)),
+            Kind::Put => {
+                let (resource, stored) = match self.put(alloc) {
+                    Ok(put) => put,
+                    Err(stop) => return Err(stop),
+                };
+                let row = Row {
+                    path,
+                    resource,
+                    revision,
+                    stored,
+                };
+                match Arc::new(alloc, row) {
+                    Ok(row) => Ok(Entry::Put(row)),
+                    Err(_) => Err(Stop::NoMemory),
+                }
+            }
+        }
+    }
+}

@@ -1,0 +1,319 @@
+ghost use Rattle.std.specs.Prelude.{◌≡◌, ◌≤◌, ◌^◌, ◌<◌, ◌+◌, ◌++◌, ◌-◌, get_or, false, length, IfOk, IfErr, IfSome, IsSome};
+ghost use Rattle.std.specs.Option.{option_map};
+ghost use Rattle.std.specs.Arc.{arc_value};
+ghost use Rattle.kr_base.specs.Faults.{Rose};
+ghost use Rattle.kr_base.specs.Rules.{IsPath, IsResource};
+ghost use Rattle.std.specs.String.{string_bytes};
+ghost use Rattle.kr_store.specs.declared.entry.Entry.{Entry};
+ghost use Rattle.kr_store.specs.Rows.{longest_value, live, line_of, entry_row, IsEntry};
+ghost use Rattle.kr_store.specs.File.{lead, row_bytes};
+ghost use Rattle.kr_store.specs.Stores.{Loads, Holds, Puts, put_of, delete_of, Deletes, Replaces, IsNext};
+
+use crate::answers::{PutNo, StoreNo};
+use crate::encode::{delete_bytes, delete_length, put_bytes, put_length};
+use crate::entry::Entry;
+use crate::index::{Index, key_of};
+use crate::load::load_rows;
+use crate::log::Log;
+use crate::reader::Reader;
+use crate::row::Row;
+use crate::write::{WriteNo, write_delete, write_put};
+use kr_base::{Bytes, Failed, List, NoMemory, Tape, Text};
+use std::alloc::Global;
+use std::marker::Model;
+use std::sync::Arc;
+
+// A row, before it is written: its bytes, its path as the index keeps it, and its entry.
+#[derive(Drop)]
+struct Made {
+    bytes: Bytes,
+    key: String,
+    entry: Entry,
+}
+
+fn row_of_put(
+    alloc: Global,
+    empty: bool,
+    revision: u64,
+    path: &str,
+    resource: &str,
+    stored: Bytes,
+) -> Result<Made, NoMemory>
+    requires path { IsPath path.now }
+    requires resource { IsResource resource.now }
+    requires stored { length stored ≤ longest_value }
+    ensures bytes { IfOk result (λ made. made.bytes ≡ lead empty ++ row_bytes revision (put_of path.now resource.now stored)) }
+    ensures key { IfOk result (λ made. string_bytes made.key ≡ path.now) }
+    ensures line { IfOk result (λ made. line_of made.entry ≡ put_of path.now resource.now stored) }
+    ensures entry { IfOk result (λ made. IsEntry revision made.entry) }
+{
+    let bytes = put_bytes(alloc, empty, revision, path, resource, stored.as_slice())?;
+    let key = key_of(alloc, path)?;
+    let row = Row {
+        path: Text::copy(alloc, path)?,
+        resource: Text::copy(alloc, resource)?,
+        revision,
+        stored,
+    };
+    match Arc::new(alloc, row) {
+        Ok(row) => Ok(Made {
+            bytes: Bytes::from_vec(bytes),
+            key,
+            entry: Entry::Put(row),
+        }),
+        Err(_) => Err(NoMemory),
+    }
+}
+
+fn row_of_delete(alloc: Global, empty: bool, revision: u64, path: &str) -> Result<Made, NoMemory>
+    requires { IsPath path.now }
+    ensures bytes { IfOk result (λ made. made.bytes ≡ lead empty ++ row_bytes revision (delete_of path.now)) }
+    ensures key { IfOk result (λ made. string_bytes made.key ≡ path.now) }
+    ensures line { IfOk result (λ made. line_of made.entry ≡ delete_of path.now) }
+    ensures entry { IfOk result (λ made. IsEntry revision made.entry) }
+{
+    let bytes = delete_bytes(alloc, empty, revision, path)?;
+    let key = key_of(alloc, path)?;
+    let path = Text::copy(alloc, path)?;
+    Ok(Made {
+        bytes: Bytes::from_vec(bytes),
+        key,
+        entry: Entry::Delete(path),
+    })
+}
+
+// A copy of the resource of the row with this revision, a put.
+fn resource_at(alloc: Global, rows: &[Entry], revision: u64) -> Result<Text, NoMemory>
+    requires first { 1 ≤ revision }
+    requires last { revision ≤ length rows.now }
+    requires put { (d : Entry) → IsSome (entry_row (get_or rows.now (revision - 1) d)) }
+    ensures { IfOk result (λ resource. (d : Entry) → IfSome (entry_row (get_or rows.now (revision - 1) d)) (λ row. row.resource ≡ resource)) }
+{
+    match &rows[revision as usize - 1] {
+        Entry::Put(row) => Text::copy(alloc, row.resource.as_str()),
+        Entry::Delete(_) => unreachable!(),
+    }
+}
+
+// Shares the row with this revision, if it is a put.
+fn share(rows: &[Entry], revision: u64) -> Result<Option<Arc<Row>>, NoMemory>
+    requires first { 1 ≤ revision }
+    requires last { revision ≤ length rows.now }
+    ensures { IfOk result (λ found. (d : Entry) → option_map arc_value found ≡ entry_row (get_or rows.now (revision - 1) d)) }
+{
+    match &rows[revision as usize - 1] {
+        Entry::Put(row) => match Arc::try_clone(row) {
+            Ok(row) => Ok(Some(row)),
+            Err(_) => Err(NoMemory),
+        },
+        Entry::Delete(_) => Ok(None),
+    }
+}
+
+/// The rows of a file on a tape: all of them in a log, and an index of the last ones in order of paths.
+#[derive(Drop)]
+pub struct Store<T: Tape> {
+    alloc: Global,
+    log: Log<T>,
+    limit: u64,
+    rows: List<Entry>,
+    index: Index,
+}
+
+impl<T: Tape> Model for Store<T> {
+    ghost use Rattle.kr_store.specs.Stores.{Kept, kept_of, IsStore};
+
+    ghost Value = { Kept };
+
+    ghost view = { λ store. kept_of store.rows.0 store.limit store.log };
+
+    ghost invariant = { λ store. IsStore store.rows.0 store.index store.limit store.log };
+}
+
+impl<T: Tape> Store<T> {
+    /// Loads the tape's file, if it has no more bytes than the limit. A refusal gives the tape back.
+    pub fn load(alloc: Global, mut tape: T, limit: u64) -> Result<Store<T>, (StoreNo, T)>
+        requires { limit < 2 ^ 63 }
+        ensures loads { Loads (T.told tape) limit result }
+        ensures same { IfErr result (λ refused. (T.told refused.1 ≡ T.told tape) × (T.count tape ≤ T.count refused.1)) }
+        ensures failed { IfErr result (λ refused. refused.0 ≡ StoreNo.Failed → Rose (T.count tape) (T.count refused.1)) }
+        ensures kept { IfOk result (λ store. (store.limit ≡ limit) × (store.told ≡ T.told tape) × (store.torn ≡ false) × (T.count tape ≤ store.count)) }
+    {
+        let length = match tape.len() {
+            Ok(length) => length,
+            Err(Failed) => return Err((StoreNo::Failed, tape)),
+        };
+        if length > limit {
+            return Err((StoreNo::TooLong, tape));
+        }
+        let mut reader = Reader::new(tape, length);
+        match load_rows(alloc, &mut reader) {
+            Ok((rows, index)) => Ok(Store {
+                alloc,
+                log: Log::new(reader.into_tape(), length),
+                limit,
+                rows,
+                index,
+            }),
+            Err(no) => Err((no, reader.into_tape())),
+        }
+    }
+
+    /// Appends a put, and answers its revision.
+    pub fn put(&mut self, path: &str, resource: &str, stored: Bytes) -> Result<u64, PutNo>
+        requires path { IsPath path.now }
+        requires resource { IsResource resource.now }
+        requires stored { length stored ≤ longest_value }
+        ensures { Puts self.old self.new (put_of path.now resource.now stored) result }
+    {
+        let at = self.log.end();
+        let empty = at == 0;
+        let needed = at + put_length(empty, path, resource, stored.as_slice());
+        if needed > self.limit {
+            return Err(PutNo::Full { needed });
+        }
+        match self.rows.reserve(1) {
+            Ok(()) => {}
+            Err(NoMemory) => return Err(PutNo::NoMemory),
+        }
+        let revision = self.rows.as_slice().len() as u64 + 1;
+        let row = match row_of_put(self.alloc, empty, revision, path, resource, stored) {
+            Ok(row) => row,
+            Err(NoMemory) => return Err(PutNo::NoMemory),
+        };
+        let Made { bytes, key, entry } = row;
+        match write_put(
+            &mut self.log,
+            &mut self.index,
+            path,
+            key,
+            revision,
+            bytes.as_slice(),
+        ) {
+            Ok(()) => {}
+            Err(WriteNo::Failed) => return Err(PutNo::Failed),
+            Err(WriteNo::NoMemory) => return Err(PutNo::NoMemory),
+        }
+        self.rows.push_in_room(entry);
+        Ok(revision)
+    }
+
+    /// Appends a delete where the path has a live row, and answers its revision.
+    pub fn delete(&mut self, path: &str) -> Result<Option<u64>, PutNo>
+        requires { IsPath path.now }
+        ensures { Deletes self.old self.new path.now result }
+    {
+        let Some(_live) = self.index.live(path) else {
+            return Ok(None);
+        };
+        let at = self.log.end();
+        let empty = at == 0;
+        let needed = at + delete_length(empty, path);
+        if needed > self.limit {
+            return Err(PutNo::Full { needed });
+        }
+        match self.rows.reserve(1) {
+            Ok(()) => {}
+            Err(NoMemory) => return Err(PutNo::NoMemory),
+        }
+        let revision = self.rows.as_slice().len() as u64 + 1;
+        let row = match row_of_delete(self.alloc, empty, revision, path) {
+            Ok(row) => row,
+            Err(NoMemory) => return Err(PutNo::NoMemory),
+        };
+        let Made { bytes, key, entry } = row;
+        match write_delete(
+            &mut self.log,
+            &mut self.index,
+            path,
+            key,
+            revision,
+            bytes.as_slice(),
+        ) {
+            Ok(()) => {}
+            Err(WriteNo::Failed) => return Err(PutNo::Failed),
+            Err(WriteNo::NoMemory) => return Err(PutNo::NoMemory),
+        }
+        self.rows.push_in_room(entry);
+        Ok(Some(revision))
+    }
+
+    /// Appends a put for the resource of the path's last row, where that is a put with this revision.
+    pub fn replace_if(&mut self, path: &str, revision: u64, stored: Bytes) -> Result<u64, PutNo>
+        requires path { IsPath path.now }
+        requires stored { length stored ≤ longest_value }
+        ensures { Replaces self.old self.new path.now revision stored result }
+    {
+        let Some(last) = self.index.live(path) else {
+            let revision = self.index.gone(path).unwrap_or(0);
+            return Err(PutNo::Changed { revision });
+        };
+        if last != revision {
+            return Err(PutNo::Changed { revision: last });
+        }
+        let resource = match resource_at(self.alloc, self.rows.as_slice(), last) {
+            Ok(resource) => resource,
+            Err(NoMemory) => return Err(PutNo::NoMemory),
+        };
+        self.put(path, resource.as_str(), stored)
+    }
+
+    /// The path's live row. It is shared, not copied.
+    pub fn get(&self, path: &str) -> Result<Option<Arc<Row>>, NoMemory>
+        requires { IsPath path.now }
+        ensures { IfOk result (λ found. option_map arc_value found ≡ live self.now.rows path.now) }
+    {
+        match self.index.live(path) {
+            Some(revision) => share(self.rows.as_slice(), revision),
+            None => Ok(None),
+        }
+    }
+
+    /// The live row with the least path above this one, which may be empty. It is shared, not copied.
+    pub fn next_after(&self, path: &str) -> Result<Option<Arc<Row>>, NoMemory>
+        ensures { IfOk result (λ found. IsNext self.now.rows path.now (option_map arc_value found)) }
+    {
+        let key = key_of(self.alloc, path)?;
+        match self.index.next_after(&key) {
+            Some(revision) => share(self.rows.as_slice(), revision),
+            None => Ok(None),
+        }
+    }
+
+    /// The revision of the last row, 0 where there is none.
+    pub fn revision(&self) -> u64
+        ensures { result ≡ length self.now.rows }
+    {
+        self.rows.as_slice().len() as u64
+    }
+
+    /// How often the tape failed, up to the greatest number.
+    pub fn faults(&self) -> u64
+        ensures { result ≡ self.now.count }
+    {
+        self.log.faults()
+    }
+
+    /// Gives the tape back.
+    pub fn close(self) -> T
+        ensures told { T.told result ≡ self.told }
+        ensures count { T.count result ≡ self.count }
+        ensures holds { Holds self }
+    {
+        let Store {
+            alloc: _,
+            log,
+            limit: _,
+            rows: _,
+            index: _,
+        } = self;
+        log.into_tape()
+    }
+
+    /// What is known of each store: its tape begins with the file of its rows.
+    pub fn known(&self)
+        ensures { Holds self.now }
+    {
+        let _ = &self.limit;
+    }
+}

@@ -1,0 +1,76 @@
+ghost use Rattle.std.specs.Prelude.{◌≡◌, ◌+◌, ◌^◌, ◌<◌, [], length};
+ghost use Rattle.std.specs.String.{string_bytes};
+ghost use Rattle.kr_store.specs.Rows.{Put, Delete};
+ghost use Rattle.kr_store.specs.Writing.{Writes};
+
+use crate::index::Index;
+use crate::log::Log;
+use kr_base::{Failed, NoMemory, Tape};
+
+/// Why a row wasn't written.
+#[derive(Clone, Copy, Debug, PartialEq, Eq)]
+pub(crate) enum WriteNo {
+    Failed,
+    NoMemory,
+}
+
+/// Appends the bytes of a put, and notes it. What the index needs is taken before the tape is touched.
+pub(crate) fn write_put<T: Tape>(
+    log: &mut Log<T>,
+    index: &mut Index,
+    path: &str,
+    key: String,
+    revision: u64,
+    bytes: &[u8],
+) -> Result<(), WriteNo>
+    requires fits { log.old.end + length bytes.now < 2 ^ 64 }
+    requires key { string_bytes key ≡ path.now }
+    ensures { Writes log.old log.new index.old index.new revision path.now (Put [] []) bytes.now result }
+{
+    if index.live(path).is_some() {
+        match log.append(bytes) {
+            Ok(()) => {}
+            Err(Failed) => return Err(WriteNo::Failed),
+        }
+        match index.set_live(key, revision) {
+            Ok(()) => return Ok(()),
+            Err(NoMemory) => unreachable!(),
+        }
+    }
+    match index.set_live(key, revision) {
+        Ok(()) => {}
+        Err(NoMemory) => return Err(WriteNo::NoMemory),
+    }
+    match log.append(bytes) {
+        Ok(()) => Ok(()),
+        Err(Failed) => {
+            index.unset_live(path);
+            Err(WriteNo::Failed)
+        }
+    }
+}
+
+/// Appends the bytes of a delete of a live row, and notes it.
+pub(crate) fn write_delete<T: Tape>(
+    log: &mut Log<T>,
+    index: &mut Index,
+    path: &str,
+    key: String,
+    revision: u64,
+    bytes: &[u8],
+) -> Result<(), WriteNo>
+    requires fits { log.old.end + length bytes.now < 2 ^ 64 }
+    requires key { string_bytes key ≡ path.now }
+    ensures { Writes log.old log.new index.old index.new revision path.now Delete bytes.now result }
+{
+    match index.set_gone(key, revision) {
+        Ok(()) => {}
+        Err(NoMemory) => return Err(WriteNo::NoMemory),
+    }
+    match log.append(bytes) {
+        Ok(()) => {}
+        Err(Failed) => return Err(WriteNo::Failed),
+    }
+    index.unset_live(path);
+    Ok(())
+}

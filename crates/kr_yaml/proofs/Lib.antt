@@ -1,0 +1,11 @@
+pub mod Behind
+pub mod Until
+pub mod Quotes
+pub mod Flows
+pub mod Heads
+pub mod Grown
+pub mod Runs
+pub mod KeySets
+pub mod Closing
+pub mod Putting
+pub mod Following

@@ -1,0 +1,16 @@
+pub mod Data
+pub mod Shown
+pub mod Bytes
+pub mod Scalars
+pub mod Lines
+pub mod Seen
+pub mod Forms
+pub mod Open
+pub mod Frames
+pub mod Standing
+pub mod Puts
+pub mod Texts
+pub mod Reads
+pub mod Progress
+pub mod Adds
+pub mod Gives

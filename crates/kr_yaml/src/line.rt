@@ -1,0 +1,235 @@
+//! The tokens of a line.
+ghost use Rattle.std.specs.Prelude.{◌≡◌, IfOk, length, map};
+ghost use Rattle.std.specs.Option.{option_map};
+ghost use Rattle.kr_yaml.specs.Lines.{Token, dash, leaf, pair, scalars, flow_list, flow_mapping, list_alone, mapping_alone, leaf_at, value_at, keyed, content_at, Head, head, dash_behind, tokens_in, tokens_of};
+ghost use Rattle.kr_yaml.specs.Shown.{view};
+ghost use Rattle.kr_yaml.specs.Seen.{token_view, token_views, lent_trees, lent_tree, list_tokens, IsHead};
+ghost use Rattle.kr_yaml.specs.Gives.{Gives};
+
+use crate::bytes::{behind, closes, opens, over, skip};
+use crate::line_no::LineNo;
+use crate::scalar::{Context, scalar_at, tree_of};
+use crate::token::LineToken;
+use crate::tree::Tree;
+use kr_base::{List, NoMemory, Text};
+use std::alloc::Global;
+
+/// The scalars of a flow list, and what stands behind its closing bracket.
+#[tactic(auto, using(crate::proofs::Flows::scalars_begin, crate::proofs::Flows::scalars_refused, crate::proofs::Flows::scalars_go_on, crate::proofs::Flows::scalars_end, crate::proofs::Flows::scalars_open, crate::proofs::Flows::scalars_out))]
+fn scalars(alloc: Global, text: &str) -> Result<(List<Tree>, &str), LineNo>
+    ensures { Gives lent_trees (scalars (length text.now) text.now) result }
+{
+    let mut trees = List::new(alloc);
+    let mut rest = text;
+    'scalars: for step in 0..text.len() {
+        let (scalar, after) = match scalar_at(alloc, Context::Flow, skip(rest)) {
+            Ok(found) => found,
+            Err(why) => return Err(why),
+        };
+        match trees.push(tree_of(scalar)) {
+            Ok(()) => {}
+            Err(_) => return Err(LineNo::NoMemory),
+        }
+        let after = skip(after);
+        match behind(after, ',') {
+            Some(more) => rest = more,
+            None => match behind(after, ']') {
+                Some(more) => return Ok((trees, more)),
+                None => return Err(LineNo::Form),
+            },
+        }
+    }
+    Err(LineNo::Form)
+}
+
+/// The flow list behind its opening bracket, and what stands behind it.
+#[tactic(auto, unfolding(crate::specs::Lines::flow_list))]
+fn flow_list(alloc: Global, text: &str) -> Result<(Tree, &str), LineNo>
+    ensures { Gives lent_tree (flow_list text.now) result }
+{
+    if let Some(rest) = behind(text, ']') {
+        return Ok((Tree::Items(List::new(alloc)), rest));
+    }
+    match scalars(alloc, text) {
+        Ok((trees, rest)) => Ok((Tree::Items(trees), rest)),
+        Err(why) => Err(why),
+    }
+}
+
+fn list_alone(alloc: Global, text: &str) -> Result<Tree, LineNo>
+    ensures { Gives view (list_alone text.now) result }
+{
+    match flow_list(alloc, text) {
+        Ok((tree, rest)) => {
+            if closes(rest) {
+                Ok(tree)
+            } else {
+                Err(LineNo::Form)
+            }
+        }
+        Err(why) => Err(why),
+    }
+}
+
+fn mapping_alone(alloc: Global, text: &str) -> Result<Tree, LineNo>
+    ensures { Gives view (mapping_alone text.now) result }
+{
+    match behind(text, '}') {
+        Some(rest) => {
+            if closes(rest) {
+                Ok(Tree::Members(List::new(alloc)))
+            } else {
+                Err(LineNo::Form)
+            }
+        }
+        None => Err(LineNo::Form),
+    }
+}
+
+/// A scalar or a flow value up to the end of the line.
+#[tactic(auto, unfolding(crate::specs::Lines::leaf_at))]
+fn leaf_at(alloc: Global, text: &str) -> Result<Tree, LineNo>
+    ensures { Gives view (leaf_at text.now) result }
+{
+    if let Some(rest) = behind(text, '[') {
+        return list_alone(alloc, rest);
+    }
+    if let Some(rest) = behind(text, '{') {
+        return mapping_alone(alloc, rest);
+    }
+    match scalar_at(alloc, Context::Line, text) {
+        Ok((scalar, rest)) => {
+            if closes(rest) {
+                Ok(tree_of(scalar))
+            } else {
+                Err(LineNo::Form)
+            }
+        }
+        Err(why) => Err(why),
+    }
+}
+
+/// What stands behind the `:` of a key.
+#[tactic(auto, unfolding(crate::specs::Lines::value_at))]
+fn value_at(alloc: Global, text: &str) -> Result<Option<Tree>, LineNo>
+    ensures { Gives (λ value. option_map view value) (value_at text.now) result }
+{
+    let text = skip(text);
+    if over(text.as_bytes()) {
+        return Ok(None);
+    }
+    match leaf_at(alloc, text) {
+        Ok(tree) => Ok(Some(tree)),
+        Err(why) => Err(why),
+    }
+}
+
+fn keyed(alloc: Global, column: usize, key: Text, rest: &str) -> Result<LineToken, LineNo>
+    ensures { Gives token_view (keyed column key rest.now) result }
+{
+    if !opens(rest.as_bytes()) {
+        return Err(LineNo::Form);
+    }
+    match value_at(alloc, rest) {
+        Ok(value) => Ok(LineToken::Pair { column, key, value }),
+        Err(why) => Err(why),
+    }
+}
+
+/// The last token of a line.
+#[tactic(auto, unfolding(crate::specs::Lines::content_at))]
+fn content_at(alloc: Global, column: usize, text: &str) -> Result<LineToken, LineNo>
+    ensures { Gives token_view (content_at column text.now) result }
+{
+    if let Some(rest) = behind(text, '[') {
+        return match list_alone(alloc, rest) {
+            Ok(value) => Ok(LineToken::Leaf { column, value }),
+            Err(why) => Err(why),
+        };
+    }
+    if let Some(rest) = behind(text, '{') {
+        return match mapping_alone(alloc, rest) {
+            Ok(value) => Ok(LineToken::Leaf { column, value }),
+            Err(why) => Err(why),
+        };
+    }
+    let (scalar, rest) = match scalar_at(alloc, Context::Line, text) {
+        Ok(found) => found,
+        Err(why) => return Err(why),
+    };
+    if closes(rest) {
+        return Ok(LineToken::Leaf {
+            column,
+            value: tree_of(scalar),
+        });
+    }
+    match behind(rest, ':') {
+        Some(rest) => keyed(alloc, column, scalar.text, rest),
+        None => Err(LineNo::Form),
+    }
+}
+
+/// What stands behind a dash that begins an item.
+fn dash_behind(text: &str) -> Option<&str>
+    ensures { option_map (λ rest. rest.now) result ≡ dash_behind text.now }
+{
+    match behind(text, '-') {
+        Some(rest) => {
+            if opens(rest.as_bytes()) {
+                Some(rest)
+            } else {
+                None
+            }
+        }
+        None => None,
+    }
+}
+
+/// The dashes that a line begins with, and the column and the text of its last content.
+#[tactic(auto, using(crate::proofs::Heads::heads_begin, crate::proofs::Heads::heads_space, crate::proofs::Heads::heads_dash, crate::proofs::Heads::heads_end, crate::proofs::Heads::dash_less, crate::proofs::Quotes::behind_less))]
+fn head(alloc: Global, text: &str) -> Result<(List<LineToken>, usize, &str), NoMemory>
+    ensures { IfOk result (λ found. IsHead (head 0 text.now) (token_views found.0.0) found.1 found.2.now) }
+{
+    let mut tokens = List::new(alloc);
+    let mut rest = text;
+    'dashes: loop {
+        if let Some(more) = behind(rest, ' ') {
+            rest = more;
+            continue;
+        }
+        let column = text.len() - rest.len();
+        let Some(more) = dash_behind(rest) else {
+            return Ok((tokens, column, rest));
+        };
+        match tokens.push(LineToken::Dash { column }) {
+            Ok(()) => {}
+            Err(_) => return Err(NoMemory),
+        }
+        rest = more;
+    }
+}
+
+/// The tokens of a line.
+#[tactic(auto, unfolding(crate::specs::Lines::tokens_of))]
+pub fn tokens_of(alloc: Global, line: &str) -> Result<List<LineToken>, LineNo>
+    ensures { Gives list_tokens (tokens_of line.now) result }
+{
+    if behind(skip(line), '\t').is_some() {
+        return Err(LineNo::Form);
+    }
+    let (mut tokens, column, rest) = match head(alloc, line) {
+        Ok(head) => head,
+        Err(_) => return Err(LineNo::NoMemory),
+    };
+    if over(rest.as_bytes()) {
+        return Ok(tokens);
+    }
+    let token = match content_at(alloc, column, rest) {
+        Ok(token) => token,
+        Err(why) => return Err(why),
+    };
+    match tokens.push(token) {
+        Ok(()) => Ok(tokens),
+        Err(_) => Err(LineNo::NoMemory),
+    }
+}

@@ -1,0 +1,90 @@
+//! The nodes that are open while tokens are read.
+ghost use Rattle.std.specs.Prelude.{◌≡◌, ◌<◌, ◌≤◌, ◌+◌, true, false, [], ◌∷◌, length, take, drop, vec_len, IfOk};
+ghost use Rattle.std.specs.Option.{option_map};
+ghost use Rattle.kr_yaml.specs.Shown.{view};
+ghost use Rattle.kr_yaml.specs.Seen.{token_view};
+ghost use Rattle.kr_yaml.specs.Open.{Frame, items, members, column_of, is_dash_at, is_inside, close, closed, begun, next, put, is_repeated, doubles, place};
+ghost use Rattle.kr_yaml.specs.Frames.{frame_view, frame_views, state_view};
+ghost use Rattle.kr_yaml.specs.Puts.{GoesOn, Puts};
+
+use crate::open_mapping::OpenMapping;
+use crate::put_no::PutNo;
+use crate::token::LineToken;
+use crate::tree::Tree;
+use kr_base::{List, NoMemory};
+use std::alloc::Global;
+
+/// A list or a mapping whose last item or member is open.
+#[derive(Drop)]
+pub enum OpenNode {
+    /// A list.
+    Items {
+        /// Its column.
+        column: usize,
+        /// The items before the last.
+        done: List<Tree>,
+    },
+    /// A mapping.
+    Members(OpenMapping),
+}
+
+fn column_of(token: &LineToken) -> usize
+    ensures { result ≡ column_of (token_view token.now) }
+{
+    match token {
+        LineToken::Dash { column } => *column,
+        LineToken::Pair { column, .. } => *column,
+        LineToken::Leaf { column, .. } => *column,
+    }
+}
+
+fn is_dash_at(column: usize, token: &LineToken) -> bool
+    ensures { result ≡ is_dash_at column (token_view token.now) }
+{
+    match token {
+        LineToken::Dash { column: own } => *own == column,
+        LineToken::Pair { .. } => false,
+        LineToken::Leaf { .. } => false,
+    }
+}
+
+/// Whether the token belongs to the last item or member.
+fn is_inside(token: &LineToken, node: &OpenNode) -> bool
+    ensures { result ≡ is_inside (token_view token.now) (frame_view node.now) }
+{
+    match node {
+        OpenNode::Items { column, .. } => *column < column_of(token),
+        OpenNode::Members(mapping) => {
+            mapping.column < column_of(token) || is_dash_at(mapping.column, token)
+        }
+    }
+}
+
+/// How many of the open nodes the token is inside of.
+pub fn place(token: &LineToken, nodes: &[OpenNode]) -> usize
+    ensures value { result ≡ place (token_view token.now) (frame_views nodes.now) }
+    ensures within { result ≤ length nodes.now }
+{
+    for (index, node) in nodes.iter().enumerate() {
+        if !is_inside(token, node) {
+            return index;
+        }
+    }
+    nodes.len()
+}
+
+/// Closes a node with the value of its last item or member.
+pub fn close(node: OpenNode, value: Tree) -> Result<Tree, NoMemory>
+    ensures { IfOk result (λ tree. view tree ≡ close (frame_view node) (view value)) }
+{
+    match node {
+        OpenNode::Items {
+            column: _,
+            mut done,
+        } => match done.push(value) {
+            Ok(()) => Ok(Tree::Items(done)),
+            Err(_) => Err(NoMemory),
+        },
+        OpenNode::Members(mapping) => mapping.close(value),
+    }
+}

@@ -1,0 +1,104 @@
+ghost use Rattle.std.specs.Prelude.{◌≡◌, ℕ, List, [], ◌∷◌, ◌++◌};
+ghost use Rattle.std.specs.List.{list_any};
+ghost use Rattle.std.specs.Ordering.{nat_cmp};
+ghost use Rattle.std.specs.Cmp.Lexicographic.{slice_cmp};
+ghost use Rattle.std.specs.Str.{bytes_eq};
+ghost use Rattle.std.specs.BTreeSet.{contains};
+ghost use Rattle.kr_yaml.specs.Forms.{keys as keys_of};
+ghost use Rattle.kr_yaml.specs.Shown.{member_views};
+
+use crate::put_no::PutNo;
+use crate::tree::{Member, Tree};
+use kr_base::{List, NoMemory, Text};
+use std::alloc::Global;
+use std::collections::BTreeSet;
+
+/// A mapping whose last member is open.
+#[derive(Drop)]
+pub struct OpenMapping {
+    /// Its column.
+    pub column: usize,
+    /// The members before the last.
+    pub done: List<Member>,
+    /// The key of the last member.
+    pub key: Text,
+    /// All keys, in order, so that a key that stands twice is found at once.
+    pub keys: BTreeSet<Text>,
+    ghost known: { (k : List ℕ) → contains (slice_cmp nat_cmp) keys k ≡ list_any (λ x. bytes_eq x k) (keys_of (member_views done.0) ++ key ∷ []) },
+}
+
+impl OpenMapping {
+    ghost use Rattle.std.specs.Prelude.{IfOk, MatchResult, true, false};
+    ghost use Rattle.kr_yaml.specs.Shown.{view};
+    ghost use Rattle.kr_yaml.specs.Open.{members, close};
+    ghost use Rattle.kr_yaml.specs.Frames.{mapping_frame};
+    ghost use Rattle.kr_yaml.specs.Adds.{Adds};
+
+    /// A mapping with a first key.
+    pub fn begin(alloc: Global, column: usize, key: Text) -> Result<OpenMapping, NoMemory>
+        ensures { IfOk result (λ m. mapping_frame m ≡ members column [] key) }
+    {
+        let mut keys = BTreeSet::new(alloc);
+        let copy = match Text::copy(alloc, key.as_str()) {
+            Ok(copy) => copy,
+            Err(_) => return Err(NoMemory),
+        };
+        match keys.insert(copy) {
+            Ok(_) => {}
+            Err(_) => return Err(NoMemory),
+        }
+        Ok(OpenMapping {
+            column,
+            done: List::new(alloc),
+            key,
+            keys,
+        })
+    }
+
+    /// Closes the last member with its value, and begins one more.
+    pub fn add(self, alloc: Global, value: Tree, key: Text) -> Result<OpenMapping, PutNo>
+        ensures { Adds (mapping_frame self) (view value) key result }
+    {
+        let OpenMapping {
+            column,
+            mut done,
+            key: last,
+            mut keys,
+        } = self;
+        let copy = match Text::copy(alloc, key.as_str()) {
+            Ok(copy) => copy,
+            Err(_) => return Err(PutNo::NoMemory),
+        };
+        match keys.insert(copy) {
+            Ok(true) => {}
+            Ok(false) => return Err(PutNo::DuplicateKey),
+            Err(_) => return Err(PutNo::NoMemory),
+        }
+        match done.push(Member { key: last, value }) {
+            Ok(()) => {}
+            Err(_) => return Err(PutNo::NoMemory),
+        }
+        Ok(OpenMapping {
+            column,
+            done,
+            key,
+            keys,
+        })
+    }
+
+    /// Closes the mapping with the value of its last member.
+    pub fn close(self, value: Tree) -> Result<Tree, NoMemory>
+        ensures { IfOk result (λ tree. view tree ≡ close (mapping_frame self) (view value)) }
+    {
+        let OpenMapping {
+            column: _column,
+            mut done,
+            key,
+            keys: _keys,
+        } = self;
+        match done.push(Member { key, value }) {
+            Ok(()) => Ok(Tree::Members(done)),
+            Err(_) => Err(NoMemory),
+        }
+    }
+}

@@ -1,0 +1,208 @@
+//! Scalars: plain, in single quotes and in double quotes.
+ghost use Rattle.std.specs.Prelude.{◌≡◌, ◌<◌, IfSome};
+ghost use Rattle.kr_yaml.specs.Scalars.{single, double, escape, is_indicator, is_plain, is_space, is_null, plain_text, plain_scalar, plain_at, scalar_at, data_of, quoted};
+ghost use Rattle.kr_yaml.specs.Shown.{view};
+ghost use Rattle.kr_yaml.specs.Gives.{Gives, lent};
+
+use crate::bytes::{Stop, ascii_first, behind, cut_before, has, trim};
+use crate::line_no::LineNo;
+use crate::tree::Tree;
+use kr_base::Text;
+use std::alloc::Global;
+
+/// A scalar as it is written.
+#[derive(Debug, Drop)]
+pub struct Scalar {
+    /// Its text, with what its quotes and escapes stand for.
+    pub text: Text,
+    /// Whether it is written without quotes.
+    pub plain: bool,
+}
+
+/// Where a scalar stands.
+#[derive(Clone, Copy)]
+pub enum Context {
+    /// Outside flow values.
+    Line,
+    /// In a flow list.
+    Flow,
+}
+
+/// The text behind an opening single quote up to the closing one, and what stands behind that.
+#[tactic(auto, using(crate::proofs::Quotes::single_refused, crate::proofs::Quotes::single_ended, crate::proofs::Quotes::single_goes_on, crate::proofs::Quotes::behind_less))]
+fn single(alloc: Global, text: &str) -> Result<(Text, &str), LineNo>
+    ensures { Gives lent (single text.now) result }
+{
+    let mut word = String::new(alloc);
+    let mut rest = text;
+    'pieces: loop {
+        let (piece, after) = cut_before(Stop::SingleQuote, rest);
+        match word.push_str(piece) {
+            Ok(()) => {}
+            Err(_) => return Err(LineNo::NoMemory),
+        }
+        let Some(more) = behind(after, '\'') else {
+            return Err(LineNo::Form);
+        };
+        let Some(more) = behind(more, '\'') else {
+            return Ok((Text::from_string(word), more));
+        };
+        match word.push('\'') {
+            Ok(()) => {}
+            Err(_) => return Err(LineNo::NoMemory),
+        }
+        rest = more;
+    }
+}
+
+/// What a byte behind a backslash stands for.
+fn escape(byte: u8) -> Option<char>
+    ensures value { result ≡ escape byte }
+    ensures ascii { IfSome result (λ meant. meant < 128) }
+{
+    match byte {
+        b'"' => Some('"'),
+        b'\\' => Some('\\'),
+        b'/' => Some('/'),
+        b'n' => Some('\n'),
+        b't' => Some('\t'),
+        _ => None,
+    }
+}
+
+/// The text behind an opening double quote up to the closing one, and what stands behind that.
+#[tactic(auto, using(crate::proofs::Quotes::double_refused, crate::proofs::Quotes::double_ended, crate::proofs::Quotes::double_cut, crate::proofs::Quotes::double_unknown, crate::proofs::Quotes::double_goes_on, crate::proofs::Quotes::behind_less, crate::proofs::Quotes::first_less))]
+fn double(alloc: Global, text: &str) -> Result<(Text, &str), LineNo>
+    ensures { Gives lent (double text.now) result }
+{
+    let mut word = String::new(alloc);
+    let mut rest = text;
+    'pieces: loop {
+        let (piece, after) = cut_before(Stop::DoubleQuote, rest);
+        match word.push_str(piece) {
+            Ok(()) => {}
+            Err(_) => return Err(LineNo::NoMemory),
+        }
+        if let Some(more) = behind(after, '"') {
+            return Ok((Text::from_string(word), more));
+        }
+        let Some(more) = behind(after, '\\') else {
+            return Err(LineNo::Form);
+        };
+        let Some((byte, more)) = ascii_first(more) else {
+            return Err(LineNo::Form);
+        };
+        let Some(meant) = escape(byte) else {
+            return Err(LineNo::Form);
+        };
+        match word.push(meant) {
+            Ok(()) => {}
+            Err(_) => return Err(LineNo::NoMemory),
+        }
+        rest = more;
+    }
+}
+
+fn is_indicator(byte: u8) -> bool
+    ensures { result ≡ is_indicator byte }
+{
+    b"?:,[]{}#&*!|>'\"%@`".contains(&byte)
+}
+
+fn is_space(bytes: &[u8]) -> bool
+    ensures { result ≡ is_space bytes.now }
+{
+    match bytes {
+        [] => false,
+        [byte, ..] => *byte == b' ',
+    }
+}
+
+/// Whether the text may stand as a plain scalar.
+fn is_plain(text: &str) -> bool
+    ensures { result ≡ is_plain text.now }
+{
+    let bytes = text.as_bytes();
+    match bytes {
+        [] => false,
+        [byte, rest @ ..] => {
+            !is_indicator(*byte) && !(*byte == b'-' && is_space(rest)) && !has(Stop::Colon, bytes)
+        }
+    }
+}
+
+fn plain_scalar<'a>(alloc: Global, text: &str, rest: &'a str) -> Result<(Scalar, &'a str), LineNo>
+    ensures { Gives lent (plain_scalar text.now rest.now) result }
+{
+    if !is_plain(text) {
+        return Err(LineNo::Form);
+    }
+    match Text::copy(alloc, text) {
+        Ok(text) => Ok((Scalar { text, plain: true }, rest)),
+        Err(_) => Err(LineNo::NoMemory),
+    }
+}
+
+fn plain_text<'a>(front: &'a str, rest: &str) -> &'a str
+    ensures { result.now ≡ plain_text front.now rest.now }
+{
+    match behind(rest, ':') {
+        Some(_) => front,
+        None => trim(front),
+    }
+}
+
+#[tactic(auto, unfolding(crate::specs::Scalars::plain_at))]
+fn plain_at(alloc: Global, context: Context, text: &str) -> Result<(Scalar, &str), LineNo>
+    ensures { Gives lent (plain_at context text.now) result }
+{
+    match context {
+        Context::Line => {
+            let (front, rest) = cut_before(Stop::KeyEnd, text);
+            plain_scalar(alloc, plain_text(front, rest), rest)
+        }
+        Context::Flow => {
+            let (front, rest) = cut_before(Stop::FlowSign, text);
+            if has(Stop::Comment, front.as_bytes()) {
+                return Err(LineNo::Form);
+            }
+            plain_scalar(alloc, trim(front), rest)
+        }
+    }
+}
+
+/// The scalar that the text begins with, and what stands behind it.
+#[tactic(auto, unfolding(crate::specs::Scalars::scalar_at))]
+pub fn scalar_at(alloc: Global, context: Context, text: &str) -> Result<(Scalar, &str), LineNo>
+    ensures { Gives lent (scalar_at context text.now) result }
+{
+    if let Some(rest) = behind(text, '\'') {
+        return match single(alloc, rest) {
+            Ok((text, rest)) => Ok((Scalar { text, plain: false }, rest)),
+            Err(why) => Err(why),
+        };
+    }
+    if let Some(rest) = behind(text, '"') {
+        return match double(alloc, rest) {
+            Ok((text, rest)) => Ok((Scalar { text, plain: false }, rest)),
+            Err(why) => Err(why),
+        };
+    }
+    plain_at(alloc, context, text)
+}
+
+fn is_null(scalar: &Scalar) -> bool
+    ensures { result ≡ is_null scalar.now }
+{
+    scalar.plain && (scalar.text.as_str() == "null" || scalar.text.as_str() == "~")
+}
+
+/// What a scalar says.
+pub fn tree_of(scalar: Scalar) -> Tree
+    ensures { view result ≡ data_of scalar }
+{
+    if is_null(&scalar) {
+        return Tree::Null;
+    }
+    Tree::Word(scalar.text)
+}
