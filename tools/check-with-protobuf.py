@@ -40,14 +40,15 @@ def message_class():
     return message_factory.MessageFactory(pool).GetPrototype(descriptor)
 
 
-def varint(chance, number):
+def varint(chance, number, most=5):
+    """Keys and lengths have at most 5 bytes, which is as long as the runtime reads them."""
     groups = []
     while True:
         groups.append(number & 127)
         number >>= 7
         if not number:
             break
-    while len(groups) < 9 and chance.random() < 0.1:
+    while len(groups) < most and chance.random() < 0.1:
         groups.append(0)
     return bytes([group | 128 for group in groups[:-1]] + [groups[-1]])
 
@@ -56,18 +57,20 @@ def content(chance, number, payload):
     return varint(chance, number << 3 | 2) + varint(chance, len(payload)) + payload
 
 
-def text(chance, most):
+def text(chance, most, broken=True):
     size = chance.randint(0, most)
-    if chance.random() < 0.05:
+    if broken and chance.random() < 0.05:
         return bytes(chance.randrange(256) for _ in range(size))
     return "".join(chance.choice("ab~\t.é€") for _ in range(size)).encode()
 
 
 def annotation(chance):
+    """Of its keys kmsrest judges the last alone, so only that may break UTF-8."""
+    numbers = [chance.choice((1, 2, 1, 2, 3)) for _ in range(chance.randint(0, 3))]
     parts = []
-    for _ in range(chance.randint(0, 3)):
-        number = chance.choice((1, 2, 1, 2, 3))
-        parts.append(content(chance, number, text(chance, 6)))
+    for place, number in enumerate(numbers):
+        broken = number != 1 or 1 not in numbers[place + 1 :]
+        parts.append(content(chance, number, text(chance, 6, broken)))
     return content(chance, 4, b"".join(parts))
 
 
@@ -82,12 +85,12 @@ def field(chance):
     if pick in (3, 4):
         return annotation(chance)
     if pick == 5:
-        return varint(chance, 5 << 3) + varint(chance, chance.choice((0, 1, 1, 2, 1 << 32, (1 << 32) + 1)))
+        return varint(chance, 5 << 3) + varint(chance, chance.choice((0, 1, 1, 2, 1 << 32, (1 << 32) + 1)), 9)
     number = chance.choice((1, 2, 3, 5, 6, 15, 16, 2047, 536870911))
     other = chance.choice((0, 1, 5)) if number < 5 else chance.choice((1, 5)) if number == 5 else chance.choice((0, 1, 2, 5))
     key = varint(chance, number << 3 | other)
     if other == 0:
-        return key + varint(chance, chance.getrandbits(chance.choice((7, 20, 63))))
+        return key + varint(chance, chance.getrandbits(chance.choice((7, 20, 63))), 9)
     if other == 2:
         return content(chance, number, text(chance, 10))
     return key + bytes(chance.randrange(256) for _ in range(8 if other == 1 else 4))

@@ -153,10 +153,12 @@ const K32: &str =
 
 const Z16: &str = r#"{"aesgcm":{"keys":[{"name":"g","secret":"AAAAAAAAAAAAAAAAAAAAAA=="}]}}"#;
 
-/// Words without their command: an object at a path, at another, and at the empty one.
-const HERE: &str = "--config|c.json|--resource|secrets|--path|/registry/secrets/d/s";
+/// Words of commands on an object at that path, and at the empty one.
+const DECRYPT: &str = "decrypt|--config|c.json|--resource|secrets|--path|/registry/secrets/d/s";
 
-const EMPTY: &str = "--config|c.json|--resource|secrets|--path|";
+const ENCRYPT_AT_NONE: &str = "encrypt|--config|c.json|--resource|secrets|--path|";
+
+const DECRYPT_AT_NONE: &str = "decrypt|--config|c.json|--resource|secrets|--path|";
 
 /// Bytes as a test writes them: a text, and behind a bar bytes in hex.
 fn bytes(alloc: Global, text: &str) -> Result<Bytes, NoMemory> {
@@ -180,192 +182,293 @@ fn bytes(alloc: Global, text: &str) -> Result<Bytes, NoMemory> {
 const HELLO: &str =
     "k8s:enc:aescbc:v1:key1:|68744e5f2b5e6d7c8392a1b0c7d6e5f469c4e0d86a7b0430d8cdb78070b4c55a";
 
-/// Sixteen zero bytes under zeros, as in the GCM specification's second test case.
-const ZEROS: &str =
+/// No data under the bytes 0 to 31, from another implementation.
+const EMPTY_UNDER_K32: &str =
+    "k8s:enc:aescbc:v1:key1:|10013223544576679889baabdccdfeef8ea2b7ca516745bfeafc49904b496089";
+
+/// Sixteen zero bytes, and as they are sealed under zeros: the GCM specification's second test case.
+const ZEROS: &str = "|00000000000000000000000000000000";
+
+const SEALED_ZEROS: &str =
     "k8s:enc:aesgcm:v1:g:|0000000000000000000000000388dace60b6a392f328c2b971b2fe78ab6e47d42cec13bdf53a67b21257bddf";
 
 /// `k8s:enc:x` under that key and an IV of zeros, by openssl.
 const LOOKS: &str =
     "k8s:enc:aescbc:v1:key1:|00000000000000000000000000000000f9528ad9d9301f4d1a31c2be36ca6835";
 
+/// The input of a command, and what its random source has.
+#[derive(Clone, Copy)]
+struct Given<'a> {
+    input: &'a str,
+    drawn: &'a str,
+}
+
+/// What a command leaves.
+#[derive(Clone, Copy)]
+struct Wanted<'a> {
+    output: &'a str,
+    line: &'a str,
+    status: u8,
+}
+
+fn on<'a>(input: &'a str, drawn: &'a str) -> Given<'a> {
+    Given { input, drawn }
+}
+
+fn leaving<'a>(output: &'a str, line: &'a str, status: u8) -> Wanted<'a> {
+    Wanted {
+        output,
+        line,
+        status,
+    }
+}
+
+fn is_wanted(alloc: Global, left: &Left, wanted: &Wanted<'_>) -> Result<bool, NoMemory> {
+    let output = bytes(alloc, wanted.output)?;
+    Ok(
+        left.output.as_slice() == output.as_slice()
+            && left.errors.as_slice() == wanted.line.as_bytes()
+            && left.status == wanted.status
+            && left.dice_is_back,
+    )
+}
+
+/// Whether a command on an object, with these two providers for secrets, leaves what is wanted.
+fn converts(
+    alloc: Global,
+    words: &str,
+    first: &str,
+    second: &str,
+    given: Given<'_>,
+    wanted: Wanted<'_>,
+) -> Result<bool, NoMemory> {
+    let Ok(config) = format!(in alloc;
+        "{}[\"secrets\"],\"providers\":[{},{}]}}]}}",
+        BEGIN, first, second
+    ) else {
+        return Err(NoMemory);
+    };
+    let input = bytes(alloc, given.input)?;
+    let drawn = bytes(alloc, given.drawn)?;
+    let call = Call {
+        words,
+        config: config.as_str(),
+        dice: Some(drawn.as_slice()),
+        ..plain(input.as_slice())
+    };
+    let left = left_by(alloc, &call)?;
+    is_wanted(alloc, &left, &wanted)
+}
+
+/// Whether `inspect` of the value leaves what is wanted.
+fn shows(alloc: Global, value: &str, wanted: Wanted<'_>) -> Result<bool, NoMemory> {
+    let value = bytes(alloc, value)?;
+    let call = Call {
+        words: "inspect",
+        ..plain(value.as_slice())
+    };
+    let left = left_by(alloc, &call)?;
+    is_wanted(alloc, &left, &wanted)
+}
+
 #[test]
-fn encrypts_and_decrypts(rt: HostRuntime) -> Result<(), Fail> {
+fn encrypts_by_each_provider(rt: HostRuntime) -> Result<(), Fail> {
     let alloc = rt.alloc();
-    let zeros = "|00000000000000000000000000000000";
-    // Command, words, the first provider and the second, input, what the random source has; output, line, status.
-    let cases: [(&str, &str, &str, &str, &str, &str, &str, &str, u8); 18] = [
-        (
-            "encrypt",
-            HERE,
+    assert!(rt;
+        converts(
+            alloc,
+            ENCRYPT,
             K16,
             BARE,
-            "hello",
-            "|68744e5f2b5e6d7c8392a1b0c7d6e5f4",
-            HELLO,
-            "",
-            0,
-        ),
-        ("decrypt", HERE, K16, BARE, HELLO, "", "hello", "fresh\n", 0),
-        ("decrypt", HERE, BARE, K16, HELLO, "", "hello", "stale\n", 0),
-        (
-            "decrypt",
-            HERE,
-            BARE,
-            Z16,
-            HELLO,
-            "",
-            "",
-            "kmsrest: refused 12 NoProvider\n",
-            1,
-        ),
-        (
-            "encrypt",
-            HERE,
+            on("hello", "|68744e5f2b5e6d7c8392a1b0c7d6e5f4"),
+            leaving(HELLO, "", 0)
+        )?
+    );
+    assert!(rt;
+        converts(
+            alloc,
+            ENCRYPT,
             K32,
             BARE,
-            "",
-            "|10013223544576679889baabdccdfeef",
-            "k8s:enc:aescbc:v1:key1:|10013223544576679889baabdccdfeef8ea2b7ca516745bfeafc49904b496089",
-            "",
-            0,
-        ),
-        (
-            "encrypt",
-            EMPTY,
-            Z16,
-            BARE,
-            zeros,
-            "|000000000000000000000000",
-            ZEROS,
-            "",
-            0,
-        ),
-        ("decrypt", EMPTY, Z16, BARE, ZEROS, "", zeros, "fresh\n", 0),
-        (
-            "decrypt",
-            HERE,
-            Z16,
-            BARE,
-            ZEROS,
-            "",
-            "",
-            "kmsrest: refused 4 BadTag\n",
-            1,
-        ),
-        (
-            "decrypt",
-            HERE,
-            K16,
-            BARE,
-            "k8s:enc:aescbc:v1:key1:|68744e5f2b5e6d7c8392a1b0c7d6e5f4",
-            "",
-            "",
-            "kmsrest: refused 1 Short\n",
-            1,
-        ),
-        (
-            "decrypt",
-            HERE,
-            K16,
-            BARE,
-            "k8s:enc:aescbc:v1:key1:|68744e5f2b5e6d7c8392a1b0c7d6e5f469c4e0d86a7b0430d8cdb78070b4c5",
-            "",
-            "",
-            "kmsrest: refused 2 BadBlock\n",
-            1,
-        ),
-        (
-            "decrypt",
-            HERE,
-            K16,
-            BARE,
-            "k8s:enc:aescbc:v1:key1:|00112233445566778899aabbccddeeff69c4e0d86a7b0430d8cdb78070b4c55a",
-            "",
-            "",
-            "kmsrest: refused 3 BadPadding\n",
-            1,
-        ),
-        (
-            "decrypt",
-            HERE,
-            K16,
-            BARE,
-            "k8s:enc:aescbc:v1:key1:|00112233445566778899aabbccddedfd69c4e0d86a7b0430d8cdb78070b4c55a",
-            "",
-            "",
-            "kmsrest: refused 3 BadPadding\n",
-            1,
-        ),
-        ("encrypt", HERE, BARE, K16, "", "", "", "", 0),
-        ("encrypt", HERE, BARE, K16, "k8s|00", "", "k8s|00", "", 0),
-        (
-            "encrypt",
-            HERE,
-            BARE,
-            K16,
-            "k8s:enc:x",
-            "",
-            "",
-            "kmsrest: refused 13 LooksEncrypted\n",
-            1,
-        ),
-        (
-            "decrypt",
-            HERE,
-            BARE,
-            K16,
-            "k8s:enc:x",
-            "",
-            "",
-            "kmsrest: refused 12 NoProvider\n",
-            1,
-        ),
-        (
-            "encrypt",
-            HERE,
-            K16,
-            BARE,
-            "k8s:enc:x",
-            "|00000000000000000000000000000000",
-            LOOKS,
-            "",
-            0,
-        ),
-        (
-            "decrypt",
-            HERE,
-            K16,
-            BARE,
-            LOOKS,
-            "",
-            "k8s:enc:x",
-            "fresh\n",
-            0,
-        ),
-    ];
-    for (command, words, first, second, input, drawn, output, line, status) in cases {
-        let config = format!(in alloc;
-            "{}[\"secrets\"],\"providers\":[{},{}]}}]}}",
-            BEGIN, first, second
-        )?;
-        let words = format!(in alloc; "{}|{}", command, words)?;
-        let input = bytes(alloc, input)?;
-        let drawn = bytes(alloc, drawn)?;
-        let left = left_by(
+            on("", "|10013223544576679889baabdccdfeef"),
+            leaving(EMPTY_UNDER_K32, "", 0)
+        )?
+    );
+    assert!(rt;
+        converts(
             alloc,
-            &Call {
-                words: words.as_str(),
-                config: config.as_str(),
-                dice: Some(drawn.as_slice()),
-                ..plain(input.as_slice())
-            },
-        )?;
-        let output = bytes(alloc, output)?;
-        assert_eq!(rt; left.output.as_slice(), output.as_slice());
-        assert_eq!(rt; left.errors.as_slice(), line.as_bytes());
-        assert_eq!(rt; left.status, status);
-        assert!(rt; left.dice_is_back);
-    }
+            ENCRYPT_AT_NONE,
+            Z16,
+            BARE,
+            on(ZEROS, "|000000000000000000000000"),
+            leaving(SEALED_ZEROS, "", 0)
+        )?
+    );
+    assert!(rt; converts(alloc, ENCRYPT, BARE, K16, on("", ""), leaving("", "", 0))?);
+    assert!(rt;
+        converts(
+            alloc,
+            ENCRYPT,
+            BARE,
+            K16,
+            on("k8s|00", ""),
+            leaving("k8s|00", "", 0)
+        )?
+    );
+    assert!(rt;
+        converts(
+            alloc,
+            ENCRYPT,
+            BARE,
+            K16,
+            on("k8s:enc:x", ""),
+            leaving("", "kmsrest: refused 13 LooksEncrypted\n", 1)
+        )?
+    );
+    assert!(rt;
+        converts(
+            alloc,
+            ENCRYPT,
+            K16,
+            BARE,
+            on("k8s:enc:x", "|00000000000000000000000000000000"),
+            leaving(LOOKS, "", 0)
+        )?
+    );
+    Ok(())
+}
+
+#[test]
+fn decrypts_by_each_provider(rt: HostRuntime) -> Result<(), Fail> {
+    let alloc = rt.alloc();
+    assert!(rt;
+        converts(
+            alloc,
+            DECRYPT,
+            K16,
+            BARE,
+            on(HELLO, ""),
+            leaving("hello", "fresh\n", 0)
+        )?
+    );
+    assert!(rt;
+        converts(
+            alloc,
+            DECRYPT,
+            BARE,
+            K16,
+            on(HELLO, ""),
+            leaving("hello", "stale\n", 0)
+        )?
+    );
+    assert!(rt;
+        converts(
+            alloc,
+            DECRYPT_AT_NONE,
+            Z16,
+            BARE,
+            on(SEALED_ZEROS, ""),
+            leaving(ZEROS, "fresh\n", 0)
+        )?
+    );
+    assert!(rt;
+        converts(
+            alloc,
+            DECRYPT,
+            K16,
+            BARE,
+            on(LOOKS, ""),
+            leaving("k8s:enc:x", "fresh\n", 0)
+        )?
+    );
+    Ok(())
+}
+
+#[test]
+fn refuses_values(rt: HostRuntime) -> Result<(), Fail> {
+    let alloc = rt.alloc();
+    assert!(rt;
+        converts(
+            alloc,
+            DECRYPT,
+            BARE,
+            Z16,
+            on(HELLO, ""),
+            leaving("", "kmsrest: refused 12 NoProvider\n", 1)
+        )?
+    );
+    assert!(rt;
+        converts(
+            alloc,
+            DECRYPT,
+            BARE,
+            K16,
+            on("k8s:enc:x", ""),
+            leaving("", "kmsrest: refused 12 NoProvider\n", 1)
+        )?
+    );
+    assert!(rt;
+        converts(
+            alloc,
+            DECRYPT,
+            Z16,
+            BARE,
+            on(SEALED_ZEROS, ""),
+            leaving("", "kmsrest: refused 4 BadTag\n", 1)
+        )?
+    );
+    assert!(rt;
+        converts(
+            alloc,
+            DECRYPT,
+            K16,
+            BARE,
+            on(
+                "k8s:enc:aescbc:v1:key1:|68744e5f2b5e6d7c8392a1b0c7d6e5f4",
+                ""
+            ),
+            leaving("", "kmsrest: refused 1 Short\n", 1)
+        )?
+    );
+    assert!(rt;
+        converts(
+            alloc,
+            DECRYPT,
+            K16,
+            BARE,
+            on(
+                "k8s:enc:aescbc:v1:key1:|68744e5f2b5e6d7c8392a1b0c7d6e5f469c4e0d86a7b0430d8cdb78070b4c5",
+                ""
+            ),
+            leaving("", "kmsrest: refused 2 BadBlock\n", 1)
+        )?
+    );
+    assert!(rt;
+        converts(
+            alloc,
+            DECRYPT,
+            K16,
+            BARE,
+            on(
+                "k8s:enc:aescbc:v1:key1:|00112233445566778899aabbccddeeff69c4e0d86a7b0430d8cdb78070b4c55a",
+                ""
+            ),
+            leaving("", "kmsrest: refused 3 BadPadding\n", 1)
+        )?
+    );
+    assert!(rt;
+        converts(
+            alloc,
+            DECRYPT,
+            K16,
+            BARE,
+            on(
+                "k8s:enc:aescbc:v1:key1:|00112233445566778899aabbccddedfd69c4e0d86a7b0430d8cdb78070b4c55a",
+                ""
+            ),
+            leaving("", "kmsrest: refused 3 BadPadding\n", 1)
+        )?
+    );
     Ok(())
 }
 
@@ -433,106 +536,115 @@ fn shows_configurations(rt: HostRuntime) -> Result<(), Fail> {
 }
 
 #[test]
-fn inspects(rt: HostRuntime) -> Result<(), Fail> {
+fn inspects_prefixes(rt: HostRuntime) -> Result<(), Fail> {
     let alloc = rt.alloc();
-    // The value, the output, the line, the status.
-    let cases: [(&str, &str, &str, u8); 13] = [
-        ("", "plain 0\n", "", 0),
-        ("hello", "plain 5\n", "", 0),
-        ("k8s|00", "plain 4\n", "", 0),
-        (HELLO, "aescbc key1 32\n", "", 0),
-        (ZEROS, "aesgcm g 44\n", "", 0),
-        ("k8s:enc:", "", "kmsrest: refused 12 NoProvider\n", 1),
-        (
-            "k8s:enc:secretbox:v1:k:",
-            "",
-            "kmsrest: refused 12 NoProvider\n",
-            1,
-        ),
-        (
-            "k8s:enc:kms:v2:p:|0a02aabb12026b311a01cc22090a04612e696f1201012801",
-            "kms p 24\nkey-id k1\nsource 1\nannotation a.io 1\ntype 1\ndata 2\n",
-            "",
-            0,
-        ),
-        (
-            "k8s:enc:kms:v2:p:|28011201781a01cc30070a02aabb12026b31",
-            "kms p 18\nkey-id k1\nsource 1\ntype 1\ndata 2\n",
-            "",
-            0,
-        ),
-        (
-            "k8s:enc:kms:v2:p:|28011201781a01cc30070a02aabb12026b",
-            "",
-            "kmsrest: refused 5 Wire 14\n",
-            1,
-        ),
-        (
-            "k8s:enc:kms:v2:p:|0a02aabb1202c3281a01cc",
-            "",
-            "kmsrest: refused 11 NotUtf8 4\n",
-            1,
-        ),
-        ("k8s:enc:kms:v2:p:", "", "kmsrest: refused 10 NoData\n", 1),
-        (
-            "k8s:enc:kms:v2:p:|0a02aabb12040a7ec3a91a01cc",
-            "kms p 13\nkey-id ?~??\nsource 1\ntype 0\ndata 2\n",
-            "",
-            0,
-        ),
-    ];
-    for (value, output, line, status) in cases {
-        let value = bytes(alloc, value)?;
-        let left = left_by(
+    assert!(rt; shows(alloc, "", leaving("plain 0\n", "", 0))?);
+    assert!(rt; shows(alloc, "k8s|00", leaving("plain 4\n", "", 0))?);
+    assert!(rt; shows(alloc, HELLO, leaving("aescbc key1 32\n", "", 0))?);
+    assert!(rt; shows(alloc, SEALED_ZEROS, leaving("aesgcm g 44\n", "", 0))?);
+    assert!(rt;
+        shows(
             alloc,
-            &Call {
-                words: "inspect",
-                ..plain(value.as_slice())
-            },
-        )?;
-        assert_eq!(rt; left.output.as_slice(), output.as_bytes());
-        assert_eq!(rt; left.errors.as_slice(), line.as_bytes());
-        assert_eq!(rt; left.status, status);
-    }
+            "k8s:enc:",
+            leaving("", "kmsrest: refused 12 NoProvider\n", 1)
+        )?
+    );
+    assert!(rt;
+        shows(
+            alloc,
+            "k8s:enc:secretbox:v1:k:",
+            leaving("", "kmsrest: refused 12 NoProvider\n", 1)
+        )?
+    );
     Ok(())
 }
 
 #[test]
-fn limits_the_data(rt: HostRuntime) -> Result<(), Fail> {
-    let most = vec![in rt.alloc(); 7u8; 2_097_152]?;
-    let left = left_by(rt.alloc(), &plain(most.as_slice()))?;
-    assert_eq!(rt; left.status, 0);
-    assert_eq!(rt; left.output.as_slice(), most.as_slice());
-    let more = vec![in rt.alloc(); 7u8; 2_097_153]?;
-    let left = left_by(rt.alloc(), &plain(more.as_slice()))?;
-    assert_eq!(rt; left.status, 6);
+fn inspects_objects(rt: HostRuntime) -> Result<(), Fail> {
+    let alloc = rt.alloc();
+    assert!(rt;
+        shows(
+            alloc,
+            "k8s:enc:kms:v2:p:|0a02aabb12026b311a01cc22090a04612e696f1201012801",
+            leaving(
+                "kms p 24\nkey-id k1\nsource 1\nannotation a.io 1\ntype 1\ndata 2\n",
+                "",
+                0
+            )
+        )?
+    );
+    assert!(rt;
+        shows(
+            alloc,
+            "k8s:enc:kms:v2:p:|28011201781a01cc30070a02aabb12026b31",
+            leaving("kms p 18\nkey-id k1\nsource 1\ntype 1\ndata 2\n", "", 0)
+        )?
+    );
+    assert!(rt;
+        shows(
+            alloc,
+            "k8s:enc:kms:v2:p:|0a02aabb12040a7ec3a91a01cc",
+            leaving("kms p 13\nkey-id ?~??\nsource 1\ntype 0\ndata 2\n", "", 0)
+        )?
+    );
+    assert!(rt;
+        shows(
+            alloc,
+            "k8s:enc:kms:v2:p:|28011201781a01cc30070a02aabb12026b",
+            leaving("", "kmsrest: refused 5 Wire 14\n", 1)
+        )?
+    );
+    assert!(rt;
+        shows(
+            alloc,
+            "k8s:enc:kms:v2:p:|0a02aabb1202c3281a01cc",
+            leaving("", "kmsrest: refused 11 NotUtf8 4\n", 1)
+        )?
+    );
+    assert!(rt;
+        shows(
+            alloc,
+            "k8s:enc:kms:v2:p:",
+            leaving("", "kmsrest: refused 10 NoData\n", 1)
+        )?
+    );
+    Ok(())
+}
+
+/// What the words leave of so many bytes of input.
+fn left_of(alloc: Global, words: &str, size: usize) -> Result<Left, NoMemory> {
+    let Ok(input) = vec![in alloc; 7u8; size] else {
+        return Err(NoMemory);
+    };
+    let dice: Option<&[u8]> = Some(&[]);
+    let call = Call {
+        words,
+        dice,
+        ..plain(input.as_slice())
+    };
+    left_by(alloc, &call)
+}
+
+#[test]
+fn limits_the_input(rt: HostRuntime) -> Result<(), Fail> {
+    let alloc = rt.alloc();
+    let most = left_of(alloc, ENCRYPT, 2_097_152)?;
+    assert_eq!(rt; most.status, 0);
+    assert_eq!(rt; most.output.as_slice().len(), 2_097_152);
+    let more = left_of(alloc, ENCRYPT, 2_097_153)?;
+    assert_eq!(rt; more.status, 6);
     assert_eq!(rt;
-        left.errors.as_slice(),
+        more.errors.as_slice(),
         b"kmsrest: limit data 2097152\n".as_slice()
     );
-    assert_eq!(rt; left.output.as_slice(), b"".as_slice());
-    let words = "decrypt|--config|c.json|--resource|secrets|--path|";
-    let most = vec![in rt.alloc(); 7u8; 2_162_688]?;
-    let left = left_by(
-        rt.alloc(),
-        &Call {
-            words,
-            ..plain(most.as_slice())
-        },
-    )?;
-    assert_eq!(rt; left.status, 0);
-    assert_eq!(rt; left.output.as_slice(), most.as_slice());
-    let more = vec![in rt.alloc(); 7u8; 2_162_689]?;
-    let left = left_by(
-        rt.alloc(),
-        &Call {
-            words,
-            ..plain(more.as_slice())
-        },
-    )?;
-    assert_eq!(rt; left.status, 6);
+    assert_eq!(rt; more.output.as_slice().len(), 0);
+    let longest = left_of(alloc, DECRYPT, 2_162_688)?;
+    assert_eq!(rt; longest.status, 0);
+    assert_eq!(rt; longest.output.as_slice().len(), 2_162_688);
+    let longer = left_of(alloc, "inspect", 2_162_689)?;
+    assert_eq!(rt; longer.status, 6);
     assert_eq!(rt;
-        left.errors.as_slice(),
+        longer.errors.as_slice(),
         b"kmsrest: limit value 2162688\n".as_slice()
     );
     Ok(())

@@ -67,7 +67,7 @@ impl Index {
         }
     }
 
-    // The path's row is live from now on. `key` is the path.
+    /// The path's row is live from now on. `key` is the path.
     pub fn set_live(&mut self, key: String, revision: u64) -> Result<(), NoMemory>
         ensures ok { OnOk result (SetsLive self.old self.new (string_bytes key) (Some revision)) }
         ensures err { OnErr result (Same self.old self.new) }
@@ -79,12 +79,14 @@ impl Index {
         Ok(())
     }
 
+    /// The path has no live row any more.
     pub fn unset_live(&mut self, path: &str)
         ensures { SetsLive self.old self.new path.now None }
     {
         self.live.remove(path);
     }
 
+    /// The path's last row is the delete with this revision. `key` is the path.
     pub fn set_gone(&mut self, key: String, revision: u64) -> Result<(), NoMemory>
         ensures ok { OnOk result (SetsGone self.old self.new (string_bytes key) (Some revision)) }
         ensures err { OnErr result (Same self.old self.new) }
