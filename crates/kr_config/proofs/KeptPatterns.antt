@@ -1,6 +1,6 @@
 -- The patterns that a walk reads keep the rules.
-use Rattle.std.proofs.Common.{◌≡◌, ℕ, ◌+◌, ◌<◌, ◌≤◌, Bool, true, false, List, [], ◌∷◌, ◌++◌, length, Some, None, Ok, Err, refl, sym, ◌∙◌, ap, subst, Option, Result, arith, length-append, codes, ltb}
-use Rattle.std.specs.Prelude.{if◌then◌else◌, ◌&&◌, ◌||◌, ◌==◌, not, nat_lt}
+use Rattle.std.proofs.Common.{◌≡◌, ℕ, ◌+◌, ◌<◌, ◌≤◌, Bool, true, false, List, [], ◌∷◌, ◌++◌, length, Some, None, Ok, refl, sym, ◌∙◌, ap, subst, arith, length-append, codes}
+use Rattle.std.specs.Prelude.{if◌then◌else◌, ◌&&◌, ◌==◌, nat_lt}
 use Rattle.std.specs.List.{list_all, list_any, before_first}
 use Rattle.std.specs.Option.{option_map_or}
 use Rattle.std.specs.Str.{bytes_eq}
@@ -9,7 +9,6 @@ use Rattle.serde_json.specs.Find.{as_str}
 use Rattle.kr_base.specs.Rules.{is_resource}
 use Rattle.kr_config.specs.declared.pattern.Pattern.{Pattern}
 use Rattle.kr_config.specs.declared.pattern.Pattern.TheVariants.{Exact, Group, All}
-use Rattle.kr_config.specs.declared.refusal.ConfigNo.{ConfigNo}
 use Rattle.kr_config.specs.Patterns.{group_of, is_group, is_pattern, same, overlap, clash}
 use Rattle.kr_config.specs.Kept.{apart}
 use Rattle.kr_config.specs.Walk.{no, walk, pattern_of, star_pattern, place_pattern, pattern_step, next_number}

@@ -1,11 +1,9 @@
 -- The providers that a walk reads keep the rules.
-use Rattle.std.proofs.Common.{◌≡◌, ℕ, ◌+◌, ◌<◌, ◌≤◌, Bool, true, false, List, [], ◌∷◌, ◌++◌, length, Some, None, Ok, Err, refl, sym, ◌∙◌, ap, subst, Option, Result, arith, length-append, codes, zero-add}
-use Rattle.std.specs.Prelude.{if◌then◌else◌, ◌&&◌, ◌||◌, ◌==◌, not, nat_lt, count_by, is_some, option_and_then}
+use Rattle.std.proofs.Common.{◌≡◌, ℕ, ◌+◌, ◌<◌, ◌≤◌, Bool, true, false, List, [], ◌∷◌, ◌++◌, length, Some, None, Ok, refl, ◌∙◌, ap, subst, Option, arith, length-append, codes, zero-add}
+use Rattle.std.specs.Prelude.{if◌then◌else◌, ◌||◌, ◌==◌, nat_lt, count_by, is_some, option_and_then}
 use Rattle.std.specs.List.{list_all, list_any}
 use Rattle.std.specs.Option.{option_map_or}
 use Rattle.std.specs.Result.{result_ok}
-use Rattle.std.specs.Str.{bytes_eq}
-use Rattle.std.proofs.lemmas.Grind.{common_steps}
 use Rattle.std.proofs.lemmas.List.Sums.{sum_by-append}
 use Rattle.serde_json.specs.Data.{Data}
 use Rattle.serde_json.specs.Find.{get, as_null, as_array}
@@ -13,8 +11,7 @@ use Rattle.base64.specs.Engines.{standard}
 use Rattle.base64.specs.GeneralPurpose.{decode_of}
 use Rattle.kr_base.specs.Rules.{is_name}
 use Rattle.kr_config.specs.declared.who.Who.{Who}
-use Rattle.kr_config.specs.declared.who.Who.TheVariants.{Identity, Aescbc, Aesgcm, Kms}
-use Rattle.kr_config.specs.declared.refusal.ConfigNo.{ConfigNo}
+use Rattle.kr_config.specs.declared.who.Who.TheVariants.{Identity, Kms}
 use Rattle.kr_config.specs.declared.provider.Cipher.{Cipher}
 use Rattle.kr_config.specs.declared.provider.Cipher.TheVariants as cipher
 use Rattle.kr_config.specs.Providers.{is_secret, is_provider, is_key, is_kms, rivals}

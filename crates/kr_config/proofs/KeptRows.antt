@@ -1,25 +1,15 @@
 -- The entries that a walk reads keep the rules.
-use Rattle.std.proofs.Common.{◌≡◌, ℕ, ◌+◌, ◌<◌, ◌≤◌, Bool, true, false, List, [], ◌∷◌, ◌++◌, length, get_or, drop, map, Some, None, Ok, Err, refl, sym, ◌∙◌, ap, subst, Option, Result, arith, length-append, codes, IsTrue}
-use Rattle.std.specs.Prelude.{if◌then◌else◌, ◌&&◌, ◌||◌, ◌==◌, nat_lt, nat_le, count_by}
-use Rattle.std.specs.List.{list_all, list_any, sum_by}
-use Rattle.std.specs.Option.{option_map_or}
+use Rattle.std.proofs.Common.{◌≡◌, ℕ, ◌+◌, ◌≤◌, Bool, true, List, [], ◌∷◌, ◌++◌, length, Ok, refl, subst, arith, length-append, codes}
+use Rattle.std.specs.Prelude.{if◌then◌else◌, ◌&&◌, nat_le, count_by}
+use Rattle.std.specs.List.{list_all, sum_by}
 use Rattle.std.proofs.lemmas.List.Sums.{sum_by-append}
 use Rattle.serde_json.specs.Data.{Data}
-use Rattle.serde_json.specs.View.{view}
-use Rattle.serde_json.specs.Read.{read}
-use Rattle.serde_json.specs.declared.value.Value.{Value}
-use Rattle.kr_config.specs.declared.pattern.Pattern.{Pattern}
-use Rattle.kr_config.specs.declared.who.Who.{Who}
-use Rattle.kr_config.specs.declared.settings.Entry.{Entry}
-use Rattle.kr_config.specs.declared.refusal.ConfigNo.{ConfigNo}
-use Rattle.kr_config.specs.Patterns.{is_pattern, clash}
-use Rattle.kr_config.specs.Providers.{is_provider, is_key, is_kms, rivals}
-use Rattle.kr_config.specs.Kept.{Row, row_of, rows_of, apart, keeps_patterns, keeps_providers, keeps_row, patterns_in, keys_in, kms_in, keeps}
-use Rattle.kr_config.specs.Walk.{no, next, walk, next_number, is_mapping, has_text, named_list, pattern_step, element_step, entry_of, entry_step, config_in, text_rows}
-use Rattle.kr_config.proofs.Inversions.{same_ok, next_ok, if_ok, if_not, some_ok, both, all_push, walk_keeps}
-use Rattle.kr_config.proofs.KeptPatterns.{Patterns, patterns_kept}
-use Rattle.kr_config.proofs.KeptProviders.{Providers, providers_kept, named_some}
-use Rattle.kr_config.proofs.Trees.{walk_more, walk_stops}
+use Rattle.kr_config.specs.Providers.{is_key, is_kms}
+use Rattle.kr_config.specs.Kept.{Row, keeps_patterns, keeps_providers, keeps_row, patterns_in, keys_in, kms_in, keeps}
+use Rattle.kr_config.specs.Walk.{no, next, walk, next_number, is_mapping, has_text, named_list, pattern_step, element_step, entry_of, entry_step, config_in}
+use Rattle.kr_config.proofs.Inversions.{same_ok, next_ok, if_ok, both, all_push}
+use Rattle.kr_config.proofs.KeptPatterns.{patterns_kept}
+use Rattle.kr_config.proofs.KeptProviders.{providers_kept, named_some}
 
 le_true : (a b : ℕ) → a ≤ b → nat_le a b ≡ true
 le_true a b h = grind arith
@@ -109,9 +99,3 @@ config_kept d rows h =
   where
     whole : (rows : List Row) (ds : List Data) → KeptRows rows → length rows ≡ 0 + length ds → (length ds ≡ 0 → ⊥) → length ds ≤ 64 → keeps rows ≡ true
     whole rows ds k long some most = all_kept rows k (omega (arith, some)) (omega arith)
-
-pub text_kept : (text : List ℕ) (rows : List Row) → text_rows text ≡ Ok rows → keeps rows ≡ true
-unfolding text_rows
-text_kept text rows h =
-    let a = some_ok (read text) config_in _ rows h in
-    config_kept a.0 rows a.2

@@ -8,4 +8,5 @@ pub mod KeptPatterns
 pub mod KeptProviders
 pub mod KeptRows
 pub mod EntryLoop
-pub mod WholeFiles
+pub mod Conversions
+pub mod Meant

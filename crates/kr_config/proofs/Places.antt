@@ -1,5 +1,5 @@
 -- What a search for a class finds.
-use Rattle.std.proofs.Common.{◌≡◌, ℕ, ◌+◌, ◌<◌, ◌≤◌, Bool, true, false, List, [], ◌∷◌, length, get_or, take, refl, sym, ◌∙◌, ap, subst, arith, Some, None}
+use Rattle.std.proofs.Common.{◌≡◌, ℕ, ◌<◌, ◌≤◌, Bool, true, false, List, length, get_or, take, refl, sym, ◌∙◌, ap, subst, Some}
 use Rattle.std.specs.List.{list_any}
 use Rattle.std.proofs.lemmas.List.{take_all, get_or_default}
 use Rattle.std.proofs.lemmas.List.Folds.{list_any_at}

@@ -1,5 +1,5 @@
 -- The items of a list of values.
-use Rattle.std.proofs.Common.{◌≡◌, List, [], ◌∷◌, refl, ap, map, ◌∙◌, ◌==◌, length, ℕ, ◌+◌, ◌<◌, ◌≤◌, get_or, drop, suc, add-one, sym, drop-cons, Ok, Err, Some, Bool, true, false, eqb, arith}
+use Rattle.std.proofs.Common.{◌≡◌, List, [], ◌∷◌, refl, ap, map, ◌∙◌, ◌==◌, length, ℕ, ◌+◌, ◌<◌, ◌≤◌, get_or, drop, suc, add-one, sym, drop-cons, Ok, Err, Some, false, arith}
 use Rattle.serde_json.specs.Data.{Data}
 use Rattle.serde_json.specs.View.{view, items_of, items_view}
 use Rattle.serde_json.specs.declared.value.Value.{Value}

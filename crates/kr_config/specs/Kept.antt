@@ -1,5 +1,5 @@
 -- What settings keep.
-use Rattle.std.specs.Prelude.{ℕ, ◌&&◌, Bool, true, false, not, List, [], ◌∷◌, length, nat_le, map, count_by}
+use Rattle.std.specs.Prelude.{ℕ, ◌&&◌, Bool, true, not, List, [], ◌∷◌, length, nat_le, map, count_by}
 use Rattle.std.specs.List.{list_all, sum_by}
 use Rattle.kr_config.specs.declared.pattern.Pattern.{Pattern}
 use Rattle.kr_config.specs.declared.who.Who.{Who}

@@ -4,4 +4,6 @@ pub mod Kept
 pub mod Lists
 pub mod Classes
 pub mod Walk
+pub mod Yaml
+pub mod Meanings
 pub mod Reads

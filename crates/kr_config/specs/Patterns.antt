@@ -1,5 +1,5 @@
 -- Patterns of resources: their texts, what they match, and when two of them clash.
-use Rattle.std.specs.Prelude.{ℕ, ◌+◌, ◌==◌, ◌&&◌, ◌||◌, Bool, true, false, List, [], length, nat_le}
+use Rattle.std.specs.Prelude.{ℕ, ◌+◌, ◌==◌, ◌&&◌, ◌||◌, Bool, true, false, List, length, nat_le}
 use Rattle.std.specs.List.{after_first}
 use Rattle.std.specs.Str.{bytes_eq}
 use Rattle.kr_base.specs.Rules.{is_resource}

@@ -2,6 +2,10 @@
 use Rattle.std.specs.Prelude.{◌≡◌, IsOk, ℕ, ⊤, List, Option, None, Some, Result, Ok, Err, map}
 use denote.Ref.{Bor}
 use Rattle.serde_json.specs.Data.{Data}
+use Rattle.kr_yaml.specs.Data as yaml
+use Rattle.kr_yaml.specs.declared.yaml_no.YamlNo.{YamlNo}
+use Rattle.kr_yaml.specs.declared.yaml_no.YamlNo.TheVariants as yaml_no
+use Rattle.kr_config.specs.Yaml.{json_of, IsNumbered, TreeOf}
 use Rattle.serde_json.specs.View.{view}
 use Rattle.serde_json.specs.declared.value.Value.{Value}
 use Rattle.kr_config.specs.declared.refusal.ConfigNo.{ConfigNo}
@@ -19,11 +23,27 @@ Reads wanted (Ok x) = wanted ≡ Ok x
 Reads wanted (Err (No why)) = wanted ≡ Err why
 Reads wanted (Err NoMemory) = ⊤
 
--- the settings of these entries
-abbrev pub ReadsSettings : Result (List Row) ConfigNo → Result Settings ConfigErr → Type 0
-ReadsSettings wanted (Ok settings) = wanted ≡ Ok (rows_of settings.entries.0)
-ReadsSettings wanted (Err (No why)) = wanted ≡ Err why
-ReadsSettings wanted (Err NoMemory) = ⊤
+-- the settings of entries that are meant, or the breach
+abbrev pub ReadsSettings : (Result (List Row) ConfigNo → Type 0) → Result Settings ConfigErr → Type 0
+ReadsSettings Meant (Ok settings) = Meant (Ok (rows_of settings.entries.0))
+ReadsSettings Meant (Err (No why)) = Meant (Err why)
+ReadsSettings Meant (Err NoMemory) = ⊤
+
+abbrev pub ReadsMeant : (Result (List Row) ConfigNo → Type 0) → Result (List Entry × ℕ) ConfigErr → Type 0
+ReadsMeant Meant (Ok entries) = Meant (Ok (rows_of entries.0))
+ReadsMeant Meant (Err (No why)) = Meant (Err why)
+ReadsMeant Meant (Err NoMemory) = ⊤
+
+-- a breach of the YAML profile as the configuration's
+abbrev pub Numbers : YamlNo → ConfigErr → Type 0
+Numbers breach (No why) = IsNumbered breach why
+Numbers breach NoMemory = breach ≡ yaml_no.NoMemory
+
+-- the tree of a text in YAML, as a value, or the breach
+abbrev pub ReadsYaml : List ℕ → Result Value ConfigErr → Type 0
+ReadsYaml text (Ok value) = (d : yaml.Data) × TreeOf text (Ok d) × (view value ≡ json_of d)
+ReadsYaml text (Err (No why)) = TreeOf text (Err why)
+ReadsYaml text (Err NoMemory) = ⊤
 
 -- a list that the call went on with is now the one that is meant
 abbrev pub ReadsInto : {T U : Type 0} → Result (List T) ConfigNo → List T → Result U ConfigErr → Type 0

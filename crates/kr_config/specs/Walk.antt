@@ -1,12 +1,11 @@
 -- The walk over a configuration's tree. Its first breach decides, with its code and two numbers: of an entry, and of the
 -- pattern or provider element in it, each from 0.
-use Rattle.std.specs.Prelude.{ℕ, ◌+◌, ◌-◌, ◌^◌, min, ◌==◌, ◌&&◌, ◌||◌, not, nat_lt, nat_le, Bool, true, false, List, [], ◌∷◌, ◌++◌, length, take, count_by, codes, Option, None, Some, Result, Ok, Err, if◌then◌else◌, option_and_then, is_some}
+use Rattle.std.specs.Prelude.{ℕ, ◌+◌, ◌-◌, ◌^◌, min, ◌==◌, ◌&&◌, ◌||◌, nat_lt, nat_le, Bool, true, false, List, [], ◌∷◌, ◌++◌, length, take, count_by, codes, Option, None, Some, Result, Ok, Err, if◌then◌else◌, option_and_then, is_some}
 use Rattle.std.specs.List.{list_any, before_first}
 use Rattle.std.specs.Option.{option_map_or}
 use Rattle.std.specs.Result.{result_ok}
-use Rattle.std.specs.Str.{bytes_eq, is_utf8}
+use Rattle.std.specs.Str.{bytes_eq}
 use Rattle.serde_json.specs.Data.{Data, Items, no_items, item}
-use Rattle.serde_json.specs.Read as json
 use Rattle.serde_json.specs.Find.{get, as_null, as_str, as_array, as_object}
 use Rattle.base64.specs.Engines.{standard}
 use Rattle.base64.specs.GeneralPurpose.{decode_of}
@@ -176,19 +175,3 @@ config_in d = if is_mapping d
     else no 24 0 0)
     else no 23 0 0)
     else no 22 0 0
-
--- the first byte other than space, tab, CR and LF is `{`
-abbrev pub is_blank : ℕ → Bool
-is_blank byte = (byte == 0x20) || (byte == 0x09) || (byte == 0x0D) || (byte == 0x0A)
-
-abbrev pub begins_json : List ℕ → Bool
-begins_json [] = false
-begins_json (byte ∷ bytes) = if is_blank byte then begins_json bytes else (byte == 0x7B)
-
--- what a text means: JSON, and then the walk over its tree
-unfoldable pub text_rows : List ℕ → Result (List Row) ConfigNo
-text_rows text = option_map_or config_in (json.read text) (no 20 0 0)
-
--- what a configuration's bytes mean: its entries, or the first breach
-unfoldable pub rows_in : List ℕ → Result (List Row) ConfigNo
-rows_in bytes = if begins_json bytes then (if is_utf8 bytes then text_rows bytes else no 20 0 0) else no 21 0 6

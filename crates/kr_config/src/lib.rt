@@ -15,6 +15,7 @@ mod settings;
 mod tests;
 mod tree;
 mod who;
+mod yaml;
 
 pub use class::Class;
 pub use class_table::ClassTable;

@@ -2,42 +2,35 @@ ghost use Rattle.std.specs.Prelude.{◌≡◌, count_by, map, []};
 ghost use Rattle.serde_json.specs.View.{view};
 ghost use Rattle.serde_json.specs.Read.{read};
 ghost use Rattle.kr_config.specs.Providers.{is_key, is_kms};
-ghost use Rattle.kr_config.specs.Walk.{walk, entry_step, config_in, begins_json, is_blank, text_rows, rows_in};
-ghost use Rattle.kr_config.specs.Reads.{ReadsEntries, ReadsSettings, ReadsJson};
+ghost use Rattle.kr_config.specs.Walk.{walk, entry_step, config_in};
+ghost use Rattle.kr_config.specs.Meanings.{begins_json, is_blank, json_rows, MeansYaml, TextMeans, no_text, Means};
+ghost use Rattle.kr_config.specs.Reads.{ReadsEntries, ReadsMeant, ReadsSettings, ReadsJson};
 
 use crate::read_entry::read_entry;
 use crate::refusal::{ConfigErr, ConfigNo};
 use crate::settings::{Entry, Settings};
 use crate::tree::{has_text, is_mapping, named_list};
 use crate::who::Who;
+use crate::yaml::read_yaml;
 use kr_base::List;
 use serde_json::Value;
 use serde_json::error::Category;
 use std::alloc::Global;
 use std::str;
 
-/// Reads a configuration in JSON. Its walk goes over the whole, the entries in order, and in each the patterns and then
-/// the provider elements; the first breach decides. Members that no rule names are ignored.
-#[tactic(auto, unfolding(crate::specs::Walk::rows_in), using(crate::proofs::KeptRows::text_kept))]
+/// Reads a configuration, in JSON where its first byte other than space, tab, CR and LF is `{`, and else in YAML. Its walk
+/// goes over the whole, the entries in order, and in each the patterns and then the provider elements; the first breach
+/// decides. Members that no rule names are ignored.
+#[tactic(auto, using(crate::proofs::Meant::text_kept))]
 pub fn read(alloc: Global, bytes: &[u8]) -> Result<Settings, ConfigErr>
-    ensures { ReadsSettings (rows_in bytes.now) result }
+    ensures { ReadsSettings (Means bytes.now) result }
 {
-    if !begins_json(bytes) {
-        return Err(ConfigErr::No(ConfigNo {
-            code: 21,
-            first: 0,
-            second: 6,
-        }));
-    }
+    let is_json = begins_json(bytes);
     let text = match str::from_utf8(bytes) {
         Ok(text) => text,
-        Err(_) => return Err(ConfigErr::No(ConfigNo {
-            code: 20,
-            first: 0,
-            second: 0,
-        })),
+        Err(_) => return Err(ConfigErr::No(no_text(is_json))),
     };
-    let entries = match read_text(alloc, text) {
+    let entries = match read_text(alloc, is_json, text) {
         Ok(entries) => entries,
         Err(why) => return Err(why),
     };
@@ -47,10 +40,38 @@ pub fn read(alloc: Global, bytes: &[u8]) -> Result<Settings, ConfigErr>
     }
 }
 
+/// The breach of bytes that aren't UTF-8.
+fn no_text(is_json: bool) -> ConfigNo
+    ensures { result ≡ no_text is_json }
+{
+    if is_json {
+        return ConfigNo {
+            code: 20,
+            first: 0,
+            second: 0,
+        };
+    }
+    ConfigNo {
+        code: 21,
+        first: 0,
+        second: 5,
+    }
+}
+
+/// Reads a text in JSON or in YAML.
+fn read_text(alloc: Global, is_json: bool, text: &str) -> Result<List<Entry>, ConfigErr>
+    ensures { ReadsMeant (TextMeans is_json text.now) result }
+{
+    if is_json {
+        return read_json_text(alloc, text);
+    }
+    read_yaml_text(alloc, text)
+}
+
 /// Reads a text in JSON.
-#[tactic(auto, unfolding(crate::specs::Walk::text_rows))]
-fn read_text(alloc: Global, text: &str) -> Result<List<Entry>, ConfigErr>
-    ensures { ReadsEntries (text_rows text.now) result }
+#[tactic(auto, unfolding(crate::specs::Meanings::json_rows))]
+fn read_json_text(alloc: Global, text: &str) -> Result<List<Entry>, ConfigErr>
+    ensures { ReadsEntries (json_rows text.now) result }
 {
     match read_json(alloc, text) {
         Ok(value) => read_config(alloc, &value),
@@ -60,6 +81,16 @@ fn read_text(alloc: Global, text: &str) -> Result<List<Entry>, ConfigErr>
             second: 0,
         })),
         Err(JsonNo::NoMemory) => Err(ConfigErr::NoMemory),
+    }
+}
+
+/// Reads a text in YAML.
+fn read_yaml_text(alloc: Global, text: &str) -> Result<List<Entry>, ConfigErr>
+    ensures { ReadsMeant (MeansYaml text.now) result }
+{
+    match read_yaml(alloc, text) {
+        Ok(value) => read_config(alloc, &value),
+        Err(why) => Err(why),
     }
 }
 

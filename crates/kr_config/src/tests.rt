@@ -23,11 +23,21 @@ fn config(alloc: Global, entries: &str) -> Result<String, AllocError> {
 }
 
 /// Whole files, and what each is read as.
-const FILES: [(&str, &str); 12] = [
-    ("", "21 0 6"),
-    (" \t\r\n", "21 0 6"),
-    ("apiVersion: v1", "21 0 6"),
-    ("[]", "21 0 6"),
+const FILES: [(&str, &str); 19] = [
+    ("", "22 0 0"),
+    (" \t\r\n", "21 1 1"),
+    ("[]", "22 0 0"),
+    ("apiVersion: v1", "23 0 0"),
+    ("\r\n \t{}", "23 0 0"),
+    ("kind: a\nkind: b", "21 2 3"),
+    ("kind: a\n  b: c\nd\n", "21 2 2"),
+    ("kind: {}\n- a\n\n |\n", "21 4 1"),
+    ("- - - - - - - - - - - - - - - - a", "22 0 0"),
+    ("\n- - - - - - - - - - - - - - - - - a", "21 2 4"),
+    (
+        "apiVersion: apiserver.config.k8s.io/v1\nkind: EncryptionConfiguration\nresources:\n- resources: [a, '*.apps']\n  providers:\n  - identity:\n",
+        "read",
+    ),
     ("{", "20 0 0"),
     ("{\"apiVersion\":1,}", "20 0 0"),
     ("{}", "23 0 0"),
@@ -58,6 +68,8 @@ fn tells_files_apart(rt: HostRuntime) -> Result<(), Fail> {
     }
     let answer = read(rt.alloc(), b"{\"\xff\"}");
     assert_eq!(rt; shown(rt.alloc(), &answer)?.as_str(), "20 0 0", "not UTF-8");
+    let answer = read(rt.alloc(), b"kind: \xff");
+    assert_eq!(rt; shown(rt.alloc(), &answer)?.as_str(), "21 0 5", "not UTF-8");
     Ok(())
 }
 

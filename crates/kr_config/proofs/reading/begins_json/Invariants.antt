@@ -1,5 +1,5 @@
 use Rattle.std.proofs.Common.{◌≡◌, drop}
-use Rattle.kr_config.specs.Walk.{begins_json}
+use Rattle.kr_config.specs.Meanings.{begins_json}
 use Rattle.kr_config.proofs.reading.begins_json.Given as goal
 
 abbrev pub invariant-loop-byte : goal.invariant-loop-byte

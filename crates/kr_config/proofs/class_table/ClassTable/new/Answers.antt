@@ -1,4 +1,4 @@
-use Rattle.std.proofs.Common.{◌≡◌, sym, subst, [], rules}
+use Rattle.std.proofs.Common.{◌≡◌, sym, subst, []}
 use Rattle.kr_config.specs.Classes.{IsTableOf, or_rest}
 use Rattle.kr_config.proofs.ClassTables.{table_new}
 use Rattle.kr_config.proofs.class_table.ClassTable.new.Goals as goal

@@ -1,0 +1,43 @@
+-- What the bytes of a configuration mean: its entries, or the first breach.
+use Rattle.std.specs.Prelude.{◌≡◌, ℕ, ◌==◌, ◌||◌, Bool, true, false, List, [], ◌∷◌, Result, Err, if◌then◌else◌}
+use Rattle.std.specs.Option.{option_map_or}
+use Rattle.std.specs.Str.{is_utf8}
+use Rattle.serde_json.specs.Read.{read}
+use Rattle.kr_yaml.specs.Data.{Data}
+use Rattle.kr_config.specs.declared.refusal.ConfigNo.{ConfigNo}
+use Rattle.kr_config.specs.Kept.{Row}
+use Rattle.kr_config.specs.Walk.{no, next, config_in}
+use Rattle.kr_config.specs.Yaml.{json_of, TreeOf}
+
+-- the first byte other than space, tab, CR and LF is `{`
+abbrev pub is_blank : ℕ → Bool
+is_blank byte = (byte == 0x20) || (byte == 0x09) || (byte == 0x0D) || (byte == 0x0A)
+
+abbrev pub begins_json : List ℕ → Bool
+begins_json [] = false
+begins_json (byte ∷ bytes) = if is_blank byte then begins_json bytes else (byte == 0x7B)
+
+-- a text in JSON, and then the walk over its tree
+unfoldable pub json_rows : List ℕ → Result (List Row) ConfigNo
+json_rows text = option_map_or config_in (read text) (no 20 0 0)
+
+-- a text in YAML, and then the same walk over its tree
+abbrev pub MeansYaml : List ℕ → Result (List Row) ConfigNo → Type 0
+MeansYaml text rows = (tree : Result Data ConfigNo) × TreeOf text tree × (next tree (λ d. config_in (json_of d)) ≡ rows)
+
+-- a text that begins as JSON is JSON, and any other YAML
+abbrev pub TextMeans : Bool → List ℕ → Result (List Row) ConfigNo → Type 0
+TextMeans true text rows = json_rows text ≡ rows
+TextMeans false text rows = MeansYaml text rows
+
+-- bytes that aren't UTF-8
+abbrev pub no_text : Bool → ConfigNo
+no_text true = record { code = 20; first = 0; second = 0 }
+no_text false = record { code = 21; first = 0; second = 5 }
+
+abbrev pub MeansBy : Bool → List ℕ → Result (List Row) ConfigNo → Type 0
+MeansBy true bytes rows = TextMeans (begins_json bytes) bytes rows
+MeansBy false bytes rows = Err (no_text (begins_json bytes)) ≡ rows
+
+abbrev pub Means : List ℕ → Result (List Row) ConfigNo → Type 0
+Means bytes rows = MeansBy (is_utf8 bytes) bytes rows

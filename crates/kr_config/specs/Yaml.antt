@@ -1,0 +1,47 @@
+-- What a text in YAML means: its tree in JSON's form, so that one walk serves both.
+use Rattle.std.specs.Prelude.{◌≡◌, ℕ, List, Result, Ok, Err}
+use Rattle.serde_json.specs.Data.{Data, null, string, array, object, Items, no_items, item, Members, no_members, put}
+use Rattle.kr_yaml.specs.Data as yaml
+use Rattle.kr_yaml.specs.Lines.{Token}
+use Rattle.kr_yaml.specs.Texts.{text_tokens}
+use Rattle.kr_yaml.specs.Reads.{plain, Makes, OnlyTree, Refuses}
+use Rattle.kr_yaml.specs.declared.yaml_no.YamlNo.{YamlNo}
+use Rattle.kr_yaml.specs.declared.yaml_no.YamlNo.TheVariants.{Outside, Indent, DuplicateKey, Deep, NoMemory}
+use Rattle.kr_config.specs.declared.refusal.ConfigNo.{ConfigNo}
+
+-- nothing is null and a word a text; lists and mappings stay, with a mapping's members put in one after another
+abbrev mutual
+  pub json_of : yaml.Data → Data
+  json_of yaml.null = null
+  json_of (yaml.word text) = string text
+  json_of (yaml.list ds) = array (json_items ds)
+  json_of (yaml.mapping ms) = object (json_members no_members ms)
+
+  pub json_items : yaml.Items → Items
+  json_items yaml.no_items = no_items
+  json_items (yaml.item d ds) = item (json_of d) (json_items ds)
+
+  pub json_members : Members → yaml.Members → Members
+  json_members done yaml.no_members = done
+  json_members done (yaml.member key d ms) = json_members (put key (json_of d) done) ms
+
+-- the tokens make this tree and no other
+abbrev pub IsTree : Result (List (ℕ × Token)) ℕ → yaml.Data → Type 0
+IsTree (Ok us) d = Makes (plain us) d × OnlyTree (Ok us) d
+IsTree (Err line) d = ⊥
+
+-- a breach of the YAML profile has code 21; the numbers are those of its line and its kind
+abbrev pub in_line : ℕ → ℕ → ConfigNo
+in_line line kind = record { code = 21; first = line; second = kind }
+
+abbrev pub IsNumbered : YamlNo → ConfigNo → Type 0
+IsNumbered (Outside line) why = why ≡ in_line line 1
+IsNumbered (Indent line) why = why ≡ in_line line 2
+IsNumbered (DuplicateKey line) why = why ≡ in_line line 3
+IsNumbered (Deep line) why = why ≡ in_line line 4
+IsNumbered NoMemory why = ⊥
+
+-- a text's tree, or its first breach
+abbrev pub TreeOf : List ℕ → Result yaml.Data ConfigNo → Type 0
+TreeOf text (Ok d) = IsTree (text_tokens text) d
+TreeOf text (Err why) = (breach : YamlNo) × Refuses (text_tokens text) breach × IsNumbered breach why

@@ -1,0 +1,102 @@
+//! Texts in YAML, as the values that JSON's texts have.
+ghost use Rattle.std.specs.Prelude.{◌≡◌, [], IfOk};
+ghost use Rattle.serde_json.specs.Data.{no_members};
+ghost use Rattle.serde_json.specs.View.{view, items_view, members_view};
+ghost use Rattle.kr_yaml.specs.Data.{items_of, members_of};
+ghost use Rattle.kr_yaml.specs.Shown as shown;
+ghost use Rattle.kr_config.specs.Yaml.{json_of, json_items, json_members, in_line};
+ghost use Rattle.kr_config.specs.declared.refusal.ConfigErr.TheVariants.{No};
+ghost use Rattle.kr_config.specs.Reads.{ReadsYaml, Numbers};
+
+use crate::refusal::{ConfigErr, ConfigNo};
+use kr_base::NoMemory;
+use kr_yaml::{Member, Tree, YamlNo};
+use serde_json::{Map, Value, put};
+use std::alloc::Global;
+
+/// The value of a text in YAML.
+pub fn read_yaml(alloc: Global, text: &str) -> Result<Value, ConfigErr>
+    ensures { ReadsYaml text.now result }
+{
+    let tree = match kr_yaml::read(alloc, text) {
+        Ok(tree) => tree,
+        Err(why) => return Err(numbered(why)),
+    };
+    match value_of(alloc, &tree) {
+        Ok(value) => Ok(value),
+        Err(_) => Err(ConfigErr::NoMemory),
+    }
+}
+
+/// A breach of the YAML profile by its number.
+fn numbered(why: YamlNo) -> ConfigErr
+    ensures { Numbers why result }
+{
+    match why {
+        YamlNo::Outside { line } => in_line(line, 1),
+        YamlNo::Indent { line } => in_line(line, 2),
+        YamlNo::DuplicateKey { line } => in_line(line, 3),
+        YamlNo::Deep { line } => in_line(line, 4),
+        YamlNo::NoMemory => ConfigErr::NoMemory,
+    }
+}
+
+fn in_line(line: u32, kind: u32) -> ConfigErr
+    ensures { result ≡ No (in_line line kind) }
+{
+    ConfigErr::No(ConfigNo {
+        code: 21,
+        first: line,
+        second: kind,
+    })
+}
+
+#[cycle(value)]
+#[tactic(auto, using(crate::proofs::Conversions::as_object))]
+fn value_of(alloc: Global, tree: &Tree) -> Result<Value, NoMemory>
+    ensures { IfOk result (λ value. view value ≡ json_of (shown.view tree.now)) }
+{
+    match tree {
+        Tree::Null => Ok(Value::Null),
+        Tree::Word(word) => match String::from_str(alloc, word.as_str()) {
+            Ok(text) => Ok(Value::String(text)),
+            Err(_) => Err(NoMemory),
+        },
+        Tree::Items(items) => Ok(Value::Array(values_of(alloc, items.as_slice())?)),
+        Tree::Members(members) => Ok(Value::Object(map_of(alloc, members.as_slice())?)),
+    }
+}
+
+#[cycle(value)]
+#[tactic(auto, using(crate::proofs::Conversions::items_same))]
+fn values_of(alloc: Global, items: &[Tree]) -> Result<Vec<Value>, NoMemory>
+    ensures { IfOk result (λ values. items_view values.items ≡ json_items (items_of (shown.views items.now))) }
+{
+    let Ok(mut values) = Vec::with_capacity(alloc, items.len()) else {
+        return Err(NoMemory);
+    };
+    for item in items {
+        let value = value_of(alloc, item)?;
+        match values.push(value) {
+            Ok(()) => {}
+            Err(_) => return Err(NoMemory),
+        }
+    }
+    Ok(values)
+}
+
+#[cycle(value)]
+#[tactic(auto, using(crate::proofs::Conversions::member_more, crate::proofs::Conversions::members_end))]
+fn map_of(alloc: Global, members: &[Member]) -> Result<Map<String, Value>, NoMemory>
+    ensures { IfOk result (λ map. members_view map.entries ≡ json_members no_members (members_of (shown.member_views members.now))) }
+{
+    let mut map = Map::new(alloc);
+    for member in members {
+        let value = value_of(alloc, &member.value)?;
+        match put(&mut map, alloc, member.key.as_str(), value) {
+            Ok(()) => {}
+            Err(_) => return Err(NoMemory),
+        }
+    }
+    Ok(map)
+}
