@@ -10,3 +10,4 @@ pub mod KeptRows
 pub mod EntryLoop
 pub mod Conversions
 pub mod Meant
+pub mod OneMeaning

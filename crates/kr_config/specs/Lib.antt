@@ -7,3 +7,4 @@ pub mod Walk
 pub mod Yaml
 pub mod Meanings
 pub mod Reads
+pub mod Laws

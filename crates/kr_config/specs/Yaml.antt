@@ -2,9 +2,8 @@
 use Rattle.std.specs.Prelude.{◌≡◌, ℕ, List, Result, Ok, Err}
 use Rattle.serde_json.specs.Data.{Data, null, string, array, object, Items, no_items, item, Members, no_members, put}
 use Rattle.kr_yaml.specs.Data as yaml
-use Rattle.kr_yaml.specs.Lines.{Token}
 use Rattle.kr_yaml.specs.Texts.{text_tokens}
-use Rattle.kr_yaml.specs.Reads.{plain, Makes, OnlyTree, Refuses}
+use Rattle.kr_yaml.specs.Reads.{HasTree, Refuses}
 use Rattle.kr_yaml.specs.declared.yaml_no.YamlNo.{YamlNo}
 use Rattle.kr_yaml.specs.declared.yaml_no.YamlNo.TheVariants.{Outside, Indent, DuplicateKey, Deep, NoMemory}
 use Rattle.kr_config.specs.declared.refusal.ConfigNo.{ConfigNo}
@@ -25,11 +24,6 @@ abbrev mutual
   json_members done yaml.no_members = done
   json_members done (yaml.member key d ms) = json_members (put key (json_of d) done) ms
 
--- the tokens make this tree and no other
-abbrev pub IsTree : Result (List (ℕ × Token)) ℕ → yaml.Data → Type 0
-IsTree (Ok us) d = Makes (plain us) d × OnlyTree (Ok us) d
-IsTree (Err line) d = ⊥
-
 -- a breach of the YAML profile has code 21; the numbers are those of its line and its kind
 abbrev pub in_line : ℕ → ℕ → ConfigNo
 in_line line kind = record { code = 21; first = line; second = kind }
@@ -43,5 +37,5 @@ IsNumbered NoMemory why = ⊥
 
 -- a text's tree, or its first breach
 abbrev pub TreeOf : List ℕ → Result yaml.Data ConfigNo → Type 0
-TreeOf text (Ok d) = IsTree (text_tokens text) d
+TreeOf text (Ok d) = HasTree (text_tokens text) d
 TreeOf text (Err why) = (breach : YamlNo) × Refuses (text_tokens text) breach × IsNumbered breach why

@@ -3,6 +3,7 @@
 
 mod class;
 mod class_table;
+mod laws;
 mod pattern;
 mod provider;
 mod read_element;
@@ -19,6 +20,7 @@ mod yaml;
 
 pub use class::Class;
 pub use class_table::ClassTable;
+pub use laws::one_meaning;
 pub use pattern::Pattern;
 pub use reading::read;
 pub use refusal::{ConfigErr, ConfigNo};

@@ -5,7 +5,11 @@ pub mod Flows
 pub mod Heads
 pub mod Grown
 pub mod Runs
+pub mod Shapes
+pub mod Breaches
+pub mod OneAnswer
 pub mod KeySets
 pub mod Closing
 pub mod Putting
 pub mod Following
+pub mod SomeAnswer

@@ -1,0 +1,8 @@
+use Rattle.kr_config.proofs.OneMeaning.{one_meaning, some_meaning}
+use Rattle.kr_config.proofs.laws.one_meaning.Goals as goal
+
+pub returns-clause-one : goal.returns-clause-one
+returns-clause-one c = one_meaning
+
+pub returns-clause-some : goal.returns-clause-some
+returns-clause-some c = some_meaning
