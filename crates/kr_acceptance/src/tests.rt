@@ -5,6 +5,7 @@ use std::alloc::Global;
 use std::test::Fail;
 
 mod values;
+mod yaml;
 
 /// The configuration that examples use: secrets are stored by identity.
 const IDENTITY: &str =

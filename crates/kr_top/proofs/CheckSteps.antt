@@ -1,19 +1,19 @@
 -- How `check` ends at each of its steps.
-use Rattle.std.proofs.Common.{◌≡◌, ℕ, ◌≤◌, List, [], ◌∷◌, Option, Ok, Err, refl, ◌∙◌, ap, subst, arith}
-use Rattle.std.specs.Prelude.{if◌then◌else◌}
+use Rattle.std.proofs.Common.{◌≡◌, ℕ, ◌≤◌, List, [], ◌∷◌, Option, Ok, Err, refl, ap, subst, arith}
+use Rattle.std.specs.Prelude.{Result, if◌then◌else◌}
 use Rattle.std.specs.Io.KnownBytes.{Appends}
 use Rattle.std.proofs.lemmas.Slice.Eq.{bytes_eq-Decides}
-use Rattle.kr_config.specs.Kept.{rows_of}
+use Rattle.kr_config.specs.Kept.{Row, rows_of}
 use Rattle.kr_config.specs.declared.settings.Settings.{Settings}
 use Rattle.kr_base.specs.Streams.{AppendsFront}
 use Rattle.kr_kms.specs.Outside.{Outside, KeepsFiles, KeepsDice}
 use Rattle.kr_top.specs.Command.{check}
 use Rattle.kr_top.specs.Trace.{loaded, strays, gives, awaits, load_file}
-use Rattle.kr_top.specs.Configuration.{configuration}
 use Rattle.kr_top.specs.Check.{shows, listing, check_outcome}
 use Rattle.kr_top.specs.Phases.{Configures, WritesOutput}
-use Rattle.kr_top.specs.Ran.{Did}
+use Rattle.kr_top.specs.Ran.{Did, ComesTo}
 use Rattle.kr_top.specs.declared.refusal.Object.TheVariants.{Output, Files}
+use Rattle.kr_top.specs.declared.refusal.Refusal.{Refusal}
 use Rattle.kr_top.specs.declared.refusal.Stop.{Stop}
 use Rattle.kr_top.specs.declared.refusal.Stop.TheVariants.{Refused, Fault, NoMemory}
 use Rattle.kr_top.specs.declared.refusal.Done.TheVariants.{Silent}
@@ -21,8 +21,8 @@ use Rattle.kr_top.proofs.Steps.{around, fault_of, home, nothing_taken}
 use Rattle.kr_top.proofs.Worlds.{Keeps-refl, kept_nothing}
 
 module _ (config : List ℕ) (resource : Option (List ℕ)) where
-  loaded_outcome : (file : Option (List ℕ)) → check_outcome config resource (loaded config file ∷ []) ≡ shows (configuration config file) resource
-  loaded_outcome file = ap (λ q. if q then shows (configuration config file) resource else strays) ((bytes_eq-Decides config config).1 refl)
+  loaded_outcome : (read : Result (List Row) Refusal) (file : Option (List ℕ)) → check_outcome read config resource (loaded config file ∷ []) ≡ shows read resource
+  loaded_outcome read file = ap (λ q. if q then shows read resource else strays) ((bytes_eq-Decides config config).1 refl)
 
   -- no configuration
   pub not_configured : (old new : Outside) (i o : Option (List ℕ)) (m k : ℕ) (stop : Stop) → KeepsFiles old new → KeepsDice old new → Configures old new config (Err stop)
@@ -33,7 +33,7 @@ module _ (config : List ℕ) (resource : Option (List ℕ)) where
     input = Keeps-refl i;
     dice = λ s. kept_nothing _ _ (dice.dice s);
     outcome = _;
-    comes = (loaded_outcome w.0 ∙ ap (λ v. shows v resource) w.2);
+    comes = (Err why, w.2, loaded_outcome (Err why) w.0);
     ends = (refl, Keeps-refl o);
     home = home old new i i m m o o k k files dice (omega arith) (omega arith);
   }
@@ -43,7 +43,7 @@ module _ (config : List ℕ) (resource : Option (List ℕ)) where
     input = nothing_taken i 0;
     dice = λ s. kept_nothing _ _ (dice.dice s);
     outcome = awaits (load_file config);
-    comes = refl;
+    comes = (Ok [], tt, refl);
     ends = (w.0, fault_of object Files count (around old i m o k) (around new i m o k) w.0 w.1 w.2, Keeps-refl o);
     home = home old new i i m m o o k k files dice (omega arith) (omega arith);
   }
@@ -53,14 +53,14 @@ module _ (config : List ℕ) (resource : Option (List ℕ)) where
     input = nothing_taken i 0;
     dice = λ s. kept_nothing _ _ (dice.dice s);
     outcome = awaits (load_file config);
-    comes = refl;
+    comes = (Ok [], tt, refl);
     ends = Keeps-refl o;
     home = home old new i i m m o o k k files dice (omega arith) (omega arith);
   }
 
   module _ (old new : Outside) (settings : Settings) (i : Option (List ℕ)) (m : ℕ) (files : KeepsFiles old new) (dice : KeepsDice old new) (w : Configures old new config (Ok settings)) where
-    shown : check_outcome config resource (loaded config w.0 ∷ []) ≡ gives (listing (rows_of settings.entries.0) resource) Silent
-    shown = loaded_outcome w.0 ∙ ap (λ v. shows v resource) w.2
+    shown : ComesTo (check config resource) (loaded config w.0 ∷ []) (gives (listing (rows_of settings.entries.0) resource) Silent)
+    shown = (Ok (rows_of settings.entries.0), w.2, loaded_outcome (Ok (rows_of settings.entries.0)) w.0)
 
     -- no memory for the text
     pub not_made : (o : Option (List ℕ)) (k : ℕ) → Did (check config resource) (around old i m o k) (around new i m o k) (Err NoMemory)
@@ -70,7 +70,7 @@ module _ (config : List ℕ) (resource : Option (List ℕ)) where
       input = nothing_taken i 0;
       dice = λ s. kept_nothing _ _ (dice.dice s);
       outcome = awaits (load_file config);
-      comes = refl;
+      comes = (Ok [], tt, refl);
       ends = Keeps-refl o;
       home = home old new i i m m o o k k files dice (omega arith) (omega arith);
     }

@@ -1,6 +1,6 @@
 -- How `encrypt` and `decrypt` end at each of their steps.
 use Rattle.std.proofs.Common.{◌≡◌, ℕ, zero, suc, ◌+◌, ◌≤◌, List, [], ◌∷◌, length, Bool, true, false, Option, None, Some, Ok, Err, refl, sym, ◌∙◌, ap, subst, inl, inr, arith}
-use Rattle.std.specs.Prelude.{if◌then◌else◌}
+use Rattle.std.specs.Prelude.{Result, if◌then◌else◌}
 use Rattle.std.specs.Io.KnownBytes.{Appends, Consumes}
 use Rattle.std.proofs.lemmas.Slice.Eq.{bytes_eq-Decides}
 use Rattle.std.proofs.lemmas.Bool.Decides.{Decides-ltb}
@@ -9,9 +9,9 @@ use Rattle.kr_base.specs.Told.{Agrees}
 use Rattle.kr_kms.specs.Outside.{Outside, KeepsFiles, KeepsDice, HandsOut, TakesBack}
 use Rattle.kr_config.specs.Kept.{Row}
 use Rattle.kr_top.specs.Command.{Command, input_limit}
-use Rattle.kr_top.specs.Configuration.{configuration}
+use Rattle.kr_top.specs.Configuration.{IsConfiguration}
 use Rattle.kr_top.specs.Trace.{Sight, loaded, taken, opened, Outcome, awaits, load_file, refuses, strays, at_last, SawFiles, SawInput, input_of, drawn_of}
-use Rattle.kr_top.specs.Steps.{served, from_dice, from_input, by_rows, from_file}
+use Rattle.kr_top.specs.Steps.{served, IsRead, from_dice, from_input, by_rows, from_file}
 use Rattle.kr_top.specs.Phases.{Serves, TakesInput, NoDice, Makes, WritesOutput, draws_of, bytes_of}
 use Rattle.kr_top.specs.Ran.{Did, IsHome, ComesTo}
 use Rattle.kr_top.specs.declared.work.Made.{Made}
@@ -23,17 +23,17 @@ use Rattle.kr_base.proofs.Counting.{Rose-later}
 use Rattle.kr_top.proofs.Steps.{around, fault_of, home, nothing_taken, to_false, drawn_here, drawn_there}
 use Rattle.kr_top.proofs.Worlds.{Keeps-refl, kept_nothing, files_trans, dice_trans, by_seat}
 
-module _ (command : Command) (config : List ℕ) (long : Refusal) (after : List Row → List ℕ → List Sight → Outcome) (is : (trace : List Sight) (outcome : Outcome) → from_file (input_limit command) long after config trace ≡ outcome → ComesTo command trace outcome) where
+module _ (command : Command) (config : List ℕ) (long : Refusal) (after : List Row → List ℕ → List Sight → Outcome) (is : (read : Result (List Row) Refusal) (trace : List Sight) (outcome : Outcome) → IsRead config trace read → from_file (input_limit command) long after read config trace ≡ outcome → ComesTo command trace outcome) where
   -- the outcome once the configuration was loaded
-  loaded_outcome : (file : Option (List ℕ)) (rest : List Sight) → from_file (input_limit command) long after config (loaded config file ∷ rest) ≡ by_rows (input_limit command) long after (served (configuration config file)) rest
-  loaded_outcome file rest = ap (λ q. if q then by_rows (input_limit command) long after (served (configuration config file)) rest else strays) ((bytes_eq-Decides config config).1 refl)
+  loaded_outcome : (read : Result (List Row) Refusal) (file : Option (List ℕ)) (rest : List Sight) → from_file (input_limit command) long after read config (loaded config file ∷ rest) ≡ by_rows (input_limit command) long after (served read) rest
+  loaded_outcome read file rest = ap (λ q. if q then by_rows (input_limit command) long after (served read) rest else strays) ((bytes_eq-Decides config config).1 refl)
 
   -- the rows by a file that was loaded
   abbrev pub Picks : Outside → List Row → Type 0
-  Picks old rows = (file : Option (List ℕ)) × Agrees (old.file config) file × (served (configuration config file) ≡ Ok rows)
+  Picks old rows = (file : Option (List ℕ)) × Agrees (old.file config) file × (read : Result (List Row) Refusal) × IsConfiguration config file read × (served read ≡ Ok rows)
 
-  rows_outcome : (file : Option (List ℕ)) (rows : List Row) (rest : List Sight) → served (configuration config file) ≡ Ok rows → from_file (input_limit command) long after config (loaded config file ∷ rest) ≡ from_input (input_limit command) long after rows rest
-  rows_outcome file rows rest e = loaded_outcome file rest ∙ ap (λ r. by_rows (input_limit command) long after r rest) e
+  rows_outcome : (read : Result (List Row) Refusal) (file : Option (List ℕ)) (rows : List Row) (rest : List Sight) → served read ≡ Ok rows → from_file (input_limit command) long after read config (loaded config file ∷ rest) ≡ from_input (input_limit command) long after rows rest
+  rows_outcome read file rows rest e = loaded_outcome read file rest ∙ ap (λ r. by_rows (input_limit command) long after r rest) e
 
   -- no configuration
   pub not_configured : (old new : Outside) (i o : Option (List ℕ)) (m k : ℕ) (stop : Stop) → KeepsFiles old new → KeepsDice old new → Serves old new config (Err stop)
@@ -44,7 +44,7 @@ module _ (command : Command) (config : List ℕ) (long : Refusal) (after : List 
     input = Keeps-refl i;
     dice = λ s. kept_nothing _ _ (dice.dice s);
     outcome = _;
-    comes = is _ _ (loaded_outcome w.0 [] ∙ ap (λ v. by_rows (input_limit command) long after v []) w.2);
+    comes = is w.2 _ _ w.3 (loaded_outcome w.2 w.0 [] ∙ ap (λ v. by_rows (input_limit command) long after v []) w.4);
     ends = (refl, Keeps-refl o);
     home = home old new i i m m o o k k files dice (omega arith) (omega arith);
   }
@@ -54,7 +54,7 @@ module _ (command : Command) (config : List ℕ) (long : Refusal) (after : List 
     input = nothing_taken i (input_limit command);
     dice = λ s. kept_nothing _ _ (dice.dice s);
     outcome = _;
-    comes = is [] (awaits (load_file config)) refl;
+    comes = is (Ok []) [] (awaits (load_file config)) tt refl;
     ends = (w.0, fault_of object Files count (around old i m o k) (around new i m o k) w.0 w.1 w.2, Keeps-refl o);
     home = home old new i i m m o o k k files dice (omega arith) (omega arith);
   }
@@ -64,7 +64,7 @@ module _ (command : Command) (config : List ℕ) (long : Refusal) (after : List 
     input = nothing_taken i (input_limit command);
     dice = λ s. kept_nothing _ _ (dice.dice s);
     outcome = _;
-    comes = is [] (awaits (load_file config)) refl;
+    comes = is (Ok []) [] (awaits (load_file config)) tt refl;
     ends = (Keeps-refl o);
     home = home old new i i m m o o k k files dice (omega arith) (omega arith);
   }
@@ -82,7 +82,7 @@ module _ (command : Command) (config : List ℕ) (long : Refusal) (after : List 
     input = (t.1.1, inr t.1.2);
     dice = λ s. kept_nothing _ _ (dice.dice s);
     outcome = _;
-    comes = is _ _ (rows_outcome w.0 rows (taken t.1.0 ∷ []) w.2 ∙ too_long t.1.0 t.1.2 rows);
+    comes = is w.2 _ _ w.3 (rows_outcome w.2 w.0 rows (taken t.1.0 ∷ []) w.4 ∙ too_long t.1.0 t.1.2 rows);
     ends = (t.0, Keeps-refl o);
     home = home old new i j m n o o k k files dice more (omega arith);
   }
@@ -92,7 +92,7 @@ module _ (command : Command) (config : List ℕ) (long : Refusal) (after : List 
     input = t.3;
     dice = λ s. kept_nothing _ _ (dice.dice s);
     outcome = _;
-    comes = is _ _ (rows_outcome w.0 rows [] w.2);
+    comes = is w.2 _ _ w.3 (rows_outcome w.2 w.0 rows [] w.4);
     ends =
         (t.0, fault_of object Input count (around old i m o k) (around new j n o k) t.0 t.1 t.2, Keeps-refl o);
     home = home old new i j m n o o k k files dice more (omega arith);
@@ -103,15 +103,15 @@ module _ (command : Command) (config : List ℕ) (long : Refusal) (after : List 
     input = t;
     dice = λ s. kept_nothing _ _ (dice.dice s);
     outcome = _;
-    comes = is _ _ (rows_outcome w.0 rows [] w.2);
+    comes = is w.2 _ _ w.3 (rows_outcome w.2 w.0 rows [] w.4);
     ends = (Keeps-refl o);
     home = home old new i j m n o o k k files dice more (omega arith);
   }
 
   -- the outcome once the input was taken
-  taken_outcome : (file : Option (List ℕ)) (rows : List Row) (plain : List ℕ) (rest : List Sight) → served (configuration config file) ≡ Ok rows → length plain ≤ input_limit command
-      → from_file (input_limit command) long after config (loaded config file ∷ taken plain ∷ rest) ≡ from_dice (input_limit command) long after rows plain rest
-  taken_outcome file rows plain rest e short = rows_outcome file rows (taken plain ∷ rest) e
+  taken_outcome : (read : Result (List Row) Refusal) (file : Option (List ℕ)) (rows : List Row) (plain : List ℕ) (rest : List Sight) → served read ≡ Ok rows → length plain ≤ input_limit command
+      → from_file (input_limit command) long after read config (loaded config file ∷ taken plain ∷ rest) ≡ from_dice (input_limit command) long after rows plain rest
+  taken_outcome read file rows plain rest e short = rows_outcome read file rows (taken plain ∷ rest) e
       ∙ ap (λ q. if q then at_last rest (refuses long) else from_dice (input_limit command) long after rows plain rest) (to_false _ (λ t. absurd (omega (arith, short, (Decides-ltb (input_limit command) (length plain)).0 t))))
 
   -- no random source
@@ -125,7 +125,7 @@ module _ (command : Command) (config : List ℕ) (long : Refusal) (after : List 
     input = (t.0, inl (t.2, t.1));
     dice = λ s. kept_nothing _ _ (same.dice s ∙ dice.dice s);
     outcome = _;
-    comes = is _ _ (taken_outcome w.0 rows plain [] w.2 t.2);
+    comes = is w.2 _ _ w.3 (taken_outcome w.2 w.0 rows plain [] w.4 t.2);
     ends =
         (d.0, fault_of object Files count (around old i m o k) (around new j n o k) d.0 (Rose-later _ _ _ files.later d.1) d.2, Keeps-refl o);
     home = home old new i j m n o o k k (files_trans files after) (dice_trans dice same) more (omega arith);
@@ -136,7 +136,7 @@ module _ (command : Command) (config : List ℕ) (long : Refusal) (after : List 
     input = (t.0, inl (t.2, t.1));
     dice = λ s. kept_nothing _ _ (same.dice s ∙ dice.dice s);
     outcome = _;
-    comes = is _ _ (taken_outcome w.0 rows plain [] w.2 t.2);
+    comes = is w.2 _ _ w.3 (taken_outcome w.2 w.0 rows plain [] w.4 t.2);
     ends = (Keeps-refl o);
     home = home old new i j m n o o k k (files_trans files after) (dice_trans dice same) more (omega arith);
   }
@@ -178,7 +178,7 @@ module _ (command : Command) (config : List ℕ) (long : Refusal) (after : List 
       input = saw_input None false;
       dice = drew None s.1;
       outcome = _;
-      comes = is _ _ (taken_outcome w.0 rows plain (opened 0 ∷ []) w.2 t.2 ∙ s.0);
+      comes = is w.2 _ _ w.3 (taken_outcome w.2 w.0 rows plain (opened 0 ∷ []) w.4 t.2 ∙ s.0);
       ends = (refl, Keeps-refl o);
       home = came_home o o k k (omega arith);
     }
@@ -188,7 +188,7 @@ module _ (command : Command) (config : List ℕ) (long : Refusal) (after : List 
       input = saw_input None true;
       dice = drew None s.4;
       outcome = _;
-      comes = is _ _ (taken_outcome w.0 rows plain (opened 0 ∷ []) w.2 t.2 ∙ s.3);
+      comes = is w.2 _ _ w.3 (taken_outcome w.2 w.0 rows plain (opened 0 ∷ []) w.4 t.2 ∙ s.3);
       ends = (
         s.0,
         fault_of object (Dice 0) c (around old i m o k) (around new j n o k) s.0
@@ -203,7 +203,7 @@ module _ (command : Command) (config : List ℕ) (long : Refusal) (after : List 
       input = (t.0, inl (t.2, t.1));
       dice = drew None s;
       outcome = _;
-      comes = is _ _ (taken_outcome w.0 rows plain [] w.2 t.2);
+      comes = is w.2 _ _ w.3 (taken_outcome w.2 w.0 rows plain [] w.4 t.2);
       ends = (Keeps-refl o);
       home = came_home o o k k (omega arith);
     }
@@ -217,7 +217,7 @@ module _ (command : Command) (config : List ℕ) (long : Refusal) (after : List 
       input = saw_input s.0 false;
       dice = drew s.0 s.2;
       outcome = _;
-      comes = is _ _ (taken_outcome w.0 rows plain (opened 0 ∷ draws_of s.0) w.2 t.2 ∙ s.1);
+      comes = is w.2 _ _ w.3 (taken_outcome w.2 w.0 rows plain (opened 0 ∷ draws_of s.0) w.4 t.2 ∙ s.1);
       ends = (refl, a);
       home = came_home o p k l most;
     }
@@ -231,7 +231,7 @@ module _ (command : Command) (config : List ℕ) (long : Refusal) (after : List 
       input = saw_input s.0 true;
       dice = drew s.0 s.2;
       outcome = _;
-      comes = is _ _ (taken_outcome w.0 rows plain (opened 0 ∷ draws_of s.0) w.2 t.2 ∙ s.1);
+      comes = is w.2 _ _ w.3 (taken_outcome w.2 w.0 rows plain (opened 0 ∷ draws_of s.0) w.4 t.2 ∙ s.1);
       ends =
           (a.0, fault_of object Output c (around old i m o k) (around new j n p l) a.0 a.1 a.2, a.3);
       home = came_home o p k l most;

@@ -3,7 +3,8 @@ use Rattle.std.proofs.Common.{◌≡◌, ℕ, List, [], Option, refl, ◌∙◌,
 use Rattle.std.specs.Prelude.{Result}
 use Rattle.kr_top.specs.Command.{input_limit}
 use Rattle.kr_top.specs.Trace.{Sight, Outcome}
-use Rattle.kr_top.specs.Steps.{from_file}
+use Rattle.kr_config.specs.Kept.{Row}
+use Rattle.kr_top.specs.Steps.{IsRead, from_file}
 use Rattle.kr_top.specs.Phases.{command_of, working, long_input, TakesInput}
 use Rattle.kr_top.specs.declared.refusal.Refusal.{Refusal}
 use Rattle.kr_top.specs.declared.refusal.Stop.{Stop}
@@ -11,10 +12,10 @@ use Rattle.kr_top.specs.Ran.{ComesTo}
 use Rattle.kr_top.specs.declared.convert.Direction.{Direction}
 use Rattle.kr_top.specs.declared.convert.Direction.TheVariants.{Encrypt, Decrypt}
 
-pub outcome_is : (direction : Direction) (config resource path : List ℕ) (trace : List Sight) (outcome : Outcome)
-    → from_file (input_limit (command_of direction config resource path)) (long_input direction) (working direction resource path) config trace ≡ outcome → ComesTo (command_of direction config resource path) trace outcome
-outcome_is Encrypt config resource path trace outcome e = e
-outcome_is Decrypt config resource path trace outcome e = e
+pub outcome_is : (direction : Direction) (config resource path : List ℕ) (read : Result (List Row) Refusal) (trace : List Sight) (outcome : Outcome) → IsRead config trace read
+    → from_file (input_limit (command_of direction config resource path)) (long_input direction) (working direction resource path) read config trace ≡ outcome → ComesTo (command_of direction config resource path) trace outcome
+outcome_is Encrypt config resource path read trace outcome is e = (read, is, e)
+outcome_is Decrypt config resource path read trace outcome is e = (read, is, e)
 
 pub limit_is : (direction : Direction) (config resource path : List ℕ) → input_limit (command_of direction [] [] []) ≡ input_limit (command_of direction config resource path)
 limit_is Encrypt config resource path = refl

@@ -7,7 +7,7 @@ use Rattle.std.specs.Io.KnownBytes.{Keeps, Appends}
 use Rattle.kr_base.specs.Faults.{Rose}
 use Rattle.kr_top.specs.Command.{Command, encrypt, decrypt, check, inspect, is_built, Asks, AskNothing, AskReplicas, AskSize, input_limit}
 use Rattle.kr_top.specs.Trace.{Sight, loaded, taken, opened, drawn, Outcome, awaits, refuses, gives, strays, at_last, SawInput, input_of}
-use Rattle.kr_top.specs.Configuration.{configuration}
+use Rattle.kr_top.specs.Configuration.{IsConfiguration}
 use Rattle.kr_top.specs.Check.{shows, check_outcome}
 use Rattle.kr_top.specs.Inspect.{object_outcome, ShowsBody, Inspects, InspectComes}
 use Rattle.kr_envelope.specs.declared.prefix.Kind.{Kind}
@@ -17,13 +17,12 @@ use Rattle.kr_envelope.specs.declared.object.ObjectNo.{ObjectNo}
 use Rattle.kr_envelope.specs.declared.object.ObjectNo.TheVariants.{Wire, KeyId, Source, Annotations, SourceType, NoData, NotUtf8}
 use Rattle.kr_envelope.specs.declared.object.ObjectNo.TheVariants as object
 use Rattle.kr_config.specs.Kept.{Row}
-use Rattle.kr_top.specs.Steps.{served, from_dice, from_input, by_rows, from_file}
+use Rattle.kr_top.specs.Steps.{served, IsRead, from_dice, from_input, by_rows, from_file}
 use Rattle.kr_top.specs.Encrypt.{value_outcome, from_draw, sealing}
 use Rattle.kr_top.specs.Decrypt.{reading_outcome, unsealing}
 use Rattle.kr_top.specs.Message.{status_of, status_of_refusal, line_of}
 use Rattle.kr_top.specs.Ran.{Around, Sunk, Did, Ends, Stops, Answers, Tells, Comes, IsUntouched, ComesTo, count_at, is_cut, IsUsage, IsCaused, IsRefused, IsDone}
 use Rattle.kr_config.specs.Lists.{list_of}
-use Rattle.kr_config.specs.Walk.{rows_in}
 use Rattle.kr_config.specs.declared.refusal.ConfigNo.{ConfigNo}
 use Rattle.kr_config.specs.declared.who.Who.{Who}
 use Rattle.kr_provider.specs.Publication.{names_plugin}
@@ -103,9 +102,10 @@ rows_no_words : (r : Result (List Row) ConfigNo) → NoWordsIn (result_map_both 
 rows_no_words (Ok rows) = tt
 rows_no_words (Err why) = tt
 
-file_no_words : (name : List ℕ) (file : Option (List ℕ)) → NoWordsIn (configuration name file)
-file_no_words name None = tt
-file_no_words name (Some bytes) = chosen (nat_lt 1048576 (length bytes)) (Err LongConfiguration) (result_map_both (λ rows. rows) Configuration (rows_in bytes)) tt (rows_no_words (rows_in bytes))
+file_no_words : (name : List ℕ) (file : Option (List ℕ)) (read : Result (List Row) Refusal) → IsConfiguration name file read → NoWordsIn read
+file_no_words name None read is = subst NoWordsIn (sym is) tt
+file_no_words name (Some bytes) read (inl is) = subst NoWordsIn (sym is.1) tt
+file_no_words name (Some bytes) read (inr is) = subst NoWordsIn (sym is.3) (rows_no_words is.1)
 
 served_no_words : (r : Result (List Row) Refusal) → NoWordsIn r → NoWordsIn (served r)
 served_no_words (Ok rows) h = chosen (names_plugin rows) (Err NotServed) (Ok rows) tt tt
@@ -132,25 +132,25 @@ module _ (limit : ℕ) (long : Refusal) (after : List Row → List ℕ → List 
   rows_no_words_by (Ok rows) rest h = input_no_words rows rest
   rows_no_words_by (Err why) rest h = last_no_words rest (refuses why) h
 
-  object_no_words : (config : List ℕ) (trace : List Sight) → NoWords (from_file limit long after config trace)
-  object_no_words config [] = tt
-  object_no_words config (loaded name file ∷ rest) = either (bytes_eq name config) (by_rows limit long after (served (configuration config file)) rest) strays
-      (rows_no_words_by (served (configuration config file)) rest (served_no_words (configuration config file) (file_no_words config file))) tt
-  object_no_words config (taken bytes ∷ rest) = tt
-  object_no_words config (opened seat ∷ rest) = tt
-  object_no_words config (drawn seat bytes ∷ rest) = tt
+  object_no_words : (config : List ℕ) (trace : List Sight) (read : Result (List Row) Refusal) → IsRead config trace read → NoWords (from_file limit long after read config trace)
+  object_no_words config [] read is = tt
+  object_no_words config (loaded name file ∷ rest) read is = either (bytes_eq name config) (by_rows limit long after (served read) rest) strays
+      (rows_no_words_by (served read) rest (served_no_words read (file_no_words config file read is))) tt
+  object_no_words config (taken bytes ∷ rest) read is = tt
+  object_no_words config (opened seat ∷ rest) read is = tt
+  object_no_words config (drawn seat bytes ∷ rest) read is = tt
 
 shows_no_words : (resource : Option (List ℕ)) (r : Result (List Row) Refusal) → NoWordsIn r → NoWords (shows r resource)
 shows_no_words resource (Ok rows) h = tt
 shows_no_words resource (Err why) h = h
 
-check_no_words : (config : List ℕ) (resource : Option (List ℕ)) (trace : List Sight) → NoWords (check_outcome config resource trace)
-check_no_words config resource [] = tt
-check_no_words config resource (loaded name file ∷ rest) = either (bytes_eq name config) (at_last rest (shows (configuration config file) resource)) strays
-    (last_no_words rest (shows (configuration config file) resource) (shows_no_words resource (configuration config file) (file_no_words config file))) tt
-check_no_words config resource (taken bytes ∷ rest) = tt
-check_no_words config resource (opened seat ∷ rest) = tt
-check_no_words config resource (drawn seat bytes ∷ rest) = tt
+check_no_words : (config : List ℕ) (resource : Option (List ℕ)) (trace : List Sight) (read : Result (List Row) Refusal) → IsRead config trace read → NoWords (check_outcome read config resource trace)
+check_no_words config resource [] read is = tt
+check_no_words config resource (loaded name file ∷ rest) read is = either (bytes_eq name config) (at_last rest (shows read resource)) strays
+    (last_no_words rest (shows read resource) (shows_no_words resource read (file_no_words config file read is))) tt
+check_no_words config resource (taken bytes ∷ rest) read is = tt
+check_no_words config resource (opened seat ∷ rest) read is = tt
+check_no_words config resource (drawn seat bytes ∷ rest) read is = tt
 
 moved : (a b : Outcome) → a ≡ b → NoWords a → NoWords b
 moved a b e h = subst NoWords e h
@@ -186,9 +186,9 @@ inspect_no_words (opened seat ∷ rest) outcome e = moved _ outcome e tt
 inspect_no_words (drawn seat bytes ∷ rest) outcome e = moved _ outcome e tt
 
 no_words : (command : Command) (trace : List Sight) (outcome : Outcome) → ComesTo command trace outcome → NoWords outcome
-no_words (encrypt config resource path) trace outcome e = moved _ outcome e (object_no_words 2097152 LongData (sealing resource path) tt (sealing_no_words resource path) config trace)
-no_words (decrypt config resource path) trace outcome e = moved _ outcome e (object_no_words 2162688 LongValue (unsealing resource path) tt (unsealing_no_words resource path) config trace)
-no_words (check config resource) trace outcome e = moved _ outcome e (check_no_words config resource trace)
+no_words (encrypt config resource path) trace outcome e = moved _ outcome e.2 (object_no_words 2097152 LongData (sealing resource path) tt (sealing_no_words resource path) config trace e.0 e.1)
+no_words (decrypt config resource path) trace outcome e = moved _ outcome e.2 (object_no_words 2162688 LongValue (unsealing resource path) tt (unsealing_no_words resource path) config trace e.0 e.1)
+no_words (check config resource) trace outcome e = moved _ outcome e.2 (check_no_words config resource trace e.0 e.1)
 no_words inspect trace outcome e = inspect_no_words trace outcome e
 
 -- ---- a refusal

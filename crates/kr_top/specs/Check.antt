@@ -8,7 +8,6 @@ use Rattle.kr_config.specs.declared.pattern.Pattern.{Pattern}
 use Rattle.kr_config.specs.declared.pattern.Pattern.TheVariants.{Exact, Group, All}
 use Rattle.kr_config.specs.declared.who.Who.{Who}
 use Rattle.kr_config.specs.declared.who.Who.TheVariants.{Identity, Aescbc, Aesgcm, Kms}
-use Rattle.kr_top.specs.Configuration.{configuration}
 use Rattle.kr_top.specs.Trace.{Sight, loaded, taken, opened, drawn, load_file, Outcome, awaits, refuses, gives, strays, at_last}
 use Rattle.kr_top.specs.declared.refusal.Refusal.{Refusal}
 use Rattle.kr_top.specs.declared.refusal.Done.TheVariants.{Silent}
@@ -50,9 +49,10 @@ abbrev pub shows : Result (List Row) Refusal → Option (List ℕ) → Outcome
 shows (Ok rows) resource = gives (listing rows resource) Silent
 shows (Err why) resource = refuses why
 
-abbrev pub check_outcome : List ℕ → Option (List ℕ) → List Sight → Outcome
-check_outcome config resource [] = awaits (load_file config)
-check_outcome config resource (loaded name file ∷ rest) = if bytes_eq name config then at_last rest (shows (configuration config file) resource) else strays
-check_outcome config resource (taken bytes ∷ rest) = strays
-check_outcome config resource (opened seat ∷ rest) = strays
-check_outcome config resource (drawn seat bytes ∷ rest) = strays
+-- the file is read as this
+abbrev pub check_outcome : Result (List Row) Refusal → List ℕ → Option (List ℕ) → List Sight → Outcome
+check_outcome read config resource [] = awaits (load_file config)
+check_outcome read config resource (loaded name file ∷ rest) = if bytes_eq name config then at_last rest (shows read resource) else strays
+check_outcome read config resource (taken bytes ∷ rest) = strays
+check_outcome read config resource (opened seat ∷ rest) = strays
+check_outcome read config resource (drawn seat bytes ∷ rest) = strays

@@ -1,8 +1,9 @@
 -- The configuration in a file, and how a foreign text is printed.
-use Rattle.std.specs.Prelude.{ℕ, ◌&&◌, List, length, map, nat_le, nat_lt, Option, None, Some, Result, Err, if◌then◌else◌}
+use Rattle.std.specs.Prelude.{◌≡◌, ℕ, ◌<◌, ◌≤◌, ◌⊎◌, ◌&&◌, List, length, map, nat_le, Option, None, Some, Result, Err, if◌then◌else◌}
 use Rattle.std.specs.Result.{result_map_both}
 use Rattle.kr_config.specs.Kept.{Row}
-use Rattle.kr_config.specs.Walk.{rows_in}
+use Rattle.kr_config.specs.Meanings.{Means}
+use Rattle.kr_config.specs.declared.refusal.ConfigNo.{ConfigNo}
 use Rattle.kr_top.specs.declared.refusal.Refusal.{Refusal}
 use Rattle.kr_top.specs.declared.refusal.Refusal.TheVariants.{Absent, LongConfiguration, Configuration}
 
@@ -13,7 +14,9 @@ printed_byte byte = if nat_le 0x20 byte && nat_le byte 0x7E then byte else 0x3F
 abbrev pub printed : List ℕ → List ℕ
 printed text = map printed_byte text
 
--- the configuration in the file of a name, which has at most 1,048,576 bytes
-abbrev pub configuration : List ℕ → Option (List ℕ) → Result (List Row) Refusal
-configuration name None = Err (Absent (printed name))
-configuration name (Some bytes) = if nat_lt 1048576 (length bytes) then Err LongConfiguration else result_map_both (λ rows. rows) Configuration (rows_in bytes)
+-- what the file of a name is read as: it has at most 1,048,576 bytes, and they mean these entries or this breach
+abbrev pub IsConfiguration : List ℕ → Option (List ℕ) → Result (List Row) Refusal → Type 0
+IsConfiguration name None read = read ≡ Err (Absent (printed name))
+IsConfiguration name (Some bytes) read =
+    ((1048576 < length bytes) × (read ≡ Err LongConfiguration))
+    ⊎ ((length bytes ≤ 1048576) × (rows : Result (List Row) ConfigNo) × Means bytes rows × (read ≡ result_map_both (λ r. r) Configuration rows))

@@ -8,7 +8,9 @@ use Rattle.kr_kms.specs.Outside.{Outside}
 use Rattle.kr_config.specs.Kept.{Row, rows_of}
 use Rattle.kr_config.specs.declared.settings.Settings.{Settings}
 use Rattle.kr_top.specs.Command.{Command, encrypt, decrypt}
-use Rattle.kr_top.specs.Configuration.{configuration}
+use Rattle.kr_config.specs.Meanings.{Means}
+use Rattle.kr_config.specs.declared.refusal.ConfigNo.{ConfigNo}
+use Rattle.kr_top.specs.Configuration.{IsConfiguration}
 use Rattle.kr_top.specs.Steps.{served}
 use Rattle.kr_top.specs.Encrypt.{sealing}
 use Rattle.kr_top.specs.Decrypt.{unsealing}
@@ -23,28 +25,28 @@ use Rattle.kr_top.specs.declared.work.WorkNo.{WorkNo}
 use Rattle.kr_top.specs.declared.work.WorkNo.TheVariants as work
 use Rattle.kr_top.specs.declared.refusal.Object.TheVariants.{Input, Output, Files, Dice}
 use Rattle.kr_top.specs.declared.refusal.Refusal.{Refusal}
-use Rattle.kr_top.specs.declared.refusal.Refusal.TheVariants.{LongData, LongValue}
+use Rattle.kr_top.specs.declared.refusal.Refusal.TheVariants.{Configuration, LongData, LongValue}
 use Rattle.kr_top.specs.declared.refusal.Stop.{Stop}
 use Rattle.kr_top.specs.declared.refusal.Stop.TheVariants.{Refused, Fault, NoMemory}
 
--- the settings of these rows, or the refusal
-abbrev pub ReadsRows : Result (List Row) Refusal → Result Settings Stop → Type 0
-ReadsRows wanted (Ok settings) = wanted ≡ Ok (rows_of settings.entries.0)
-ReadsRows wanted (Err (Refused why)) = wanted ≡ Err why
-ReadsRows wanted (Err (Fault object count)) = ⊥
-ReadsRows wanted (Err NoMemory) = ⊤
+-- the settings that the bytes mean, or the breach
+abbrev pub ReadsRows : List ℕ → Result Settings Stop → Type 0
+ReadsRows bytes (Ok settings) = Means bytes (Ok (rows_of settings.entries.0))
+ReadsRows bytes (Err (Refused why)) = (breach : ConfigNo) × Means bytes (Err breach) × (why ≡ Configuration breach)
+ReadsRows bytes (Err (Fault object count)) = ⊥
+ReadsRows bytes (Err NoMemory) = ⊤
 
 -- the configuration in a file, or why it wasn't read
 abbrev pub Configures : Outside → Outside → List ℕ → Result Settings Stop → Type 0
-Configures old new name (Ok settings) = (file : Option (List ℕ)) × Agrees (old.file name) file × (configuration name file ≡ Ok (rows_of settings.entries.0))
-Configures old new name (Err (Refused why)) = (file : Option (List ℕ)) × Agrees (old.file name) file × (configuration name file ≡ Err why)
+Configures old new name (Ok settings) = (file : Option (List ℕ)) × Agrees (old.file name) file × IsConfiguration name file (Ok (rows_of settings.entries.0))
+Configures old new name (Err (Refused why)) = (file : Option (List ℕ)) × Agrees (old.file name) file × IsConfiguration name file (Err why)
 Configures old new name (Err (Fault object count)) = (object ≡ Files) × Rose old.file_faults new.file_faults × (count ≡ new.file_faults)
 Configures old new name (Err NoMemory) = ⊤
 
 -- the same where it is served
 abbrev pub Serves : Outside → Outside → List ℕ → Result Settings Stop → Type 0
-Serves old new name (Ok settings) = (file : Option (List ℕ)) × Agrees (old.file name) file × (served (configuration name file) ≡ Ok (rows_of settings.entries.0))
-Serves old new name (Err (Refused why)) = (file : Option (List ℕ)) × Agrees (old.file name) file × (served (configuration name file) ≡ Err why)
+Serves old new name (Ok settings) = (file : Option (List ℕ)) × Agrees (old.file name) file × (read : Result (List Row) Refusal) × IsConfiguration name file read × (served read ≡ Ok (rows_of settings.entries.0))
+Serves old new name (Err (Refused why)) = (file : Option (List ℕ)) × Agrees (old.file name) file × (read : Result (List Row) Refusal) × IsConfiguration name file read × (served read ≡ Err why)
 Serves old new name (Err (Fault object count)) = (object ≡ Files) × Rose old.file_faults new.file_faults × (count ≡ new.file_faults)
 Serves old new name (Err NoMemory) = ⊤
 

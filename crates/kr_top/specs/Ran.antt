@@ -6,7 +6,8 @@ use Rattle.kr_base.specs.Streams.{AppendsFront}
 use Rattle.kr_kms.specs.Outside.{Outside, KeepsFiles, KeepsDice}
 use Rattle.kr_top.specs.Command.{Command, encrypt, decrypt, check, inspect, Asks, AskNothing, AskReplicas, AskSize, input_limit}
 use Rattle.kr_top.specs.Trace.{Sight, Outcome, awaits, refuses, gives, strays, object_at, SawFiles, SawInput, input_of, drawn_of}
-use Rattle.kr_top.specs.Steps.{from_file}
+use Rattle.kr_config.specs.Kept.{Row}
+use Rattle.kr_top.specs.Steps.{IsRead, from_file}
 use Rattle.kr_top.specs.Encrypt.{sealing}
 use Rattle.kr_top.specs.Decrypt.{unsealing}
 use Rattle.kr_top.specs.Check.{check_outcome}
@@ -37,9 +38,9 @@ pub record Sunk : Type 0 where
 
 -- what the steps of a command make of what it saw
 abbrev pub ComesTo : Command → List Sight → Outcome → Type 0
-ComesTo (encrypt config resource path) trace outcome = from_file 2097152 LongData (sealing resource path) config trace ≡ outcome
-ComesTo (decrypt config resource path) trace outcome = from_file 2162688 LongValue (unsealing resource path) config trace ≡ outcome
-ComesTo (check config resource) trace outcome = check_outcome config resource trace ≡ outcome
+ComesTo (encrypt config resource path) trace outcome = (read : Result (List Row) Refusal) × IsRead config trace read × (from_file 2097152 LongData (sealing resource path) read config trace ≡ outcome)
+ComesTo (decrypt config resource path) trace outcome = (read : Result (List Row) Refusal) × IsRead config trace read × (from_file 2162688 LongValue (unsealing resource path) read config trace ≡ outcome)
+ComesTo (check config resource) trace outcome = (read : Result (List Row) Refusal) × IsRead config trace read × (check_outcome read config resource trace ≡ outcome)
 ComesTo inspect trace outcome = InspectComes trace outcome
 
 abbrev pub count_at : Object → Around → ℕ

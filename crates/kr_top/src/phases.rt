@@ -3,7 +3,6 @@ ghost use Rattle.std.specs.Prelude.{◌≡◌, ◌≤◌, length, Some, false, I
 ghost use Rattle.std.specs.Option.{option_copied};
 ghost use Rattle.kr_config.specs.Kept.{rows_of};
 ghost use Rattle.kr_provider.specs.Publication.{names_plugin};
-ghost use Rattle.kr_top.specs.Configuration.{configuration};
 ghost use Rattle.kr_kms.specs.Outside.{KeepsFiles, KeepsDice, HandsOut};
 ghost use Rattle.kr_top.specs.Phases.{Configures, Serves, ReadsRows, TakesInput, NoDice, WritesOutput};
 
@@ -36,7 +35,7 @@ pub fn configure<W: World>(alloc: Global, world: &mut W, name: &str) -> Result<S
         Err(FileNo::Failed) => return Err(Stop::Fault(Object::Files, world.faults())),
         Err(FileNo::NoMemory) => return Err(Stop::NoMemory),
     };
-    read_settings(alloc, name, file.as_slice())
+    read_settings(alloc, file.as_slice())
 }
 
 /// Loads a configuration that is served: one that names no plugin.
@@ -57,9 +56,8 @@ pub fn serve<W: World>(alloc: Global, world: &mut W, name: &str) -> Result<Setti
 }
 
 /// The configuration by its bytes.
-fn read_settings(alloc: Global, name: &str, bytes: &[u8]) -> Result<Settings, Stop>
-    requires { length bytes.now ≤ 1048576 }
-    ensures { ReadsRows (configuration name.now (Some bytes.now)) result }
+fn read_settings(alloc: Global, bytes: &[u8]) -> Result<Settings, Stop>
+    ensures { ReadsRows bytes.now result }
 {
     match read(alloc, bytes) {
         Ok(settings) => Ok(settings),
