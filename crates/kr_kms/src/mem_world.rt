@@ -1,8 +1,10 @@
-ghost use Rattle.std.specs.Prelude.{◌≡◌, ℕ, ◌∷◌, [], ◌<◌, ◌+◌, ◌==◌, ◌≤◌, length, count_by, vec_len, vec_capacity, MatchOption, None, Some, slice_index_or};
-ghost use Rattle.kr_kms.specs.Outside.{at_seat};
+ghost use Rattle.std.specs.Prelude.{◌≡◌, ℕ, ◌∷◌, [], ◌<◌, ◌+◌, ◌==◌, ◌≤◌, ◌⊎◌, length, count_by, vec_len, vec_capacity, MatchOption, None, Some, slice_index_or, is_ok, if◌then◌else◌, IfOk, IfErr, OnErr, IsErrOf};
 ghost use Rattle.std.specs.Option.{option_copied};
+ghost use Rattle.std.specs.List.{remove};
+ghost use Rattle.kr_base.specs.Faults.{Rose};
 ghost use Rattle.kr_base.specs.Played.{Given};
-ghost use Rattle.kr_kms.specs.MemWorld.{file_of, dice_of, link_of, told_by};
+ghost use Rattle.kr_kms.specs.Outside.{at_seat, Loads, KeepsFiles, KeepsDice, HandsOut, TakesBack};
+ghost use Rattle.kr_kms.specs.MemWorld.{file_of, dice_of, link_of, without, told_by, GivesFile, GivesDice};
 
 use crate::plugin::Kms;
 use crate::world::{FileNo, World};
@@ -31,7 +33,10 @@ impl<L: Kms + Send> MemWorld<L> {
         links: List<(u32, L)>,
     ) -> MemWorld<L>
         ensures told { ⟦<MemWorld<L> as World>⟧.told result ≡ told_by files.0 dice.0 [] 0 }
+        ensures files { result.files.items ≡ files.0 }
+        ensures dice { result.dice.items ≡ dice.0 }
         ensures links { result.links.items ≡ links.0 }
+        ensures faults { result.faults ≡ 0 }
     {
         MemWorld {
             files: files.into_vec(),
@@ -76,7 +81,15 @@ impl<L: Kms + Send> World for MemWorld<L> {
         self.faults
     }
 
-    fn load(&mut self, alloc: Global, name: &str, limit: u64) -> Result<Bytes, FileNo> {
+    fn load(&mut self, alloc: Global, name: &str, limit: u64) -> Result<Bytes, FileNo>
+        ensures gives { GivesFile (file_of self.old.files.items name.now) limit result }
+        ensures same { self.new ≡ self.old }
+
+        // As the trait says.
+        ensures file { Loads (⟦<MemWorld<L> as World>⟧.told self.old) (⟦<MemWorld<L> as World>⟧.told self.new) name.now limit result }
+        ensures files { KeepsFiles (⟦<MemWorld<L> as World>⟧.told self.old) (⟦<MemWorld<L> as World>⟧.told self.new) }
+        ensures dice { KeepsDice (⟦<MemWorld<L> as World>⟧.told self.old) (⟦<MemWorld<L> as World>⟧.told self.new) }
+    {
         let Some(file) = find_file(&self.files, name) else {
             return Err(FileNo::Absent);
         };
@@ -89,7 +102,18 @@ impl<L: Kms + Send> World for MemWorld<L> {
         }
     }
 
-    fn dice(&mut self, _alloc: Global, seat: u32) -> Result<MemDice, FileNo> {
+    fn dice(&mut self, _alloc: Global, seat: u32) -> Result<MemDice, FileNo>
+        ensures gives { GivesDice (dice_of self.old.dice.items seat) self.old.faults result self.new.faults }
+        ensures left { self.new.dice.items ≡ (if is_ok result then without self.old.dice.items seat else self.old.dice.items) }
+        ensures others { (self.new.files ≡ self.old.files) × (self.new.links ≡ self.old.links) }
+
+        // As the trait says.
+        ensures ok { IfOk result (λ dice. HandsOut (⟦<MemWorld<L> as World>⟧.told self.old) (⟦<MemWorld<L> as World>⟧.told self.new) seat (Some dice.bytes) dice.calls.faults) }
+        ensures err { OnErr result (KeepsDice (⟦<MemWorld<L> as World>⟧.told self.old) (⟦<MemWorld<L> as World>⟧.told self.new)) }
+        ensures refusals { IfErr result (λ why. (why ≡ FileNo.Failed) ⊎ (why ≡ FileNo.NoMemory)) }
+        ensures failed { IsErrOf result FileNo.Failed → Rose self.old.faults self.new.faults }
+        ensures files { KeepsFiles (⟦<MemWorld<L> as World>⟧.told self.old) (⟦<MemWorld<L> as World>⟧.told self.new) }
+    {
         let Some(at) = place_of(&self.dice, seat) else {
             self.faults = self.faults.saturating_add(1);
             return Err(FileNo::Failed);
@@ -102,7 +126,15 @@ impl<L: Kms + Send> World for MemWorld<L> {
         Ok(dice)
     }
 
-    fn back_dice(&mut self, seat: u32, dice: MemDice) {
+    fn back_dice(&mut self, seat: u32, dice: MemDice)
+        requires { 0 < (⟦<MemWorld<L> as World>⟧.told self.old).out seat }
+        ensures put { self.new.dice.items ≡ (seat, dice) ∷ self.old.dice.items }
+        ensures others { (self.new.files ≡ self.old.files) × (self.new.links ≡ self.old.links) × (self.new.faults ≡ self.old.faults) }
+
+        // As the trait says.
+        ensures back { TakesBack (⟦<MemWorld<L> as World>⟧.told self.old) (⟦<MemWorld<L> as World>⟧.told self.new) seat (Some dice.bytes) dice.calls.faults }
+        ensures files { KeepsFiles (⟦<MemWorld<L> as World>⟧.told self.old) (⟦<MemWorld<L> as World>⟧.told self.new) }
+    {
         strike(&mut self.out, seat);
         match self.dice.insert(0, (seat, dice)) {
             Ok(()) => {}
@@ -125,7 +157,7 @@ fn find_file<'a>(files: &'a [(Text, Bytes)], name: &str) -> Option<&'a [u8]>
 
 /// Where the first random source of the seat stands.
 fn place_of(dice: &[(u32, MemDice)], seat: u32) -> Option<usize>
-    ensures { MatchOption result (dice_of dice.now seat ≡ None) (λ at. (at < length dice.now) × ((d : ℕ × Given) → (slice_index_or dice.now at d).0 ≡ seat) × ((d : ℕ × Given) → dice_of dice.now seat ≡ Some (slice_index_or dice.now at d).1)) }
+    ensures { MatchOption result (dice_of dice.now seat ≡ None) (λ at. (at < length dice.now) × ((d : ℕ × Given) → (slice_index_or dice.now at d).0 ≡ seat) × ((d : ℕ × Given) → dice_of dice.now seat ≡ Some (slice_index_or dice.now at d).1) × (without dice.now seat ≡ remove dice.now at)) }
 {
     for at in 0..dice.len() {
         if dice[at].0 == seat {
