@@ -1,17 +1,16 @@
 -- The steps of reading the tokens of a text.
 use Rattle.std.proofs.Common.{◌≡◌, ℕ, ◌+◌, ◌<◌, ◌≤◌, Bool, true, List, [], ◌∷◌, ◌++◌, length, drop, Option, None, Some, Result, Ok, Err, refl, sym, ap, ◌∙◌, subst, arith, suc, add-one, drop-cons, get_or, map}
-use Rattle.std.specs.Prelude.{option_and_then, unwrap_or, ◌&&◌}
+use Rattle.std.specs.Prelude.{option_and_then, ◌&&◌}
 use Rattle.std.specs.Option.{option_map}
 use Rattle.std.proofs.lemmas.List.{append_assoc, append-nil, drop_all}
-use Rattle.kr_yaml.specs.Data.{Data}
 use Rattle.kr_yaml.specs.Lines.{Token}
-use Rattle.kr_yaml.specs.Forms.{Shape, flat, Form}
+use Rattle.kr_yaml.specs.Forms.{flat}
 use Rattle.kr_yaml.specs.Shown.{view}
 use Rattle.kr_yaml.specs.Open.{State, put, doubles, run, closed}
 use Rattle.kr_yaml.specs.Frames.{frame_views, state_view}
 use Rattle.kr_yaml.specs.Standing.{Stands, empty}
 use Rattle.kr_yaml.specs.Texts.{numbered, before_rest, tokens_from, line_tokens, is_empty, next_number}
-use Rattle.kr_yaml.specs.Reads.{plain, Makes, FormNone, FormTwice, FormDeep, Breaks, IsFirst, ReadsTree, OnlyTree}
+use Rattle.kr_yaml.specs.Reads.{plain, Makes, FormNone, FormTwice, FormDeep, Breaks, IsFirst, ReadsTree, OnlyTree, NoTree}
 use Rattle.kr_yaml.specs.Progress.{Fails, Moves, IsGoing, Stays, Extends, ReadsLines}
 use Rattle.kr_yaml.specs.declared.standing.Standing.{Standing as Nodes}
 use Rattle.kr_yaml.specs.declared.tree.Tree.{Tree}
@@ -21,7 +20,8 @@ use Rattle.kr_yaml.specs.declared.yaml_no.YamlNo.{YamlNo}
 use Rattle.kr_yaml.specs.declared.yaml_no.YamlNo.TheVariants.{Outside, Indent, DuplicateKey, Deep, NoMemory}
 use Rattle.kr_yaml.proofs.Grown.{grows, stands_node, frames_levels}
 use Rattle.kr_yaml.proofs.Putting.{frames_length}
-use Rattle.kr_yaml.proofs.Runs.{run_append, node_ran, start}
+use Rattle.kr_yaml.proofs.Breaches.{first_none}
+use Rattle.kr_yaml.proofs.Runs.{run_append, node_ran, one_tree, start}
 
 plain_push : (us : List (ℕ × Token)) (n : ℕ) (t : Token) → plain (us ++ (n, t) ∷ []) ≡ plain us ++ t ∷ []
 plain_push [] n t = refl
@@ -176,13 +176,10 @@ reading_ends lines i n first old r h = (r.us, r.walked ∙ ap (λ l. with_seen r
 pub read_made : (wanted : Result (List (ℕ × Token)) ℕ) (progress : Progress) (nodes : Nodes) (tree : Tree) → ReadsLines wanted (Ok progress) → progress ≡ Going nodes → view tree ≡ closed (frame_views nodes.nodes.items) (option_map view nodes.value) → ReadsTree wanted tree
 read_made wanted progress nodes tree r e t = subst (λ w. ReadsTree w tree) (sym r.1) (subst (Makes (plain r.0)) (sym t) (going_makes r.0 nodes (subst (Stays r.0) e r.2)))
 
-one_tree : (ts : List Token) (d e : Data) (s t : Shape) → Form ts d s → Form ts e t → d ≡ e
-one_tree ts d e s t f g =
-    let x = node_ran 0 ts d s f in
-    let y = node_ran 0 ts e t g in
-    let same : x.st ≡ y.st = ap (λ o. unwrap_or o x.st) (sym x.runs ∙ y.runs) in
-    sym x.closes ∙ ap (λ st. closed st.0 st.1) same ∙ y.closes
-
 pub reads_only : (wanted : Result (List (ℕ × Token)) ℕ) (tree : Tree) → ReadsTree wanted tree → OnlyTree wanted (view tree)
 reads_only (Ok us) tree m = λ d s f. one_tree (plain us) d (view tree) s m.shape f m.forms
 reads_only (Err n) tree m = m
+
+-- where a breach is answered there is no tree
+pub broken_none : (wanted : Result (List (ℕ × Token)) ℕ) (progress : Progress) (why : YamlNo) → ReadsLines wanted (Ok progress) → progress ≡ Broken why → NoTree wanted why
+broken_none wanted progress why r e = subst (λ w. NoTree w why) (sym r.1) (first_none r.0 why (subst (Stays r.0) e r.2))

@@ -34,16 +34,23 @@ mutual
   holds_value c v ts fs o s (below b vs ws ds gs p m n before rest) =
       list_below c (vs ++ dash c ∷ ws) (ds ++ closed gs p ∷ []) (both m n) (last_length ds (closed gs p)) (one_more_item c vs ws ds (closed gs p) m n before (stands_node (suc c) ws gs p n rest))
 
+-- one shape has at least what the other has
+pub record Within (s t : Shape) : Type 0 where
+  pub levels : s.levels ≤ t.levels
+  pub twice : s.twice ≡ true → t.twice ≡ true
+
 -- a token more
 pub record Grows (low : ℕ) (ts : List Token) (t : Token) (b : Bool) (s : Shape) (st : State) : Type 0 where
   pub shape : Shape
   pub stands : Stands low (ts ++ t ∷ []) st.0 st.1 shape
+  pub more : Within s shape
   pub levels : shape.levels ≤ max s.levels (length st.0)
   pub twice : s.twice ≡ false → shape.twice ≡ b
 
 pub record HoldsMore (c : ℕ) (v : Option Data) (ts : List Token) (t : Token) (b : Bool) (s : Shape) (st : State) : Type 0 where
   pub shape : Shape
   pub holds : Holds c v (ts ++ t ∷ []) st.0 st.1 shape
+  pub more : Within s shape
   pub levels : shape.levels ≤ max s.levels (length st.0)
   pub twice : s.twice ≡ false → shape.twice ≡ b
 
@@ -59,6 +66,7 @@ pub record ItemMore (c : ℕ) (ts : List Token) (t : Token) (b : Bool) (s : Shap
   pub rest : Stands (suc c) ws gs st.1 n
   pub tokens : us ++ dash c ∷ ws ≡ ts ++ t ∷ []
   pub frames : items c ds ∷ gs ≡ st.0
+  pub more : Within s (deeper (both m n))
   pub levels : suc (max m.levels n.levels) ≤ max s.levels (length st.0)
   pub twice : s.twice ≡ false → (m.twice || n.twice) ≡ b
 
@@ -86,14 +94,37 @@ or_none : (v : Bool) → (v || false) ≡ v
 or_none true = refl
 or_none false = refl
 
+or_more : (x y : Bool) → y ≡ true → (x || y) ≡ true
+or_more true y h = refl
+or_more false y h = h
+
+or_both : (v w x y : Bool) → (v ≡ true → x ≡ true) → (w ≡ true → y ≡ true) → (v || w) ≡ true → (x || y) ≡ true
+or_both true w x y f g e = ap (λ u. u || y) (f refl)
+or_both false w x y f g e = or_more x y (g e)
+
+within_flat : (t : Shape) → Within flat t
+within_flat t = record { levels = omega arith; twice = λ e. cc }
+
+within_both : (m n g : Shape) → Within n g → Within (both m n) (both m g)
+within_both m n g h = record { levels = (let l = h.levels in omega arith); twice = or_both m.twice n.twice m.twice g.twice (λ e. e) h.twice }
+
+within_deeper : (s t : Shape) → Within s t → Within (deeper s) (deeper t)
+within_deeper s t h = record { levels = (let l = h.levels in omega arith); twice = h.twice }
+
+within_keys : (ks ls : List (List ℕ)) (s t : Shape) → (repeats ks ≡ true → repeats ls ≡ true) → Within s t → Within (with_keys ks s) (with_keys ls t)
+within_keys ks ls s t f h = record { levels = (let l = h.levels in omega arith); twice = or_both (repeats ks) s.twice (repeats ls) t.twice f h.twice }
+
+within_next : (s : Shape) → Within s (both s flat)
+within_next s = record { levels = omega arith; twice = λ e. or_none s.twice ∙ e }
+
 holds_none : (c : ℕ) (v : Option Data) → Holds c v [] [] v flat
 holds_none c None = right c [] [] None flat (empty (suc c))
 holds_none c (Some d) = held c d
 
 begins : (low : ℕ) (t : Token) → low ≤ column_of t → Grows low [] t false flat (begun t)
-begins low (dash c) h = record { shape = deeper (both flat flat); stands = in_item low c [] [] [] [] None flat flat h (no_items c) (empty (suc c)); levels = omega arith; twice = λ e. refl }
-begins low (pair c k v) h = record { shape = with_keys (k ∷ []) (both flat flat); stands = in_value low c [] [] [] k v [] v flat flat h (no_members c) (holds_none c v); levels = omega arith; twice = λ e. refl }
-begins low (leaf c d) h = record { shape = flat; stands = full low c d h; levels = omega arith; twice = λ e. refl }
+begins low (dash c) h = record { shape = deeper (both flat flat); stands = in_item low c [] [] [] [] None flat flat h (no_items c) (empty (suc c)); more = within_flat (deeper (both flat flat)); levels = omega arith; twice = λ e. refl }
+begins low (pair c k v) h = record { shape = with_keys (k ∷ []) (both flat flat); stands = in_value low c [] [] [] k v [] v flat flat h (no_members c) (holds_none c v); more = within_flat (with_keys (k ∷ []) (both flat flat)); levels = omega arith; twice = λ e. refl }
+begins low (leaf c d) h = record { shape = flat; stands = full low c d h; more = within_flat flat; levels = omega arith; twice = λ e. refl }
 
 -- the same tokens, in brackets the other way
 regroup : (us : List Token) (a : Token) (ws : List Token) (t : Token) → us ++ (a ∷ (ws ++ t ∷ [])) ≡ (us ++ a ∷ ws) ++ t ∷ []
@@ -117,6 +148,7 @@ item_inner c us ws ds gs p m n t b inner st before g e =
       rest = g.stands;
       tokens = regroup us (dash c) ws t;
       frames = refl;
+      more = within_deeper (both m n) (both m g.shape) (within_both m n g.shape g.more);
       levels = (let l = g.levels in omega arith);
       twice = λ q. or_of m.twice g.shape.twice b (or_left m.twice n.twice q) (g.twice (or_right m.twice n.twice q));
     })
@@ -142,6 +174,7 @@ item_next c b us ws ds d m n true q before rest st e =
       rest = empty (suc c);
       tokens = ap (λ x. (us ++ dash c ∷ ws) ++ dash x ∷ []) (same_col b c q);
       frames = refl;
+      more = within_deeper (both m n) (both (both m n) flat) (within_next (both m n));
       levels = omega arith;
       twice = λ q. or_none (m.twice || n.twice) ∙ q;
     })
@@ -165,6 +198,7 @@ member_inner low c us ws ms k v m n t b inner st h before g e =
       shape = with_keys (keys ms ++ k ∷ []) (both m g.shape);
       stands = subst (λ ts. Stands low ts (members c ms k ∷ inner.0) inner.1 (with_keys (keys ms ++ k ∷ []) (both m g.shape))) (regroup us (pair c k v) ws t)
           (in_value low c us (ws ++ t ∷ []) ms k v inner.0 inner.1 m g.shape h before g.holds);
+      more = within_keys (keys ms ++ k ∷ []) (keys ms ++ k ∷ []) (both m n) (both m g.shape) (λ e. e) (within_both m n g.shape g.more);
       levels = (let l = g.levels in omega arith);
       twice = λ q. let r = or_right (repeats (keys ms ++ k ∷ [])) (m.twice || n.twice) q in
           or_of (repeats (keys ms ++ k ∷ [])) (m.twice || g.shape.twice) b (or_left (repeats (keys ms ++ k ∷ [])) (m.twice || n.twice) q)
@@ -192,6 +226,12 @@ repeats_push (k ∷ ks) l e =
     ap (λ u. u || repeats (ks ++ l ∷ [])) (any_push l ks k ∙ ap (λ u. u || bytes_eq k l) (or_left (list_any (λ x. bytes_eq k x) ks) (repeats ks) e))
     ∙ ap (λ u. bytes_eq k l || u) (repeats_push ks l (or_right (list_any (λ x. bytes_eq k x) ks) (repeats ks) e))
 
+repeats_more : (ks : List (List ℕ)) (l : List ℕ) → repeats ks ≡ true → repeats (ks ++ l ∷ []) ≡ true
+repeats_more [] l e = cc
+repeats_more (k ∷ ks) l e =
+    or_both (list_any (λ x. bytes_eq k x) ks) (repeats ks) (list_any (λ x. bytes_eq k x) (ks ++ l ∷ [])) (repeats (ks ++ l ∷ []))
+    (λ h. any_push l ks k ∙ ap (λ u. u || bytes_eq k l) h) (repeats_more ks l) e
+
 member_next : (low c b : ℕ) (us ws : List Token) (ms : List (List ℕ × Data)) (k l : List ℕ) (v x : Option Data) (d : Data) (m n : Shape) (w : Bool) → (b == c) ≡ w → low ≤ c → AreMembers c us ms m → IsValue c v ws d n → (st : State)
     → (if w then Some (members c (ms ++ (k, d) ∷ []) l ∷ [], x) else None) ≡ Some st
     → Grows low (us ++ pair c k v ∷ ws) (pair b l x) (list_any (λ y. bytes_eq y l) (keys ms ++ k ∷ [])) (with_keys (keys ms ++ k ∷ []) (both m n)) st
@@ -201,6 +241,8 @@ member_next low c b us ws ms k l v x d m n true q h before rest st e =
       shape = with_keys (keys (ms ++ (k, d) ∷ []) ++ l ∷ []) (both (both m n) flat);
       stands = subst (λ y. Stands low ((us ++ pair c k v ∷ ws) ++ pair y l x ∷ []) (members c (ms ++ (k, d) ∷ []) l ∷ []) x (with_keys (keys (ms ++ (k, d) ∷ []) ++ l ∷ []) (both (both m n) flat))) (same_col b c q)
           (in_value low c (us ++ pair c k v ∷ ws) [] (ms ++ (k, d) ∷ []) l x [] x (both m n) flat h (one_more_member c us ws ms k v d m n before rest) (holds_none c x));
+      more = within_keys (keys ms ++ k ∷ []) (keys (ms ++ (k, d) ∷ []) ++ l ∷ []) (both m n) (both (both m n) flat)
+          (λ e. ap (λ ks. repeats (ks ++ l ∷ [])) (keys_push ms k d) ∙ repeats_more (keys ms ++ k ∷ []) l e) (within_next (both m n));
       levels = omega arith;
       twice = λ q. ap (λ ks. repeats (ks ++ l ∷ []) || ((m.twice || n.twice) || false)) (keys_push ms k d)
           ∙ ap (λ u. repeats ((keys ms ++ k ∷ []) ++ l ∷ []) || u) (or_none (m.twice || n.twice) ∙ or_right (repeats (keys ms ++ k ∷ [])) (m.twice || n.twice) q)
@@ -228,7 +270,7 @@ blocked_members c b x h = grind arith
 dash_below : (low c : ℕ) (ws : List Token) (gs : List Frame) (p : Option Data) (n : Shape) → suc c ≤ low → Stands low ws gs p n → (st : State) → put (dash c) gs p ≡ Some st → HoldsMore c None ws (dash c) (doubles (dash c) gs) n st
 dash_below low c ws gs p n h (empty l) st e =
     subst (HoldsMore c None [] (dash c) false flat) (some_same (items c [] ∷ [], None) st e)
-    (record { shape = deeper (both flat flat); holds = below c [] [] [] [] None flat flat (no_items c) (empty (suc c)); levels = omega arith; twice = λ e. refl })
+    (record { shape = deeper (both flat flat); holds = below c [] [] [] [] None flat flat (no_items c) (empty (suc c)); more = within_flat (deeper (both flat flat)); levels = omega arith; twice = λ e. refl })
 dash_below low c ws gs p n h (full l b d k) st e = cc
 dash_below low c ws gs p n h (in_item l b us vs ds hs q m r k before rest) st e =
     let z = blocked_items c b (under (items b ds) (put (dash c) hs q)) (Some (items b (ds ++ closed hs q ∷ []) ∷ [], None)) (omega arith) in cc
@@ -239,7 +281,7 @@ right_grows : (c : ℕ) (ws : List Token) (gs : List Frame) (p : Option Data) (n
     → HoldsMore c None ws t (doubles t gs) n st
 right_grows c ws gs p n stands rest t true q h st e =
     let g = rest t (below_col c (column_of t) q) st e in
-    record { shape = g.shape; holds = right c (ws ++ t ∷ []) st.0 st.1 g.shape g.stands; levels = g.levels; twice = g.twice }
+    record { shape = g.shape; holds = right c (ws ++ t ∷ []) st.0 st.1 g.shape g.stands; more = g.more; levels = g.levels; twice = g.twice }
 right_grows c ws gs p n stands rest (dash b) false q h st e =
     let same = same_col b c h in
     subst (λ y. HoldsMore c None ws (dash y) (doubles (dash y) gs) n st) same (dash_below (suc c) c ws gs p n (omega arith) stands st (ap (λ y. put (dash y) gs p) same ∙ e))
@@ -250,6 +292,7 @@ list_grows : (c : ℕ) (ts : List Token) (t : Token) (b : Bool) (s : Shape) (st 
 list_grows c ts t b s st g = record {
   shape = deeper (both g.m g.n);
   holds = subst (λ us. Holds c None us st.0 st.1 (deeper (both g.m g.n))) g.tokens (subst (λ fs. Holds c None (g.us ++ dash c ∷ g.ws) fs st.1 (deeper (both g.m g.n))) g.frames (below c g.us g.ws g.ds g.gs st.1 g.m g.n g.before g.rest));
+  more = g.more;
   levels = g.levels;
   twice = g.twice;
 }
@@ -263,6 +306,7 @@ mutual
       record {
         shape = deeper (both g.m g.n);
         stands = subst (λ us. Stands low us st.0 st.1 (deeper (both g.m g.n))) g.tokens (subst (λ fs. Stands low (g.us ++ dash c ∷ g.ws) fs st.1 (deeper (both g.m g.n))) g.frames (in_item low c g.us g.ws g.ds g.gs st.1 g.m g.n k g.before g.rest));
+        more = g.more;
         levels = g.levels;
         twice = g.twice;
       }

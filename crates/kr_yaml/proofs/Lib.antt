@@ -5,6 +5,8 @@ pub mod Flows
 pub mod Heads
 pub mod Grown
 pub mod Runs
+pub mod Shapes
+pub mod Breaches
 pub mod KeySets
 pub mod Closing
 pub mod Putting

@@ -1,6 +1,6 @@
 -- Tokens that form a tree are put one after the other, and the open nodes then hold that tree.
 use Rattle.std.proofs.Common.{◌≡◌, ℕ, ◌<◌, ◌≤◌, Bool, true, false, List, [], ◌∷◌, ◌++◌, length, Option, None, Some, refl, sym, ap, ◌∙◌, arith, suc}
-use Rattle.std.specs.Prelude.{if◌then◌else◌, ◌==◌, ◌||◌, nat_lt, option_and_then}
+use Rattle.std.specs.Prelude.{if◌then◌else◌, ◌==◌, ◌||◌, nat_lt, option_and_then, unwrap_or}
 use Rattle.std.proofs.lemmas.List.{append_assoc}
 use Rattle.kr_yaml.specs.Data.{Data, list, mapping, items_of, members_of}
 use Rattle.kr_yaml.specs.Lines.{Token, dash, pair}
@@ -167,3 +167,10 @@ mutual
   value_ran c v ts d s (on_line b e) = record { st = ([], Some e); runs = refl; closes = refl }
   value_ran c v ts d s (to_the_right b us e n rest) = node_ran (suc c) us e n rest
   value_ran c v ts d s (list_below b us ds n k rest) = (items_ran c us ds n rest).whole k
+
+pub one_tree : (ts : List Token) (d e : Data) (s t : Shape) → IsNode 0 ts d s → IsNode 0 ts e t → d ≡ e
+one_tree ts d e s t f g =
+    let x = node_ran 0 ts d s f in
+    let y = node_ran 0 ts e t g in
+    let same : x.st ≡ y.st = ap (λ o. unwrap_or o x.st) (sym x.runs ∙ y.runs) in
+    sym x.closes ∙ ap (λ st. closed st.0 st.1) same ∙ y.closes

@@ -71,3 +71,13 @@ Reads wanted (Err why) = Refuses wanted why
 abbrev pub OnlyTree : Result (List (ℕ × Token)) ℕ → Data → Type 0
 OnlyTree (Ok us) tree = (d : Data) (s : Shape) → Form (plain us) d s → d ≡ tree
 OnlyTree (Err n) tree = ⊥
+
+-- the tree of a text: each of its lines has tokens, and they make this tree
+abbrev pub HasTree : Result (List (ℕ × Token)) ℕ → Data → Type 0
+HasTree (Ok us) d = Makes (plain us) d
+HasTree (Err n) d = ⊥
+
+-- where this is answered there is no tree. Want of memory says nothing.
+abbrev pub NoTree : Result (List (ℕ × Token)) ℕ → YamlNo → Type 0
+NoTree wanted NoMemory = ⊤
+NoTree wanted why = (d : Data) → HasTree wanted d → ⊥

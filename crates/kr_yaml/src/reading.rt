@@ -1,11 +1,11 @@
 //! Reading a text.
-ghost use Rattle.std.specs.Prelude.{◌≡◌, ◌<◌, ◌&&◌, true, IfOk};
+ghost use Rattle.std.specs.Prelude.{◌≡◌, ◌<◌, ◌&&◌, true, IfOk, IfErr};
 ghost use Rattle.std.specs.Str.Lines.{lines};
 ghost use Rattle.kr_yaml.specs.Seen.{token_view, token_views, list_tokens};
 ghost use Rattle.kr_yaml.specs.Gives.{Gives};
 ghost use Rattle.kr_yaml.specs.Texts.{marks, line_tokens, is_empty, tokens_from, text_tokens};
 ghost use Rattle.kr_yaml.specs.Progress.{Moves, Extends, ReadsLines};
-ghost use Rattle.kr_yaml.specs.Reads.{Reads, OnlyTree};
+ghost use Rattle.kr_yaml.specs.Reads.{Reads, OnlyTree, NoTree};
 ghost use Rattle.kr_yaml.specs.Shown.{view};
 
 use crate::bytes::{behind, closes, over, skip};
@@ -141,6 +141,7 @@ fn read_lines(alloc: Global, text: &str) -> Result<Progress, YamlNo>
 pub fn read(alloc: Global, text: &str) -> Result<Tree, YamlNo>
     ensures reads { Reads (text_tokens text.now) result }
     ensures only { IfOk result (λ tree. OnlyTree (text_tokens text.now) (view tree)) }
+    ensures none { IfErr result (λ why. NoTree (text_tokens text.now) why) }
 {
     let progress = match read_lines(alloc, text) {
         Ok(progress) => progress,
