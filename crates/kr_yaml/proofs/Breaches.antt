@@ -15,10 +15,10 @@ use Rattle.kr_yaml.proofs.Runs.{run_append, node_ran, start}
 use Rattle.kr_yaml.proofs.Shapes.{one_shape}
 
 -- more tokens were put
-record Went (ts : List Token) (s : Shape) (st : State) : Type 0 where
-  shape : Shape
-  stands : Stands 0 ts st.0 st.1 shape
-  more : Within s shape
+pub record Went (ts : List Token) (s : Shape) (st : State) : Type 0 where
+  pub shape : Shape
+  pub stands : Stands 0 ts st.0 st.1 shape
+  pub more : Within s shape
 
 within_same : (s : Shape) → Within s s
 within_same s = record { levels = omega arith; twice = λ e. e }
@@ -29,7 +29,7 @@ within_within s t u h k = record { levels = (let a = h.levels in let b = k.level
 some_same : {X : Type 0} (x y : X) → Some x ≡ Some y → x ≡ y
 some_same x y e = ap (λ o. unwrap_or o x) e
 
-abbrev GoesOn : List Token → Type 0
+abbrev pub GoesOn : List Token → Type 0
 GoesOn qs = (ts : List Token) (st new : State) (s : Shape) → Stands 0 ts st.0 st.1 s → run qs st ≡ Some new → Went (ts ++ qs) s new
 
 went_at : (t : Token) (qs ts : List Token) (st new : State) (s : Shape) (r : Option State) → put t st.0 st.1 ≡ r → GoesOn qs → Stands 0 ts st.0 st.1 s → option_and_then (run qs) r ≡ Some new → Went (ts ++ t ∷ qs) s new
@@ -43,7 +43,7 @@ went_at t qs ts st new s (Some mid) q rest h e =
       more = within_within s g.shape w.shape g.more w.more;
     }
 
-went : (qs : List Token) → GoesOn qs
+pub went : (qs : List Token) → GoesOn qs
 went [] = λ ts st new s h e. subst (Went (ts ++ []) s) (some_same st new e) (record { shape = s; stands = subst (λ l. Stands 0 l st.0 st.1 s) (sym (append-nil ts)) h; more = within_same s })
 went (t ∷ qs) = λ ts st new s h e. went_at t qs ts st new s (put t st.0 st.1) refl (went qs) h e
 

@@ -7,6 +7,7 @@ pub mod Grown
 pub mod Runs
 pub mod Shapes
 pub mod Breaches
+pub mod OneAnswer
 pub mod KeySets
 pub mod Closing
 pub mod Putting

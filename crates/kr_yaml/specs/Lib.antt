@@ -11,6 +11,7 @@ pub mod Standing
 pub mod Puts
 pub mod Texts
 pub mod Reads
+pub mod Laws
 pub mod Progress
 pub mod Adds
 pub mod Gives

@@ -2,6 +2,7 @@
 #![tactic(auto)]
 
 mod bytes;
+mod laws;
 mod line;
 mod line_no;
 mod open;
@@ -18,6 +19,7 @@ mod token;
 mod tree;
 mod yaml_no;
 
+pub use laws::one_answer;
 pub use reading::read;
 pub use tree::{Member, Tree};
 pub use yaml_no::YamlNo;

@@ -1,0 +1,25 @@
+-- Laws of the definitions.
+use Rattle.std.specs.Prelude.{◌≡◌, ℕ, ◌⊎◌, List, Result, Ok, Err}
+use Rattle.kr_yaml.specs.Data.{Data}
+use Rattle.kr_yaml.specs.Lines.{Token}
+use Rattle.kr_yaml.specs.Forms.{Shape, Form}
+use Rattle.kr_yaml.specs.Shown.{view}
+use Rattle.kr_yaml.specs.Reads.{Reads}
+use Rattle.kr_yaml.specs.declared.tree.Tree.{Tree}
+use Rattle.kr_yaml.specs.declared.yaml_no.YamlNo.{YamlNo}
+use Rattle.kr_yaml.specs.declared.yaml_no.YamlNo.TheVariants.{NoMemory}
+
+-- tokens form one tree at most, of one shape
+abbrev pub OneForm : Type 0
+OneForm = (ts : List Token) (d e : Data) (s t : Shape) → Form ts d s → Form ts e t → (d ≡ e) × (s ≡ t)
+
+-- two answers are one, unless one of them is want of memory
+abbrev pub AreOne : Result Tree YamlNo → Result Tree YamlNo → Type 0
+AreOne (Ok x) (Ok y) = view x ≡ view y
+AreOne (Ok x) (Err why) = why ≡ NoMemory
+AreOne (Err why) (Ok x) = why ≡ NoMemory
+AreOne (Err why) (Err other) = (why ≡ NoMemory) ⊎ (other ≡ NoMemory) ⊎ (why ≡ other)
+
+-- a text is answered by one tree, or by one breach
+abbrev pub OneAnswer : Type 0
+OneAnswer = (wanted : Result (List (ℕ × Token)) ℕ) (a b : Result Tree YamlNo) → Reads wanted a → Reads wanted b → AreOne a b
