@@ -23,7 +23,7 @@ use Rattle.kr_yaml.proofs.Putting.{frames_length}
 use Rattle.kr_yaml.proofs.Breaches.{first_none}
 use Rattle.kr_yaml.proofs.Runs.{run_append, node_ran, one_tree, start}
 
-plain_push : (us : List (ℕ × Token)) (n : ℕ) (t : Token) → plain (us ++ (n, t) ∷ []) ≡ plain us ++ t ∷ []
+pub plain_push : (us : List (ℕ × Token)) (n : ℕ) (t : Token) → plain (us ++ (n, t) ∷ []) ≡ plain us ++ t ∷ []
 plain_push [] n t = refl
 plain_push (u ∷ us) n t = ap (λ l. u.1 ∷ l) (plain_push us n t)
 
@@ -32,13 +32,13 @@ pub going_makes : (us : List (ℕ × Token)) (nodes : Nodes) → IsGoing us node
 going_makes us nodes g = record { shape = g.shape; forms = stands_node 0 (plain us) (frame_views nodes.nodes.items) (option_map view nodes.value) g.shape g.stands; levels = g.levels; once = g.once }
 
 -- a run that is known, and one token more
-run_more : (us : List Token) (t : Token) (st : State) (r : Option State) → run us start ≡ Some st → put t st.0 st.1 ≡ r → run (us ++ t ∷ []) start ≡ option_and_then (run []) r
+pub run_more : (us : List Token) (t : Token) (st : State) (r : Option State) → run us start ≡ Some st → put t st.0 st.1 ≡ r → run (us ++ t ∷ []) start ≡ option_and_then (run []) r
 run_more us t st r h e = run_append us (t ∷ []) start ∙ ap (option_and_then (run (t ∷ []))) h ∙ ap (option_and_then (run [])) e
 
 none_some : (st : State) → None ≡ Some st → ⊥
 none_some st e = cc
 
-none_forms : (us : List Token) (t : Token) (st : State) → run us start ≡ Some st → put t st.0 st.1 ≡ None → FormNone (us ++ t ∷ [])
+pub none_forms : (us : List Token) (t : Token) (st : State) → run us start ≡ Some st → put t st.0 st.1 ≡ None → FormNone (us ++ t ∷ [])
 none_forms us t st h e more d s form =
     let r = node_ran 0 ((us ++ t ∷ []) ++ more) d s form in
     none_some r.st (sym (run_append (us ++ t ∷ []) more start ∙ ap (option_and_then (run more)) (run_more us t st None h e)) ∙ r.runs)
@@ -54,7 +54,7 @@ breaks_more us line P n t b = record {
   breach = b.breach;
 }
 
-first_more : (us : List (ℕ × Token)) (why : YamlNo) (n : ℕ) (t : Token) → IsFirst us why → IsFirst (us ++ (n, t) ∷ []) why
+pub first_more : (us : List (ℕ × Token)) (why : YamlNo) (n : ℕ) (t : Token) → IsFirst us why → IsFirst (us ++ (n, t) ∷ []) why
 first_more us (Outside line) n t h = absurd h
 first_more us (Indent line) n t h = breaks_more us line FormNone n t h
 first_more us (DuplicateKey line) n t h = breaks_more us line FormTwice n t h

@@ -12,3 +12,4 @@ pub mod KeySets
 pub mod Closing
 pub mod Putting
 pub mod Following
+pub mod SomeAnswer

@@ -1,10 +1,10 @@
 -- Laws of the definitions.
-use Rattle.std.specs.Prelude.{◌≡◌, ℕ, ◌⊎◌, List, Result, Ok, Err}
+use Rattle.std.specs.Prelude.{◌≡◌, ◌≢◌, ℕ, ◌⊎◌, List, Result, Ok, Err}
 use Rattle.kr_yaml.specs.Data.{Data}
 use Rattle.kr_yaml.specs.Lines.{Token}
 use Rattle.kr_yaml.specs.Forms.{Shape, Form}
 use Rattle.kr_yaml.specs.Shown.{view}
-use Rattle.kr_yaml.specs.Reads.{Reads}
+use Rattle.kr_yaml.specs.Reads.{HasTree, Refuses, Reads}
 use Rattle.kr_yaml.specs.declared.tree.Tree.{Tree}
 use Rattle.kr_yaml.specs.declared.yaml_no.YamlNo.{YamlNo}
 use Rattle.kr_yaml.specs.declared.yaml_no.YamlNo.TheVariants.{NoMemory}
@@ -23,3 +23,11 @@ AreOne (Err why) (Err other) = (why ≡ NoMemory) ⊎ (other ≡ NoMemory) ⊎ (
 -- a text is answered by one tree, or by one breach
 abbrev pub OneAnswer : Type 0
 OneAnswer = (wanted : Result (List (ℕ × Token)) ℕ) (a b : Result Tree YamlNo) → Reads wanted a → Reads wanted b → AreOne a b
+
+-- a tree, or a refusal other than want of memory
+abbrev pub Answered : Result (List (ℕ × Token)) ℕ → Type 0
+Answered wanted = ((d : Data) × HasTree wanted d) ⊎ ((why : YamlNo) × Refuses wanted why × (why ≢ NoMemory))
+
+-- a text has an answer
+abbrev pub SomeAnswer : Type 0
+SomeAnswer = (wanted : Result (List (ℕ × Token)) ℕ) → Answered wanted

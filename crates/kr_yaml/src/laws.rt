@@ -1,8 +1,9 @@
 //! Laws of the definitions, for a reader and for callers' proofs. The function does nothing.
-ghost use Rattle.kr_yaml.specs.Laws.{OneForm, OneAnswer};
+ghost use Rattle.kr_yaml.specs.Laws.{OneForm, SomeAnswer, OneAnswer};
 
 /// Tokens form one tree at most, and a text has one answer: its tree, or its first breach.
 pub fn one_answer()
     ensures form { OneForm }
+    ensures some { SomeAnswer }
     ensures answer { OneAnswer }
 {}

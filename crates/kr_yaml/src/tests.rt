@@ -51,7 +51,7 @@ fn shown(alloc: Global, text: &str) -> Result<String, AllocError> {
 }
 
 /// Lines and what they say.
-const SCALARS: [(&str, &str); 66] = [
+const SCALARS: [(&str, &str); 70] = [
     ("", "~"),
     ("\n  \n# a\n", "~"),
     ("~", "~"),
@@ -68,6 +68,7 @@ const SCALARS: [(&str, &str); 66] = [
     ("''''", "<'>"),
     ("'a", "outside 1"),
     ("'a' b", "outside 1"),
+    ("\"a # b\" # c", "<a # b>"),
     ("'a'#b", "outside 1"),
     ("\"\\\"\\\\\\/\\n\\t # \u{e9}\"", "<\"\\/\n\t # \u{e9}>"),
     ("\"\\x\"", "outside 1"),
@@ -102,6 +103,7 @@ const SCALARS: [(&str, &str); 66] = [
     ("-#", "<-#>"),
     ("- # a", "[~]"),
     ("-", "[~]"),
+    ("- - # a", "[[~]]"),
     ("[]", "[]"),
     ("{} # a", "{}"),
     ("[ a , 'b, c' ,\"d\",~]", "[<a><b, c><d>~]"),
@@ -115,6 +117,8 @@ const SCALARS: [(&str, &str); 66] = [
     ("{a}", "outside 1"),
     ("a: [b,c]", "{a=[<b><c>]}"),
     ("a: |", "outside 1"),
+    ("a: > # b", "outside 1"),
+    ("a: &b c", "outside 1"),
     ("&a b", "outside 1"),
     ("@a", "outside 1"),
     ("` a", "outside 1"),
@@ -129,7 +133,7 @@ fn reads_scalars(rt: HostRuntime) -> Result<(), Fail> {
 }
 
 /// Texts of several lines and what they say.
-const TEXTS: [(&str, &str); 37] = [
+const TEXTS: [(&str, &str); 40] = [
     ("---\na: b", "{a=<b>}"),
     ("# c\n--- # d\n- a\n- b\n", "[<a><b>]"),
     ("---\n---", "outside 2"),
@@ -140,6 +144,8 @@ const TEXTS: [(&str, &str); 37] = [
     (" ---", "<--->"),
     ("'---'\n---", "outside 2"),
     ("a:\r\n  b: c\r\nd:\r\n", "{a={b=<c>}d=~}"),
+    ("---\r\n- a\r\n-\r\n", "[<a>~]"),
+    ("a:\nb:\n  # c\nd:", "{a=~b=~d=~}"),
     ("a:\n- b\n- c\nd: e", "{a=[<b><c>]d=<e>}"),
     ("a:\n- b:\n  - c\n  d: e", "{a=[{b=[<c>]d=<e>}]}"),
     ("a:\n  - b\n  -\n  - c\n", "{a=[<b>~<c>]}"),
@@ -159,6 +165,7 @@ const TEXTS: [(&str, &str); 37] = [
     ("- a\n  - b", "indent 2"),
     ("  a: b\nc: d", "indent 2"),
     ("a: b\nc: d\na: e", "twice 3"),
+    ("kind: a\nkind: b", "twice 2"),
     ("a: b\n'a': c", "twice 2"),
     ("- a: b\n- a: c", "[{a=<b>}{a=<c>}]"),
     ("a:\n  b: c\n  b: d\n  e", "twice 3"),
@@ -174,10 +181,10 @@ const HEAD: &str = "---\n# an example\n";
 const THIRD: &str = "apiVersion: apiserver.config.k8s.io/v1\n";
 
 const REST: &str =
-    "kind: EncryptionConfiguration\nresources:\n  - resources:\n      - secrets\n      - configmaps # core group\n    providers:\n      - aescbc:\n          keys:\n            - name: key1\n              secret: c2VjcmV0IGlzIHNlY3VyZQ==\n            - name: key2\n              secret: dGhpcyBpcyBwYXNzd29yZA==\n      - identity: {} # last\n  - resources:\n      - '*.*'\n    providers:\n      - identity: {}\n";
+    "kind: EncryptionConfiguration\nresources:\n  - resources:\n      - secrets\n      - configmaps # core group\n    providers:\n      - aescbc:\n          keys:\n            - name: key1\n              secret: c2VjcmV0IGlzIHNlY3VyZQ==\n            - name: key2\n              secret: dGhpcyBpcyBwYXNzd29yZA==\n      - identity: {} # last\n  - resources:\n      - '*.apps'\n    providers:\n      - aesgcm:\n          keys:\n            - name: key1\n              secret: c2VjcmV0IGlzIHNlY3VyZQ==\n      - identity: {}\n  - resources:\n      - '*.*'\n    providers:\n      - identity: {}\n";
 
 const TREE: &str =
-    "{apiVersion=<apiserver.config.k8s.io/v1>kind=<EncryptionConfiguration>resources=[{resources=[<secrets><configmaps>]providers=[{aescbc={keys=[{name=<key1>secret=<c2VjcmV0IGlzIHNlY3VyZQ==>}{name=<key2>secret=<dGhpcyBpcyBwYXNzd29yZA==>}]}}{identity={}}]}{resources=[<*.*>]providers=[{identity={}}]}]}";
+    "{apiVersion=<apiserver.config.k8s.io/v1>kind=<EncryptionConfiguration>resources=[{resources=[<secrets><configmaps>]providers=[{aescbc={keys=[{name=<key1>secret=<c2VjcmV0IGlzIHNlY3VyZQ==>}{name=<key2>secret=<dGhpcyBpcyBwYXNzd29yZA==>}]}}{identity={}}]}{resources=[<*.apps>]providers=[{aesgcm={keys=[{name=<key1>secret=<c2VjcmV0IGlzIHNlY3VyZQ==>}]}}{identity={}}]}{resources=[<*.*>]providers=[{identity={}}]}]}";
 
 #[test]
 fn reads_texts(rt: HostRuntime) -> Result<(), Fail> {
@@ -195,11 +202,18 @@ fn reads_texts(rt: HostRuntime) -> Result<(), Fail> {
 }
 
 /// Texts of many levels: this so often, then that, and what they say.
-const LEVELS: [(&str, usize, &str, &str); 6] = [
+const LEVELS: [(&str, usize, &str, &str); 8] = [
     ("- ", 16, "a", "[[[[[[[[[[[[[[[[<a>]]]]]]]]]]]]]]]]"),
     ("- ", 16, "[a]", "[[[[[[[[[[[[[[[[[<a>]]]]]]]]]]]]]]]]]"),
     ("- ", 17, "a", "deep 1"),
     ("- ", 16, "a: b", "deep 1"),
+    (
+        "- ",
+        14,
+        "a:\n                            - b",
+        "[[[[[[[[[[[[[[{a=[<b>]}]]]]]]]]]]]]]]",
+    ),
+    ("- ", 15, "a:\n                              - b", "deep 2"),
     ("- ", 17, "a\nb", "deep 1"),
     ("- ", 400_000, "", "deep 1"),
 ];

@@ -1,5 +1,6 @@
-use Rattle.kr_yaml.proofs.OneAnswer as proved
+use Rattle.kr_yaml.proofs.OneAnswer.{one_form, one_answer}
+use Rattle.kr_yaml.proofs.SomeAnswer.{some_answer}
 use Rattle.kr_yaml.proofs.laws.one_answer.Goals as goal
 
 pub returns : goal.returns
-returns c = record { form = proved.one_form; answer = proved.one_answer }
+returns c = record { form = one_form; some = some_answer; answer = one_answer }
