@@ -47,6 +47,10 @@ pub went : (qs : List Token) → GoesOn qs
 went [] = λ ts st new s h e. subst (Went (ts ++ []) s) (some_same st new e) (record { shape = s; stands = subst (λ l. Stands 0 l st.0 st.1 s) (sym (append-nil ts)) h; more = within_same s })
 went (t ∷ qs) = λ ts st new s h e. went_at t qs ts st new s (put t st.0 st.1) refl (went qs) h e
 
+pub put_run : (r : Option State) (new : State) → option_and_then (run []) r ≡ Some new → r ≡ Some new
+put_run None new e = cc
+put_run (Some st) new e = e
+
 -- what begins a form is within it
 pub front_within : (xs ys : List Token) (d e : Data) (s t : Shape) → Form xs d s → Form (xs ++ ys) e t → Within s t
 front_within xs ys d e s t f g =

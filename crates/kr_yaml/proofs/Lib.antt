@@ -8,6 +8,7 @@ pub mod Runs
 pub mod Shapes
 pub mod Breaches
 pub mod OneAnswer
+pub mod Order
 pub mod KeySets
 pub mod Closing
 pub mod Putting

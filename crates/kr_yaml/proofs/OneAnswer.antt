@@ -16,7 +16,7 @@ use Rattle.kr_yaml.specs.declared.yaml_no.YamlNo.TheVariants.{Outside, Indent, D
 use Rattle.kr_yaml.proofs.Grown.{grows, stands_node, frames_levels}
 use Rattle.kr_yaml.proofs.Runs.{run_append, node_ran, one_tree, start}
 use Rattle.kr_yaml.proofs.Shapes.{one_shape}
-use Rattle.kr_yaml.proofs.Breaches.{went, Stops, none_stops, twice_stops, deep_stops, plain_split, first_stops}
+use Rattle.kr_yaml.proofs.Breaches.{went, put_run, Stops, none_stops, twice_stops, deep_stops, plain_split, first_stops}
 
 -- a repeated key opens no node
 repeated_next : (c b : ℕ) (ms : List (List ℕ × Data)) (l k : List ℕ) (v : Option Data) (d : Data) (st : State) (w : Bool) → (if w then Some (members b (ms ++ (l, d) ∷ []) k ∷ [], v) else None) ≡ Some st → length st.0 ≤ 1
@@ -55,10 +55,6 @@ record More (xs : List Token) (t : Token) (s u : Shape) : Type 0 where
   puts : put t old.0 old.1 ≡ Some new
   levels : u.levels ≤ max s.levels (length new.0)
   twice : s.twice ≡ false → u.twice ≡ doubles t old.0
-
-put_run : (r : Option State) (new : State) → option_and_then (run []) r ≡ Some new → r ≡ Some new
-put_run None new e = cc
-put_run (Some st) new e = e
 
 one_more : (xs : List Token) (t : Token) (d e : Data) (s u : Shape) → Form xs d s → Form (xs ++ t ∷ []) e u → More xs t s u
 one_more xs t d e s u f g =

@@ -38,7 +38,7 @@ inside_at t f fs o true e h rest =
     )
 inside_at t f fs o false e h rest = absurd (omega arith)
 
-put_inside : (t : Token) (fs : List Frame) (o : Option Data) → place t fs ≡ length fs → (put t fs o ≡ onto fs (begin t o)) × (doubles t fs ≡ false)
+pub put_inside : (t : Token) (fs : List Frame) (o : Option Data) → place t fs ≡ length fs → (put t fs o ≡ onto fs (begin t o)) × (doubles t fs ≡ false)
 put_inside t [] o h = (onto_nil (begin t o), refl)
 put_inside t (f ∷ fs) o h = inside_at t f fs o (is_inside t f) refl h (put_inside t fs o)
 

@@ -1,7 +1,7 @@
 -- Laws of the definitions.
-use Rattle.std.specs.Prelude.{◌≡◌, ◌≢◌, ℕ, ◌⊎◌, List, Result, Ok, Err}
+use Rattle.std.specs.Prelude.{◌≡◌, ◌≢◌, ℕ, ◌⊎◌, List, [], ◌∷◌, ◌++◌, Some, Result, Ok, Err}
 use Rattle.kr_yaml.specs.Data.{Data}
-use Rattle.kr_yaml.specs.Lines.{Token}
+use Rattle.kr_yaml.specs.Lines.{Token, tokens_of}
 use Rattle.kr_yaml.specs.Forms.{Shape, Form}
 use Rattle.kr_yaml.specs.Shown.{view}
 use Rattle.kr_yaml.specs.Reads.{HasTree, Refuses, Reads}
@@ -31,3 +31,9 @@ Answered wanted = ((d : Data) × HasTree wanted d) ⊎ ((why : YamlNo) × Refuse
 -- a text has an answer
 abbrev pub SomeAnswer : Type 0
 SomeAnswer = (wanted : Result (List (ℕ × Token)) ℕ) → Answered wanted
+
+-- Behind a token of its own line a token always goes on, and repeats no key. So of the breaches on one line the first is also
+-- the first in the order Indent, DuplicateKey, Deep.
+abbrev pub OnALine : Type 0
+OnALine = (line : List ℕ) (front rest before : List Token) (t u : Token) (d : Data) (s : Shape) → tokens_of line ≡ Some (front ++ t ∷ (u ∷ rest)) → Form (before ++ t ∷ []) d s
+    → (e : Data) × (x : Shape) × Form ((before ++ t ∷ []) ++ u ∷ []) e x × (x.twice ≡ s.twice)

@@ -1,9 +1,11 @@
 //! Laws of the definitions, for a reader and for callers' proofs. The function does nothing.
-ghost use Rattle.kr_yaml.specs.Laws.{OneForm, SomeAnswer, OneAnswer};
+ghost use Rattle.kr_yaml.specs.Laws.{OneForm, SomeAnswer, OneAnswer, OnALine};
 
-/// Tokens form one tree at most, and a text has one answer: its tree, or its first breach.
+/// Tokens form one tree at most, and a text has one answer: its tree, or its first breach. Of the breaches on one line the
+/// first is also the first in the order Indent, DuplicateKey, Deep.
 pub fn one_answer()
     ensures form { OneForm }
     ensures some { SomeAnswer }
     ensures answer { OneAnswer }
+    ensures order { OnALine }
 {}

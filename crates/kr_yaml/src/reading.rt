@@ -136,7 +136,8 @@ fn read_lines(alloc: Global, text: &str) -> Result<Progress, YamlNo>
 }
 
 /// Reads a text of the profile. The first line that isn't of it is looked for in all lines; then the first breach of the
-/// tokens decides. It takes time in proportion to the text, and finds a doubled key by a sorted set.
+/// tokens decides. Where it refuses, but for want of memory, there is no tree. It takes time in proportion to the text, and
+/// finds a doubled key by a sorted set.
 #[tactic(auto, unfolding(crate::specs::Texts::text_tokens))]
 pub fn read(alloc: Global, text: &str) -> Result<Tree, YamlNo>
     ensures reads { Reads (text_tokens text.now) result }
