@@ -37,15 +37,20 @@ resources:
       - identity: {}
 ";
 
-/// What the words leave under `HEAD`, a piece of text and `MEMBERS`.
-fn left_under(alloc: Global, words: &str, piece: &str, input: &[u8]) -> Result<Left, NoMemory> {
-    let Ok(config) = format!(in alloc; "{HEAD}{piece}{MEMBERS}") else {
-        return Err(NoMemory);
-    };
+/// The example with a piece in its third line.
+fn example(alloc: Global, piece: &str) -> Result<String, NoMemory> {
+    match format!(in alloc; "{HEAD}{piece}{MEMBERS}") {
+        Ok(text) => Ok(text),
+        Err(_) => Err(NoMemory),
+    }
+}
+
+/// What the words leave under a configuration.
+fn left_under(alloc: Global, words: &str, config: &str, input: &[u8]) -> Result<Left, NoMemory> {
     let dice: Option<&[u8]> = Some(IV);
     let call = Call {
         words,
-        config: config.as_str(),
+        config,
         dice,
         ..plain(input)
     };
@@ -54,14 +59,19 @@ fn left_under(alloc: Global, words: &str, piece: &str, input: &[u8]) -> Result<L
 
 /// Whether `check` shows this of the example.
 fn shows(alloc: Global, words: &str, output: &str) -> Result<bool, NoMemory> {
-    let left = left_under(alloc, words, "", b"")?;
+    let left = left_under(alloc, words, example(alloc, "")?.as_str(), b"")?;
     Ok(left.output.as_slice() == output.as_bytes() && left.status == 0)
 }
 
-/// Whether the example with this piece in its third line is refused so.
-fn refuses(alloc: Global, piece: &str, line: &str) -> Result<bool, NoMemory> {
-    let left = left_under(alloc, "check|--config|c.json", piece, b"")?;
+/// Whether a configuration is refused so.
+fn refuses(alloc: Global, config: &str, line: &str) -> Result<bool, NoMemory> {
+    let left = left_under(alloc, "check|--config|c.json", config, b"")?;
     Ok(left.errors.as_slice() == line.as_bytes() && left.status == 3)
+}
+
+/// Whether the example with a piece in its third line is refused so.
+fn refuses_with(alloc: Global, piece: &str, line: &str) -> Result<bool, NoMemory> {
+    refuses(alloc, example(alloc, piece)?.as_str(), line)
 }
 
 #[test]
@@ -94,11 +104,12 @@ fn shows_the_example(rt: HostRuntime) -> Result<(), Fail> {
 #[test]
 fn refuses_by_line_and_kind(rt: HostRuntime) -> Result<(), Fail> {
     let alloc = rt.alloc();
-    assert!(rt; refuses(alloc, "\t", "kmsrest: text 21 3 1\n")?);
-    assert!(rt; refuses(alloc, "kind: a\n  b: c\n", "kmsrest: text 21 4 2\n")?);
-    assert!(rt; refuses(alloc, "apiVersion: v1\n", "kmsrest: text 21 4 3\n")?);
+    assert!(rt; refuses(alloc, "kind: a\nkind: b", "kmsrest: text 21 2 3\n")?);
+    assert!(rt; refuses_with(alloc, "\t", "kmsrest: text 21 3 1\n")?);
+    assert!(rt; refuses_with(alloc, "kind: a\n  b: c\n", "kmsrest: text 21 4 2\n")?);
+    assert!(rt; refuses_with(alloc, "apiVersion: v1\n", "kmsrest: text 21 4 3\n")?);
     assert!(rt;
-        refuses(
+        refuses_with(
             alloc,
             "a:\n - - - - - - - - - - - - - - - -\n",
             "kmsrest: text 21 4 4\n"
@@ -110,10 +121,11 @@ fn refuses_by_line_and_kind(rt: HostRuntime) -> Result<(), Fail> {
 #[test]
 fn goes_there_and_back(rt: HostRuntime) -> Result<(), Fail> {
     let alloc = rt.alloc();
-    let sealed = left_under(alloc, ENCRYPT, "", b"hello")?;
+    let config = example(alloc, "")?;
+    let sealed = left_under(alloc, ENCRYPT, config.as_str(), b"hello")?;
     assert_eq!(rt; sealed.status, 0);
     assert_eq!(rt; sealed.output.as_slice().len(), 23 + 32);
-    let opened = left_under(alloc, DECRYPT, "", sealed.output.as_slice())?;
+    let opened = left_under(alloc, DECRYPT, config.as_str(), sealed.output.as_slice())?;
     assert_eq!(rt; opened.output.as_slice(), b"hello".as_slice());
     assert_eq!(rt; opened.errors.as_slice(), b"fresh\n".as_slice());
     assert_eq!(rt; opened.status, 0);
