@@ -90,7 +90,7 @@ def word(chance):
 
 
 def random_tree(chance, levels, doubles=0.0):
-    """With `doubles`, the chance that a mapping has a key again."""
+    """`doubles` is the chance that a mapping has a key again."""
     pick = chance.random()
     if levels == 0 or pick < 0.3:
         return None if chance.random() < 0.2 else word(chance)
@@ -112,12 +112,9 @@ def tower(chance, levels):
     tree = word(chance)
     for _ in range(levels):
         beside = [random_tree(chance, 0) for _ in range(chance.choice((0, 0, 1)))]
-        tree = beside + [tree] if chance.random() < 0.5 else tuple(enumerate_keys(beside + [tree]))
+        parts = beside + [tree]
+        tree = parts if chance.random() < 0.5 else tuple((f"k{number}", part) for number, part in enumerate(parts))
     return tree
-
-
-def enumerate_keys(values):
-    return ((f"k{number}", value) for number, value in enumerate(values))
 
 
 def shown(tree):

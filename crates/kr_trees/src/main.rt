@@ -3,6 +3,7 @@
 #![tactic(auto)]
 
 mod answer;
+mod laws;
 mod writing;
 
 use std::io::{self, BufRead, BufReader, BufWriter, Write};
