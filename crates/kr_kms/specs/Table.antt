@@ -67,8 +67,9 @@ after_call table = record table { calls = record table.calls { made = next_numbe
 abbrev pub after_fault : Table → Table
 after_fault table = record table { calls = record table.calls { made = next_number table.calls.made; faults = next_number table.calls.faults } }
 
--- a call has this answer where it can be served; it fails exactly where its number is listed or it can't be served
+-- a call has this answer where it can be served, as far as there is memory for it; it fails exactly where its number is
+-- listed or it can't be served
 abbrev pub Answers : {T : Type 0} → Table → Type 0 → T → Result T KmsNo → Table → Type 0
 Answers old Served answer (Ok given) new = (IsListed old → ⊥) × Served × (given ≡ answer) × (new ≡ after_call old)
 Answers old Served answer (Err Failed) new = (IsListed old ⊎ (Served → ⊥)) × (new ≡ after_fault old)
-Answers old Served answer (Err NoMemory) new = new ≡ after_call old
+Answers old Served answer (Err NoMemory) new = (IsListed old → ⊥) × Served × (new ≡ after_call old)
