@@ -46,7 +46,12 @@ fn example(alloc: Global, piece: &str) -> Result<String, NoMemory> {
 }
 
 /// What the words leave under a configuration.
-fn left_under(alloc: Global, words: &str, config: &str, input: &[u8]) -> Result<Left, NoMemory> {
+fn left_under<'a>(
+    alloc: Global,
+    words: &'a str,
+    config: &'a str,
+    input: &'a [u8],
+) -> Result<Left, NoMemory> {
     let dice: Option<&[u8]> = Some(IV);
     let call = Call {
         words,
