@@ -6,3 +6,4 @@ pub mod Refusals
 pub mod Written
 pub mod Shared
 pub mod Above
+pub mod Lookahead

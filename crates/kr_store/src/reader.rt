@@ -1,4 +1,4 @@
-ghost use Rattle.std.specs.Prelude.{◌≡◌, ◌≢◌, ℕ, ◌+◌, ◌^◌, ◌<◌, ◌≤◌, min, get_or, [], ◌∷◌, length, IfSome, IfOk, IsErrOf, MatchOption, IsTrue, ◌↔◌};
+ghost use Rattle.std.specs.Prelude.{◌≡◌, ◌≢◌, ℕ, ◌+◌, ◌^◌, ◌<◌, ◌≤◌, min, get_or, [], ◌∷◌, length, IfSome, IfOk, IfErr, IsErrOf, MatchOption, IsTrue, ◌↔◌, take};
 ghost use Rattle.std.specs.Int.{w16, w32, w64, to_be_bytes};
 ghost use Rattle.kr_base.specs.Faults.{Rose};
 ghost use Rattle.kr_base.specs.Rules.{IsPath, IsResource};
@@ -12,7 +12,7 @@ use crate::encode::MAGIC;
 use crate::entry::Entry;
 use crate::limits::LONGEST_VALUE;
 use crate::row::Row;
-use kr_base::{Bytes, Failed, Tape, Text, path_ok, resource_ok};
+use kr_base::{Bytes, Failed, NoMemory, Tape, Text, path_ok, resource_ok};
 use std::alloc::Global;
 use std::marker::Model;
 use std::sync::Arc;
@@ -52,16 +52,42 @@ fn kind_of(byte: u8) -> Option<Kind>
     }
 }
 
+/// How many bytes are read ahead. Parts of at least as many are read where they are wanted.
+const AHEAD: usize = 8192;
+
+fn room(alloc: Global) -> Result<Vec<u8>, NoMemory>
+    ensures { IfOk result (λ bytes. 0 < length bytes.items) }
+{
+    match vec![in alloc; 0; AHEAD] {
+        Ok(bytes) => Ok(bytes),
+        Err(_) => Err(NoMemory),
+    }
+}
+
+// As many bytes as there are and fit.
+fn hand_out(bytes: &[u8], into: &mut [u8]) -> usize
+    ensures count { result ≡ min (length bytes.now) (length into.old) }
+    ensures same { take result into.new ≡ take result bytes.now }
+{
+    let n = bytes.len().min(into.len());
+    into[..n].copy_from_slice(&bytes[..n]);
+    n
+}
+
 /// The bytes of a tape from front to back.
 #[derive(Drop)]
 pub(crate) struct Reader<T: Tape> {
     tape: T,
     place: u64,
     end: u64,
+    // Those from `start` on, of which the first `filled` were read.
+    ahead: Vec<u8>,
+    start: u64,
+    filled: usize,
 }
 
 impl<T: Tape> Model for Reader<T> {
-    ghost use Rattle.std.specs.Prelude.{◌≡◌, ◌≤◌, length, drop, IfSome};
+    ghost use Rattle.std.specs.Prelude.{◌≡◌, ◌+◌, ◌<◌, ◌≤◌, length, take, drop, IfSome};
     ghost use Rattle.std.specs.Option.{option_map};
     ghost use Rattle.kr_store.specs.Reading.{Ahead};
 
@@ -69,19 +95,28 @@ impl<T: Tape> Model for Reader<T> {
 
     ghost view = { λ reader. record { told = T.told reader.tape; left = option_map (λ bytes. drop reader.place bytes) (T.told reader.tape); place = reader.place; end = reader.end; count = T.count reader.tape } };
 
-    ghost invariant = { λ reader. (reader.place ≤ reader.end) × IfSome (T.told reader.tape) (λ bytes. reader.end ≡ length bytes) };
+    ghost invariant = { λ reader. (reader.place ≤ reader.end) × IfSome (T.told reader.tape) (λ bytes. reader.end ≡ length bytes)
+        × (reader.start ≤ reader.place) × (reader.place ≤ reader.start + reader.filled) × (0 < length reader.ahead.items) × (reader.filled ≤ length reader.ahead.items)
+        × IfSome (T.told reader.tape) (λ bytes. take reader.filled reader.ahead.items ≡ take reader.filled (drop reader.start bytes)) };
 }
 
 impl<T: Tape> Reader<T> {
     /// A reader of a tape with so many bytes.
-    pub fn new(tape: T, end: u64) -> Reader<T>
+    pub fn new(alloc: Global, tape: T, end: u64) -> Result<Reader<T>, (NoMemory, T)>
         requires { IfSome (T.told tape) (λ bytes. end ≡ length bytes) }
-        ensures { result ≡ record { told = T.told tape; left = T.told tape; place = 0; end = end; count = T.count tape } }
+        ensures ok { IfOk result (λ reader. reader ≡ record { told = T.told tape; left = T.told tape; place = 0; end = end; count = T.count tape }) }
+        ensures err { IfErr result (λ refused. refused.1 ≡ tape) }
     {
-        Reader {
-            tape,
-            place: 0,
-            end,
+        match room(alloc) {
+            Ok(ahead) => Ok(Reader {
+                tape,
+                place: 0,
+                end,
+                ahead,
+                start: 0,
+                filled: 0,
+            }),
+            Err(why) => Err((why, tape)),
         }
     }
 
@@ -94,6 +129,9 @@ impl<T: Tape> Reader<T> {
             tape,
             place: _,
             end: _,
+            ahead: _,
+            start: _,
+            filled: _,
         } = self;
         tape
     }
@@ -121,13 +159,35 @@ impl<T: Tape> Reader<T> {
         ensures failed { IsErrOf result Stop.Failed → Rose self.old.count self.new.count }
         ensures read { Begins self.old self.new into.new result }
     {
-        let n = match self.tape.read_at(self.place, into) {
+        let used = (self.place - self.start) as usize;
+        if used < self.filled {
+            let n = hand_out(&self.ahead[used..self.filled], into);
+            self.place += n as u64;
+            return Ok(n);
+        }
+        self.start = self.place;
+        self.filled = 0;
+        if into.len() >= self.ahead.len() {
+            let n = match self.tape.read_at(self.place, into) {
+                Ok(n) => n,
+                Err(Failed) => return Err(Stop::Failed),
+            };
+            if n == 0 {
+                return Err(Stop::Breach(Cause::Torn));
+            }
+            self.place += n as u64;
+            self.start = self.place;
+            return Ok(n);
+        }
+        let found = match self.tape.read_at(self.place, &mut self.ahead) {
             Ok(n) => n,
             Err(Failed) => return Err(Stop::Failed),
         };
-        if n == 0 {
+        if found == 0 {
             return Err(Stop::Breach(Cause::Torn));
         }
+        self.filled = found;
+        let n = hand_out(&self.ahead[..found], into);
         self.place += n as u64;
         Ok(n)
     }

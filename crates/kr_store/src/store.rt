@@ -146,7 +146,10 @@ impl<T: Tape> Store<T> {
         if length > limit {
             return Err((StoreNo::TooLong, tape));
         }
-        let mut reader = Reader::new(tape, length);
+        let mut reader = match Reader::new(alloc, tape, length) {
+            Ok(reader) => reader,
+            Err((_, tape)) => return Err((StoreNo::NoMemory, tape)),
+        };
         match load_rows(alloc, &mut reader) {
             Ok((rows, index)) => Ok(Store {
                 alloc,

@@ -9,5 +9,5 @@ returns-then-length-limit-clause-loads g c = too_long (g.T.Tape.told c.args.tape
 
 pub returns-in-Err-load_rows-clause-loads : goal.returns-in-Err-load_rows-clause-loads
 returns-in-Err-load_rows-clause-loads g c =
-    subst (λ t. Loads t c.args.limit (Err (c.in-Err-load_rows.no, c.into_tape-in-Err-load_rows.result))) (ap (λ (r : Ahead). r.left) c.new-reader.ensures ∙ c.in-Ok.ensures.same)
-    (load_refused c.new-reader.result c.args.limit c.in-Err-load_rows.no c.into_tape-in-Err-load_rows.result (omega (arith, ap (λ (r : Ahead). r.end) c.new-reader.ensures)) c.in-Err-load_rows.ensures.loads)
+    subst (λ t. Loads t c.args.limit (Err (c.in-Err-load_rows.no, c.into_tape-in-Err-load_rows.result))) (ap (λ (r : Ahead). r.left) c.in-Ok-new.ensures.ok ∙ c.in-Ok.ensures.same)
+    (load_refused c.in-Ok-new.reader c.args.limit c.in-Err-load_rows.no c.into_tape-in-Err-load_rows.result (omega (arith, ap (λ (r : Ahead). r.end) c.in-Ok-new.ensures.ok)) c.in-Err-load_rows.ensures.loads)
