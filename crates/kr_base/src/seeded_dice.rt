@@ -1,13 +1,15 @@
+//! Random bytes of a generator.
 ghost use Rattle.std.specs.Prelude.{◌≡◌, length, None, IsOk, MatchResult};
 ghost use Rattle.std.specs.Io.KnownBytes.{Consumes, Keeps};
 ghost use Rattle.kr_base.specs.Faults.{IsCounted};
 ghost use Rattle.rand_core.specs.Stream.{fill_bytes};
 
-use crate::answers::Failed;
+use crate::errors::Failed;
 use crate::traits::Dice;
 use rand_core::Rng;
 
-/// A dice that draws from a generator and never fails. It tells no content, since a generator has no end.
+/// A dice that draws from a generator and never fails. It tells no content, since a generator has no
+/// end.
 #[derive(Debug, Drop)]
 pub struct SeededDice<R> {
     pub rng: R,
