@@ -9,8 +9,8 @@ pub record Calls : Type 0 where
   pub made : ℕ
   pub faults : ℕ
 
--- one more call was made: it failed exactly where its number is listed or it can't be served, and then
--- it counts as a fault
+-- one more call was made: it failed exactly where its number is listed or it can't be served, and
+-- then it counts as a fault
 pub record Makes {T E : Type 0} (old new : Calls) (Unserved : Type 0) (result : Result T E)
     : Type 0 where
   pub fails : new.fails ≡ old.fails
@@ -29,8 +29,8 @@ pub record OutputState : Type 0 where
   pub room : ℕ
   pub calls : Calls
 
--- a tape with the bytes that it holds, the bytes that it has room for in all, and its calls that read
--- and that write
+-- a tape with the bytes that it holds, the bytes that it has room for in all, and its calls that
+-- read and that write
 pub record TapeState : Type 0 where
   pub bytes : List ℕ
   pub room : ℕ

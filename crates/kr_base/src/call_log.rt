@@ -42,8 +42,10 @@ impl CallLog {
     pub fn fails(&mut self, unserved: bool) -> bool
         ensures fails { self.new.fails ≡ self.old.fails }
         ensures made { self.new.made ≡ next_number self.old.made }
-        ensures failed { IsTrue result ↔ (Contains self.old.fails (next_number self.old.made) ⊎ IsTrue unserved) }
-        ensures faults { self.new.faults ≡ (if result then next_number self.old.faults else self.old.faults) }
+        ensures failed { IsTrue result
+            ↔ (Contains self.old.fails (next_number self.old.made) ⊎ IsTrue unserved) }
+        ensures faults { self.new.faults
+            ≡ (if result then next_number self.old.faults else self.old.faults) }
         ensures later { self.old.faults ≤ self.new.faults }
         ensures rose { OnTrue result (Rose self.old.faults self.new.faults) }
     {

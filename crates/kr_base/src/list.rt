@@ -89,7 +89,9 @@ impl<T> List<T> {
         ensures items { MatchOption result
             ((self.old.0 ≡ []) × (self.new.0 ≡ []))
             (λ last. self.old.0 ≡ self.new.0 ++ last ∷ []) }
-        ensures room { MatchOption result (self.new.1 ≡ self.old.1) (λ _. self.new.1 ≡ self.old.1 + 1) }
+        ensures room { MatchOption result
+            (self.new.1 ≡ self.old.1)
+            (λ _. self.new.1 ≡ self.old.1 + 1) }
     {
         self.items.pop()
     }

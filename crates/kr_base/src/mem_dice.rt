@@ -53,7 +53,8 @@ impl Dice for MemDice {
     ghost count = { λ dice. dice.calls.faults };
 
     fn fill(&mut self, into: &mut [u8]) -> Result<(), Failed>
-        ensures calls { Makes self.old.calls self.new.calls (length self.old.bytes < length into.old) result }
+        ensures calls { Makes self.old.calls self.new.calls
+            (length self.old.bytes < length into.old) result }
         ensures drawn { MatchResult result
             (λ _. (into.new ≡ take (length into.old) self.old.bytes)
             × (self.new.bytes ≡ drop (length into.old) self.old.bytes))

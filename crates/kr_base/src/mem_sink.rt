@@ -12,8 +12,8 @@ use crate::list::List;
 use crate::traits::Sink;
 use std::marker::Model;
 
-/// A sink in memory. Its writes fail by their numbers, the first being 1, and where they would bring
-/// it above its room.
+/// A sink in memory. Its writes fail by their numbers, the first being 1, and where they would
+/// bring it above its room.
 #[derive(Debug, Drop)]
 pub struct MemSink {
     bytes: Vec<u8>,
@@ -27,14 +27,19 @@ impl Model for MemSink {
 
     ghost Value = { OutputState };
 
-    ghost view = { λ sink. record { bytes = sink.bytes.items; room = sink.room; calls = sink.calls } };
+    ghost view = { λ sink. record {
+      bytes = sink.bytes.items;
+      room = sink.room;
+      calls = sink.calls;
+    } };
 
-    ghost invariant = { λ sink. (vec_len sink.bytes ≤ sink.room) × (sink.room ≤ vec_capacity sink.bytes) };
+    ghost invariant = { λ sink. (vec_len sink.bytes ≤ sink.room)
+        × (sink.room ≤ vec_capacity sink.bytes) };
 }
 
 impl MemSink {
-    /// A sink that holds the content and has room for `room` bytes in all. It reserves them here, and
-    /// takes no memory later.
+    /// A sink that holds the content and has room for `room` bytes in all. It reserves them here,
+    /// and takes no memory later.
     pub fn new(content: Bytes, room: usize, fails: List<u64>) -> Result<MemSink, NoMemory>
         requires { length content ≤ room }
         ensures { IfOk result (λ sink. sink ≡ record {

@@ -14,8 +14,8 @@ use std::marker::Model;
 
 /// A tape in memory. Its calls fail by their numbers, those that read and those that write each
 /// counted from 1, and where a write would bring it above its room. A `put_at` that fails by its
-/// number leaves half of its bytes at their place, as a write that was broken off; a `cut` that fails
-/// leaves all as before.
+/// number leaves half of its bytes at their place, as a write that was broken off; a `cut` that
+/// fails leaves all as before.
 #[derive(Debug, Drop)]
 pub struct MemTape {
     bytes: Vec<u8>,
@@ -37,13 +37,14 @@ impl Model for MemTape {
       writes = tape.writes;
     } };
 
-    ghost invariant = { λ tape. (vec_len tape.bytes ≤ tape.room) × (tape.room ≤ vec_capacity tape.bytes) };
+    ghost invariant = { λ tape. (vec_len tape.bytes ≤ tape.room)
+        × (tape.room ≤ vec_capacity tape.bytes) };
 }
 
 impl MemTape {
-    /// A tape that holds the content and has room for `room` bytes in all. It reserves them here, and
-    /// takes no memory later. `read_fails` numbers the calls of `len` and `read_at`, `write_fails`
-    /// those of `put_at` and `cut`.
+    /// A tape that holds the content and has room for `room` bytes in all. It reserves them here,
+    /// and takes no memory later. `read_fails` numbers the calls of `len` and `read_at`,
+    /// `write_fails` those of `put_at` and `cut`.
     pub fn new(
         content: Bytes,
         room: usize,
@@ -144,8 +145,10 @@ impl Tape for MemTape {
 
     fn put_at(&mut self, at: u64, bytes: &[u8]) -> Result<(), Failed>
         requires { at ≤ length self.old.bytes }
-        ensures calls { Makes self.old.writes self.new.writes (self.old.room < at + length bytes.now) result }
-        ensures kept { self.new ≡ record self.old { bytes = self.new.bytes; writes = self.new.writes } }
+        ensures calls { Makes self.old.writes self.new.writes
+            (self.old.room < at + length bytes.now) result }
+        ensures kept { self.new
+            ≡ record self.old { bytes = self.new.bytes; writes = self.new.writes } }
         ensures put { let above = nat_lt self.old.room (at + length bytes.now) in
             MatchResult result
             (λ _. self.new.bytes ≡ with_bytes_at self.old.bytes at bytes.now)
@@ -171,7 +174,8 @@ impl Tape for MemTape {
     fn cut(&mut self, len: u64) -> Result<(), Failed>
         requires { len ≤ length self.old.bytes }
         ensures calls { Makes self.old.writes self.new.writes ⊥ result }
-        ensures kept { self.new ≡ record self.old { bytes = self.new.bytes; writes = self.new.writes } }
+        ensures kept { self.new
+            ≡ record self.old { bytes = self.new.bytes; writes = self.new.writes } }
         ensures cut { MatchResult result
             (λ _. self.new.bytes ≡ take len self.old.bytes)
             (λ _. self.new.bytes ≡ self.old.bytes) }
