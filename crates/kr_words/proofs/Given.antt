@@ -48,7 +48,7 @@ small_reload number file (Some v) None replicas few m h = absurd (omega (arith, 
 
 pub reload_given : {R : Type 0} (number : R → ℕ) (file : R → List ℕ) (verb : Verb) (options : List (List ℕ × List ℕ)) (r : Option R) → IsCommand verb options → verb ≡ Judge → replicas_of options ≤ 16
     → MatchOption r ((n : ℕ) (f : List ℕ) → IsSomeAnd (value_of options (text_of Reload)) (λ v. IsReloadOf v n × (f ≡ after_equals v)) → 2 ^ 64 ≤ n)
-      (λ x. IsSomeAnd (value_of options (text_of Reload)) (λ v. IsReloadOf v (number x) × (file x ≡ after_equals v)))
+    (λ x. IsSomeAnd (value_of options (text_of Reload)) (λ v. IsReloadOf v (number x) × (file x ≡ after_equals v)))
     → IsSomeAnd r (λ x. number x < replicas_of options)
 reload_given number file verb options r command e few m =
     small_reload number file (value_of options (text_of Reload)) r (replicas_of options) few m

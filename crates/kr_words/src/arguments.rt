@@ -42,18 +42,14 @@ impl Command {
         ensures { option_copied result
             ≡ slice_get (values_of self.now.options.0 (codes "replica")) number }
     {
-        value_at(
-            self.options.as_slice(),
-            OptionName::Replica.text(),
-            number,
-        )
+        value_at(self.options.as_slice(), OptionName::Replica.text(), number)
     }
 
     /// The reload. `judge` has one, of a replica that there is.
     pub fn reload(&self) -> Option<Reload<'_>>
         ensures reload { MatchOption result
             ((replica : ℕ) (file : List ℕ) → IsReloadAt self.now.options.0 replica file
-                → 2 ^ 64 ≤ replica)
+            → 2 ^ 64 ≤ replica)
             (λ reload. IsReloadAt self.now.options.0 reload.replica reload.file.now) }
         ensures given { IsCommand self.now.verb self.now.options.0 → self.now.verb ≡ Verb.Judge
             → replicas_of self.now.options.0 ≤ 16
@@ -114,7 +110,7 @@ fn reload_of(value: &str) -> Option<Reload<'_>>
     ensures { MatchOption result
         ((replica : ℕ) → IsReloadOf value.now replica → 2 ^ 64 ≤ replica)
         (λ reload. IsReloadOf value.now reload.replica
-            × (reload.file.now ≡ after_equals value.now)) }
+        × (reload.file.now ≡ after_equals value.now)) }
 {
     match parts_of(value) {
         Some((replica, file)) => match number_of(replica) {
@@ -130,7 +126,7 @@ fn parts_of(value: &str) -> Option<(&str, &str)>
     ensures { MatchOption result
         (Contains value.now 0x3D → ⊥)
         (λ parts. Contains value.now 0x3D × (parts.0.now ≡ before_equals value.now)
-            × (parts.1.now ≡ after_equals value.now)) }
+        × (parts.1.now ≡ after_equals value.now)) }
 {
     match value.split_once('=') {
         Some((before, after)) => Some((before, after)),

@@ -8,8 +8,6 @@ mod numeral;
 mod read;
 mod rules;
 mod spelling;
-#[cfg(test)]
-mod tests;
 
 pub use arguments::Reload;
 pub use command::{Command, Verb, WordsNo};

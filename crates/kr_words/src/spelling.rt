@@ -38,7 +38,7 @@ fn first_option(words: &[String]) -> Option<(&str, &str, &[String])>
     ensures { MatchOption result
         (BeginNoOption (texts words.now))
         (λ found. IsPlain found.0.now
-            × Begins (texts words.now) (found.0.now, found.1.now) (texts found.2.now)) }
+        × Begins (texts words.now) (found.0.now, found.1.now) (texts found.2.now)) }
 {
     let (word, rest) = words.split_first()?;
     let option = word.as_str().strip_prefix("--")?;

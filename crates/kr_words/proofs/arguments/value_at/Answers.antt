@@ -19,10 +19,10 @@ loop-option-preserved c =
     elim c.if-eq.branch [
       | then-eq+else-left-eq0 w ↦ subst next (sym w.left-is)
           (counted_on c.args.options.now c.args.name.now c.loop-option.option-index c.args.number c.loop-option.left x c.loop-option.invariant c.loop-option-test.true c.option-item.is
-            (ap (λ t. bytes_eq t c.args.name.now) (sym c.as_str.ensures) ∙ sym c.eq.ensures ∙ w.if-eq.true) w.if-left-eq0.false)
+          (ap (λ t. bytes_eq t c.args.name.now) (sym c.as_str.ensures) ∙ sym c.eq.ensures ∙ w.if-eq.true) w.if-left-eq0.false)
       | else-eq w ↦ subst next (sym w.left-is)
           (passed_over c.args.options.now c.args.name.now c.loop-option.option-index c.args.number c.loop-option.left x c.loop-option.invariant c.loop-option-test.true c.option-item.is
-            (ap (λ t. bytes_eq t c.args.name.now) (sym c.as_str.ensures) ∙ sym c.eq.ensures ∙ w.if-eq.false))
+          (ap (λ t. bytes_eq t c.args.name.now) (sym c.as_str.ensures) ∙ sym c.eq.ensures ∙ w.if-eq.false))
     ]
 
 pub returns : goal.returns
