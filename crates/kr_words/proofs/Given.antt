@@ -1,5 +1,5 @@
 -- What a command's options give is there: the numbers and the reload of a command that was read.
-use Rattle.std.proofs.Common.{◌≡◌, ℕ, ◌^◌, ◌<◌, ◌≤◌, List, Option, Some, None, IfSome, IsSome, IsSomeAnd, MatchOption, refl, sym, subst, arith, ◌∙◌, Contains}
+use Rattle.std.proofs.Common.{◌≡◌, ℕ, ◌^◌, ◌<◌, ◌≤◌, List, Option, Some, None, IfSome, IsSome, IsSomeAnd, MatchOption, refl, sym, subst, arith, Contains}
 use Rattle.kr_words.specs.declared.command.Verb.{Verb}
 use Rattle.kr_words.specs.declared.command.Verb.TheVariants.{Judge, Gen}
 use Rattle.kr_words.specs.declared.name.OptionName.{OptionName}

@@ -1,5 +1,5 @@
 -- The steps of a loop that counts down to the option of a name with a number.
-use Rattle.std.proofs.Common.{◌≡◌, ℕ, ◌+◌, ◌-◌, ◌<◌, ◌≤◌, List, [], ◌∷◌, length, get_or, drop, Bool, true, false, cond, Some, None, slice_get, refl, sym, ap, ◌∙◌, subst, arith, zero, suc, add-one}
+use Rattle.std.proofs.Common.{◌≡◌, ℕ, ◌+◌, ◌-◌, ◌<◌, ◌≤◌, List, [], ◌∷◌, length, get_or, drop, Bool, true, false, cond, Some, None, slice_get, refl, sym, ap, ◌∙◌, arith, zero, suc, add-one}
 use Rattle.std.proofs.Math.Seq.{drop-cons}
 use Rattle.std.proofs.lemmas.List.{drop_all}
 use Rattle.kr_words.specs.Options.{is_named, values_of}

@@ -1,4 +1,4 @@
-use Rattle.std.proofs.Common.{ℕ, ◌^◌, ◌≤◌, List, MatchOption, subst, ◌∙◌, ap}
+use Rattle.std.proofs.Common.{ℕ, ◌^◌, ◌≤◌, List, MatchOption, subst}
 use Rattle.kr_words.specs.declared.name.OptionName.TheVariants.{Seed}
 use Rattle.kr_words.specs.Names.{text_of}
 use Rattle.kr_words.specs.Arguments.{IsNumberAt}
