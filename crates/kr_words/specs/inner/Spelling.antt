@@ -1,5 +1,5 @@
 -- What the words behind the command's are read as.
-use Rattle.std.specs.Prelude.{◌≢◌, ℕ, ◌<◌, List, codes, ⊤, IsSomeAnd, Result, Ok, Err}
+use Rattle.std.specs.Prelude.{◌≢◌, ℕ, ◌<◌, List, ⊤, IsSomeAnd, Result, Ok, Err}
 use Rattle.std.specs.List.{AllByRecursion}
 use Rattle.kr_words.specs.declared.spelling.SpellingNo.{SpellingNo}
 use Rattle.kr_words.specs.declared.spelling.SpellingNo.TheVariants.{Usage, NoMemory}
@@ -16,14 +16,18 @@ ArePlain options = AllByRecursion (λ option. IsPlain option.0) options
 
 -- the words begin with no option of a plain name
 abbrev pub BeginNoOption : List (List ℕ) → Type 0
-BeginNoOption words = (option : List ℕ × List ℕ) (rest : List (List ℕ)) → IsPlain option.0 → Begins words option rest → ⊥
+BeginNoOption words =
+    (option : List ℕ × List ℕ) (rest : List (List ℕ))
+    → IsPlain option.0 → Begins words option rest → ⊥
 
 -- the words are read as the options of plain names that they spell, or they spell none
 abbrev pub ReadsOptions : List (List ℕ) → Result (List (List ℕ × List ℕ) × ℕ) SpellingNo → Type 0
 ReadsOptions words (Ok options) = ArePlain options.0 × Spells words options.0
-ReadsOptions words (Err Usage) = (options : List (List ℕ × List ℕ)) → ArePlain options → Spells words options → ⊥
+ReadsOptions words (Err Usage) =
+    (options : List (List ℕ × List ℕ)) → ArePlain options → Spells words options → ⊥
 ReadsOptions words (Err NoMemory) = ⊤
 
--- there is a size, and no number up to 10,000 is written so
-abbrev pub HasNoSmallSize : List (List ℕ × List ℕ) → Type 0
-HasNoSmallSize options = IsSomeAnd (value_of options (codes "size")) (λ size. (n : ℕ) → IsDecimal size n → 10000 < n)
+-- there is a value at the name, and no number up to the limit is written so
+abbrev pub HasNoSmall : List (List ℕ × List ℕ) → List ℕ → ℕ → Type 0
+HasNoSmall options name limit =
+    IsSomeAnd (value_of options name) (λ text. (n : ℕ) → IsDecimal text n → limit < n)
