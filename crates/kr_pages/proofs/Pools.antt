@@ -1,10 +1,10 @@
 -- What a pool keeps where a page is taken, written and given back.
-use Rattle.std.proofs.Common.{◌≡◌, ℕ, zero, suc, add-one, ◌+◌, ◌<◌, ◌≤◌, List, [], ◌∷◌, ◌++◌, false, true, length, nat_eq, slice_index_or, replicate, refl, sym, ap, ◌∙◌, inl, inr, arith, get_or-set_other, get_or-set_same}
+use Rattle.std.proofs.Common.{◌≡◌, ℕ, zero, suc, add-one, ◌+◌, ◌<◌, ◌≤◌, List, [], ◌∷◌, ◌++◌, Bool, false, true, ◌||◌, length, nat_eq, slice_index_or, replicate, refl, sym, ap, ◌∙◌, inl, inr, arith, get_or-set_other, get_or-set_same}
 use Rattle.std.specs.Cmp.{nat_eq_equiv}
 use Rattle.std.specs.List.{list_any, range_with_len}
 use Rattle.std.proofs.lemmas.List.{length-set, length_push, get_or_append_left, get_or_push, get_or-replicate, length-replicate}
 use Rattle.std.proofs.lemmas.List.Elements.{All-push}
-use Rattle.std.proofs.lemmas.List.Folds.{list_any_none, list_any_at}
+use Rattle.std.proofs.lemmas.List.Folds.{list_any_none, list_any_at, list_any-append}
 use Rattle.std.proofs.lemmas.List.FromFn.{get_or-range_with_len, length-range_with_len}
 use Rattle.std.proofs.lemmas.Bool.{cases_eq, ne_eqb}
 use Rattle.std.proofs.lemmas.Bool.Decides.{Decides-eqb}
@@ -38,6 +38,15 @@ IsPool-with_free pool number is below out =
           (λ k d lt. still pool.pages number _ zero_page (λ _. refl) below (is.zero k d lt)) (get_or-set_same pool.pages number zero_page [] below);
     }
 
+-- the other pages are free or out as before
+pub is_free-with_free : (pool : Pool) (number k : ℕ) → (k ≡ number → ⊥) → is_free (with_free pool number) k ≡ is_free pool k
+is_free-with_free pool number k other =
+    list_any-append (nat_eq k) pool.free (number ∷ []) ∙ rw (ne_eqb k number other) (nothing (is_free pool k))
+  where
+    nothing : (a : Bool) → (a || (false || false)) ≡ a
+    nothing true = refl
+    nothing false = refl
+
 -- there is room for the number of a page that comes back
 pub free-lt : (pool : Pool) (number : ℕ) → IsPool pool → number < length pool.pages → is_free pool number ≡ false → length pool.free < length pool.pages
 free-lt pool number is below out =
@@ -56,6 +65,14 @@ IsPool-taken pages free number is = record {
   zero = λ k d lt. rw (push_front free number k d lt) at (is.zero k d (omega (arith, length_push free number)));
 }
 
+or_true : (a : Bool) → (a || (true || false)) ≡ true
+or_true true = refl
+or_true false = refl
+
+or_false : (a b : Bool) → (a || b) ≡ false → a ≡ false
+or_false true b h = h
+or_false false b h = refl
+
 pub Takes-last : (pages : List (List ℕ)) (free : List ℕ) (number : ℕ) → IsPool (record { pages = pages; free = free ++ number ∷ [] })
     → Takes (record { pages = pages; free = free ++ number ∷ [] }) (record { pages = pages; free = free }) number
 Takes-last pages free number is =
@@ -65,6 +82,8 @@ Takes-last pages free number is =
       free = refl;
       below = rw last at (is.below (length free) 0 (omega arith));
       zero = rw last at (is.zero (length free) 0 (omega arith));
+      was = list_any-append (nat_eq number) free (number ∷ []) ∙ rw (nat_eq_equiv.refl number) (or_true (is_free (record { pages = pages; free = free }) number));
+      others = λ k none. or_false _ _ (sym (list_any-append (nat_eq k) free (number ∷ [])) ∙ none);
       out = list_any_none (nat_eq number) free (λ k d lt.
           nat_eq_equiv.symm number (slice_index_or free k d)
           ∙ rw (push_front free number k d lt, get_or_push free number d (length free) refl) at (apart_from_distinct nat_eq (free ++ number ∷ []) k (length free) d is.distinct lt (omega arith)));

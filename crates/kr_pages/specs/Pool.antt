@@ -1,5 +1,5 @@
 -- A pool of pages of 60 words each, as contracts see it.
-use Rattle.std.specs.Prelude.{◌≡◌, ℕ, ◌<◌, List, [], ◌∷◌, ◌++◌, Bool, false, All, length, nat_eq, replicate, slice_index_or, slice_set}
+use Rattle.std.specs.Prelude.{◌≡◌, ℕ, ◌<◌, List, [], ◌∷◌, ◌++◌, Bool, false, true, All, length, nat_eq, replicate, slice_index_or, slice_set}
 use Rattle.std.specs.List.{IsDistinct, list_any}
 
 -- the pages in the order of their numbers, from 0 on, and the numbers of those that are free
@@ -31,7 +31,9 @@ pub record Takes (old new : Pool) (number : ℕ) : Type 0 where
   pub free : old.free ≡ new.free ++ number ∷ []
   pub below : number < length old.pages
   pub zero : words_of old number ≡ zero_page
+  pub was : is_free old number ≡ true
   pub out : is_free new number ≡ false
+  pub others : (k : ℕ) → is_free old k ≡ false → is_free new k ≡ false
 
 -- the pool with other words in a page
 abbrev pub with_words : Pool → ℕ → List ℕ → Pool

@@ -2,7 +2,7 @@
 //! where the pool is made and nowhere else.
 #![tactic(auto)]
 
-ghost use Rattle.std.specs.Prelude.{◌≡◌, ◌↔◌, ◌+◌, ◌<◌, [], length, replicate, false, IsErr, IfOk, OnErr};
+ghost use Rattle.std.specs.Prelude.{◌≡◌, ◌≢◌, ℕ, ◌↔◌, ◌+◌, ◌<◌, [], length, replicate, false, IsErr, IfOk, OnErr};
 ghost use Rattle.std.specs.Borrow.{sem};
 ghost use Rattle.std.specs.List.{range_with_len};
 ghost use Rattle.kr_pages.specs.Pool.{IsPool, Takes, is_free, with_free, words_of, zero_page};
@@ -93,6 +93,7 @@ impl Pages {
         requires out { is_free self.old page ≡ false }
         ensures pool { IsPool self.new }
         ensures given { self.new ≡ with_free self.old page }
+        ensures others { (k : ℕ) → k ≢ page → is_free self.new k ≡ is_free self.old k }
     {
         let Page { number } = page;
         self.pages[number as usize] = [0; WORDS];

@@ -1,7 +1,7 @@
 use Rattle.std.proofs.Common.{arith}
 use Rattle.std.proofs.lemmas.List.{length-set}
 use Rattle.kr_pages.specs.Pool.{zero_page}
-use Rattle.kr_pages.proofs.Pools.{free-lt, IsPool-with_free}
+use Rattle.kr_pages.proofs.Pools.{free-lt, IsPool-with_free, is_free-with_free}
 use Rattle.kr_pages.proofs.Pages.give.Goals as goal
 
 pub push_reserved-requires : goal.push_reserved-requires
@@ -24,3 +24,8 @@ invariant_of-self c =
 
 pub returns-clause-pool : goal.returns-clause-pool
 returns-clause-pool c = (invariant_of-self c).0
+
+pub returns-clause-others : goal.returns-clause-others
+returns-clause-others c = λ k other.
+    let apart = rw (← c.page.view_is) at other in
+    rw (c.push_reserved.ensures.items, ← c.self.view_is) (is_free-with_free (record { pages = c.self.inside.pages.items; free = c.self.inside.free.items }) c.page.inside.number k apart)
