@@ -1,2 +1,3 @@
-mod store;
+//! A file for each tested crate.
+mod pages;
 mod words;
