@@ -1,0 +1,2 @@
+//! A module for each tested crate, named after it without its `kr_`.
+mod base;
