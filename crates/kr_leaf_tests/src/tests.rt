@@ -1,3 +1,4 @@
 //! A file for each tested crate.
+mod base;
 mod pages;
 mod words;
