@@ -1,19 +1,9 @@
--- A file that was read to its end is the file that is told.
+-- A file that holds more than a limit, where the files are told.
 use Rattle.std.proofs.Common.{◌≡◌, ℕ, ◌+◌, ◌<◌, ◌≤◌, List, [], ◌++◌, length, Option, None, Some, refl, sym, ◌∙◌, ap, append-nil, length-append, arith}
 use Rattle.std.specs.Io.KnownBytes.{Consumes, IsAtEnd}
 use Rattle.kr_base.specs.Told.{Agrees}
 use Rattle.kr_base.specs.Streams.{TakesCount}
 use Rattle.kmsrest.specs.Opened.{Holds}
-
-pub whole_file : (file : Option (Option (List ℕ))) (old new : Option (List ℕ)) (bytes : List ℕ) → Holds file old → Consumes old new bytes → IsAtEnd new → Agrees file (Some bytes)
-whole_file None old new bytes h c end = tt
-whole_file (Some None) old new bytes h c end = absurd h
-whole_file (Some (Some all)) old new bytes h c end = ap (λ x. Some x) (told old new h c end)
-  where
-    told : (old new : Option (List ℕ)) → old ≡ Some all → Consumes old new bytes → IsAtEnd new → all ≡ bytes
-    told None new h c end = absurd cc
-    told (Some x) None h c end = absurd c
-    told (Some x) (Some y) h c end = let e : x ≡ all = cc in sym e ∙ c ∙ ap (λ l. bytes ++ l) end ∙ append-nil bytes
 
 pub long_file : (file : Option (Option (List ℕ))) (old new : Option (List ℕ)) (limit : ℕ) → Holds file old → TakesCount old new (limit + 1) → (bytes : List ℕ) × (limit < length bytes) × Agrees file (Some bytes)
 long_file None old new limit h t = (t.0, omega (arith, t.2), tt)

@@ -27,6 +27,7 @@ pub trait NamedFiles {
 }
 
 /// The files of the system. It tells of none.
+#[derive(Drop)]
 pub struct SystemFiles<'a, R> {
     rt: &'a R,
 }

@@ -1,9 +1,9 @@
 //! kmsrest: the storage encryption layer of the Kubernetes API server, as a command line tool.
 #![tactic(auto)]
 
+use files::SystemFiles;
 use kr_base::write_all;
 use kr_top::run;
-use files::SystemFiles;
 use real_world::RealWorld;
 use std::io::ErrorKind;
 use std::process::ExitCode;

@@ -4,6 +4,7 @@ use std::env::{self, Env, FillError};
 use std::io;
 
 /// The arguments behind the program's name, which need not be UTF-8.
+#[derive(Drop)]
 struct BehindName<'a, R> {
     rt: &'a R,
 }
