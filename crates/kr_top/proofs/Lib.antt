@@ -1,12 +1,10 @@
 pub mod Asked
-pub mod CheckSteps
-pub mod ConvertSteps
 pub mod Directions
-pub mod InspectSteps
+pub mod Goes
+pub mod Inspected
 pub mod Listings
 pub mod Pieces
 pub mod Printed
 pub mod Readings
-pub mod Steps
 pub mod Works
 pub mod Worlds

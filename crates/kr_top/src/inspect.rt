@@ -4,10 +4,9 @@ ghost use Rattle.std.specs.List.{concat};
 ghost use Rattle.kr_kms.specs.Outside.{Outside};
 ghost use Rattle.kr_envelope.specs.Limits.{number_of};
 ghost use Rattle.kr_top.specs.Command.{inspect};
-ghost use Rattle.kr_top.specs.Inspect.{line, numbered, kind_text, tag_line, annotation_line, object_lines, object_refusal};
-ghost use Rattle.kr_top.specs.Phases.{InspectsTo, ShowsTo};
-ghost use Rattle.kr_top.specs.Trace.{refuses};
-ghost use Rattle.kr_top.specs.Ran.{Around, Did};
+ghost use Rattle.kr_top.specs.Inspect.{line, numbered, kind_text, tag_line, annotation_line, object_lines, IsObjectRefusal};
+ghost use Rattle.kr_top.specs.inner.Phases.{InspectsTo, ShowsTo};
+ghost use Rattle.kr_top.specs.Ran.{around, Did};
 
 use crate::phases::{take_input, write_output};
 use crate::refusal::{Done, Refusal, Stop};
@@ -29,8 +28,8 @@ pub fn inspect<I: Source, O: Sink>(
     output: &mut O,
 ) -> Result<Done, Stop>
     ensures { (world : Outside) → Did inspect
-        (record { world = world; input = I.left input.old; input_faults = I.count input.old; output = O.held output.old; output_faults = O.count output.old })
-        (record { world = world; input = I.left input.new; input_faults = I.count input.new; output = O.held output.new; output_faults = O.count output.new })
+        (around world (I.left input.old) (I.count input.old) (O.held output.old) (O.count output.old))
+        (around world (I.left input.new) (I.count input.new) (O.held output.new) (O.count output.new))
         result }
 {
     let bytes = match take_input(alloc, input, VALUE_LIMIT, Refusal::LongValue) {
@@ -93,7 +92,7 @@ fn known_lines(alloc: Global, kind: Kind, name: &str, body: &[u8]) -> Result<Byt
 /// Why bytes are no object.
 fn object_refusal(why: ObjectNo) -> Refusal
     requires { why ≢ ObjectNo.NoMemory }
-    ensures { refuses result ≡ object_refusal why }
+    ensures { IsObjectRefusal why result }
 {
     match why {
         ObjectNo::Wire { at } => Refusal::Placed(5, at),

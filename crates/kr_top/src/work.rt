@@ -2,9 +2,8 @@
 ghost use Rattle.std.specs.Prelude.{◌≡◌, ◌≤◌, length, Some, [], false, IsSome, IfSome};
 ghost use Rattle.kr_config.specs.Kept.{rows_of};
 ghost use Rattle.kr_provider.specs.Publication.{names_plugin};
-ghost use Rattle.kr_top.specs.Command.{input_limit};
-ghost use Rattle.kr_top.specs.Decrypt.{freshness};
-ghost use Rattle.kr_top.specs.Phases.{Works, Makes, working, command_of};
+ghost use Rattle.kr_top.specs.Commands.{freshness, working, limit_of};
+ghost use Rattle.kr_top.specs.inner.Phases.{Works, Makes};
 
 use crate::convert::Direction;
 use crate::refusal::{Done, Object, Refusal, Stop};
@@ -52,7 +51,7 @@ pub fn make<L: Kms, D: Dice>(
 ) -> (Result<Made, Stop>, D)
     requires no_plugin { names_plugin (rows_of settings.entries.0) ≡ false }
     requires path { length path.now ≤ 1024 }
-    requires fits { length bytes.now ≤ input_limit (command_of direction [] [] []) }
+    requires fits { length bytes.now ≤ limit_of direction }
     ensures made { Makes (working direction resource.now path.now (rows_of settings.entries.0) bytes.now) (D.left dice) (D.left result.1) (D.count dice) (D.count result.1) result.0 }
     ensures later { D.count dice ≤ D.count result.1 }
 {
@@ -106,7 +105,7 @@ fn work<L: Kms, D: Dice>(
     requires adopted { IsSome bench.old.published }
     requires bare { IfSome bench.old.published (λ p. p.seeds ≡ []) }
     requires path { length path.now ≤ 1024 }
-    requires fits { length bytes.now ≤ input_limit (command_of direction [] [] []) }
+    requires fits { length bytes.now ≤ limit_of direction }
     ensures made { IfSome bench.old.published (λ p. Works (working direction resource.now path.now p.rows bytes.now) (D.left bench.old.dice) (D.left bench.new.dice) (D.count bench.old.dice) (D.count bench.new.dice) result) }
     ensures later { D.count bench.old.dice ≤ D.count bench.new.dice }
     ensures kept { bench.new ≡ record bench.old { dice = bench.new.dice } }
