@@ -1,2 +1,3 @@
 //! A module for each tested crate, named after it without its `kr_`.
 mod base;
+mod turn;
