@@ -1,4 +1,5 @@
--- What each step of the lock tells the seat that makes it. None tells anything of another seat's view.
+-- What each step of the lock tells the seat that makes it. None tells anything of another seat's
+-- view.
 use Rattle.std.specs.Prelude.{◌≡◌, ◌≢◌, ℕ, ◌+◌, ◌-◌, ◌<◌, List, [], ◌∷◌, ◌++◌, length, drop, Option, Some, None}
 use mathlib.Core.List.{IsPrefix}
 use Rattle.atomic_table.specs.Table.{Me, Step}
@@ -8,7 +9,8 @@ use Rattle.kr_turn.specs.declared.view.Terms.{Terms}
 use Rattle.kr_turn.specs.declared.view.Part.{Part}
 use Rattle.kr_turn.specs.declared.view.View.{View}
 use Rattle.kr_turn.specs.Lines.{of_seat}
-use Rattle.kr_turn.specs.Rule.{budget_of, sitting}
+use Rattle.kr_turn.specs.inner.Rule.{idle_view}
+use Rattle.kr_turn.specs.Keys.{budget_of}
 
 -- a seat's view, and the slot where it is in hand
 abbrev pub SeatState : Type 0 → Type 0 → Type 0 → Type 0
@@ -27,25 +29,29 @@ module _ {L : Type 0} where
 module _ {L G : Type 0} where
   -- the first seat, as the maker of this one
   abbrev pub maker : Option (Terms G) → ℕ → View L G
-  maker terms number = sitting terms number [] [] (budget_of terms number) [] (Some (number + 1))
+  maker terms number = idle_view terms number [] [] (budget_of terms number) [] (Some (number + 1))
 
-  abbrev pub filling : View L G → View L G
-  filling v = record v { stage = Filling }
+  abbrev pub filling_view : View L G → View L G
+  filling_view v = record v { stage = Filling }
 
   -- the first seat is the seat of number 0 and makes the others
-  abbrev pub opened : View L G → View L G
-  opened v = maker v.terms 0
+  abbrev pub opening_view : View L G → View L G
+  opening_view v = maker v.terms 0
 
   -- a drawn ticket is one turn less left
-  abbrev pub waiting : View L G → ℕ → View L G
-  waiting v ticket = record v { stage = Waiting ticket; left = v.left - 1 }
+  abbrev pub waiting_view : View L G → ℕ → View L G
+  waiting_view v ticket = record v { stage = Waiting ticket; left = v.left - 1 }
 
-  abbrev pub holding : View L G → List L → View L G
-  holding v served = record v { stage = Holding served }
+  abbrev pub holding_view : View L G → List L → View L G
+  holding_view v served = record v { stage = Holding served }
 
   -- a seat that has seen all of `log`, of which what is behind the served lines is its own
-  abbrev pub passed_on : View L G → List L → View L G
-  passed_on v log = record v { stage = Idle; seen = log; mine = v.mine ++ drop (length (served_to v.stage)) log }
+  abbrev pub view_after : View L G → List L → View L G
+  view_after v log = record v {
+    stage = Idle;
+    seen = log;
+    mine = v.mine ++ drop (length (served_to v.stage)) log;
+  }
 
   -- the seat that makes seats goes on with the next number
   abbrev pub makes_at : View L G → Option ℕ → View L G
@@ -63,8 +69,8 @@ module _ {L G : Type 0} where
   part_of v = record { number = v.number; seen = v.seen; mine = v.mine }
 
   -- the seat v with the seat w ended in it
-  abbrev pub joined : View L G → View L G → View L G
-  joined v w = record v { left = v.left + w.left; ended = part_of w ∷ v.ended }
+  abbrev pub joined_view : View L G → View L G → View L G
+  joined_view v w = record v { left = v.left + w.left; ended = part_of w ∷ v.ended }
 
 module _ {S L : Type 0} (lines : S → List L) where
   abbrev lines_in : Option S → List L
@@ -72,33 +78,35 @@ module _ {S L : Type 0} (lines : S → List L) where
   lines_in (Some state) = lines state
 
   -- the lines of the state in hand
-  abbrev pub carried : List (ℕ × Option S) → List L
-  carried [] = []
-  carried (x ∷ xs) = lines_in x.1
+  abbrev pub carried_lines : List (ℕ × Option S) → List L
+  carried_lines [] = []
+  carried_lines (x ∷ xs) = lines_in x.1
 
 module _ {S L G : Type 0} where
   -- the first seat takes the empty slot
-  abbrev pub emptied : Step (Option S) → SeatState S L G → ℕ → SeatState S L G → Type 0
-  emptied st m found m' = m' ≡ (filling m.0, (0, None) ∷ [])
+  abbrev pub Empties : Step (Option S) → SeatState S L G → ℕ → SeatState S L G → Type 0
+  Empties st m found m' = m' ≡ (filling_view m.0, (0, None) ∷ [])
 
   -- the first seat gives the slot
-  abbrev pub filled : Step (Option S) → SeatState S L G → ℕ → SeatState S L G → Type 0
-  filled st m found m' = m' ≡ (opened m.0, [])
+  abbrev pub Fills : Step (Option S) → SeatState S L G → ℕ → SeatState S L G → Type 0
+  Fills st m found m' = m' ≡ (opening_view m.0, [])
 
   -- a seat has drawn the ticket that it found
-  abbrev pub drew : Step (Option S) → SeatState S L G → ℕ → SeatState S L G → Type 0
-  drew st m found m' = (m' ≡ (waiting m.0 found, m.1)) × (found + 1 < 18446744073709551616)
+  abbrev pub Draws : Step (Option S) → SeatState S L G → ℕ → SeatState S L G → Type 0
+  Draws st m found m' = (m' ≡ (waiting_view m.0 found, m.1)) × (found + 1 < 18446744073709551616)
 
   -- the served seat gives the slot, and has seen the lines of the state that it gives
-  abbrev pub passed : (S → List L) → Step (Option S) → SeatState S L G → ℕ → SeatState S L G → Type 0
-  passed lines st m found m' = m' ≡ (passed_on m.0 (carried lines m.1), [])
+  abbrev pub Passes : (S → List L) → Step (Option S) → SeatState S L G → ℕ → SeatState S L G
+      → Type 0
+  Passes lines st m found m' = m' ≡ (view_after m.0 (carried_lines lines m.1), [])
 
   module _ (lines : S → List L) (basis : S → G) (room : S → ℕ) (seat_of : L → ℕ) where
-    -- the seat is served: it has the state, whose lines are the served ones. They begin with what the seat saw, and it knows its own among them
+    -- the seat is served: it has the state, whose lines are the served ones. They begin with what the
+    -- seat saw, and it knows its own among them
     pub record IsServed (ticket : ℕ) (m m' : SeatState S L G) : Type 0 where
       pub state : S
       pub terms : Terms G
-      pub now : m' ≡ (holding m.0 (lines state), (0, Some state) ∷ [])
+      pub now : m' ≡ (holding_view m.0 (lines state), (0, Some state) ∷ [])
       pub count : length (lines state) ≡ ticket
       pub terms_are : m.0.terms ≡ Some terms
       pub basis_is : basis state ≡ terms.basis
@@ -109,8 +117,9 @@ module _ {S L G : Type 0} where
       pub own : of_seat seat_of m.0.number m.0.seen ≡ m.0.mine
 
     -- a seat with this ticket is served, or nothing has changed
-    abbrev pub looked : Step (Option S) → SeatState S L G → ℕ → SeatState S L G → Type 0
-    looked st m found m' = (ticket : ℕ) → m.0.stage ≡ Waiting ticket → (found ≡ ticket → IsServed ticket m m') × (found ≢ ticket → m' ≡ m)
+    abbrev pub Looks : Step (Option S) → SeatState S L G → ℕ → SeatState S L G → Type 0
+    Looks st m found m' = (ticket : ℕ) → m.0.stage ≡ Waiting ticket
+        → (found ≡ ticket → IsServed ticket m m') × (found ≢ ticket → m' ≡ m)
 
     -- the served seat has the state after its turn: one line more, which is its own
     pub record IsTurned (ticket : ℕ) (m : SeatState S L G) : Type 0 where

@@ -1,7 +1,7 @@
 use Rattle.std.proofs.Common.{length, All, ap, sym, subst}
 use Rattle.kr_turn.specs.Seats.{IsSeatOf, AreAll}
 use Rattle.kr_turn.proofs.Rows.{all_fresh, all_again, same_numbers}
-use Rattle.kr_turn.proofs.tests.handed_over.Goals as goal
+use Rattle.kr_leaf_tests.proofs.tests.turn.handed_over.Goals as goal
 
 pub hand_over_each-requires-after_bounds : goal.hand_over_each-requires-after_bounds
 hand_over_each-requires-after_bounds g c κs within =

@@ -1,13 +1,12 @@
-//! The lock over a small state, in threads.
+//! Tests of kr_turn: the lock over a small state, in threads.
 ghost use Rattle.std.specs.Prelude.{◌≡◌, ℕ, ◌+◌, ◌*◌, ◌<◌, ◌≤◌, ◌^◌, List, [], ◌∷◌, ◌++◌, length, sum, slice_index_or, All, IfOk, vec_capacity};
 ghost use Rattle.kr_turn.specs.declared.seat.Place.{Place};
 ghost use Rattle.kr_turn.specs.Seats.{IsSeatOf, AreAll, number_of};
 
-use crate::{Seat, Turn, Turned};
 use kr_base::{List, NoMemory, Spent};
+use kr_turn::{Seat, Turn, Turned};
 use std::alloc::Global;
 use std::sync::Wait;
-use std::sync::atomic::{AtomicU64, Ordering};
 use std::test::Fail;
 use std::thread;
 use std::thread::Threads;
@@ -68,7 +67,7 @@ impl<T> Turned for Handed<T> {
     }
 }
 
-// Hands over the numbers from 0 on.
+/// Hands over the numbers from 0 on.
 fn hand_over<T, R: Wait>(rt: &R, turn: &Turn<Handed<T>>, seat: &mut Seat<Handed<T>>, count: u64)
     requires { IsSeatOf turn.now seat.old }
     ensures { IsSeatOf turn.now seat.new × (number_of seat.new ≡ number_of seat.old) }
@@ -78,7 +77,7 @@ fn hand_over<T, R: Wait>(rt: &R, turn: &Turn<Handed<T>>, seat: &mut Seat<Handed<
     }
 }
 
-// Each seat in a thread of its own, where one can be made.
+/// Each seat in a thread of its own, where one can be made.
 fn hand_over_each<T: Send, R: Threads + Wait + Sync>(
     rt: &R,
     turn: &Turn<Handed<T>>,
@@ -101,7 +100,7 @@ fn hand_over_each<T: Send, R: Threads + Wait + Sync>(
     );
 }
 
-// What one lock keeps after so many numbers of each seat.
+/// What one lock keeps after so many numbers of each seat.
 fn handed_over<T: Send + Drop, R: Threads + Wait + Sync>(
     rt: &R,
     alloc: Global,
@@ -127,7 +126,7 @@ fn handed_over<T: Send + Drop, R: Threads + Wait + Sync>(
     Ok(turn.close(List::from_vec(row)))
 }
 
-// A seat of a lock with one seat hands over two numbers.
+/// A seat of a lock with one seat hands over two numbers.
 fn two_of_one<R: Wait>(
     rt: &R,
     alloc: Global,
@@ -152,81 +151,7 @@ fn two_of_one<R: Wait>(
     Ok(([first, second], left, turn.close(List::from_vec(row))))
 }
 
-// Waits a while for the other thread, so that both want the lock.
-fn race<R: Wait>(
-    rt: &R,
-    turn: &Turn<Handed<()>>,
-    begun: &AtomicU64,
-    mut seat: Seat<Handed<()>>,
-    count: u64,
-) -> Seat<Handed<()>>
-    requires { IsSeatOf turn.now seat }
-    ensures { IsSeatOf turn.now result × (number_of result ≡ number_of seat) }
-{
-    begun.fetch_add(1, Ordering::SeqCst);
-    for _ in 0..1_000_000u64 {
-        if begun.load(Ordering::SeqCst) == 2 {
-            break;
-        }
-        thread::yield_now();
-    }
-    hand_over(rt, turn, &mut seat, count);
-    seat
-}
-
-// Two threads that own a seat each.
-fn race_both<R: Threads + Wait + Sync>(
-    rt: &R,
-    turn: &Turn<Handed<()>>,
-    first: Seat<Handed<()>>,
-    second: Seat<Handed<()>>,
-    count: u64,
-) -> (Seat<Handed<()>>, Seat<Handed<()>>)
-    requires { IsSeatOf turn.now first × IsSeatOf turn.now second }
-    ensures first { IsSeatOf turn.now result.0 × (number_of result.0 ≡ number_of first) }
-    ensures second { IsSeatOf turn.now result.1 × (number_of result.1 ≡ number_of second) }
-{
-    let begun = AtomicU64::new(0);
-    let gate = &begun;
-    thread::join(
-        rt,
-        move || -> Seat<Handed<()>>
-            requires { IsSeatOf turn.now first }
-            ensures { IsSeatOf turn.entry.now result × (number_of result ≡ number_of first) }
-        { race(rt, turn, gate, first, count) },
-        move || -> Seat<Handed<()>>
-            requires { IsSeatOf turn.now second }
-            ensures { IsSeatOf turn.entry.now result × (number_of result ≡ number_of second) }
-        { race(rt, turn, gate, second, count) },
-    )
-}
-
-// What two threads leave that contend for one lock.
-fn raced<R: Threads + Wait + Sync>(
-    rt: &R,
-    alloc: Global,
-    count: u64,
-) -> Result<Handed<()>, NoMemory>
-    requires { count ≤ 100000 }
-{
-    let state = match Handed::new(alloc, 200_000, ()) {
-        Ok(state) => state,
-        Err((refused, ())) => return Err(refused),
-    };
-    let (turn, seats) = match Turn::new(alloc, state, &[count, count]) {
-        Ok(made) => made,
-        Err((refused, _)) => return Err(refused),
-    };
-    let mut row = seats.into_vec();
-    let second = row.pop().unwrap();
-    let first = row.pop().unwrap();
-    let (first, second) = race_both(rt, &turn, first, second, count);
-    row.push_reserved(first);
-    row.push_reserved(second);
-    Ok(turn.close(List::from_vec(row)))
-}
-
-// How many numbers a seat handed over, if they are 0, 1, 2 and so on.
+/// How many numbers a seat handed over, if they are 0, 1, 2 and so on.
 fn in_order<T>(state: &Handed<T>, seat: u32) -> Option<u64> {
     let mut next = 0u64;
     for (by, number) in state.numbers.as_slice() {
@@ -242,17 +167,10 @@ fn in_order<T>(state: &Handed<T>, seat: u32) -> Option<u64> {
 
 #[test]
 fn a_seat_is_spent_after_its_budget(rt: HostRuntime) -> Result<(), Fail> {
-    let both = two_of_one(&rt, rt.alloc(), 2)?;
-    assert_eq!(rt; both.0, [Ok(0), Ok(1)]);
-    assert_eq!(rt; both.1, 0);
-    assert_eq!(rt; both.2.numbers.as_slice(), [(0, 5), (0, 6)].as_slice());
-    let first = two_of_one(&rt, rt.alloc(), 1)?;
-    assert_eq!(rt; first.0, [Ok(0), Err(Spent)]);
-    assert_eq!(rt; first.1, 0);
-    assert_eq!(rt; first.2.numbers.as_slice(), [(0, 5)].as_slice());
-    let neither = two_of_one(&rt, rt.alloc(), 0)?;
-    assert_eq!(rt; neither.0, [Err(Spent), Err(Spent)]);
-    assert_eq!(rt; neither.2.numbers.len(), 0);
+    let left = two_of_one(&rt, rt.alloc(), 1)?;
+    assert_eq!(rt; left.0, [Ok(0), Err(Spent)]);
+    assert_eq!(rt; left.1, 0);
+    assert_eq!(rt; left.2.numbers.as_slice(), [(0, 5)].as_slice());
     Ok(())
 }
 
@@ -264,24 +182,5 @@ fn eight_seats_keep_their_order(rt: HostRuntime) -> Result<(), Fail> {
     for seat in 0..8 {
         assert_eq!(rt; in_order(&state, seat), Some(1000));
     }
-    Ok(())
-}
-
-#[test]
-fn each_seat_has_its_own_budget(rt: HostRuntime) -> Result<(), Fail> {
-    let state = handed_over(&rt, rt.alloc(), (), 9, &[2, 0, 4, 3], 10)?;
-    assert_eq!(rt; state.numbers.len(), 9);
-    for (seat, count) in [(0, 2), (1, 0), (2, 4), (3, 3)] {
-        assert_eq!(rt; in_order(&state, seat), Some(count));
-    }
-    Ok(())
-}
-
-#[test]
-fn two_threads_contend(rt: HostRuntime) -> Result<(), Fail> {
-    let state = raced(&rt, rt.alloc(), 20_000)?;
-    assert_eq!(rt; state.numbers.len(), 40_000);
-    assert_eq!(rt; in_order(&state, 0), Some(20_000));
-    assert_eq!(rt; in_order(&state, 1), Some(20_000));
     Ok(())
 }
