@@ -67,13 +67,16 @@ chosen false cause read y rest e = cc
 abbrev same_bytes : List ℕ → List ℕ
 same_bytes bytes = bytes
 
+abbrev cut_at : Bool → ℕ → List ℕ → Read (List ℕ)
+cut_at short n bytes = if short then Err Torn else Ok (take n bytes, drop n bytes)
+
 part_found : (n : ℕ) (bytes x rest : List ℕ) → AreBytes bytes → part n bytes ≡ Ok (x, rest) → Found bytes same_bytes (λ x. (length x ≡ n) × AreBytes x) x rest
 part_found n bytes x rest all e = by (nat_lt (length bytes) n) refl e
   where
     enough : nat_lt (length bytes) n ≡ false → n ≤ length bytes
     enough f = elim (cases_lt (length bytes) n) [ inl l ↦ (let t = below (length bytes) n l in cc) | inr g ↦ g ]
 
-    by : (short : Bool) → nat_lt (length bytes) n ≡ short → (if short then Err Torn else Ok (take n bytes, drop n bytes)) ≡ Ok (x, rest) → Found bytes same_bytes (λ x. (length x ≡ n) × AreBytes x) x rest
+    by : (short : Bool) → nat_lt (length bytes) n ≡ short → cut_at short n bytes ≡ Ok (x, rest) → Found bytes same_bytes (λ x. (length x ≡ n) × AreBytes x) x rest
     by true s e = cc
     by false s e =
         let same = same_found (take n bytes) x (drop n bytes) rest _ refl e in
@@ -171,10 +174,13 @@ single [] e = absurd (omega (arith, e))
 single (b ∷ []) e = refl
 single (b ∷ (c ∷ x)) e = absurd (omega (arith, e))
 
+abbrev kind_at : Bool → Bool → List ℕ → Read Kind
+kind_at one two mid = if one then Ok (kind.Put, mid) else (if two then Ok (kind.Delete, mid) else Err BadRow)
+
 kind_chosen : (byte : ℕ) (mid : List ℕ) (kd : Kind) (rest : List ℕ) → kind_by byte mid ≡ Ok (kd, rest) → (byte ≡ byte_of kd) × (mid ≡ rest)
 kind_chosen byte mid kd rest e = by (eqb byte 1) (eqb byte 2) refl refl e
   where
-    by : (one two : Bool) → eqb byte 1 ≡ one → eqb byte 2 ≡ two → (if one then Ok (kind.Put, mid) else (if two then Ok (kind.Delete, mid) else Err BadRow)) ≡ Ok (kd, rest) → (byte ≡ byte_of kd) × (mid ≡ rest)
+    by : (one two : Bool) → eqb byte 1 ≡ one → eqb byte 2 ≡ two → kind_at one two mid ≡ Ok (kd, rest) → (byte ≡ byte_of kd) × (mid ≡ rest)
     by true two o t e = let s = same_found kind.Put kd mid rest _ refl e in ((Decides-eqb byte 1).0 o ∙ ap byte_of s.0, s.1)
     by false true o t e = let s = same_found kind.Delete kd mid rest _ refl e in ((Decides-eqb byte 2).0 t ∙ ap byte_of s.0, s.1)
     by false false o t e = cc
@@ -293,7 +299,7 @@ broken bytes at Order b = inr (no.Order at, b)
 
 -- the rest is read row by row
 walk : (n : ℕ) (bytes : List ℕ) (before : List LogRow) (rest : List ℕ) → length rest ≤ n → length before + length rest < 2 ^ 63 → AreRows before → AreBytes rest → bytes ≡ file_bytes before ++ rest → Answer bytes
-walk n bytes before [] l small good all e = inl (before, good, inr (e ∙ append-nil (file_bytes before)))
+walk n bytes before [] l small good all e = inl (before, (good, inr (e ∙ append-nil (file_bytes before))))
 walk zero bytes before (x ∷ rest) l small good all e = absurd (omega (arith, l))
 walk (suc n) bytes before (x ∷ rest) l small good all e = by (walk n bytes) (next_row before (x ∷ rest)) refl
   where
@@ -317,7 +323,7 @@ named bytes all small some e = elim (cases_lt (length bytes) (length magic)) [
 ]
 
 pub answered : (bytes : List ℕ) → AreBytes bytes → length bytes < 2 ^ 63 → Answer bytes
-answered [] all small = inl ([], tt, inl (refl, refl))
+answered [] all small = inl ([], (tt, inl (refl, refl)))
 answered (x ∷ bytes) all small = by (bytes_eq (take (length magic) (x ∷ bytes)) (take (length (x ∷ bytes)) magic)) (bytes_eq-Decides (take (length magic) (x ∷ bytes)) (take (length (x ∷ bytes)) magic))
   where
     by : (same : Bool) → (same ≡ true → take (length magic) (x ∷ bytes) ≡ take (length (x ∷ bytes)) magic) × (take (length magic) (x ∷ bytes) ≡ take (length (x ∷ bytes)) magic → same ≡ true) → Answer (x ∷ bytes)

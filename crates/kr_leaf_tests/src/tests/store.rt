@@ -48,12 +48,7 @@ fn rows_of(alloc: Global, bytes: &[u8], limit: u16) -> Result<u64, StoreNo> {
 
 // The calls, where the path, the resource and the value keep their rules.
 
-fn put(
-    alloc: Global,
-    store: &mut Store<MemTape>,
-    path: &str,
-    stored: &[u8],
-) -> Result<u64, PutNo> {
+fn put(alloc: Global, store: &mut Store<MemTape>, path: &str, stored: &[u8]) -> Result<u64, PutNo> {
     match Bytes::copy(alloc, stored) {
         Ok(stored) => {
             if path_ok(path) && resource_ok("secrets") && stored.as_slice().len() <= 10_000 {
