@@ -131,7 +131,10 @@ fn refuses_a_seventeenth_replica(rt: HostRuntime) -> Result<(), Fail> {
 #[test]
 fn gives_what_it_has_judged(rt: HostRuntime) -> Result<(), Fail> {
     let alloc = rt.alloc();
-    let words = words_of(alloc, "judge --replica=a --store= --replica=b --reload=1=f=g")?;
+    let words = words_of(
+        alloc,
+        "judge --replica=a --store= --replica=b --reload=1=f=g",
+    )?;
     match read_words(alloc, words.as_slice()) {
         Ok(command) => {
             assert_eq!(rt; command.value("store"), Some(""));

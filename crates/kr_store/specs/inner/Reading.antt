@@ -5,12 +5,12 @@ use Rattle.kr_base.specs.Told.{Agrees}
 use Rattle.std.specs.Prelude.{Vec}
 use Rattle.std.specs.declared.alloc.Global.{Global}
 use Rattle.kr_store.specs.File.{magic, IsFile, text_bytes, value_bytes, row_bytes, byte_of}
-use Rattle.kr_store.specs.Rows.{line_of, lines_of, AllEntries}
+use Rattle.kr_store.specs.inner.KeptRows.{log_row_of, log_rows_of, AreKeptRows}
 use Rattle.std.specs.Int.{w64, to_be_bytes}
-use Rattle.kr_store.specs.declared.reader.Kind.{Kind}
-use Rattle.kr_store.specs.declared.entry.Entry.{Entry}
+use Rattle.kr_store.specs.declared.kept_row.Kind.{Kind}
+use Rattle.kr_store.specs.declared.kept_row.KeptRow.{KeptRow}
 use Rattle.kr_store.specs.Breaches.{Read, part, IsBreach}
-use Rattle.kr_store.specs.Index.{IsIndexOf}
+use Rattle.kr_store.specs.inner.Index.{IsIndexOf}
 use Rattle.kr_store.specs.declared.index.Index.{Index}
 use Rattle.kr_store.specs.declared.answers.StoreNo.{StoreNo}
 use Rattle.kr_store.specs.declared.answers.StoreNo.TheVariants as no
@@ -98,16 +98,16 @@ Names old new (Err no.Failed) = ⊤
 Names old new (Err no.NoMemory) = ⊤
 
 -- the rows of a whole file, with their index
-pub record AreLoaded (old : Ahead) (rows : List Entry) (index : Index) : Type 0 where
+pub record AreLoaded (old : Ahead) (rows : List KeptRow) (index : Index) : Type 0 where
   pub bytes : List ℕ
   pub agrees : Agrees old.left bytes
   pub length : length bytes ≡ old.end
-  pub file : IsFile (lines_of rows) bytes
-  pub entries : AllEntries 1 rows
-  pub indexed : IsIndexOf (lines_of rows) index
+  pub file : IsFile (log_rows_of rows) bytes
+  pub kept_rows : AreKeptRows 1 rows
+  pub indexed : IsIndexOf (log_rows_of rows) index
 
 -- the rows were loaded, or this is the first breach
-abbrev pub LoadsRows : Ahead → Result ((List Entry × ℕ) × Index) StoreNo → Type 0
+abbrev pub LoadsRows : Ahead → Result ((List KeptRow × ℕ) × Index) StoreNo → Type 0
 LoadsRows old (Ok loaded) = AreLoaded old loaded.0.0 loaded.1
 LoadsRows old (Err no.Magic) = MayBreak old no.Magic
 LoadsRows old (Err (no.Torn at)) = MayBreak old (no.Torn at)
@@ -137,8 +137,8 @@ head_bytes k head = byte_of head.0 ∷ (to_be_bytes w64 k ++ text_bytes head.1)
 abbrev pub put_bytes : List ℕ × List ℕ → List ℕ
 put_bytes put = text_bytes put.0 ++ value_bytes put.1
 
-abbrev pub entry_bytes : ℕ → Entry → List ℕ
-entry_bytes k entry = row_bytes k (line_of entry)
+abbrev pub kept_bytes : ℕ → KeptRow → List ℕ
+kept_bytes k entry = row_bytes k (log_row_of entry)
 
 -- why a row can't be loaded, with its place
 abbrev pub placed : Stop → ℕ → StoreNo
