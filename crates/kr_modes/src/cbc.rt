@@ -29,14 +29,17 @@ pub fn cbc_seal(words: &[u32; 60], rounds: Rounds, iv: &[u8; 16], plain: &[u8], 
     ensures { out.new ≡ cbc (cipher words.now rounds) iv.now (pad plain.now) }
 {
     let padding = (BLOCK - plain.len() % BLOCK) as u8;
-    let mut previous = *iv;
-    for index in 0..plain.len() / BLOCK + 1 {
-        let mut block = blocks::filled_block(plain, index, padding);
-        blocks::add(&mut block, &previous);
+    let whole = plain.len() / BLOCK;
+    let mut block = *iv;
+    for index in 0..whole {
+        let start = BLOCK * index;
+        blocks::add(&mut block, &blocks::whole_block(plain, index));
         kr_aes::encrypt_block(words, rounds, &mut block);
-        out[BLOCK * index..BLOCK * index + BLOCK].copy_from_slice(&block);
-        previous = block;
+        out[start..start + BLOCK].copy_from_slice(&block);
     }
+    blocks::add(&mut block, &blocks::filled_block(plain, whole, padding));
+    kr_aes::encrypt_block(words, rounds, &mut block);
+    out[BLOCK * whole..].copy_from_slice(&block);
 }
 
 /// Opens what `cbc_seal` sealed: the body is the IV and the blocks behind it. The length of the data
@@ -81,11 +84,11 @@ fn decrypt(words: &[u32; 60], rounds: Rounds, body: &[u8], out: &mut [u8])
     ensures { out.new ≡ uncbc (inverse_cipher words.now rounds) (take 16 body.now) (drop 16 body.now) }
 {
     for index in 0..out.len() / BLOCK {
-        let previous = blocks::filled_block(body, index, 0);
-        let mut block = blocks::filled_block(body, index + 1, 0);
+        let start = BLOCK * index;
+        let mut block = blocks::whole_block(body, index + 1);
         kr_aes::decrypt_block(words, rounds, &mut block);
-        blocks::add(&mut block, &previous);
-        out[BLOCK * index..BLOCK * index + BLOCK].copy_from_slice(&block);
+        blocks::add(&mut block, &blocks::whole_block(body, index));
+        out[start..start + BLOCK].copy_from_slice(&block);
     }
 }
 

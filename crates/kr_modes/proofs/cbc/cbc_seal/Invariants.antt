@@ -8,6 +8,6 @@ use Rattle.kr_modes.proofs.cbc.cbc_seal.Given as goal
 abbrev pub invariant-loop-index : goal.invariant-loop-index
 invariant-loop-index l = record {
   same_length : length l.out ≡ length l.initial.out;
-  chained : chained_from (cipher l.words l.rounds) l.out l.previous (pad l.plain) (length l.plain / 16 + 1) l.index
+  chained : chained_from (cipher l.words l.rounds) l.out l.block (pad l.plain) (length l.plain / 16 + 1) l.index
       ≡ cbc (cipher l.words l.rounds) l.iv (pad l.plain);
 }

@@ -3,7 +3,6 @@ use Rattle.std.specs.Fork.{slice_chunk}
 use Rattle.kr_aes.specs.InverseCipher.{inverse_cipher}
 use Rattle.kr_modes.specs.Blocks.{xor}
 use Rattle.kr_modes.proofs.Chains.{length-written, unchained_all, unchained_more, unchained_none}
-use Rattle.kr_modes.proofs.Paddings.{filled_whole}
 use Rattle.kr_modes.proofs.cbc.decrypt.Goals as goal
 
 pub loop-index-init : goal.loop-index-init
@@ -20,12 +19,10 @@ loop-index-preserved c =
     let next : List ℕ = c.add.new.block in
     let k : 16 * l.index + 16 - 16 * l.index ≡ 16 = omega arith in
     let fits : 16 * l.index + 16 ≤ length l.out = omega (arith, l.invariant.same_length, c.requires.size) in
-    let before : c.filled_block-previous.result ≡ slice_chunk body 16 l.index =
-    c.filled_block-previous.ensures ∙ filled_whole body l.index 0 (omega (arith, l.invariant.same_length, c.requires.size)) in
     let plain : c.decrypt_block.new.block ≡ decipher (slice_chunk body 16 (l.index + 1)) =
-    c.decrypt_block.ensures.inverse ∙ ap decipher (c.filled_block-block.ensures ∙ filled_whole body (l.index + 1) 0 (omega (arith, l.invariant.same_length, c.requires.size))) in
+    c.decrypt_block.ensures.inverse ∙ ap decipher c.whole_block-block.ensures in
     let block : next ≡ xor (decipher (slice_chunk body 16 (l.index + 1))) (slice_chunk body 16 l.index) =
-    c.add.ensures ∙ (λ i. xor (plain i) (before i)) in
+    c.add.ensures ∙ (λ i. xor (plain i) (c.whole_block.ensures i)) in
     let long : length next ≡ 16 = c.add.array_long in
     rw (k, c.copy_from_slice.ensures.after) record {
       same_length = length-written l.out next (16 * l.index) 16 fits long ∙ l.invariant.same_length;
