@@ -1,5 +1,5 @@
 -- Products by the tables, a group of four coefficients after another.
-use Rattle.std.proofs.Common.{◌≡◌, ℕ, zero, suc, ◌+◌, ◌-◌, ◌*◌, ◌/◌, ◌%◌, ◌^◌, ◌<◌, ◌≤◌, List, ◌∷◌, [], length, map, slice_index, bit_xor, refl, sym, ap, ◌∙◌, arith, rules, inl, inr}
+use Rattle.std.proofs.Common.{◌≡◌, ℕ, zero, suc, ◌+◌, ◌*◌, ◌/◌, ◌%◌, ◌^◌, ◌<◌, ◌≤◌, List, ◌∷◌, [], length, map, slice_index, bit_xor, sym, ap, ◌∙◌, arith, rules, inl, inr}
 use Rattle.std.specs.Int.{w128, bit_at, byte_at, bytes_low_first, to_le_bytes}
 use Rattle.std.specs.Int.Bits.{xor_zero_l, xor_zero_r}
 use Rattle.std.specs.List.{range_with_len}
@@ -10,7 +10,6 @@ use Rattle.std.proofs.lemmas.Nat.Bits.{bit_at-lt, bit_at_cat_low}
 use borrow.Rule.Slice.PartMut.{put_mid}
 use lib.Bits.{xor_assoc}
 use Rattle.kr_aes.proofs.Linear.{below_two, one_times, zero_times}
-use Rattle.kr_modes.specs.Ghash.{remainder}
 use Rattle.kr_modes.specs.inner.Tables.{four_terms, power, times_x}
 use Rattle.kr_modes.proofs.BlockBits.{pow_of_bytes}
 use Rattle.kr_modes.proofs.Remainders.{partial_product, partial_product_next, partial_product_same, power_next}
