@@ -1,5 +1,5 @@
 use Rattle.std.proofs.Common.{◌≡◌, ◌++◌, take, drop, map, bit_xor}
-use Rattle.kr_hkdf.proofs.keyed.padded.Given as goal
+use Rattle.kr_hkdf.proofs.keyed_hash.padded.Given as goal
 
 abbrev pub invariant-loop-byte : goal.invariant-loop-byte
 invariant-loop-byte l =

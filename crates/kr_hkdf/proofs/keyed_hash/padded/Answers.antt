@@ -1,6 +1,6 @@
 use Rattle.std.proofs.Common.{arith}
 use Rattle.kr_hkdf.proofs.Pads.{pad_more}
-use Rattle.kr_hkdf.proofs.keyed.padded.Goals as goal
+use Rattle.kr_hkdf.proofs.keyed_hash.padded.Goals as goal
 
 pub loop-byte-preserved : goal.loop-byte-preserved
 loop-byte-preserved c =

@@ -1,3 +1,5 @@
+//! Keyed hashing (RFC 2104) with SHA-256: HMAC of a text that comes in pieces.
+
 ghost use Rattle.std.specs.Prelude.{◌≡◌, ℕ, ◌-◌, ◌≤◌, List, [], ◌++◌, length, map, replicate, bit_xor};
 ghost use Rattle.kr_hkdf.specs.Hmac.{hmac, key_block};
 
@@ -21,7 +23,7 @@ pub(crate) struct KeyedHasher {
 }
 
 impl KeyedHasher {
-    ghost use Rattle.kr_hkdf.specs.KeyedHasher.{Holds};
+    ghost use Rattle.kr_hkdf.specs.inner.KeyedHasher.{Holds};
 
     /// A hasher of the empty text.
     pub(crate) fn new(key: &[u8]) -> KeyedHasher
