@@ -1,0 +1,4 @@
+//! A module for each tested crate.
+
+mod hkdf;
+mod modes;
