@@ -8,6 +8,7 @@ use Rattle.std.proofs.lemmas.Nat.Bits.{bit_at_xor, bit_at-lt, bit_at_above, bit_
 use Rattle.kr_aes.specs.Field.{polynomial_product}
 use Rattle.kr_aes.proofs.Linear.{below_two, one_times, xor_interchange, zero_times}
 use Rattle.kr_modes.specs.Ghash.{modulus, product, remainder}
+use Rattle.kr_modes.specs.inner.Tables.{power}
 
 -- ---- sums and multiples
 
@@ -114,10 +115,6 @@ remainder-more (suc k) i p h =
     let none : bit_at p (i + k + 128) ≡ 0 = bit_at_above p (128 + i) (i + k + 128) h (omega arith) in
     let kept : bit_xor p (bit_at p (i + k + 128) * (modulus * 2 ^ (i + k))) ≡ p = rw (none, zero_times (modulus * 2 ^ (i + k))) (xor_zero_r p) in
     rw e (ap (remainder (i + k)) kept ∙ remainder-more k i p h)
-
--- x to the power i, times a polynomial
-unfoldable pub power : ℕ → ℕ → ℕ
-power i b = remainder i (b * 2 ^ i)
 
 pub power_none : (b : ℕ) → b ≡ power 0 b
 unfolding power remainder
