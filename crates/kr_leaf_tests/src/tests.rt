@@ -1,0 +1,3 @@
+//! The tests, by crate.
+
+mod yaml;
