@@ -6,3 +6,4 @@ mod pages;
 mod store;
 mod turn;
 mod words;
+mod yaml;

@@ -1,6 +1,7 @@
+//! Why a token wasn't put.
 /// Why a token wasn't put.
 #[derive(Clone, Copy, Debug, PartialEq, Eq)]
-pub enum PutNo {
+pub enum PlaceError {
     /// It can't go on with the tree.
     Indent,
     /// Its key stands in its mapping already.
