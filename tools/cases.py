@@ -28,6 +28,8 @@ import re
 import sys
 from pathlib import Path
 
+sys.dont_write_bytecode = True
+
 from reference.calls import Dice, Sink, Source, World, run
 
 CRATE = Path(__file__).resolve().parent.parent / "crates" / "kr_cases"

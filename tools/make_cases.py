@@ -6,6 +6,8 @@ stands; here nothing is."""
 import sys
 from pathlib import Path
 
+sys.dont_write_bytecode = True
+
 from cases_tables import call_tables, configuration_tables, word_tables, yaml_tables
 from cases_tables.form import Book
 
