@@ -1,5 +1,5 @@
 #!/usr/bin/env python3
-"""Writes the stored run of kr_vectors, crates/kr_vectors/stdin and stdout.
+"""Writes the stored run of kr_vectors, crates/kr_vectors/stdin and stdout; with the word `check` it compares them instead.
 
 Each answer comes from Python's `cryptography`, those of HMAC and HKDF from Python's own `hmac`, and what
 they leave to their caller is decided here by the rules of the standards: the padding of PKCS #7, the
@@ -422,8 +422,15 @@ def main():
     ):
         part()
     folder = Path(__file__).resolve().parent.parent / "crates" / "kr_vectors"
-    (folder / "stdin").write_text("".join(line + "\n" for line, _ in cases))
-    (folder / "stdout").write_text("".join(answer + "\n" for _, answer in cases))
+    made = {
+        "stdin": "".join(line + "\n" for line, _ in cases),
+        "stdout": "".join(answer + "\n" for _, answer in cases),
+    }
+    for name, text in made.items():
+        if sys.argv[1:] != ["check"]:
+            (folder / name).write_text(text)
+        elif (folder / name).read_text() != text:
+            sys.exit(f"not so: {folder / name} isn't what is made here")
     print(f"{len(cases)} cases", file=sys.stderr)
 
 
