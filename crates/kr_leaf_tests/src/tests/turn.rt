@@ -3,7 +3,7 @@ ghost use Rattle.std.specs.Prelude.{◌≡◌, ℕ, ◌+◌, ◌*◌, ◌<◌, �
 ghost use Rattle.kr_turn.specs.declared.seat.Place.{Place};
 ghost use Rattle.kr_turn.specs.Seats.{IsSeatOf, AreAll, number_of};
 
-use kr_base::{List, NoMemory, Spent};
+use kr_base::{List, NoMemory};
 use kr_turn::{Seat, Turn, Turned};
 use std::alloc::Global;
 use std::sync::Wait;
@@ -57,7 +57,8 @@ impl<T> Turned for Handed<T> {
 
     ghost law = { λ basis lines. length lines ≤ basis };
 
-    ghost tells = { λ basis before seat event answer line. (line ≡ (seat, event)) × (answer ≡ length before) };
+    ghost tells = { λ basis before seat event answer line.
+        (line ≡ (seat, event)) × (answer ≡ length before) };
 
     /// Answers how many numbers came before.
     fn turn(&mut self, seat: u32, event: u64) -> usize {
@@ -87,7 +88,9 @@ fn hand_over_each<T: Send, R: Threads + Wait + Sync>(
     requires { All (IsSeatOf turn.now) seats.old.items }
     ensures its { All (IsSeatOf turn.now) seats.new.items }
     ensures length { length seats.new.items ≡ length seats.old.items }
-    ensures numbers { (i : ℕ) (d : Place (Handed T) (ℕ × ℕ) ℕ) → i < length seats.old.items → number_of (slice_index_or seats.new.items i d) ≡ number_of (slice_index_or seats.old.items i d) }
+    ensures numbers { (i : ℕ) (d : Place (Handed T) (ℕ × ℕ) ℕ) → i < length seats.old.items
+        → number_of (slice_index_or seats.new.items i d)
+        ≡ number_of (slice_index_or seats.old.items i d) }
 {
     thread::for_each_mut(
         rt,
@@ -95,7 +98,8 @@ fn hand_over_each<T: Send, R: Threads + Wait + Sync>(
         64,
         &|_, seat: &mut Seat<Handed<T>>|
             requires { IsSeatOf turn.now seat.old }
-            ensures { IsSeatOf turn.entry.now seat.exit.now × (number_of seat.exit.now ≡ number_of seat.entry.now) }
+            ensures { IsSeatOf turn.entry.now seat.exit.now
+                × (number_of seat.exit.now ≡ number_of seat.entry.now) }
         { hand_over(rt, turn, seat, count) },
     );
 }
@@ -126,31 +130,6 @@ fn handed_over<T: Send + Drop, R: Threads + Wait + Sync>(
     Ok(turn.close(List::from_vec(row)))
 }
 
-/// A seat of a lock with one seat hands over two numbers.
-fn two_of_one<R: Wait>(
-    rt: &R,
-    alloc: Global,
-    budget: u64,
-) -> Result<([Result<usize, Spent>; 2], u64, Handed<()>), NoMemory>
-    requires { budget ≤ 2 }
-{
-    let state = match Handed::new(alloc, 2, ()) {
-        Ok(state) => state,
-        Err((refused, ())) => return Err(refused),
-    };
-    let (turn, seats) = match Turn::new(alloc, state, &[budget]) {
-        Ok(made) => made,
-        Err((refused, _)) => return Err(refused),
-    };
-    let mut row = seats.into_vec();
-    let mut seat = row.pop().unwrap();
-    let first = turn.act(rt, &mut seat, 5);
-    let second = turn.act(rt, &mut seat, 6);
-    let left = seat.left();
-    row.push_reserved(seat);
-    Ok(([first, second], left, turn.close(List::from_vec(row))))
-}
-
 /// How many numbers a seat handed over, if they are 0, 1, 2 and so on.
 fn in_order<T>(state: &Handed<T>, seat: u32) -> Option<u64> {
     let mut next = 0u64;
@@ -165,18 +144,10 @@ fn in_order<T>(state: &Handed<T>, seat: u32) -> Option<u64> {
     Some(next)
 }
 
+// Each seat wants one turn more than its budget.
 #[test]
-fn a_seat_is_spent_after_its_budget(rt: HostRuntime) -> Result<(), Fail> {
-    let left = two_of_one(&rt, rt.alloc(), 1)?;
-    assert_eq!(rt; left.0, [Ok(0), Err(Spent)]);
-    assert_eq!(rt; left.1, 0);
-    assert_eq!(rt; left.2.numbers.as_slice(), [(0, 5)].as_slice());
-    Ok(())
-}
-
-#[test]
-fn eight_seats_keep_their_order(rt: HostRuntime) -> Result<(), Fail> {
-    let state = handed_over(&rt, rt.alloc(), 7u8, 8000, &[1000; 8], 1000)?;
+fn eight_seats_keep_their_order_and_budgets(rt: HostRuntime) -> Result<(), Fail> {
+    let state = handed_over(&rt, rt.alloc(), 7u8, 8000, &[1000; 8], 1001)?;
     assert_eq!(rt; state.beside, 7);
     assert_eq!(rt; state.numbers.len(), 8000);
     for seat in 0..8 {
