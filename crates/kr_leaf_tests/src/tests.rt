@@ -1,1 +1,2 @@
+mod aes;
 mod pages;
