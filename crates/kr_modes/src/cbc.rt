@@ -2,6 +2,7 @@
 
 ghost use Rattle.std.specs.Prelude.{◌≡◌, ◌≢◌, ◌↔◌, ℕ, ◌≤◌, ◌<◌, ◌+◌, ◌-◌, ◌*◌, ◌%◌, List, All, length, take, drop, IsTrue, IfOk, IfErr, IfSome, MatchOption, MatchResult};
 ghost use Rattle.kr_aes.specs.Cipher.{cipher};
+ghost use Rattle.kr_aes.specs.EquivalentInverse.{inverse_schedule};
 ghost use Rattle.kr_aes.specs.InverseCipher.{inverse_cipher};
 ghost use Rattle.kr_aes.specs.KeyExpansion.{IsSchedule};
 ghost use Rattle.kr_modes.specs.Cbc.{cbc, cbc_opened, uncbc};
@@ -68,25 +69,27 @@ pub fn cbc_unseal(
         return Err(ModeNo::BadBlock);
     }
     let size = body.len() - BLOCK;
-    decrypt(words, rounds, body, &mut out[..size]);
+    let mut inverse = [0; 60];
+    kr_aes::invert(words, rounds, &mut inverse);
+    decrypt(&inverse, rounds, body, &mut out[..size]);
     match unpadded_length(&out[..size]) {
         Some(length) => Ok(length),
         None => Err(ModeNo::BadPadding),
     }
 }
 
-/// Writes the decryption of the blocks behind the IV.
-fn decrypt(words: &[u32; 60], rounds: Rounds, body: &[u8], out: &mut [u8])
-    requires schedule { IsSchedule words.now rounds }
+/// Writes the decryption of the blocks behind the IV, by the words that `kr_aes::invert` made.
+fn decrypt(inverse: &[u32; 60], rounds: Rounds, body: &[u8], out: &mut [u8])
     requires fits { length body.now ≤ 4194304 }
     requires size { length out.old + 16 ≡ length body.now }
     requires whole { length out.old % 16 ≡ 0 }
-    ensures { out.new ≡ uncbc (inverse_cipher words.now rounds) (take 16 body.now) (drop 16 body.now) }
+    ensures { (words : List ℕ) → inverse.now ≡ inverse_schedule words rounds
+        → out.new ≡ uncbc (inverse_cipher words rounds) (take 16 body.now) (drop 16 body.now) }
 {
     for index in 0..out.len() / BLOCK {
         let start = BLOCK * index;
         let mut block = blocks::whole_block(body, index + 1);
-        kr_aes::decrypt_block(words, rounds, &mut block);
+        kr_aes::decrypt_block_by_inverse(inverse, rounds, &mut block);
         blocks::add(&mut block, &blocks::whole_block(body, index));
         out[start..start + BLOCK].copy_from_slice(&block);
     }

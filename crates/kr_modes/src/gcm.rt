@@ -165,11 +165,7 @@ fn tag_of(
     ghash::fill(ghash::polynomial(subkey), &mut products);
     let value = ghash::absorb(&products, 0, aad);
     let value = ghash::absorb(&products, value, ciphertext);
-    let value = ghash::absorb(
-        &products,
-        value,
-        &length_block(aad.len(), ciphertext.len()),
-    );
+    let value = ghash::absorb(&products, value, &length_block(aad.len(), ciphertext.len()));
     let mut tag = ghash::block_of(value);
     blocks::add(&mut tag, &stream_block(words, rounds, nonce, 0));
     tag

@@ -1,12 +1,12 @@
 //! GHASH (SP 800-38D sections 6.3 and 6.4). A product by the hash subkey is the sum of 32 entries of
 //! tables, which are made once for a subkey: one entry for each four coefficients of the other factor.
 
-ghost use Rattle.std.specs.Prelude.{◌≡◌, ◌≤◌, ◌*◌, ℕ, length, map};
+ghost use Rattle.std.specs.Prelude.{◌≡◌, ◌≤◌, ℕ, length, map};
 ghost use Rattle.std.specs.List.{range_with_len};
 ghost use Rattle.kr_modes.specs.Blocks.{blocks};
 ghost use Rattle.kr_modes.specs.Gcm.{zero_padded};
-ghost use Rattle.kr_modes.specs.Ghash.{block_of, ghash_blocks, polynomial, product, remainder};
-ghost use Rattle.kr_modes.specs.inner.Tables.{IsTableOf, four_terms};
+ghost use Rattle.kr_modes.specs.Ghash.{block_of, ghash_blocks, polynomial, product};
+ghost use Rattle.kr_modes.specs.inner.Tables.{IsTableOf, four_terms, times_x};
 
 use crate::blocks::{self, BLOCK};
 
@@ -34,7 +34,7 @@ const MODULUS_LOW: u128 = 0x87;
 /// x times a polynomial: shifted, and less the modulus where a bit came out.
 #[inline(always)]
 fn shifted(p: u128) -> u128
-    ensures { result ≡ remainder 1 (p * 2) }
+    ensures { result ≡ times_x p }
 {
     (p << 1) ^ (p >> 127) * MODULUS_LOW
 }

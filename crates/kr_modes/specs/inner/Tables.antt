@@ -2,15 +2,16 @@
 -- coefficients of a factor.
 use Rattle.std.specs.Prelude.{◌≡◌, ℕ, ◌+◌, ◌*◌, ◌^◌, ◌<◌, List, bit_xor, slice_index}
 use Rattle.std.specs.Int.{bit_at}
-use Rattle.kr_modes.specs.Ghash.{remainder}
+use Rattle.kr_aes.specs.Field.{remainder}
+use Rattle.kr_modes.specs.Ghash.{modulus}
 
 -- x to the power i, times a polynomial
 unfoldable pub power : ℕ → ℕ → ℕ
-power i p = remainder i (p * 2 ^ i)
+power i p = remainder modulus 128 i (p * 2 ^ i)
 
 -- x times a polynomial
 abbrev pub times_x : ℕ → ℕ
-times_x p = remainder 1 (p * 2)
+times_x p = remainder modulus 128 1 (p * 2)
 
 -- a polynomial of degree below 4, times p
 unfoldable pub four_terms : ℕ → ℕ → ℕ

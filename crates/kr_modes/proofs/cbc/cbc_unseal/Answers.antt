@@ -15,10 +15,10 @@ pub returns-in-Some-clause-opened : goal.returns-in-Some-clause-opened
 returns-in-Some-clause-opened c =
     let body = c.args.body.now in
     cbc_some (inverse_cipher c.args.words.now c.args.rounds) body c.decrypt.new.out (drop (length body - 16) c.args.out.now) c.in-Some.length
-    c.if-body-le-BLOCK.false (omega arith) c.decrypt.ensures (omega (arith, length-take (length body - 16) c.args.out.now, c.requires.size)) c.in-Some.ensures.within c.in-Some.ensures.value
+    c.if-body-le-BLOCK.false (omega arith) (c.decrypt.ensures c.args.words.now c.invert.ensures) (omega (arith, length-take (length body - 16) c.args.out.now, c.requires.size)) c.in-Some.ensures.within c.in-Some.ensures.value
 
 pub returns-in-None-clause-opened : goal.returns-in-None-clause-opened
 returns-in-None-clause-opened c =
     let body = c.args.body.now in
     cbc_none (inverse_cipher c.args.words.now c.args.rounds) body c.decrypt.new.out (drop (length body - 16) c.args.out.now)
-    c.if-body-le-BLOCK.false (omega arith) c.decrypt.ensures (omega (arith, length-take (length body - 16) c.args.out.now, c.requires.size)) c.in-None.ensures.value
+    c.if-body-le-BLOCK.false (omega arith) (c.decrypt.ensures c.args.words.now c.invert.ensures) (omega (arith, length-take (length body - 16) c.args.out.now, c.requires.size)) c.in-None.ensures.value
