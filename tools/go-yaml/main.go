@@ -5,7 +5,7 @@
 //
 // A document that both read means the same, but for these forms, which are counted apart:
 //   - a key with a blank before its colon, which the library drops;
-//   - a tab in a plain scalar: the library drops it at the end, and takes it for a blank before a `#` or behind a `:`;
+//   - a tab in a plain scalar: the library drops it at an end, and takes it for a blank before a `#` or behind a `:`;
 //   - a plain scalar that the library takes for a number, a truth value or null, and which is a text here. A member that must
 //     be a text is refused by the server then.
 package main
@@ -264,7 +264,7 @@ func (f *forms) scalar(ours string, theirs interface{}) bool {
 	} else {
 		f.typed = true
 	}
-	value, err := read([]byte(ours))
+	value, err := read([]byte(strings.TrimLeft(ours, " \t")))
 	return err == nil && reflect.DeepEqual(value, theirs)
 }
 
