@@ -1,6 +1,6 @@
 use Rattle.std.proofs.Common.{◌≡◌, ◌+◌, drop}
 use Rattle.kr_envelope.specs.Limits.{size_of}
-use Rattle.kr_envelope.proofs.found.is_few.Given as goal
+use Rattle.kr_envelope.proofs.partial.is_few.Given as goal
 
 -- the room is what the pairs so far have left
 abbrev pub invariant-loop-key : goal.invariant-loop-key
