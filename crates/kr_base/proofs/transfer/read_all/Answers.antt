@@ -1,6 +1,6 @@
 use Rattle.std.proofs.Common.{ℕ, arith, length-take}
-use Rattle.kr_base.proofs.Wholes.{took-more, took-count, took-at-most}
-use Rattle.kr_base.proofs.whole.read_all.Goals as goal
+use Rattle.kr_base.proofs.Transferring.{took-more, took-count, took-at-most}
+use Rattle.kr_base.proofs.transfer.read_all.Goals as goal
 
 pub loop-preserved : goal.loop-preserved
 loop-preserved g c = took-more c.read.new.into _ _ c.in-Ok.n _ c.loop.invariant c.in-Ok.ensures.bytes.0 c.in-Ok.ensures.bound.0 (omega arith) (omega arith) c.in-Ok-extend_from_slice.ensures.items c.in-Ok.ensures.cause.later

@@ -1,5 +1,5 @@
-use Rattle.kr_base.proofs.Wholes.{wrote-more, wrote-front, wrote-all}
-use Rattle.kr_base.proofs.whole.write_all.Goals as goal
+use Rattle.kr_base.proofs.Transferring.{wrote-more, wrote-front, wrote-all}
+use Rattle.kr_base.proofs.transfer.write_all.Goals as goal
 
 pub loop-written-preserved : goal.loop-written-preserved
 loop-written-preserved g c = wrote-more c.in-Ok.n _ c.loop-written.invariant c.in-Ok.ensures.bound c.in-Ok.ensures.bytes c.in-Ok.ensures.cause.later

@@ -1,17 +1,19 @@
+//! Reading and writing whole contents.
 ghost use Rattle.std.specs.Prelude.{◌≡◌, ◌≤◌, ◌+◌, min, IsErrOf, OnOk, OnErr};
 ghost use Rattle.std.specs.Io.KnownBytes.{Appends};
 ghost use Rattle.kr_base.specs.Faults.{Rose, IsCounted};
 ghost use Rattle.kr_base.specs.Streams.{ReadsWhole, AppendsFront};
 
-use crate::answers::{Failed, ReadNo};
 use crate::bytes::Bytes;
+use crate::errors::{Failed, ReadNo};
 use crate::traits::{Sink, Source};
 use std::alloc::Global;
 
 /// How many bytes one read asks for at most.
 const PIECE: usize = 8192;
 
-/// How many bytes the next read asks for: one more than may come, so that a source above the limit shows itself.
+/// How many bytes the next read asks for: one more than may come, so that a source above the limit
+/// shows itself.
 fn next_ask(rest: u64) -> usize
     ensures { result ≡ min (rest + 1) PIECE }
 {
