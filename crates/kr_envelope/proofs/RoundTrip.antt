@@ -11,6 +11,7 @@ use Rattle.std.specs.Map.{keys_of}
 use Rattle.std.proofs.lemmas.List.{append-nil, length-append}
 use Rattle.std.proofs.lemmas.List.Elements.{recursion_from_All}
 use Rattle.std.proofs.lemmas.Bool.Decides.{nat_tests}
+use Rattle.kr_base.specs.Limits.{IsShort, AreFew, size_of, is_short, are_few}
 use Rattle.kr_base.specs.Pairs.{Pairs, with_pair, IsSortedByKey}
 use Rattle.kr_envelope.specs.declared.object.SourceKind.{SourceKind}
 use Rattle.kr_envelope.specs.declared.object.SourceKind.TheVariants.{Key, Seed}
@@ -19,7 +20,7 @@ use Rattle.kr_envelope.specs.declared.object.ObjectNo.TheVariants.{Wire, KeyId, 
 use Rattle.kr_envelope.specs.declared.object.EncryptedObject.{EncryptedObject}
 use Rattle.kr_envelope.specs.Wire.{Spells, Starts, IsVarint, varint, Field, IsField}
 use Rattle.kr_envelope.specs.Messages.{last_or, last_bytes, of_bytes, Item, encrypted, key_id, source, annotation, kind, IsItem, IsText, IsMessage, encrypted_in, key_id_in, source_in, annotation_in, kind_in, put_all, Raw, raw_of}
-use Rattle.kr_envelope.specs.Limits.{Reads, is_few, is_limited, size_of, breach_of, number_of, raw_in}
+use Rattle.kr_envelope.specs.Limits.{Reads, breach_of, number_of, raw_in}
 use Rattle.kr_envelope.specs.Canonical.{shortest, sized, content_field, pair_field, kind_field, canonical, IsWritable, IsKept, IsReadBack}
 use Rattle.kr_envelope.proofs.Spellings.{spells_rest, spells_one, spells_none}
 use Rattle.kr_envelope.proofs.Items.{items_code}
@@ -249,7 +250,7 @@ both false b e = cc
 at_most : (a b : ℕ) → nat_le a b ≡ true → a ≤ b
 at_most a b e = grind (arith, nat_tests)
 
-pub limits : (o : EncryptedObject) → IsWritable o → (1 ≤ length o.encrypted) × ((1 ≤ length o.key_id) × (length o.key_id ≤ 1024)) × ((1 ≤ length o.source) × (length o.source ≤ 1024)) × ((length o.annotations ≤ 256) × (size_of o.annotations ≤ 32768))
+pub limits : (o : EncryptedObject) → IsWritable o → (1 ≤ length o.encrypted) × IsShort o.key_id × IsShort o.source × AreFew o.annotations
 limits o w =
     let data_ok = guarded _ _ NoData w in
     let key_ok = guarded _ _ KeyId data_ok.1 in
@@ -298,10 +299,10 @@ read_back text o e w k =
     let raw : raw_of (items_of o) ≡ raw_in o = raw_is o k.sorted in
     ((items_of o, message, (ap breach_of raw ∙ w, raw)), whole_is text (items_of o) message o raw w)
 
-kept_limit : (content : List ℕ) → 1 ≤ length content → length content ≤ 1024 → is_limited content ≡ true
+kept_limit : (content : List ℕ) → 1 ≤ length content → length content ≤ 1024 → is_short content ≡ true
 kept_limit content l h = grind (arith, nat_tests)
 
-kept_few : (pairs : Pairs) → length pairs ≤ 256 → size_of pairs ≤ 32768 → is_few pairs ≡ true
+kept_few : (pairs : Pairs) → length pairs ≤ 256 → size_of pairs ≤ 32768 → are_few pairs ≡ true
 kept_few pairs l h = grind (arith, nat_tests)
 
 kept_data : (content : List ℕ) → 1 ≤ length content → nat_le 1 (length content) ≡ true
@@ -312,8 +313,7 @@ kept_kind Key = refl
 kept_kind Seed = refl
 
 -- what a caller knows of the parts of an object that it writes
-pub within_limits : (o : EncryptedObject) → 1 ≤ length o.encrypted → (1 ≤ length o.key_id) × (length o.key_id ≤ 1024) → (1 ≤ length o.source) × (length o.source ≤ 1024)
-    → (length o.annotations ≤ 256) × (size_of o.annotations ≤ 32768) → IsWritable o
+pub within_limits : (o : EncryptedObject) → 1 ≤ length o.encrypted → IsShort o.key_id → IsShort o.source → AreFew o.annotations → IsWritable o
 within_limits o d k s a =
     pass NoData (kept_data o.encrypted d) (pass KeyId (kept_limit o.key_id k.0 k.1) (pass Source (kept_limit o.source s.0 s.1) (pass Annotations (kept_few o.annotations a.0 a.1) (kept_kind o.kind))))
   where

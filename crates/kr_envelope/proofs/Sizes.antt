@@ -2,11 +2,11 @@
 use Rattle.std.proofs.Common.{◌≡◌, ℕ, suc, ◌+◌, ◌*◌, ◌^◌, ◌<◌, ◌≤◌, List, [], ◌∷◌, ◌++◌, length, refl, ◌∙◌, ap, arith}
 use Rattle.std.specs.List.{flat_map}
 use Rattle.std.proofs.lemmas.List.{length-append}
+use Rattle.kr_base.specs.Limits.{size_of}
 use Rattle.kr_base.specs.Pairs.{Pairs}
 use Rattle.kr_envelope.specs.declared.object.SourceKind.{SourceKind}
 use Rattle.kr_envelope.specs.declared.object.SourceKind.TheVariants.{Key, Seed}
 use Rattle.kr_envelope.specs.declared.object.EncryptedObject.{EncryptedObject}
-use Rattle.kr_envelope.specs.Limits.{size_of}
 use Rattle.kr_envelope.specs.Canonical.{shortest, sized, content_field, content_size, pair_field, kind_field, canonical, IsWritable, frame_of}
 use Rattle.kr_envelope.proofs.Numbers.{shortest_is}
 use Rattle.kr_envelope.proofs.RoundTrip.{content_length, limits}

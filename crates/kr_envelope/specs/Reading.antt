@@ -1,6 +1,7 @@
 -- What the reader's calls answer on the way.
 use Rattle.std.specs.Prelude.{◌≡◌, ℕ, ◌<◌, Bool, true, false, List, ◌++◌, length, Option, None, Some, Result, Ok, Err}
 use denote.Ref.{Bor}
+use Rattle.kr_base.specs.Limits.{annotations_limit}
 use Rattle.kr_base.specs.Pairs.{Pairs, with_pair}
 use Rattle.kr_envelope.specs.declared.item.Item.{Item}
 use Rattle.kr_envelope.specs.declared.item.Item.TheVariants as lent
@@ -49,7 +50,7 @@ merged raw message.other = raw
 -- the annotations are kept until there are too many, which they stay
 abbrev pub Keeps : Bool → Pairs → Pairs → Type 0
 Keeps false kept pairs = kept ≡ pairs
-Keeps true kept pairs = 256 < length pairs
+Keeps true kept pairs = annotations_limit < length pairs
 
 -- what was merged is the object so far
 pub record Sees (partial : PartialObject) (raw : Raw) : Type 0 where
