@@ -8,8 +8,6 @@ mod laws;
 mod object;
 mod partial;
 mod prefix;
-#[cfg(test)]
-mod tests;
 mod wire;
 
 pub use laws::{canonical_length, one_reading, round_trip};
