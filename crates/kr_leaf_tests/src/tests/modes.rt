@@ -1,5 +1,6 @@
 //! CBC and GCM, by examples of the standards, and each refusal.
 
+ghost use Rattle.std.specs.Prelude.{◌≤◌, length};
 ghost use Rattle.kr_aes.specs.KeyExpansion.{IsSchedule};
 
 use kr_aes::{Rounds, expand};
@@ -51,6 +52,16 @@ fn cbc_as_the_standard(rt: HostRuntime) {
     );
 }
 
+/// What a body of at most 32 bytes is opened as.
+fn opens_as(words: &[u32; 60], rounds: Rounds, body: &[u8]) -> Result<usize, ModeNo>
+    requires schedule { IsSchedule words.now rounds }
+    requires fits { length body.now ≤ 32 }
+{
+    let size = body.len();
+    let mut out = [0; 32];
+    cbc_unseal(words, rounds, body, &mut out[..size])
+}
+
 // The second block is the cipher of 0011 .. ff of FIPS 197, appendix C.1, so the IV decides what the
 // blocks decrypt to: here all bytes are 0.
 #[test]
@@ -64,16 +75,12 @@ fn cbc_refusals(rt: HostRuntime) {
     let mut body = [0; 32];
     body[..16].copy_from_slice(&0x00112233445566778899aabbccddeeff_u128.to_be_bytes());
     body[16..].copy_from_slice(&0x69c4e0d86a7b0430d8cdb78070b4c55a_u128.to_be_bytes());
-    let mut out = [0; 32];
-    assert_eq!(rt; cbc_unseal(&words, rounds, &body, &mut out), Err(ModeNo::BadPadding));
+    assert_eq!(rt; opens_as(&words, rounds, &body), Err(ModeNo::BadPadding));
     assert_eq!(rt;
-        cbc_unseal(&words, rounds, &body[..31], &mut out[..31]),
+        opens_as(&words, rounds, &body[..31]),
         Err(ModeNo::BadBlock)
     );
-    assert_eq!(rt;
-        cbc_unseal(&words, rounds, &body[..16], &mut out[..16]),
-        Err(ModeNo::Short)
-    );
+    assert_eq!(rt; opens_as(&words, rounds, &body[..16]), Err(ModeNo::Short));
 }
 
 // The GCM specification by McGrew and Viega, test case 2: one block.
