@@ -1,3 +1,0 @@
-//! The tests, by crate.
-
-mod yaml;
