@@ -7,4 +7,3 @@ mod pages;
 mod store;
 mod turn;
 mod words;
-mod yaml;
