@@ -1,5 +1,5 @@
 -- The point that the steps of a bench come to, by what it made of the bytes.
-use Rattle.std.proofs.Common.{◌≡◌, ◌≢◌, ℕ, ◌≤◌, ◌==◌, List, [], ◌∷◌, length, Bool, true, false, Option, None, Some, Ok, Err, refl, sym, ◌∙◌, ap, subst, inl, inr, arith}
+use Rattle.std.proofs.Common.{◌≡◌, ◌≢◌, ℕ, ◌==◌, List, [], ◌∷◌, length, Bool, true, false, Option, None, Some, Ok, Err, refl, sym, ◌∙◌, ap, subst, inl, inr, arith}
 use Rattle.std.specs.Prelude.{Result, IsSome, IfSome, nat_lt, if◌then◌else◌}
 use Rattle.std.specs.Io.KnownBytes.{Consumes, Keeps}
 use Rattle.std.proofs.lemmas.Bool.Decides.{Decides-eqb}
@@ -16,7 +16,7 @@ use Rattle.kr_provider.specs.declared.refusal.SealNo.TheVariants as seal
 use Rattle.kr_provider.specs.declared.refusal.UnsealNo.{UnsealNo}
 use Rattle.kr_provider.specs.declared.refusal.UnsealNo.TheVariants as unseal
 use Rattle.kr_top.specs.Commands.{value_steps, sealing, freshness, reading_steps, working}
-use Rattle.kr_top.specs.Steps.{Steps, draw, give, refuse, Goes, Left, with_dice, Point, awaits, drawing, refuses, gives}
+use Rattle.kr_top.specs.Steps.{Steps, draw, give, refuse, Goes, Left, with_dice, awaits, drawing, refuses, gives}
 use Rattle.kr_top.specs.inner.Phases.{DrawsTo, Reaches, Works}
 use Rattle.kr_top.specs.declared.convert.Direction.{Direction}
 use Rattle.kr_top.specs.declared.convert.Direction.TheVariants.{Encrypt, Decrypt}

@@ -1,5 +1,5 @@
 -- What a stored value says of itself.
-use Rattle.std.specs.Prelude.{◌≡◌, ◌⊎◌, ℕ, List, [], ◌∷◌, ◌++◌, length, codes, decimal, map, Result, Ok, Err}
+use Rattle.std.specs.Prelude.{◌≡◌, ◌⊎◌, ℕ, List, ◌++◌, length, codes, decimal, map, Result, Ok, Err}
 use Rattle.std.specs.List.{concat}
 use Rattle.kr_base.specs.Rules.{IsName}
 use Rattle.kr_envelope.specs.Prefixes.{mark, prefix, Begins}

@@ -1,5 +1,5 @@
-use Rattle.std.proofs.Common.{ap, refl}
-use Rattle.kr_top.proofs.Works.{sealed_works, marked_works, failed_works, unsealed_works, refused_works, no_plugin_fails}
+use Rattle.std.proofs.Common.{ap}
+use Rattle.kr_top.proofs.Works.{sealed_works, unsealed_works, refused_works, no_plugin_fails}
 use Rattle.kr_top.proofs.work.work.Goals as goal
 
 pub unreachable-requires-in-Err-PluginFailed : goal.unreachable-requires-in-Err-PluginFailed
