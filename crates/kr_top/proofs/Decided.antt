@@ -10,9 +10,10 @@ use Rattle.kr_top.specs.Command.{Command, encrypt, decrypt, check, inspect, IsOf
 use Rattle.kr_top.specs.Commands.{steps}
 use Rattle.kr_top.specs.Message.{status_of, status_of_done, status_of_refusal, line_of}
 use Rattle.kr_top.specs.Steps.{Point, awaits, amid, refuses, gives}
-use Rattle.kr_top.specs.Ran.{Around, Sunk, Stays, left_of, Ends, Answers, Tells, WouldCome, HasStatus, IsDecided}
+use Rattle.kr_top.specs.Ran.{Around, Sunk, Stays, left_of, Ends, Answers, Tells, WouldCome, status_at, IsDecided}
 use Rattle.kr_top.specs.declared.refusal.BadWords.{BadWords}
 use Rattle.kr_top.specs.declared.refusal.BadWords.TheVariants.{Usage, Replicas, Size}
+use Rattle.kr_top.specs.declared.refusal.Refusal.{Refusal}
 use Rattle.kr_top.specs.declared.refusal.Stop.{Stop}
 use Rattle.kr_top.specs.declared.refusal.Stop.TheVariants.{Words, Refused, Fault, NoMemory}
 use Rattle.kr_top.specs.declared.refusal.Done.{Done}
@@ -60,46 +61,40 @@ no_stop words command Size asks (verb, options, means, few, large) =
 
 -- ---- the status by the point
 
-by_point : (p q : Point) (old new : Around) (r : Result Done Stop) (status : ℕ) → Alike p q → Ends q old new r → status ≡ status_of r → HasStatus p status ⊎ (status ≡ 4) ⊎ (status ≡ 5)
-by_point p q old new (Err (Words why)) status a e s = absurd (no_words_at old new why q e)
-by_point p q old new (Err (Fault object count)) status a e s = inr (inl s)
-by_point p q old new (Err NoMemory) status a e s = inr (inr s)
-by_point (awaits call) q old new (Ok done) status a e s = inl tt
-by_point amid q old new (Ok done) status a e s = inl tt
-by_point (refuses why) (awaits call) old new (Ok done) status a e s = absurd e
-by_point (refuses why) amid old new (Ok done) status a e s = absurd e
-by_point (refuses why) (refuses r) old new (Ok done) status a e s = absurd e
-by_point (refuses why) (gives value d) old new (Ok done) status a e s = absurd a
-by_point (gives v w) (awaits call) old new (Ok done) status a e s = absurd e
-by_point (gives v w) amid old new (Ok done) status a e s = absurd e
-by_point (gives v w) (refuses r) old new (Ok done) status a e s = absurd e
-by_point (gives v w) (gives value d) old new (Ok done) status a e s = inl (s ∙ ap status_of_done (e.0 ∙ sym a))
-by_point (awaits call) q old new (Err (Refused why)) status a e s = inl tt
-by_point amid q old new (Err (Refused why)) status a e s = inl tt
-by_point (refuses r) (awaits call) old new (Err (Refused why)) status a e s = absurd e
-by_point (refuses r) amid old new (Err (Refused why)) status a e s = absurd e
-by_point (refuses r) (refuses w) old new (Err (Refused why)) status a e s = inl (s ∙ ap status_of_refusal (e.0 ∙ sym a))
-by_point (refuses r) (gives value d) old new (Err (Refused why)) status a e s = absurd e
-by_point (gives v d) (awaits call) old new (Err (Refused why)) status a e s = absurd e
-by_point (gives v d) amid old new (Err (Refused why)) status a e s = absurd e
-by_point (gives v d) (refuses w) old new (Err (Refused why)) status a e s = absurd a
-by_point (gives v d) (gives value w) old new (Err (Refused why)) status a e s = absurd e
+done_at : (q : Point) (old new : Around) (done : Done) → Ends q old new (Ok done) → status_at q ≡ Some (status_of_done done)
+done_at (awaits call) old new done e = absurd e
+done_at amid old new done e = absurd e
+done_at (refuses why) old new done e = absurd e
+done_at (gives value d) old new done e = ap (λ x. Some (status_of_done x)) (sym e.0)
+
+refused_at : (q : Point) (old new : Around) (why : Refusal) → Ends q old new (Err (Refused why)) → status_at q ≡ Some (status_of_refusal why)
+refused_at (awaits call) old new why e = absurd e
+refused_at amid old new why e = absurd e
+refused_at (refuses r) old new why e = ap (λ x. Some (status_of_refusal x)) (sym e.0)
+refused_at (gives value d) old new why e = absurd e
+
+by_point : (p q : Point) (old new : Around) (r : Result Done Stop) (status n : ℕ) → Alike p q → status_at p ≡ Some n → Ends q old new r → status ≡ status_of r → (status ≡ n) ⊎ (status ≡ 4) ⊎ (status ≡ 5)
+by_point p q old new (Ok done) status n a at e s = inl (s ∙ sym (a n _ at (done_at q old new done e)))
+by_point p q old new (Err (Words why)) status n a at e s = absurd (no_words_at old new why q e)
+by_point p q old new (Err (Refused why)) status n a at e s = inl (s ∙ sym (a n _ at (refused_at q old new why e)))
+by_point p q old new (Err (Fault object count)) status n a at e s = inr (inl s)
+by_point p q old new (Err NoMemory) status n a at e s = inr (inr s)
 
 some_input : (input : Option (List ℕ)) → IsSome input → (all : List ℕ) × (input ≡ Some all)
 some_input None h = absurd cc
 some_input (Some all) h = (all, refl)
 
 pub decided : (words : List (List ℕ)) (old new : Around) (errors : Sunk) (r : Result Done Stop) (status : ℕ) → Answers words old new r → Tells (line_of r) (status_of r) errors status → IsDecided words old status
-decided words old new errors r status a (inr t) command point asks tells would = inr (inl t.0)
-decided words old new errors (Ok d) status (inr a) (inl t) command point asks tells would = absurd a.0
-decided words old new errors (Err (Words why)) status (inr a) (inl t) command point asks tells would = absurd (no_stop words command why asks a.0)
-decided words old new errors (Err (Refused why)) status (inr a) (inl t) command point asks tells would = absurd a.0
-decided words old new errors (Err (Fault object count)) status (inr a) (inl t) command point asks tells would = absurd a.0
-decided words old new errors (Err NoMemory) status (inr a) (inl t) command point asks tells would = inr (inr t.0)
-decided words old new errors r status (inl a) (inl t) command point asks tells would =
+decided words old new errors r status a (inr t) command point n asks tells would at = inr (inl t.0)
+decided words old new errors (Ok d) status (inr a) (inl t) command point n asks tells would at = absurd a.0
+decided words old new errors (Err (Words why)) status (inr a) (inl t) command point n asks tells would at = absurd (no_stop words command why asks a.0)
+decided words old new errors (Err (Refused why)) status (inr a) (inl t) command point n asks tells would at = absurd a.0
+decided words old new errors (Err (Fault object count)) status (inr a) (inl t) command point n asks tells would at = absurd a.0
+decided words old new errors (Err NoMemory) status (inr a) (inl t) command point n asks tells would at = inr (inr t.0)
+decided words old new errors r status (inl a) (inl t) command point n asks tells would at =
     let k = came a in
     let c = k.comes.command in
     let all = some_input old.input tells.input in
     let would_c = subst (λ x. WouldCome x old point) (one_command words command c asks k.comes.asks) would in
     let goes = going old.world.file (λ at left. (at ≡ k.point) × Stays left new) (λ at left. at ≡ k.point) (λ at left h. h.0) (steps c) (left_of old) k.comes.goes in
-    by_point point k.point old new r status (one_point old.world.file tells.files point k.point (steps c) (settled c) (left_of old) (left_of old) all.0 all.1 all.1 would_c goes) k.ends t.0
+    by_point point k.point old new r status n (one_point old.world.file tells.files point k.point (steps c) (settled c) (left_of old) (left_of old) all.0 all.1 all.1 would_c goes) at k.ends t.0

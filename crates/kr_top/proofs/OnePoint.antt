@@ -3,35 +3,21 @@ use Rattle.std.proofs.Common.{◌≡◌, ℕ, ◌≤◌, List, [], ◌++◌, len
 use Rattle.std.specs.Prelude.{IsSome}
 use Rattle.std.specs.Io.KnownBytes.{Consumes, IsAtEnd}
 use Rattle.kr_base.specs.Told.{Agrees}
-use Rattle.kr_top.specs.Steps.{Steps, load, take_input, borrow_dice, draw, find, refuse, give, Call, loading, reading, opening, drawing, Point, awaits, amid, refuses, gives, Left, with_input, Goes}
+use Rattle.kr_top.specs.Steps.{Steps, load, take_input, borrow_dice, draw, find, refuse, give, Point, refuses, gives, Left, with_input, Goes}
+use Rattle.kr_top.specs.Ran.{status_at}
 
--- two points differ at most in the value that was given
+-- two points have no two statuses
 abbrev pub Alike : Point → Point → Type 0
-Alike (awaits call) q = Unit {0}
-Alike amid q = Unit {0}
-Alike (refuses why) (awaits call) = Unit {0}
-Alike (refuses why) amid = Unit {0}
-Alike (refuses why) (refuses r) = why ≡ r
-Alike (refuses why) (gives value done) = ⊥
-Alike (gives value done) (awaits call) = Unit {0}
-Alike (gives value done) amid = Unit {0}
-Alike (gives value done) (refuses r) = ⊥
-Alike (gives value done) (gives other d) = done ≡ d
+Alike p q = (m n : ℕ) → status_at p ≡ Some m → status_at q ≡ Some n → m ≡ n
 
-alike_call : (p : Point) (call : Call) → Alike p (awaits call)
-alike_call (awaits other) call = tt
-alike_call amid call = tt
-alike_call (refuses why) call = tt
-alike_call (gives value done) call = tt
+no_first : (p q a : Point) → status_at a ≡ None → a ≡ p → Alike p q
+no_first p q a none e m n x y = absurd (let x_at : status_at a ≡ Some m = ap status_at e ∙ x in cc)
 
-alike_amid : (p : Point) → Alike p amid
-alike_amid (awaits other) = tt
-alike_amid amid = tt
-alike_amid (refuses why) = tt
-alike_amid (gives value done) = tt
+no_second : (p q b : Point) → status_at b ≡ None → b ≡ q → Alike p q
+no_second p q b none f m n x y = absurd (let y_at : status_at b ≡ Some n = ap status_at f ∙ y in cc)
 
-pub alike_at : {p q : Point} (a b : Point) → Alike a b → a ≡ p → b ≡ q → Alike p q
-alike_at {p} {q} a b h e f = subst (λ r. Alike p r) f (subst (λ r. Alike r b) e h)
+pub alike_at : {p q : Point} (a b : Point) → status_at a ≡ status_at b → a ≡ p → b ≡ q → Alike p q
+alike_at a b h e f m n x y = let both : Some m ≡ Some n = sym x ∙ sym (ap status_at e) ∙ h ∙ ap status_at f ∙ y in cc
 
 -- what is found is one, and what is drawn decides nothing but the value
 abbrev pub IsSettled : Steps → Type 0
@@ -62,12 +48,12 @@ whole all bytes (Some x) (Some y) e c end = let is : all ≡ x = cc in (ap (λ l
 module _ (file : List ℕ → Option (Option (List ℕ))) (told : (name : List ℕ) → IsSome (file name)) (p q : Point) where
   pub one_point : (next : Steps) → IsSettled next → (left now : Left) (all : List ℕ) → left.input ≡ Some all → now.input ≡ Some all
       → Goes file (λ at l. at ≡ p) next left → Goes file (λ at l. at ≡ q) next now → Alike p q
-  one_point (load name next) s left now all i j (inl e) k = subst (λ r. Alike r q) e tt
-  one_point (load name next) s left now all i j (inr g) (inl f) = subst (λ r. Alike p r) f (alike_call p loading)
+  one_point (load name next) s left now all i j (inl e) k = no_first p q _ refl e
+  one_point (load name next) s left now all i j (inr g) (inl f) = no_second p q _ refl f
   one_point (load name next) s left now all i j (inr (a, x, g)) (inr (b, y, k)) = one_point (next a) (s a) left now all i j g
       (subst (λ c. Goes file (λ at l. at ≡ q) (next c) now) (one_file (file name) a b (told name) x y) k)
-  one_point (take_input limit long next) s left now all i j (a, ra, ca, inl (x, e)) k = subst (λ r. Alike r q) e tt
-  one_point (take_input limit long next) s left now all i j (a, ra, ca, inr g) (b, rb, cb, inl (y, f)) = subst (λ r. Alike p r) f (alike_call p reading)
+  one_point (take_input limit long next) s left now all i j (a, ra, ca, inl (x, e)) k = no_first p q _ refl e
+  one_point (take_input limit long next) s left now all i j (a, ra, ca, inr g) (b, rb, cb, inl (y, f)) = no_second p q _ refl f
   one_point (take_input limit long next) s left now all i j (a, ra, ca, inr (inl (x, e))) (b, rb, cb, inr (inl (y, f))) = alike_at (refuses long) (refuses long) refl e f
   one_point (take_input limit long next) s left now all i j (a, ra, ca, inr (inl (x, e))) (b, rb, cb, inr (inr (y, end, k))) =
       absurd (omega (arith, x, y, part all a left.input ra i ca, ap length (whole all b now.input rb j cb end).1))
@@ -76,14 +62,14 @@ module _ (file : List ℕ → Option (Option (List ℕ))) (told : (name : List �
   one_point (take_input limit long next) s left now all i j (a, ra, ca, inr (inr (x, enda, g))) (b, rb, cb, inr (inr (y, endb, k))) =
       let m = whole all a left.input ra i ca enda in let n = whole all b now.input rb j cb endb in
       one_point (next a) (s a) (with_input ra left) (with_input rb now) [] m.0 n.0 g (subst (λ c. Goes file (λ at l. at ≡ q) (next c) (with_input rb now)) (sym n.1 ∙ m.1) k)
-  one_point (borrow_dice seat next) s left now all i j (inl e) k = subst (λ r. Alike r q) e tt
-  one_point (borrow_dice seat next) s left now all i j (inr g) (inl f) = subst (λ r. Alike p r) f (alike_call p opening)
+  one_point (borrow_dice seat next) s left now all i j (inl e) k = no_first p q _ refl e
+  one_point (borrow_dice seat next) s left now all i j (inr g) (inl f) = no_second p q _ refl f
   one_point (borrow_dice seat next) s left now all i j (inr g) (inr k) = one_point next s left now all i j g k
-  one_point (draw seat size next) s left now all i j (inl e) k = subst (λ r. Alike r q) e tt
-  one_point (draw seat size next) s left now all i j (inr g) (inl f) = subst (λ r. Alike p r) f (alike_call p (drawing seat))
+  one_point (draw seat size next) s left now all i j (inl e) k = no_first p q _ refl e
+  one_point (draw seat size next) s left now all i j (inr g) (inl f) = no_second p q _ refl f
   one_point (draw seat size next) s left now all i j (inr (a, ra, ca, x, g)) (inr (b, rb, cb, y, k)) = s a b file _ _ p q g k
-  one_point (find A P next) s left now all i j (inl e) k = subst (λ r. Alike r q) e tt
-  one_point (find A P next) s left now all i j (inr g) (inl f) = subst (λ r. Alike p r) f (alike_amid p)
+  one_point (find A P next) s left now all i j (inl e) k = no_first p q _ refl e
+  one_point (find A P next) s left now all i j (inr g) (inl f) = no_second p q _ refl f
   one_point (find A P next) s left now all i j (inr (a, x, g)) (inr (b, y, k)) = one_point (next a) (s.1 a) left now all i j g (subst (λ c. Goes file (λ at l. at ≡ q) (next c) now) (s.0 b a y x) k)
   one_point (refuse why) s left now all i j e f = alike_at (refuses why) (refuses why) refl e f
   one_point (give value done) s left now all i j e f = alike_at (gives value done) (gives value done) refl e f
