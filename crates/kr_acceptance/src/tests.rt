@@ -4,6 +4,7 @@ use kr_top::{MemWorld, run};
 use std::alloc::Global;
 use std::test::Fail;
 
+mod config;
 mod values;
 mod yaml;
 
