@@ -7,3 +7,4 @@ pub mod Objects
 pub mod Numbers
 pub mod RoundTrip
 pub mod OneReading
+pub mod Sizes

@@ -1,6 +1,6 @@
 -- The limits of an encrypted object, and what its bytes are read as.
-use Rattle.std.specs.Prelude.{◌≡◌, ◌≢◌, ◌⊎◌, ℕ, ◌+◌, ◌&&◌, nat_le, Bool, if◌then◌else◌, List, [], ◌∷◌, ◌++◌, length, ⊤, Option, None, Some, Result, Ok, Err}
-use Rattle.kr_base.specs.Pairs.{Pairs}
+use Rattle.std.specs.Prelude.{◌≡◌, ◌≢◌, ◌⊎◌, ℕ, nat_le, if◌then◌else◌, List, [], ◌∷◌, ◌++◌, length, ⊤, Option, None, Some, Result, Ok, Err}
+use Rattle.kr_base.specs.Limits.{is_short, are_few}
 use Rattle.kr_envelope.specs.declared.object.SourceKind.{SourceKind}
 use Rattle.kr_envelope.specs.declared.object.SourceKind.TheVariants.{Key, Seed}
 use Rattle.kr_envelope.specs.declared.object.ObjectNo.{ObjectNo}
@@ -9,23 +9,12 @@ use Rattle.kr_envelope.specs.declared.object.EncryptedObject.{EncryptedObject}
 use Rattle.kr_envelope.specs.Wire.{Starts}
 use Rattle.kr_envelope.specs.Messages.{Item, IsItem, IsText, IsMessage, Raw, raw_of}
 
-abbrev pub is_limited : List ℕ → Bool
-is_limited content = nat_le 1 (length content) && nat_le (length content) 1024
-
--- the bytes of keys and values
-abbrev pub size_of : Pairs → ℕ
-size_of [] = 0
-size_of (pair ∷ pairs) = length pair.0 + length pair.1 + size_of pairs
-
-abbrev pub is_few : Pairs → Bool
-is_few pairs = nat_le (length pairs) 256 && nat_le (size_of pairs) 32768
-
 -- the first limit that is passed: data, key id, source, annotations, source type
 abbrev pub breach_of : Raw → Option ObjectNo
 breach_of raw = if nat_le 1 (length raw.encrypted)
-    then (if is_limited raw.key_id
-    then (if is_limited raw.source
-    then (if is_few raw.annotations
+    then (if is_short raw.key_id
+    then (if is_short raw.source
+    then (if are_few raw.annotations
     then (if nat_le raw.kind 1 then None else Some SourceType)
     else Some Annotations)
     else Some Source)

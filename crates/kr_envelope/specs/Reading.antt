@@ -1,15 +1,13 @@
 -- What the reader's calls answer on the way.
-use Rattle.std.specs.Prelude.{◌≡◌, ℕ, ◌<◌, ◌^◌, Bool, true, false, List, ◌++◌, length, Option, None, Some, Result, Ok, Err}
+use Rattle.std.specs.Prelude.{◌≡◌, ℕ, ◌<◌, Bool, true, false, List, ◌++◌, length, Option, None, Some, Result, Ok, Err}
 use denote.Ref.{Bor}
-use Rattle.std.specs.List.{All}
-use Rattle.std.specs.Str.{IsUtf8}
-use Rattle.kr_base.specs.Pairs.{Pairs, IsSortedByKey, with_pair}
-use Rattle.kr_envelope.specs.declared.object.EncryptedObject.{EncryptedObject}
+use Rattle.kr_base.specs.Limits.{annotations_limit}
+use Rattle.kr_base.specs.Pairs.{Pairs, with_pair}
 use Rattle.kr_envelope.specs.declared.item.Item.{Item}
 use Rattle.kr_envelope.specs.declared.item.Item.TheVariants as lent
 use Rattle.kr_envelope.specs.declared.item.ItemNo.{ItemNo}
 use Rattle.kr_envelope.specs.declared.item.ItemNo.TheVariants as no
-use Rattle.kr_envelope.specs.declared.found.Found.{Found}
+use Rattle.kr_envelope.specs.declared.partial.PartialObject.{PartialObject}
 use Rattle.kr_envelope.specs.Wire.{Starts, Spells, Field, IsField}
 use Rattle.kr_envelope.specs.Messages as message
 use Rattle.kr_envelope.specs.Messages.{Means, IsItem, IsText, IsMessage, Raw, raw_of, last_bytes}
@@ -41,26 +39,26 @@ later before None = before
 later before (Some x) = x
 
 -- the object with one more item
-abbrev pub put : Raw → message.Item → Raw
-put raw (message.encrypted content) = record raw { encrypted = content }
-put raw (message.key_id content) = record raw { key_id = content }
-put raw (message.source content) = record raw { source = content }
-put raw (message.annotation key value) = record raw { annotations = with_pair raw.annotations key value }
-put raw (message.kind n) = record raw { kind = n }
-put raw message.other = raw
+abbrev pub merged : Raw → message.Item → Raw
+merged raw (message.encrypted content) = record raw { encrypted = content }
+merged raw (message.key_id content) = record raw { key_id = content }
+merged raw (message.source content) = record raw { source = content }
+merged raw (message.annotation key value) = record raw { annotations = with_pair raw.annotations key value }
+merged raw (message.kind n) = record raw { kind = n }
+merged raw message.other = raw
 
 -- the annotations are kept until there are too many, which they stay
 abbrev pub Keeps : Bool → Pairs → Pairs → Type 0
 Keeps false kept pairs = kept ≡ pairs
-Keeps true kept pairs = 256 < length pairs
+Keeps true kept pairs = annotations_limit < length pairs
 
--- what was found is the object so far
-pub record Sees (found : Found) (raw : Raw) : Type 0 where
-  pub encrypted : found.encrypted.now ≡ raw.encrypted
-  pub key_id : found.key_id.now ≡ raw.key_id
-  pub source : found.source.now ≡ raw.source
-  pub kind : found.kind ≡ raw.kind
-  pub annotations : Keeps found.crowded found.annotations raw.annotations
+-- what was merged is the object so far
+pub record Sees (partial : PartialObject) (raw : Raw) : Type 0 where
+  pub encrypted : partial.encrypted.now ≡ raw.encrypted
+  pub key_id : partial.key_id.now ≡ raw.key_id
+  pub source : partial.source.now ≡ raw.source
+  pub kind : partial.kind ≡ raw.kind
+  pub annotations : Keeps partial.crowded partial.annotations raw.annotations
 
 -- the fields of an entry so far
 pub record SeesEntry (text rest key value : List ℕ) : Type 0 where
@@ -72,16 +70,9 @@ pub record SeesEntry (text rest key value : List ℕ) : Type 0 where
   pub value_is : value ≡ last_bytes 2 fields
 
 -- the object of the items so far
-pub record Walks (text rest : List ℕ) (found : Found) : Type 0 where
+pub record Walks (text rest : List ℕ) (partial : PartialObject) : Type 0 where
   pub front : List ℕ
   pub items : List message.Item
   pub parts : text ≡ front ++ rest
   pub message : IsMessage front items
-  pub sees : Sees found (raw_of items)
-
--- what the types of an object's parts keep, and its values alone don't show
-pub record IsKept (object : EncryptedObject) : Type 0 where
-  pub fits : length object.encrypted < 2 ^ 64
-  pub key_id : IsUtf8 object.key_id
-  pub keys : All (λ pair. IsUtf8 pair.0) object.annotations
-  pub sorted : IsSortedByKey object.annotations
+  pub sees : Sees partial (raw_of items)

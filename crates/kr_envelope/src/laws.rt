@@ -1,7 +1,18 @@
-//! Laws of the definitions, for a reader and for callers' proofs. The function does nothing.
+//! Laws of the definitions, for a reader and for callers' proofs. The functions do nothing.
+ghost use Rattle.kr_envelope.specs.Canonical.{AreSized, ReadsBack};
 ghost use Rattle.kr_envelope.specs.Limits.{ReadsOneThing};
 
 /// Bytes are read as one object, or have one first breach.
 pub fn one_reading()
     ensures { ReadsOneThing }
+{}
+
+/// The canonical bytes of an object are read as the object, and as nothing else.
+pub fn round_trip()
+    ensures { ReadsBack }
+{}
+
+/// How long the canonical bytes of an object are, by how many its data are.
+pub fn canonical_length()
+    ensures { AreSized }
 {}
