@@ -15,8 +15,9 @@ use Rattle.kr_envelope.specs.declared.object.ObjectNo.TheVariants as object
 use Rattle.kr_envelope.proofs.OneReading.{one_reading}
 use Rattle.kr_envelope.proofs.Prefixing.{one_prefix, prefix_marked}
 use Rattle.kr_provider.specs.Envelopes.{unknown}
-use Rattle.kr_provider.specs.Reading.{Reading, data_of, refused, unopened, reads_by, is_stale}
+use Rattle.kr_provider.specs.Reading.{Reading, data_of, refused, unopened, value_reading, is_stale}
 use Rattle.kr_provider.specs.Readers.{writer_of}
+use Rattle.kr_provider.specs.declared.refusal.ValueNo.TheVariants.{LooksEncrypted}
 use Rattle.kr_top.specs.Command.{Command, encrypt, decrypt, check, inspect}
 use Rattle.kr_top.specs.Commands.{unless_refused, value_steps, sealing, reading_steps, working, steps}
 use Rattle.kr_top.specs.Configuration.{IsConfiguration, served}
@@ -93,13 +94,13 @@ one_inspection bytes a b (inr (inr h)) (inr (inr k)) = h.2 ∙ sym k.2
 -- the value alone depends on what was drawn
 alike_values : (long : Bool) (x y : List ℕ) (file : List ℕ → Option (Option (List ℕ))) (left now : Left) (p q : Point) → Goes file (λ at l. at ≡ p) (value_steps (if long then None else Some x)) left
     → Goes file (λ at l. at ≡ q) (value_steps (if long then None else Some y)) now → Alike p q
-alike_values true x y file left now p q e f = alike_at (refuses (Value 13)) (refuses (Value 13)) refl e f
+alike_values true x y file left now p q e f = alike_at (refuses (Value LooksEncrypted)) (refuses (Value LooksEncrypted)) refl e f
 alike_values false x y file left now p q e f = alike_at (gives x Silent) (gives y Silent) refl e f
 
 alike_none : (long : Bool) (file : List ℕ → Option (Option (List ℕ))) (left now : Left) (p q : Point) → Goes file (λ at l. at ≡ p) (value_steps (if long then None else None)) left
     → Goes file (λ at l. at ≡ q) (value_steps (if long then None else None)) now → Alike p q
-alike_none true file left now p q e f = alike_at (refuses (Value 13)) (refuses (Value 13)) refl e f
-alike_none false file left now p q e f = alike_at (refuses (Value 13)) (refuses (Value 13)) refl e f
+alike_none true file left now p q e f = alike_at (refuses (Value LooksEncrypted)) (refuses (Value LooksEncrypted)) refl e f
+alike_none false file left now p q e f = alike_at (refuses (Value LooksEncrypted)) (refuses (Value LooksEncrypted)) refl e f
 
 settled_value : (value : Option (List ℕ)) → IsSettled (value_steps value)
 settled_value (Some value) = tt
@@ -118,7 +119,7 @@ settled_reading unopened stale = (λ a b. absurd a, λ a. absurd a)
 
 settled_working : (direction : Direction) (resource path : List ℕ) (rows : List Row) (bytes : List ℕ) → IsSettled (working direction resource path rows bytes)
 settled_working Encrypt resource path rows bytes = settled_sealing (writer_of (list_of rows resource)) path bytes
-settled_working Decrypt resource path rows bytes = let list = list_of rows resource in settled_reading (reads_by unknown list path bytes) (is_stale unknown [] list bytes)
+settled_working Decrypt resource path rows bytes = let list = list_of rows resource in settled_reading (value_reading unknown list path bytes) (is_stale unknown [] list bytes)
 
 pub settled : (command : Command) → IsSettled (steps command)
 settled (encrypt config resource path) = λ file. (one_configuration config file, λ read. settled_rows (served read) _ (λ rows bytes. settled_working Encrypt resource path rows bytes))

@@ -13,5 +13,5 @@ returns-in-Ok-unseal-clause-made g c = unsealed_works (g.D.Dice.left) (g.D.Dice.
     c.in-Ok-unseal.is c.freshness.ensures c.requires.bare c.unseal.ensures.opened
 
 pub returns-in-Err-Refused-clause-made : goal.returns-in-Err-Refused-clause-made
-returns-in-Err-Refused-clause-made g c = refused_works (g.D.Dice.left) (g.D.Dice.count) c.args.resource.now c.args.path.now c.args.bytes.now _ _ c.args.bench.now.published c.args.direction c.unseal.result c.in-Err-Refused.field-0 c.in-Err-Refused.number c.in-Decrypt.is (ap (λ b. b.dice) c.unseal.ensures.kept)
+returns-in-Err-Refused-clause-made g c = refused_works (g.D.Dice.left) (g.D.Dice.count) c.args.resource.now c.args.path.now c.args.bytes.now _ _ c.args.bench.now.published c.args.direction c.unseal.result c.in-Err-Refused.field-0 c.in-Err-Refused.why c.in-Decrypt.is (ap (λ b. b.dice) c.unseal.ensures.kept)
     c.in-Err-Refused.is c.in-Err-Refused.field-0-is c.unseal.ensures.opened
