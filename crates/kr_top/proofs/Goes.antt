@@ -1,5 +1,5 @@
 -- Steps that went to a point, one lemma for each phase of a command.
-use Rattle.std.proofs.Common.{◌≡◌, ◌≢◌, ℕ, zero, suc, ◌+◌, ◌≤◌, List, length, Option, None, Some, Ok, Err, refl, sym, ◌∙◌, ap, subst, inl, inr, arith}
+use Rattle.std.proofs.Common.{◌≡◌, ◌≢◌, ℕ, ◌≤◌, List, length, Option, Ok, Err, refl, sym, ◌∙◌, subst, inl, inr, arith}
 use Rattle.std.specs.Prelude.{Result}
 use Rattle.std.specs.Io.KnownBytes.{Keeps, Appends}
 use Rattle.kr_base.specs.Faults.{Rose}
@@ -17,7 +17,7 @@ use Rattle.kr_top.specs.declared.refusal.Refusal.{Refusal}
 use Rattle.kr_top.specs.declared.refusal.Stop.{Stop}
 use Rattle.kr_top.specs.declared.refusal.Stop.TheVariants.{Words, Refused, Fault, NoMemory}
 use Rattle.kr_top.specs.declared.refusal.Done.{Done}
-use Rattle.kr_top.proofs.Worlds.{Keeps-refl, keeps_by, by_seat, files_trans}
+use Rattle.kr_top.proofs.Worlds.{Keeps-refl, keeps_by, by_seat}
 
 -- ---- all steps
 

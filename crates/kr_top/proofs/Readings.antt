@@ -1,14 +1,13 @@
 -- What readers take from the relation of a call.
-use Rattle.std.proofs.Common.{◌≡◌, ℕ, ◌+◌, ◌-◌, ◌^◌, ◌≤◌, ◌⊎◌, min, List, Bool, true, false, Option, Ok, Err, refl, sym, ◌∙◌, ap, subst, inl, inr, arith}
+use Rattle.std.proofs.Common.{◌≡◌, ℕ, ◌+◌, ◌-◌, ◌^◌, ◌≤◌, ◌⊎◌, min, List, Bool, true, false, Ok, Err, refl, sym, ◌∙◌, ap, subst, inl, inr, arith}
 use Rattle.std.specs.Prelude.{Result, ◌==◌, if◌then◌else◌}
 use Rattle.std.specs.Io.KnownBytes.{Keeps, Appends}
 use Rattle.kr_base.specs.Faults.{Rose}
-use Rattle.kr_base.specs.Streams.{AppendsFront}
 use Rattle.kr_top.specs.Command.{Command, encrypt, decrypt, check, inspect, is_built, Asks, AskNothing, AskReplicas, AskSize, AskBadly}
 use Rattle.kr_top.specs.Commands.{steps}
 use Rattle.kr_top.specs.Message.{status_of, status_of_words, status_of_done, status_of_refusal, line_of}
-use Rattle.kr_top.specs.Steps.{Call, loading, reading, opening, drawing, writing, object_of, Point, awaits, amid, refuses, gives, Goes}
-use Rattle.kr_top.specs.Ran.{Around, Sunk, Stays, left_of, Did, IsHome, Ends, IsFault, Stops, Answers, Tells, Comes, IsUntouched, faults_at, count_at, IsCut, IsUsage, IsCaused, IsRefused, IsDone}
+use Rattle.kr_top.specs.Steps.{Call, loading, reading, opening, drawing, writing, object_of, Point, awaits, amid, refuses, gives}
+use Rattle.kr_top.specs.Ran.{Around, Sunk, Stays, left_of, Did, IsHome, Ends, Stops, Answers, Tells, Comes, IsUntouched, faults_at, count_at, IsCut, IsUsage, IsCaused, IsRefused, IsDone}
 use Rattle.kr_top.specs.declared.refusal.Object.{Object}
 use Rattle.kr_top.specs.declared.refusal.BadWords.{BadWords}
 use Rattle.kr_top.specs.declared.refusal.BadWords.TheVariants.{Usage, Replicas, Size}
@@ -23,13 +22,13 @@ use Rattle.kr_top.proofs.Goes.{reached}
 -- ---- the point that a command came to
 
 -- the words ask for a command that came to a point, and there it ended so
-record Came (words : List (List ℕ)) (old new : Around) (result : Result Done Stop) : Type 0 where
-  point : Point
-  comes : Comes words old new point
-  ends : Ends point old new result
-  home : IsHome old new
+pub record Came (words : List (List ℕ)) (old new : Around) (result : Result Done Stop) : Type 0 where
+  pub point : Point
+  pub comes : Comes words old new point
+  pub ends : Ends point old new result
+  pub home : IsHome old new
 
-came : {words : List (List ℕ)} {old new : Around} {result : Result Done Stop} → (command : Command) × Asks words command × Did command old new result → Came words old new result
+pub came : {words : List (List ℕ)} {old new : Around} {result : Result Done Stop} → (command : Command) × Asks words command × Did command old new result → Came words old new result
 came {words} {old} {new} {result} (command, asks, did) =
     let r = reached old.world.file (λ left. Stays left new) (λ point. Ends point old new result) (steps command) (left_of old) did.ended.goes in
     record { point = r.0; comes = record { command = command; asks = asks; goes = r.2 }; ends = r.1; home = did.home }
@@ -62,7 +61,7 @@ object_rose (drawing seat) h r = r
 object_rose writing h r = r
 
 -- words stop no step
-no_words_at : (old new : Around) (why : BadWords) (point : Point) → Ends point old new (Err (Words why)) → ⊥
+pub no_words_at : (old new : Around) (why : BadWords) (point : Point) → Ends point old new (Err (Words why)) → ⊥
 no_words_at old new why (awaits call) e = e
 no_words_at old new why amid e = e
 no_words_at old new why (refuses r) e = e
@@ -115,7 +114,7 @@ usage_means (Err (Refused why)) a e = absurd (not_refused why 2 (sym e) (inr (in
 usage_means (Err (Fault object count)) a e = absurd (omega arith)
 usage_means (Err NoMemory) a e = absurd (omega arith)
 
-asks_something : (words : List (List ℕ)) (command : Command) → Asks words command → AskNothing words → ⊥
+pub asks_something : (words : List (List ℕ)) (command : Command) → Asks words command → AskNothing words → ⊥
 asks_something words (encrypt config resource path) asks none = none asks.verb asks.options asks.means (ap is_built asks.is.0)
 asks_something words (decrypt config resource path) asks none = none asks.verb asks.options asks.means (ap is_built asks.is.0)
 asks_something words inspect asks none = none asks.verb asks.options asks.means (ap is_built asks.is)

@@ -1,5 +1,5 @@
 -- The point that the steps of a bench come to, by what it made of the bytes.
-use Rattle.std.proofs.Common.{◌≡◌, ◌≢◌, ℕ, ◌≤◌, ◌==◌, List, [], ◌∷◌, length, Bool, true, false, Option, None, Some, Ok, Err, refl, sym, ◌∙◌, ap, subst, inl, inr, arith}
+use Rattle.std.proofs.Common.{◌≡◌, ◌≢◌, ℕ, ◌==◌, List, [], ◌∷◌, length, Bool, true, false, Option, None, Some, Ok, Err, refl, sym, ◌∙◌, ap, subst, inl, inr, arith}
 use Rattle.std.specs.Prelude.{Result, IsSome, IfSome, nat_lt, if◌then◌else◌}
 use Rattle.std.specs.Io.KnownBytes.{Consumes, Keeps}
 use Rattle.std.proofs.lemmas.Bool.Decides.{Decides-eqb}
@@ -15,8 +15,10 @@ use Rattle.kr_provider.specs.declared.refusal.SealNo.{SealNo}
 use Rattle.kr_provider.specs.declared.refusal.SealNo.TheVariants as seal
 use Rattle.kr_provider.specs.declared.refusal.UnsealNo.{UnsealNo}
 use Rattle.kr_provider.specs.declared.refusal.UnsealNo.TheVariants as unseal
+use Rattle.kr_provider.specs.declared.refusal.ValueNo.{ValueNo}
+use Rattle.kr_provider.specs.declared.refusal.ValueNo.TheVariants.{LooksEncrypted}
 use Rattle.kr_top.specs.Commands.{value_steps, sealing, freshness, reading_steps, working}
-use Rattle.kr_top.specs.Steps.{Steps, draw, give, refuse, Goes, Left, with_dice, Point, awaits, drawing, refuses, gives}
+use Rattle.kr_top.specs.Steps.{Steps, draw, give, refuse, Goes, Left, with_dice, awaits, drawing, refuses, gives}
 use Rattle.kr_top.specs.inner.Phases.{DrawsTo, Reaches, Works}
 use Rattle.kr_top.specs.declared.convert.Direction.{Direction}
 use Rattle.kr_top.specs.declared.convert.Direction.TheVariants.{Encrypt, Decrypt}
@@ -95,9 +97,9 @@ none_marked true marked plain m = refl
 none_marked false true plain m = refl
 none_marked false false plain m = absurd (cc)
 
-looks_encrypted : {old new : Option (List ℕ)} (path plain : List ℕ) → is_marked plain ≡ true → Keeps old new → Reaches (sealing Identity path plain) old new (refuses (Value 13))
+looks_encrypted : {old new : Option (List ℕ)} (path plain : List ℕ) → is_marked plain ≡ true → Keeps old new → Reaches (sealing Identity path plain) old new (refuses (Value LooksEncrypted))
 looks_encrypted {old} {new} path plain m k =
-    subst (λ r. Reaches (value_steps r) old new (refuses (Value 13))) (sym (none_marked (nat_lt 2097152 (length plain)) (is_marked plain) plain m)) (refuses_now (Value 13) k)
+    subst (λ r. Reaches (value_steps r) old new (refuses (Value LooksEncrypted))) (sym (none_marked (nat_lt 2097152 (length plain)) (is_marked plain) plain m)) (refuses_now (Value LooksEncrypted) k)
 
 module _ {D : Type 0} (left : D → Option (List ℕ)) (count : D → ℕ) (resource path bytes : List ℕ) (old new : D) where
   -- what a bench made, of a publication
@@ -116,10 +118,10 @@ module _ {D : Type 0} (left : D → Option (List ℕ)) (count : D → ℕ) (reso
   sealed_works (Some p) direction value e bare s = subst (λ d. MakesAt (Some p) d (Ok (record { bytes = value; done = Silent }))) (sym e)
       (seals (writer_at p resource) path bytes s.0 value s.1.0 (ap (λ seeds. sealed_by seeds (writer_at p resource) path bytes s.0) (sym bare) ∙ s.2) s.3)
 
-  pub marked_works : (published : Option Publication) (direction : Direction) → direction ≡ Encrypt → SealedAt published (Err seal.LooksEncrypted) → MakesAt published direction (Err (work.Refused (Value 13)))
+  pub marked_works : (published : Option Publication) (direction : Direction) → direction ≡ Encrypt → SealedAt published (Err seal.LooksEncrypted) → MakesAt published direction (Err (work.Refused (Value LooksEncrypted)))
   marked_works None direction e s = tt
-  marked_works (Some p) direction e s = subst (λ d. MakesAt (Some p) d (Err (work.Refused (Value 13)))) (sym e)
-      (subst (λ who. Reaches (sealing who path bytes) (left old) (left new) (refuses (Value 13))) (sym s.1) (looks_encrypted path bytes s.2 (kept s.3)))
+  marked_works (Some p) direction e s = subst (λ d. MakesAt (Some p) d (Err (work.Refused (Value LooksEncrypted)))) (sym e)
+      (subst (λ who. Reaches (sealing who path bytes) (left old) (left new) (refuses (Value LooksEncrypted))) (sym s.1) (looks_encrypted path bytes s.2 (kept s.3)))
 
   pub failed_works : (published : Option Publication) (direction : Direction) → direction ≡ Encrypt → SealedAt published (Err seal.DiceFailed) → MakesAt published direction (Err work.DiceFailed)
   failed_works None direction e s = tt
@@ -141,7 +143,7 @@ module _ {D : Type 0} (left : D → Option (List ℕ)) (count : D → ℕ) (reso
       (subst (λ reading. Reaches (reading_steps reading (is_stale unknown [] list bytes)) (left old) (left new) (gives opened.plain done)) (sym h.0)
       (subst (λ q. Reaches (give opened.plain q) (left old) (left new) (gives opened.plain done)) (sym done_is) (gives_now opened.plain done (kept same))))
 
-  pub refused_works : (published : Option Publication) (direction : Direction) (result : Result Opened UnsealNo) (why : UnsealNo) (number : ℕ) → direction ≡ Decrypt → new ≡ old → result ≡ Err why → why ≡ unseal.Refused number
+  pub refused_works : (published : Option Publication) (direction : Direction) (result : Result Opened UnsealNo) (why : UnsealNo) (number : ValueNo) → direction ≡ Decrypt → new ≡ old → result ≡ Err why → why ≡ unseal.Refused number
       → UnsealedAt published result → MakesAt published direction (Err (work.Refused (Value number)))
   refused_works None direction result why number e same r n u = tt
   refused_works (Some p) direction result why number e same r n u =

@@ -1,13 +1,14 @@
 -- The steps of each command.
-use Rattle.std.specs.Prelude.{ℕ, Bool, List, [], ◌∷◌, Option, Some, None, Result, Ok, Err, ⊤, if◌then◌else◌}
+use Rattle.std.specs.Prelude.{ℕ, Bool, List, [], Option, Some, None, Result, Ok, Err, ⊤, if◌then◌else◌}
 use Rattle.kr_config.specs.Kept.{Row}
 use Rattle.kr_config.specs.Lists.{list_of}
 use Rattle.kr_config.specs.declared.who.Who.{Who}
 use Rattle.kr_config.specs.declared.who.Who.TheVariants.{Identity, Aescbc, Aesgcm, Kms}
 use Rattle.kr_provider.specs.Envelopes.{unknown}
-use Rattle.kr_provider.specs.Reading.{Reading, data_of, refused, unopened, reads_by, is_stale}
+use Rattle.kr_provider.specs.Reading.{Reading, data_of, refused, unopened, value_reading, is_stale}
 use Rattle.kr_provider.specs.Readers.{writer_of}
 use Rattle.kr_provider.specs.Sealing.{sealed_by}
+use Rattle.kr_provider.specs.declared.refusal.ValueNo.TheVariants.{LooksEncrypted}
 use Rattle.kr_top.specs.Check.{listing}
 use Rattle.kr_top.specs.Command.{Command, encrypt, decrypt, check, inspect}
 use Rattle.kr_top.specs.Configuration.{IsConfiguration, served}
@@ -52,7 +53,7 @@ drawing_for (Kms name) next = draw 0 44 next
 -- identity gives no value for data that look like another provider's: refusal 13
 abbrev pub value_steps : Option (List ℕ) → Steps
 value_steps (Some value) = give value Silent
-value_steps None = refuse (Value 13)
+value_steps None = refuse (Value LooksEncrypted)
 
 abbrev pub sealing : Who → (path plain : List ℕ) → Steps
 sealing who path plain = drawing_for who (λ drawn. value_steps (sealed_by [] who path plain drawn))
@@ -65,11 +66,11 @@ freshness stale = if stale then Stale else Fresh
 -- without a plugin no value stays unopened
 abbrev pub reading_steps : Reading → Bool → Steps
 reading_steps (data_of plain) stale = give plain (freshness stale)
-reading_steps (refused number) stale = refuse (Value number)
+reading_steps (refused why) stale = refuse (Value why)
 reading_steps unopened stale = never
 
 abbrev pub unsealing : List Who → (path bytes : List ℕ) → Steps
-unsealing list path bytes = reading_steps (reads_by unknown list path bytes) (is_stale unknown [] list bytes)
+unsealing list path bytes = reading_steps (value_reading unknown list path bytes) (is_stale unknown [] list bytes)
 
 -- ---- both of these go one way
 

@@ -1,5 +1,5 @@
 -- What a stored value says of itself.
-use Rattle.std.specs.Prelude.{◌≡◌, ◌⊎◌, ℕ, List, [], ◌∷◌, ◌++◌, length, codes, decimal, map, Result, Ok, Err}
+use Rattle.std.specs.Prelude.{◌≡◌, ◌⊎◌, ℕ, List, ◌++◌, length, codes, decimal, map, Result, Ok, Err}
 use Rattle.std.specs.List.{concat}
 use Rattle.kr_base.specs.Rules.{IsName}
 use Rattle.kr_envelope.specs.Prefixes.{mark, prefix, Begins}
@@ -9,6 +9,7 @@ use Rattle.kr_envelope.specs.declared.prefix.Kind.TheVariants.{Aescbc, Aesgcm, K
 use Rattle.kr_envelope.specs.declared.object.EncryptedObject.{EncryptedObject}
 use Rattle.kr_envelope.specs.declared.object.ObjectNo.{ObjectNo}
 use Rattle.kr_envelope.specs.declared.object.ObjectNo.TheVariants.{Wire, KeyId, Source, Annotations, SourceType, NoData, NotUtf8, NoMemory}
+use Rattle.kr_provider.specs.declared.refusal.ValueNo.TheVariants as value
 use Rattle.kr_top.specs.Configuration.{printed}
 use Rattle.kr_top.specs.declared.refusal.Refusal.{Refusal}
 use Rattle.kr_top.specs.declared.refusal.Refusal.TheVariants.{Value, Placed}
@@ -38,13 +39,13 @@ object_lines object = line (codes "key-id " ++ printed object.key_id) ++ (line (
 
 -- why bytes are no object; a breach of the wire format and of UTF-8 has its place
 abbrev pub IsObjectRefusal : ObjectNo → Refusal → Type 0
-IsObjectRefusal (Wire at) why = why ≡ Placed 5 at
-IsObjectRefusal KeyId why = why ≡ Value 6
-IsObjectRefusal Source why = why ≡ Value 7
-IsObjectRefusal Annotations why = why ≡ Value 8
-IsObjectRefusal SourceType why = why ≡ Value 9
-IsObjectRefusal NoData why = why ≡ Value 10
-IsObjectRefusal (NotUtf8 at) why = why ≡ Placed 11 at
+IsObjectRefusal (Wire at) why = why ≡ Placed value.Wire at
+IsObjectRefusal KeyId why = why ≡ Value value.KeyId
+IsObjectRefusal Source why = why ≡ Value value.Source
+IsObjectRefusal Annotations why = why ≡ Value value.Annotations
+IsObjectRefusal SourceType why = why ≡ Value value.SourceType
+IsObjectRefusal NoData why = why ≡ Value value.NoData
+IsObjectRefusal (NotUtf8 at) why = why ≡ Placed value.NotUtf8 at
 IsObjectRefusal NoMemory why = ⊥
 
 abbrev pub ShowsObject : (name body : List ℕ) → Result EncryptedObject ObjectNo → Result (List ℕ) Refusal → Type 0
@@ -66,4 +67,4 @@ Inspects bytes shown =
     ⊎ ((kind : Kind) × (name : List ℕ) × (body : List ℕ) × IsName name × (bytes ≡ prefix kind name ++ body)
     × ShowsBody kind name body shown)
     ⊎ (Begins mark bytes × ((kind : Kind) (name : List ℕ) → IsName name → Begins (prefix kind name) bytes → ⊥)
-    × (shown ≡ Err (Value 12)))
+    × (shown ≡ Err (Value value.NoProvider)))

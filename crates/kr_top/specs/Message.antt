@@ -1,6 +1,7 @@
 -- What a command says at its end: its status, and its line on the errors sink.
-use Rattle.std.specs.Prelude.{ℕ, ◌==◌, List, [], ◌∷◌, ◌++◌, codes, decimal, Result, Ok, Err, if◌then◌else◌}
+use Rattle.std.specs.Prelude.{ℕ, ◌==◌, List, [], ◌++◌, codes, decimal, Result, Ok, Err, if◌then◌else◌}
 use Rattle.kr_config.specs.declared.refusal.ConfigNo.{ConfigNo}
+use Rattle.kr_provider.specs.Refusals.{number_of, name_of}
 use Rattle.kr_top.specs.declared.refusal.Object.{Object}
 use Rattle.kr_top.specs.declared.refusal.Object.TheVariants.{Input, Output, Files, Dice}
 use Rattle.kr_top.specs.declared.refusal.Refusal.{Refusal}
@@ -31,8 +32,8 @@ status_of_refusal (Configuration why) = if why.code == 39 then 6 else 3
 status_of_refusal NotServed = 3
 status_of_refusal LongData = 6
 status_of_refusal LongValue = 6
-status_of_refusal (Value number) = 1
-status_of_refusal (Placed number at) = 1
+status_of_refusal (Value why) = 1
+status_of_refusal (Placed why at) = 1
 
 abbrev pub status_of : Result Done Stop → ℕ
 status_of (Ok done) = status_of_done done
@@ -50,13 +51,6 @@ configuration_line why = if why.code == 39
     then codes "kmsrest: limit " ++ (counted_text why.first ++ (codes " " ++ (decimal why.second ++ codes "\n")))
     else codes "kmsrest: text " ++ (decimal why.code ++ (codes " " ++ (decimal why.first ++ (codes " " ++ (decimal why.second ++ codes "\n")))))
 
--- the names of the refusals of a value
-abbrev pub value_text : ℕ → List ℕ
-value_text number = if number == 1 then codes "Short" else if number == 2 then codes "BadBlock" else if number == 3 then codes "BadPadding" else if number == 4 then codes "BadTag"
-    else if number == 5 then codes "Wire" else if number == 6 then codes "KeyId" else if number == 7 then codes "Source" else if number == 8 then codes "Annotations"
-    else if number == 9 then codes "SourceType" else if number == 10 then codes "NoData" else if number == 11 then codes "NotUtf8" else if number == 12 then codes "NoProvider"
-    else if number == 13 then codes "LooksEncrypted" else if number == 14 then codes "TooLarge" else codes "SeedLength"
-
 abbrev pub words_line : BadWords → List ℕ
 words_line Usage = codes "kmsrest: usage: kmsrest COMMAND OPTIONS\n"
 words_line Replicas = codes "kmsrest: limit replicas 16\n"
@@ -69,8 +63,9 @@ refusal_line (Configuration why) = configuration_line why
 refusal_line NotServed = codes "kmsrest: text 50 0 0\n"
 refusal_line LongData = codes "kmsrest: limit data 2097152\n"
 refusal_line LongValue = codes "kmsrest: limit value 2162688\n"
-refusal_line (Value number) = codes "kmsrest: refused " ++ (decimal number ++ (codes " " ++ (value_text number ++ codes "\n")))
-refusal_line (Placed number at) = codes "kmsrest: refused " ++ (decimal number ++ (codes " " ++ (value_text number ++ (codes " " ++ (decimal at ++ codes "\n")))))
+refusal_line (Value why) = codes "kmsrest: refused " ++ (decimal (number_of why) ++ (codes " " ++ (name_of why ++ codes "\n")))
+refusal_line (Placed why at) =
+    codes "kmsrest: refused " ++ (decimal (number_of why) ++ (codes " " ++ (name_of why ++ (codes " " ++ (decimal at ++ codes "\n")))))
 
 abbrev pub object_text : Object → List ℕ
 object_text Input = codes "input"

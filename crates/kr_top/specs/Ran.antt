@@ -1,13 +1,13 @@
 -- What a call of `run` did: one relation for all commands.
-use Rattle.std.specs.Prelude.{◌≡◌, ℕ, ◌≤◌, ◌⊎◌, List, Option, Result, Ok, Err, ⊤}
+use Rattle.std.specs.Prelude.{◌≡◌, ℕ, ◌≤◌, ◌⊎◌, List, Option, None, Some, IsSome, Result, Ok, Err, ⊤}
 use Rattle.std.specs.Io.KnownBytes.{Keeps, Appends}
 use Rattle.kr_base.specs.Faults.{Rose}
 use Rattle.kr_base.specs.Streams.{AppendsFront}
 use Rattle.kr_kms.specs.Outside.{Outside, KeepsFiles, KeepsDice, file_faults}
 use Rattle.kr_top.specs.Command.{Command, Asks, AskNothing, AskReplicas, AskSize, AskBadly}
 use Rattle.kr_top.specs.Commands.{steps}
-use Rattle.kr_top.specs.Message.{status_of, status_of_refusal, line_of, done_line}
-use Rattle.kr_top.specs.Steps.{Steps, Call, loading, reading, opening, drawing, writing, object_of, Point, awaits, amid, refuses, gives, Left, Goes}
+use Rattle.kr_top.specs.Message.{status_of, status_of_done, status_of_refusal, line_of, done_line}
+use Rattle.kr_top.specs.Steps.{Steps, Call, loading, reading, opening, drawing, writing, object_of, Point, awaits, refuses, gives, Left, Goes}
 use Rattle.kr_top.specs.declared.refusal.Object.{Object}
 use Rattle.kr_top.specs.declared.refusal.Object.TheVariants.{Input, Output, Files, Dice}
 use Rattle.kr_top.specs.declared.refusal.Refusal.{Refusal}
@@ -180,6 +180,28 @@ IsRefused words old new status =
     (status ≡ 1) ⊎ (status ≡ 3) ⊎ (status ≡ 6)
     → ((why : Refusal) × Comes words old new (refuses why) × (status_of_refusal why ≡ status) × Keeps old.output new.output)
     ⊎ ((status ≡ 6) × (AskReplicas words ⊎ AskSize words) × IsUntouched old new)
+
+-- the files and the input are told
+pub record IsTelling (old : Around) : Type 0 where
+  pub files : (name : List ℕ) → IsSome (old.world.file name)
+  pub input : IsSome old.input
+
+-- the steps of a command over the told files and input, and some drawn bytes, come to this point
+abbrev pub WouldCome : Command → Around → Point → Type 0
+WouldCome command old point = Goes old.world.file (λ at left. at ≡ point) (steps command) (left_of old)
+
+-- the status at the last step of a command
+abbrev pub status_at : Point → Option ℕ
+status_at (refuses why) = Some (status_of_refusal why)
+status_at (gives value done) = Some (status_of_done done)
+status_at point = None
+
+-- where the files and the input are told, the last step that the command comes to decides the status; only a fault, 4, and
+-- want of memory, 5, stand in its place. So 1, 3 and 6 come exactly where that step refuses so
+abbrev pub IsDecided : List (List ℕ) → Around → ℕ → Type 0
+IsDecided words old status =
+    (command : Command) (point : Point) (decided : ℕ) → Asks words command → IsTelling old → WouldCome command old point
+    → status_at point ≡ Some decided → (status ≡ decided) ⊎ (status ≡ 4) ⊎ (status ≡ 5)
 
 -- status 0 comes only where the steps give a value, and then just that was written, and its line
 abbrev pub IsDone : List (List ℕ) → Around → Around → Sunk → ℕ → Type 0

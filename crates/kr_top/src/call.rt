@@ -5,7 +5,7 @@ ghost use Rattle.kr_words.specs.Grammar.{texts};
 ghost use Rattle.kr_words.specs.Options.{value_of};
 ghost use Rattle.kr_words.specs.Rules.{IsCommand};
 ghost use Rattle.kr_top.specs.Command.{Command, check, IsOf, IsOfObject};
-ghost use Rattle.kr_top.specs.Ran.{around, sunk, Ran, Answers, IsUsage, IsCaused, IsRefused, IsDone};
+ghost use Rattle.kr_top.specs.Ran.{around, sunk, Ran, Answers, IsUsage, IsCaused, IsRefused, IsDecided, IsDone};
 
 use crate::check::{CheckWords, check};
 use crate::convert::{Direction, ObjectWords, convert};
@@ -46,6 +46,9 @@ pub fn run<W: World, I: Source, O: Sink, E: Sink>(
     ensures refused { IsRefused (texts words.now)
         (around (W.told world.old) (I.left input.old) (I.count input.old) (O.held output.old) (O.count output.old))
         (around (W.told world.new) (I.left input.new) (I.count input.new) (O.held output.new) (O.count output.new))
+        result }
+    ensures decided { IsDecided (texts words.now)
+        (around (W.told world.old) (I.left input.old) (I.count input.old) (O.held output.old) (O.count output.old))
         result }
     ensures done { IsDone (texts words.now)
         (around (W.told world.old) (I.left input.old) (I.count input.old) (O.held output.old) (O.count output.old))

@@ -13,13 +13,11 @@ use crate::refusal::{Done, Refusal, Stop};
 use crate::text::{add, add_number, add_pair, add_printed};
 use kr_base::{Bytes, NoMemory, Sink, Source, Text};
 use kr_envelope::{EncryptedObject, Kind, ObjectNo, SourceKind, Tagged, split};
+use kr_provider::ValueNo;
 use std::alloc::Global;
 
 /// The most bytes of a stored value.
 const VALUE_LIMIT: u64 = 2_162_688;
-
-/// The number of the refusal of a value whose prefix no provider writes.
-const NO_PROVIDER: u8 = 12;
 
 /// Shows on the output what the input, a stored value, says of itself.
 pub fn inspect<I: Source, O: Sink>(
@@ -59,7 +57,7 @@ fn inspected(alloc: Global, bytes: &[u8]) -> Result<Bytes, Stop>
             }
         }
         Tagged::Known { kind, name, body } => known_lines(alloc, kind, name, body),
-        Tagged::Strange => Err(Stop::Refused(Refusal::Value(NO_PROVIDER))),
+        Tagged::Strange => Err(Stop::Refused(Refusal::Value(ValueNo::NoProvider))),
     }
 }
 
@@ -95,13 +93,13 @@ fn object_refusal(why: ObjectNo) -> Refusal
     ensures { IsObjectRefusal why result }
 {
     match why {
-        ObjectNo::Wire { at } => Refusal::Placed(5, at),
-        ObjectNo::KeyId => Refusal::Value(6),
-        ObjectNo::Source => Refusal::Value(7),
-        ObjectNo::Annotations => Refusal::Value(8),
-        ObjectNo::SourceType => Refusal::Value(9),
-        ObjectNo::NoData => Refusal::Value(10),
-        ObjectNo::NotUtf8 { at } => Refusal::Placed(11, at),
+        ObjectNo::Wire { at } => Refusal::Placed(ValueNo::Wire, at),
+        ObjectNo::KeyId => Refusal::Value(ValueNo::KeyId),
+        ObjectNo::Source => Refusal::Value(ValueNo::Source),
+        ObjectNo::Annotations => Refusal::Value(ValueNo::Annotations),
+        ObjectNo::SourceType => Refusal::Value(ValueNo::SourceType),
+        ObjectNo::NoData => Refusal::Value(ValueNo::NoData),
+        ObjectNo::NotUtf8 { at } => Refusal::Placed(ValueNo::NotUtf8, at),
         ObjectNo::NoMemory => unreachable!(),
     }
 }

@@ -3,7 +3,7 @@ ghost use Rattle.std.specs.Prelude.{◌≡◌, ◌≤◌, ◌++◌, OnOk, OnErr,
 ghost use Rattle.std.specs.Io.KnownBytes.{Appends};
 ghost use Rattle.kr_base.specs.Faults.{IsCounted};
 ghost use Rattle.kr_base.specs.Streams.{AppendsFront};
-ghost use Rattle.kr_top.specs.Message.{status_of, status_of_words, status_of_refusal, status_of_done, words_line, refusal_line, value_text, done_line, counted_text, configuration_line, object_text, fault_line, line_of};
+ghost use Rattle.kr_top.specs.Message.{status_of, status_of_words, status_of_refusal, status_of_done, words_line, refusal_line, done_line, counted_text, configuration_line, object_text, fault_line, line_of};
 ghost use Rattle.kr_top.specs.Ran.{sunk, Tells};
 ghost use Rattle.kr_top.specs.inner.Phases.{joined};
 
@@ -11,6 +11,7 @@ use crate::refusal::{BadWords, Done, Object, Refusal, Stop};
 use itoa::Buffer;
 use kr_base::{Failed, Sink, write_all};
 use kr_config::ConfigNo;
+use kr_provider::ValueNo;
 
 /// The number of the limit of a configuration among its codes.
 const LIMIT_PASSED: u8 = 39;
@@ -101,8 +102,8 @@ fn write_refusal<E: Sink>(errors: &mut E, why: &Refusal) -> Result<(), Failed>
         Refusal::NotServed => write_all(errors, b"kmsrest: text 50 0 0\n"),
         Refusal::LongData => write_all(errors, b"kmsrest: limit data 2097152\n"),
         Refusal::LongValue => write_all(errors, b"kmsrest: limit value 2162688\n"),
-        Refusal::Value(number) => write_value(errors, *number),
-        Refusal::Placed(number, at) => write_placed(errors, *number, *at),
+        Refusal::Value(why) => write_value(errors, *why),
+        Refusal::Placed(why, at) => write_placed(errors, *why, *at),
     }
 }
 
@@ -127,27 +128,27 @@ fn done_line(done: Done) -> &'static str
 }
 
 /// Writes the line of a refused value.
-fn write_value<E: Sink>(errors: &mut E, number: u8) -> Result<(), Failed>
-    ensures ok { OnOk result (Appends (E.held errors.old) (E.held errors.new) (refusal_line (Refusal.Value number))) }
-    ensures err { OnErr result (AppendsFront (E.held errors.old) (E.held errors.new) (refusal_line (Refusal.Value number))) }
+fn write_value<E: Sink>(errors: &mut E, why: ValueNo) -> Result<(), Failed>
+    ensures ok { OnOk result (Appends (E.held errors.old) (E.held errors.new) (refusal_line (Refusal.Value why))) }
+    ensures err { OnErr result (AppendsFront (E.held errors.old) (E.held errors.new) (refusal_line (Refusal.Value why))) }
     ensures cause { IsCounted (E.count errors.old) (E.count errors.new) result }
 {
     let mut buffer = Buffer::new();
-    let digits = buffer.format(number);
+    let digits = buffer.format(why.number());
     write_each(
         errors,
-        &["kmsrest: refused ", digits, " ", value_text(number), "\n"],
+        &["kmsrest: refused ", digits, " ", why.name(), "\n"],
     )
 }
 
 /// Writes the line of a refused value with its place.
-fn write_placed<E: Sink>(errors: &mut E, number: u8, at: u64) -> Result<(), Failed>
-    ensures ok { OnOk result (Appends (E.held errors.old) (E.held errors.new) (refusal_line (Refusal.Placed number at))) }
-    ensures err { OnErr result (AppendsFront (E.held errors.old) (E.held errors.new) (refusal_line (Refusal.Placed number at))) }
+fn write_placed<E: Sink>(errors: &mut E, why: ValueNo, at: u64) -> Result<(), Failed>
+    ensures ok { OnOk result (Appends (E.held errors.old) (E.held errors.new) (refusal_line (Refusal.Placed why at))) }
+    ensures err { OnErr result (AppendsFront (E.held errors.old) (E.held errors.new) (refusal_line (Refusal.Placed why at))) }
     ensures cause { IsCounted (E.count errors.old) (E.count errors.new) result }
 {
     let mut buffer = Buffer::new();
-    let digits = buffer.format(number);
+    let digits = buffer.format(why.number());
     let mut place_buffer = Buffer::new();
     let place = place_buffer.format(at);
     write_each(
@@ -156,35 +157,12 @@ fn write_placed<E: Sink>(errors: &mut E, number: u8, at: u64) -> Result<(), Fail
             "kmsrest: refused ",
             digits,
             " ",
-            value_text(number),
+            why.name(),
             " ",
             place,
             "\n",
         ],
     )
-}
-
-/// The name of a refusal of a value.
-fn value_text(number: u8) -> &'static str
-    ensures { result.now ≡ value_text number }
-{
-    match number {
-        1 => "Short",
-        2 => "BadBlock",
-        3 => "BadPadding",
-        4 => "BadTag",
-        5 => "Wire",
-        6 => "KeyId",
-        7 => "Source",
-        8 => "Annotations",
-        9 => "SourceType",
-        10 => "NoData",
-        11 => "NotUtf8",
-        12 => "NoProvider",
-        13 => "LooksEncrypted",
-        14 => "TooLarge",
-        _ => "SeedLength",
-    }
 }
 
 /// Writes the line of a configuration's breach.

@@ -2,6 +2,7 @@
 
 use kr_base::Text;
 use kr_config::ConfigNo;
+use kr_provider::ValueNo;
 
 /// An object of the outside, as a fault's line names it.
 #[derive(Clone, Copy, Debug, PartialEq, Eq)]
@@ -42,10 +43,10 @@ pub enum Refusal {
     LongData,
     /// The input has more bytes than a stored value may have.
     LongValue,
-    /// The data can't be sealed or the value can't be read; its number is that of the refusal, 1 to 15.
-    Value(u8),
+    /// The data can't be sealed or the value can't be read.
+    Value(ValueNo),
     /// The same of a value that is inspected, with the place of the breach in its body.
-    Placed(u8, u64),
+    Placed(ValueNo, u64),
 }
 
 /// Why a command wasn't done.

@@ -7,19 +7,16 @@ ghost use Rattle.kr_top.specs.inner.Phases.{Works, Makes};
 
 use crate::convert::Direction;
 use crate::refusal::{Done, Object, Refusal, Stop};
-use kr_base::{Bytes, Dice};
+use kr_base::{Bytes, Dice, Shared};
 use kr_config::Settings;
 use kr_kms::Kms;
-use kr_provider::{Bench, Links, Opened, SealNo, Shared, UnsealNo, publish};
+use kr_provider::{Bench, Links, Opened, SealNo, UnsealNo, ValueNo, publish};
 use std::alloc::Global;
 
 /// How many keys a bench holds expanded, and how many unwrapped seeds.
 const PAGES: u32 = 64;
 
 const CACHE: u32 = 64;
-
-/// The number of the refusal of data that look encrypted.
-const LOOKS_ENCRYPTED: u8 = 13;
 
 /// What is written, and what is said beside it.
 #[derive(Debug, Drop)]
@@ -116,7 +113,9 @@ fn work<L: Kms, D: Dice>(
                 bytes,
                 done: Done::Silent,
             }),
-            Err(SealNo::LooksEncrypted) => Err(WorkNo::Refused(Refusal::Value(LOOKS_ENCRYPTED))),
+            Err(SealNo::LooksEncrypted) => Err(WorkNo::Refused(Refusal::Value(
+                ValueNo::LooksEncrypted,
+            ))),
             Err(SealNo::TooLarge { length: _length }) => unreachable!(),
             Err(SealNo::DiceFailed) => Err(WorkNo::DiceFailed),
             Err(SealNo::NoMemory) => Err(WorkNo::NoMemory),
@@ -126,7 +125,7 @@ fn work<L: Kms, D: Dice>(
                 bytes: plain,
                 done: freshness(stale),
             }),
-            Err(UnsealNo::Refused(number)) => Err(WorkNo::Refused(Refusal::Value(number))),
+            Err(UnsealNo::Refused(why)) => Err(WorkNo::Refused(Refusal::Value(why))),
             Err(UnsealNo::PluginFailed { name: _name }) => unreachable!(),
             Err(UnsealNo::NoMemory) => Err(WorkNo::NoMemory),
         },

@@ -1,5 +1,5 @@
-use Rattle.std.proofs.Common.{ap, refl}
-use Rattle.kr_top.proofs.Works.{sealed_works, marked_works, failed_works, unsealed_works, refused_works, no_plugin_fails}
+use Rattle.std.proofs.Common.{ap}
+use Rattle.kr_top.proofs.Works.{sealed_works, unsealed_works, refused_works, no_plugin_fails}
 use Rattle.kr_top.proofs.work.work.Goals as goal
 
 pub unreachable-requires-in-Err-PluginFailed : goal.unreachable-requires-in-Err-PluginFailed
@@ -13,5 +13,5 @@ returns-in-Ok-unseal-clause-made g c = unsealed_works (g.D.Dice.left) (g.D.Dice.
     c.in-Ok-unseal.is c.freshness.ensures c.requires.bare c.unseal.ensures.opened
 
 pub returns-in-Err-Refused-clause-made : goal.returns-in-Err-Refused-clause-made
-returns-in-Err-Refused-clause-made g c = refused_works (g.D.Dice.left) (g.D.Dice.count) c.args.resource.now c.args.path.now c.args.bytes.now _ _ c.args.bench.now.published c.args.direction c.unseal.result c.in-Err-Refused.field-0 c.in-Err-Refused.number c.in-Decrypt.is (ap (λ b. b.dice) c.unseal.ensures.kept)
+returns-in-Err-Refused-clause-made g c = refused_works (g.D.Dice.left) (g.D.Dice.count) c.args.resource.now c.args.path.now c.args.bytes.now _ _ c.args.bench.now.published c.args.direction c.unseal.result c.in-Err-Refused.field-0 c.in-Err-Refused.why c.in-Decrypt.is (ap (λ b. b.dice) c.unseal.ensures.kept)
     c.in-Err-Refused.is c.in-Err-Refused.field-0-is c.unseal.ensures.opened
