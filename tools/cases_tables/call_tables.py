@@ -183,7 +183,7 @@ def add_inspect(book):
 def add_limits(book):
     for size in (2_097_152, 2_097_153):
         encrypt(book, f"limit_data_{size}", BARE, repeated(size, b"a"), b"", step=8192)
-    encrypt(book, "limit_data_far_above", BARE, repeated(3_000_000, b"a"), b"", step=8192)
+    encrypt(book, "limit_data_far_above", BARE, repeated(2_200_000, b"a"), b"", step=8192)
     encrypt(book, "limit_data_under_aescbc", TWO, repeated(2_097_153, b"a"), step=8192)
     for size in (2_162_688, 2_162_689):
         decrypt(book, f"limit_value_{size}", BARE, repeated(size, b"a"), step=8192)
@@ -262,6 +262,9 @@ class Causes(dict):
 
 LONG = {"encrypt": 2_097_153, "decrypt": 2_162_689, "inspect": 2_162_689}
 
+# (megabytes cost time, so these stand beside the causes of `encrypt` and `inspect` alone)
+LONG_CAUSES = ("long_file", "long_input")
+
 # in the order of the steps: the part of the call that a cause takes, and what it makes of it
 SHARED = {
     "words": ("words", lambda it: it.but(words=it["words"][:-1])),
@@ -323,7 +326,7 @@ def plain_call(command):
 def add_pairs(book):
     for command, causes in CAUSES.items():
         for (first, (part, change)), (second, (other, change_other)) in itertools.combinations(causes.items(), 2):
-            if part == other:
+            if part == other or (command in ("decrypt", "check") and (first in LONG_CAUSES or second in LONG_CAUSES)):
                 continue
             # the later cause first, so that what the earlier one takes away stays away
             call = change(change_other(plain_call(command)))

@@ -322,7 +322,7 @@ def add_limits(book):
     space = config("a: identity")
     check(book, "limit_config_1048576", Spelled(repeated(1_048_576 - len(space), b" ") + space))
     check(book, "limit_config_1048577", Spelled(repeated(1_048_577 - len(space), b" ") + space))
-    check(book, "limit_config_of_lines", repeated(1_048_576, b"\n"))
+    check(book, "limit_config_of_lines", repeated(100_000, b"\n"))
 
 
 def add_all(book):

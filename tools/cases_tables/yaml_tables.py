@@ -198,7 +198,7 @@ def add_all(book):
         check(book, f"yaml_example_match_{resource}", EXAMPLE, resource)
     for name, data in (("first", b"\xff"), ("in_comment", b"a: b # \xc3\n"), ("behind_a_breach", b"\t\xff")):
         check(book, f"yaml_not_utf8_{name}", Spelled(f"\\({data.hex()})"))
-    check(book, "yaml_deep_of_many", Spelled("\\(400000*2d20)") + "a\n")
+    check(book, "yaml_deep_of_many", Spelled("\\(100000*2d20)") + "a\n")
     book.title("breaches of a configuration in YAML")
     for name, text in WALKED.items():
         check(book, f"yaml_breach_{name}", text)
