@@ -13,7 +13,7 @@ use Rattle.kr_base.specs.Pairs.{Pairs, with_pair}
 use Rattle.kr_envelope.specs.Wire.{Spells, Starts, Field, IsField}
 use Rattle.kr_envelope.specs.Messages.{last_or, bytes_at, of_bytes, Means, Item, encrypted, key_id, source, annotation, kind, other, IsItem, IsText, IsMessage, encrypted_in, key_id_in, source_in, annotation_in, kind_in, put_all, Raw, raw_of}
 use Rattle.kr_envelope.specs.Limits.{Judges, BreaksAt, Reads}
-use Rattle.kr_envelope.specs.Reading.{merged, later, Keeps, Sees, SeesEntry, Walks}
+use Rattle.kr_envelope.specs.inner.Reading.{merged, later, Keeps, Sees, SeesEntry, Walks}
 use Rattle.kr_envelope.specs.declared.partial.PartialObject.{PartialObject}
 use Rattle.kr_envelope.specs.declared.object.ObjectNo.{ObjectNo}
 use Rattle.kr_envelope.specs.declared.object.ObjectNo.TheVariants.{Wire, KeyId, Source, Annotations, SourceType, NoData, NotUtf8, NoMemory}

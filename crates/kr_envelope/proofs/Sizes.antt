@@ -7,7 +7,7 @@ use Rattle.kr_base.specs.Pairs.{Pairs}
 use Rattle.kr_envelope.specs.declared.object.SourceKind.{SourceKind}
 use Rattle.kr_envelope.specs.declared.object.SourceKind.TheVariants.{Key, Seed}
 use Rattle.kr_envelope.specs.declared.object.EncryptedObject.{EncryptedObject}
-use Rattle.kr_envelope.specs.Canonical.{shortest, sized, content_field, content_size, pair_field, kind_field, canonical, IsWritable, frame_of}
+use Rattle.kr_envelope.specs.Canonical.{shortest, content_field, content_size, pair_field, kind_field, canonical, IsWritable, frame_of}
 use Rattle.kr_envelope.proofs.Numbers.{shortest_is}
 use Rattle.kr_envelope.proofs.RoundTrip.{content_length, limits}
 

@@ -10,7 +10,8 @@ use Rattle.kr_envelope.specs.declared.object.ObjectNo.TheVariants.{NoMemory}
 use Rattle.kr_envelope.specs.declared.object.EncryptedObject.{EncryptedObject}
 use Rattle.kr_envelope.specs.Limits.{breach_of, raw_in, Reads}
 
--- groups of seven bits, the lowest first, as long as the number isn't a last one; so many at most before that
+-- groups of seven bits, the lowest first, as long as the number isn't a last one; so many at most
+-- before that
 abbrev pub groups : ℕ → ℕ → List ℕ
 groups zero n = n ∷ []
 groups (suc more) n = if nat_lt n 128 then n ∷ [] else (n % 128 + 128) ∷ groups more (n / 128)
@@ -44,15 +45,23 @@ kind_field Seed = (5 * 8) ∷ 1 ∷ []
 
 -- fields 1 to 5 in their order, annotations in the order of their keys
 abbrev pub canonical : EncryptedObject → List ℕ
-canonical object = content_field 1 object.encrypted ++ (content_field 2 object.key_id ++ (content_field 3 object.source ++ (flat_map pair_field object.annotations ++ kind_field object.kind)))
+canonical object =
+    content_field 1 object.encrypted
+    ++ (content_field 2 object.key_id
+    ++ (content_field 3 object.source
+    ++ (flat_map pair_field object.annotations ++ kind_field object.kind)))
 
 -- data that aren't empty, and no limit passed
 abbrev pub IsWritable : EncryptedObject → Type 0
 IsWritable object = breach_of (raw_in object) ≡ None
 
--- the bytes are read as the object, and whatever the reader answers is that, unless it is want of memory
+-- the bytes are read as the object, and whatever the reader answers is that, unless it is want of
+-- memory
 abbrev pub IsReadBack : List ℕ → EncryptedObject → Type 0
-IsReadBack bytes object = Reads bytes (Ok object) × ((answer : Result EncryptedObject ObjectNo) → Reads bytes answer → (answer ≡ Ok object) ⊎ (answer ≡ Err NoMemory))
+IsReadBack bytes object =
+    Reads bytes (Ok object)
+    × ((answer : Result EncryptedObject ObjectNo)
+    → Reads bytes answer → (answer ≡ Ok object) ⊎ (answer ≡ Err NoMemory))
 
 -- what the types of an object's parts keep, and its values alone don't show
 pub record IsKept (object : EncryptedObject) : Type 0 where
@@ -63,7 +72,9 @@ pub record IsKept (object : EncryptedObject) : Type 0 where
 
 -- an object that may be written is read back from its canonical bytes
 abbrev pub ReadsBack : Type 0
-ReadsBack = (object : EncryptedObject) → IsWritable object → IsKept object → IsReadBack (canonical object) object
+ReadsBack =
+    (object : EncryptedObject)
+    → IsWritable object → IsKept object → IsReadBack (canonical object) object
 
 -- what an object has without its data
 abbrev pub frame_of : EncryptedObject → EncryptedObject
@@ -71,5 +82,8 @@ frame_of object = record object { encrypted = [] }
 
 -- how long the canonical bytes are, by how many the data are: there are few beside these
 pub record AreSized : Type 0 where
-  pub size : (object : EncryptedObject) → length (canonical object) ≡ content_size (length object.encrypted) + length (canonical (frame_of object))
-  pub few : (object : EncryptedObject) → IsWritable object → length object.encrypted < 2 ^ 64 → length (canonical object) ≤ length object.encrypted + 43299
+  pub size : (object : EncryptedObject)
+      → length (canonical object)
+      ≡ content_size (length object.encrypted) + length (canonical (frame_of object))
+  pub few : (object : EncryptedObject) → IsWritable object → length object.encrypted < 2 ^ 64
+      → length (canonical object) ≤ length object.encrypted + 43299

@@ -40,7 +40,8 @@ fn groups_of(n: usize) -> usize
 /// Writes a field of bytes, if there are any.
 pub fn push_content(out: &mut Vec<u8>, number: u8, content: &[u8]) -> Result<(), AllocError>
     requires { number < 16 }
-    ensures written { OnOk result (out.new.items ≡ out.old.items ++ content_field number content.now) }
+    ensures written { OnOk result
+        (out.new.items ≡ out.old.items ++ content_field number content.now) }
     ensures fits { length content.now < 2 ^ 64 }
 {
     if content.is_empty() {

@@ -1,5 +1,5 @@
-//! What a stored value says of itself: the prefix with the kind and name of the provider that wrote it, and the
-//! object behind a KMS plugin's prefix.
+//! What a stored value says of itself: the prefix with the kind and name of the provider that wrote
+//! it, and the object behind a KMS plugin's prefix.
 #![tactic(auto)]
 
 mod canonical;

@@ -48,15 +48,17 @@ pub enum ObjectNo {
     SourceType,
     /// There are no sealed data.
     NoData,
-    /// The field that begins at this byte is a key id, or an annotation with a key, that isn't UTF-8.
+    /// The field that begins at this byte is a key id that isn't UTF-8, or an annotation whose key
+    /// isn't.
     NotUtf8 { at: u64 },
     /// There was no memory for the object.
     NoMemory,
 }
 
 impl EncryptedObject {
-    /// The object of the fields that the bytes spell, or the first breach: one of the wire format or of UTF-8, by its
-    /// place, and then of the limits, in the order data, key id, source, annotations, source type.
+    /// The object of the fields that the bytes spell, or the first breach: one of the wire format
+    /// or of UTF-8, by its place, and then of the limits, in the order data, key id, source,
+    /// annotations, source type.
     pub fn read(alloc: Global, bytes: &[u8]) -> Result<EncryptedObject, ObjectNo>
         ensures { Reads bytes.now result }
     {

@@ -1,16 +1,17 @@
-//! An encrypted object of which some fields were read: fields are merged into it, and it is finished within the limits.
+//! An encrypted object of which some fields were read: fields are merged into it, and it is
+//! finished within the limits.
 ghost use Rattle.std.specs.Prelude.{[], OnOk};
-ghost use Rattle.kr_base.specs.Pairs.{with_pair};
 ghost use Rattle.kr_envelope.specs.Messages.{Raw, raw_of};
 ghost use Rattle.kr_envelope.specs.Limits.{Judges};
-ghost use Rattle.kr_envelope.specs.Reading.{item_of, merged, Sees};
+ghost use Rattle.kr_envelope.specs.inner.Reading.{item_of, merged, with_annotation, Sees};
 
 use crate::item::Item;
 use crate::object::{EncryptedObject, ObjectNo, SourceKind};
 use kr_base::{ANNOTATIONS_LIMIT, Annotations, Bytes, NoMemory, Text, are_few, is_short};
 use std::alloc::Global;
 
-/// The last value of each field. The annotations are let be as soon as there are too many, since there will be no fewer.
+/// The last value of each field. The annotations are let be as soon as there are too many, since
+/// there will be no fewer.
 #[derive(Drop)]
 pub struct PartialObject<'a> {
     pub encrypted: &'a [u8],
@@ -38,7 +39,8 @@ impl<'a> PartialObject<'a> {
 
     /// Merges one more item over those before it.
     pub fn merge(&mut self, alloc: Global, item: Item<'a>) -> Result<(), NoMemory>
-        ensures { (raw : Raw) → Sees self.old raw → OnOk result (Sees self.new (merged raw (item_of item.entry))) }
+        ensures { (raw : Raw) → Sees self.old raw
+            → OnOk result (Sees self.new (merged raw (item_of item.entry))) }
     {
         match item {
             Item::Encrypted(content) => self.encrypted = content,
@@ -52,7 +54,8 @@ impl<'a> PartialObject<'a> {
     }
 
     fn merge_annotation(&mut self, alloc: Global, key: &str, value: &[u8]) -> Result<(), NoMemory>
-        ensures { (raw : Raw) → Sees self.old raw → OnOk result (Sees self.new (record raw { annotations = with_pair raw.annotations key.now value.now })) }
+        ensures { (raw : Raw) → Sees self.old raw
+            → OnOk result (Sees self.new (with_annotation raw key.now value.now)) }
     {
         if self.crowded {
             return Ok(());

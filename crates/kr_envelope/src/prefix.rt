@@ -1,7 +1,8 @@
 //! The prefixes of stored values, written, and told apart.
 ghost use Rattle.std.specs.Prelude.{◌≡◌, ◌++◌, ◌==◌, IfOk, OnOk, position};
 ghost use Rattle.kr_base.specs.Rules.{IsName};
-ghost use Rattle.kr_envelope.specs.Prefixes.{head, prefix, IsSplit, IsOnlyOne, IsParted};
+ghost use Rattle.kr_envelope.specs.Prefixes.{head, prefix, IsSplit, IsOnlyOne};
+ghost use Rattle.kr_envelope.specs.inner.Parting.{IsParted};
 
 use kr_base::{Bytes, NoMemory, name_ok};
 use std::alloc::{AllocError, Global};
@@ -80,7 +81,8 @@ pub fn push_prefix(out: &mut Vec<u8>, kind: Kind, name: &str) -> Result<(), Allo
     Ok(())
 }
 
-/// What a stored value says of itself, by its first bytes. At most one prefix is the one that it begins with.
+/// What a stored value says of itself, by its first bytes. At most one prefix is the one that it
+/// begins with.
 pub fn split<'a>(bytes: &'a [u8]) -> Tagged<'a>
     ensures split { IsSplit bytes.now result }
     ensures only { IsOnlyOne bytes.now result }

@@ -1,4 +1,4 @@
-use Rattle.kr_envelope.specs.Reading.{item_of}
+use Rattle.kr_envelope.specs.inner.Reading.{item_of}
 use Rattle.kr_envelope.proofs.Items.{is_nothing}
 use Rattle.kr_envelope.proofs.Objects.{walk_begun, walk_more, walk_ended}
 use Rattle.kr_envelope.proofs.object.EncryptedObject.read.Goals as goal

@@ -1,5 +1,5 @@
 use Rattle.std.proofs.Common.{length}
-use Rattle.kr_envelope.specs.Reading.{Walks}
+use Rattle.kr_envelope.specs.inner.Reading.{Walks}
 use Rattle.kr_envelope.proofs.object.EncryptedObject.read.Given as goal
 
 abbrev pub invariant-loop-rest : goal.invariant-loop-rest

@@ -23,8 +23,12 @@ TakesVarint bytes None = (n : ℕ) (rest : List ℕ) → Starts IsVarint bytes n
 TakesVarint bytes (Some taken) = Starts IsVarint bytes taken.0 taken.1.now
 
 abbrev pub TakesPayload : ℕ → List ℕ → Option (Payload × Bor (List ℕ)) → Type 0
-TakesPayload kind bytes None = (payload : wire.Payload) (rest : List ℕ) → wire_type payload ≡ kind → Starts IsPayload bytes payload rest → ⊥
-TakesPayload kind bytes (Some taken) = (wire_type (payload_of taken.0) ≡ kind) × Starts IsPayload bytes (payload_of taken.0) taken.1.now
+TakesPayload kind bytes None =
+    (payload : wire.Payload) (rest : List ℕ)
+    → wire_type payload ≡ kind → Starts IsPayload bytes payload rest → ⊥
+TakesPayload kind bytes (Some taken) =
+    (wire_type (payload_of taken.0) ≡ kind)
+    × Starts IsPayload bytes (payload_of taken.0) taken.1.now
 
 abbrev pub TakesField : List ℕ → Option (Field × Bor (List ℕ)) → Type 0
 TakesField bytes None = (field : wire.Field) (rest : List ℕ) → Starts IsField bytes field rest → ⊥

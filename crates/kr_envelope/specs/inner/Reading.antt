@@ -29,21 +29,28 @@ Says field (Err no.NotUtf8) = (item : message.Item) × Means field item × (IsTe
 
 -- the item at the front and the rest, or why there is none
 abbrev pub TakesItem : List ℕ → Result (Item × Bor (List ℕ)) ItemNo → Type 0
-TakesItem text (Ok taken) = Starts IsItem text (item_of taken.0) taken.1.now × IsText (item_of taken.0)
-TakesItem text (Err no.Wire) = (item : message.Item) (tail : List ℕ) → Starts IsItem text item tail → ⊥
-TakesItem text (Err no.NotUtf8) = (item : message.Item) × (tail : List ℕ) × Starts IsItem text item tail × (IsText item → ⊥)
+TakesItem text (Ok taken) =
+    Starts IsItem text (item_of taken.0) taken.1.now × IsText (item_of taken.0)
+TakesItem text (Err no.Wire) =
+    (item : message.Item) (tail : List ℕ) → Starts IsItem text item tail → ⊥
+TakesItem text (Err no.NotUtf8) =
+    (item : message.Item) × (tail : List ℕ) × Starts IsItem text item tail × (IsText item → ⊥)
 
 -- a later value, where there is one
 abbrev pub later : {T : Type 0} → T → Option T → T
 later before None = before
 later before (Some x) = x
 
+-- the object with one more annotation
+abbrev pub with_annotation : Raw → List ℕ → List ℕ → Raw
+with_annotation raw key value = record raw { annotations = with_pair raw.annotations key value }
+
 -- the object with one more item
 abbrev pub merged : Raw → message.Item → Raw
 merged raw (message.encrypted content) = record raw { encrypted = content }
 merged raw (message.key_id content) = record raw { key_id = content }
 merged raw (message.source content) = record raw { source = content }
-merged raw (message.annotation key value) = record raw { annotations = with_pair raw.annotations key value }
+merged raw (message.annotation key value) = with_annotation raw key value
 merged raw (message.kind n) = record raw { kind = n }
 merged raw message.other = raw
 
