@@ -1,4 +1,4 @@
-//! The command line: each command once, each refusal, and what a command gives.
+//! The command line: a line of each form, each refusal, and what a command gives.
 use kr_words::{Command, WordsNo, one_meaning, read_words};
 use std::alloc::{AllocError, Global};
 use std::test::Fail;
@@ -30,158 +30,107 @@ fn shown(alloc: Global, read: &Result<Command, WordsNo>) -> Result<String, Alloc
     }
 }
 
-/// A line of each command, and what it is read as.
-const COMMANDS: [(&str, &str); 12] = [
-    (
-        "encrypt --config c --resource secrets --path /a",
-        "Encrypt config=c resource=secrets path=/a",
-    ),
-    (
-        "decrypt --path  --config=c --resource=secrets",
-        "Decrypt path= config=c resource=secrets",
-    ),
-    ("check --config --config", "Check config=--config"),
-    ("check --config=a=b", "Check config=a=b"),
-    ("inspect", "Inspect"),
-    (
-        "put --store s --path /a --config c --resource r.g",
-        "Put store=s path=/a config=c resource=r.g",
-    ),
-    (
-        "get --config c --store s --path /a",
-        "Get config=c store=s path=/a",
-    ),
-    ("list --store s", "Rows store=s"),
-    (
-        "judge --store s --replica a --reload 0=f",
-        "Judge store=s replica=a reload=0=f",
-    ),
-    (
-        "rewrite --store s --config c --plugin k=a=b --plugin l=a",
-        "Rewrite store=s config=c plugin=k=a=b plugin=l=a",
-    ),
-    ("fleet --file f --store s", "Fleet file=f store=s"),
-    (
-        "gen --store s --size 1 --seed 0",
-        "Gen store=s size=1 seed=0",
-    ),
-];
+fn is_read_as(alloc: Global, line: &str, want: &str) -> Result<bool, AllocError> {
+    let words = words_of(alloc, line)?;
+    let read = read_words(alloc, words.as_slice());
+    let shown = shown(alloc, &read)?;
+    Ok(shown.as_str() == want)
+}
 
-/// Lines that mean no command, or pass a limit.
-const REFUSED: [(&str, WordsNo); 13] = [
-    ("", WordsNo::Usage),
-    ("--help", WordsNo::Usage),
-    ("check --config", WordsNo::Usage),
-    ("check --config c --", WordsNo::Usage),
-    ("check --config c --config c", WordsNo::Usage),
-    ("check --config c --store s", WordsNo::Usage),
-    ("list --store s --path /a", WordsNo::Usage),
-    (
-        "rewrite --store s --config c --plugin k=a --plugin k=b",
-        WordsNo::Usage,
-    ),
-    ("judge --store s --replica r --reload 1=f", WordsNo::Usage),
-    (
-        "gen --store s --seed 18446744073709551616 --size 1",
-        WordsNo::Usage,
-    ),
-    ("gen --store s --seed 00 --size 1", WordsNo::Usage),
-    ("gen --store s --seed x --size 10001", WordsNo::Usage),
-    ("gen --store s --seed 1 --size 10001", WordsNo::Size),
-];
-
-#[test]
-fn reads_each_command(rt: HostRuntime) -> Result<(), Fail> {
-    for (line, want) in COMMANDS {
-        let words = words_of(rt.alloc(), line)?;
-        let read = read_words(rt.alloc(), words.as_slice());
-        let shown = shown(rt.alloc(), &read)?;
-        assert_eq!(rt; shown.as_str(), want, "{line}");
+/// Whether a line is read as that; no memory is as another reading.
+fn reads(alloc: Global, line: &str, want: &str) -> bool {
+    match is_read_as(alloc, line, want) {
+        Ok(same) => same,
+        Err(_) => false,
     }
-    Ok(())
 }
 
 #[test]
-fn refuses_lines(rt: HostRuntime) -> Result<(), Fail> {
+fn reads_options_in_each_form(rt: HostRuntime) {
+    let alloc = rt.alloc();
+    assert!(rt; reads(alloc, "inspect", "Inspect"));
+    assert!(rt; reads(alloc, "check --config --config", "Check config=--config"));
+    assert!(rt; reads(alloc, "check --config=a=b", "Check config=a=b"));
+    assert!(rt;
+        reads(
+            alloc,
+            "decrypt --path  --config=c --resource=s",
+            "Decrypt path= config=c resource=s"
+        )
+    );
+    assert!(rt; reads(alloc, "list --store s", "Rows store=s"));
+}
+
+#[test]
+fn refuses_lines(rt: HostRuntime) {
     one_meaning();
-    for (line, want) in REFUSED {
-        let words = words_of(rt.alloc(), line)?;
-        match read_words(rt.alloc(), words.as_slice()) {
-            Ok(_) => panic!(rt; "{line}"),
-            Err(why) => assert_eq!(rt; why, want, "{line}"),
-        }
+    let alloc = rt.alloc();
+    assert!(rt; reads(alloc, "", "Usage"));
+    assert!(rt; reads(alloc, "check --config", "Usage"));
+    assert!(rt; reads(alloc, "check --config c --config c", "Usage"));
+    assert!(rt; reads(alloc, "gen --store s --seed 00 --size 1", "Usage"));
+    assert!(rt; reads(alloc, "gen --store s --seed 1 --size 10001", "Size"));
+}
+
+/// What such a line with so many replicas is read as.
+fn with_replicas(alloc: Global, line: &str, count: u64) -> Result<String, AllocError> {
+    let mut words = words_of(alloc, line)?;
+    for _ in 0..count {
+        words.push(String::from_str(alloc, "--replica=r")?)?;
     }
-    Ok(())
+    let read = read_words(alloc, words.as_slice());
+    shown(alloc, &read)
 }
 
 #[test]
 fn refuses_a_seventeenth_replica(rt: HostRuntime) -> Result<(), Fail> {
-    let alloc = rt.alloc();
-    let mut words = words_of(alloc, "judge --store s --reload 0=f")?;
-    for _ in 0..17u64 {
-        words.push(String::from_str(alloc, "--replica=r")?)?;
-    }
-    match read_words(alloc, words.as_slice()) {
-        Ok(_) => panic!(rt; "seventeen"),
-        Err(why) => assert_eq!(rt; why, WordsNo::Replicas),
-    }
+    let read = with_replicas(rt.alloc(), "judge --store s --reload 0=f", 17)?;
+    assert_eq!(rt; read.as_str(), "Replicas");
+    Ok(())
+}
+
+/// The command of a line.
+fn command(alloc: Global, line: &str) -> Option<Command> {
+    let words = words_of(alloc, line).ok()?;
+    read_words(alloc, words.as_slice()).ok()
+}
+
+#[test]
+fn gives_replicas(rt: HostRuntime) -> Result<(), Fail> {
+    let line = "judge --replica=a --store= --replica=b --reload=1=f=g";
+    let command = command(rt.alloc(), line).ok_or("not read")?;
+    assert_eq!(rt; command.value("store"), Some(""));
+    assert_eq!(rt; command.replicas(), 2);
+    assert_eq!(rt; command.replica(1), Some("b"));
+    assert_eq!(rt; command.replica(2), None);
     Ok(())
 }
 
 #[test]
-fn gives_what_it_has_judged(rt: HostRuntime) -> Result<(), Fail> {
-    let alloc = rt.alloc();
-    let words = words_of(
-        alloc,
-        "judge --replica=a --store= --replica=b --reload=1=f=g",
-    )?;
-    match read_words(alloc, words.as_slice()) {
-        Ok(command) => {
-            assert_eq!(rt; command.value("store"), Some(""));
-            assert_eq!(rt; command.value("config"), None);
-            assert_eq!(rt; command.replicas(), 2);
-            assert_eq!(rt; command.replica(0), Some("a"));
-            assert_eq!(rt; command.replica(1), Some("b"));
-            assert_eq!(rt; command.replica(2), None);
-            match command.reload() {
-                Some(reload) => {
-                    assert_eq!(rt; reload.replica, 1);
-                    assert_eq!(rt; reload.file, "f=g");
-                }
-                None => panic!(rt; "a reload"),
-            }
-            assert_eq!(rt; command.seed(), None);
-        }
-        Err(why) => panic!(rt; "{why:?}"),
-    }
+fn gives_a_reload(rt: HostRuntime) -> Result<(), Fail> {
+    let line = "judge --replica=a --store=s --replica=b --reload=1=f=g";
+    let command = command(rt.alloc(), line).ok_or("not read")?;
+    let reload = command.reload().ok_or("no reload")?;
+    assert_eq!(rt; reload.replica, 1);
+    assert_eq!(rt; reload.file, "f=g");
     Ok(())
 }
 
 #[test]
-fn gives_programs_and_numbers(rt: HostRuntime) -> Result<(), Fail> {
-    let alloc = rt.alloc();
-    let words = words_of(
-        alloc,
-        "rewrite --store s --config c --plugin k=/a=b --plugin l=/c",
-    )?;
-    match read_words(alloc, words.as_slice()) {
-        Ok(command) => {
-            assert_eq!(rt; command.program("l"), Some("/c"));
-            assert_eq!(rt; command.program("k"), Some("/a=b"));
-            assert_eq!(rt; command.program("m"), None);
-        }
-        Err(why) => panic!(rt; "{why:?}"),
-    }
-    let words = words_of(
-        alloc,
-        "gen --store s --seed 18446744073709551615 --size 10000",
-    )?;
-    match read_words(alloc, words.as_slice()) {
-        Ok(command) => {
-            assert_eq!(rt; command.seed(), Some(18_446_744_073_709_551_615));
-            assert_eq!(rt; command.size(), Some(10_000));
-        }
-        Err(why) => panic!(rt; "{why:?}"),
-    }
+fn gives_programs(rt: HostRuntime) -> Result<(), Fail> {
+    let line = "rewrite --store s --config c --plugin k=/a=b --plugin l=/c";
+    let command = command(rt.alloc(), line).ok_or("not read")?;
+    assert_eq!(rt; command.program("l"), Some("/c"));
+    assert_eq!(rt; command.program("k"), Some("/a=b"));
+    assert_eq!(rt; command.program("m"), None);
+    Ok(())
+}
+
+#[test]
+fn gives_numbers(rt: HostRuntime) -> Result<(), Fail> {
+    let line = "gen --store s --seed 18446744073709551615 --size 10000";
+    let command = command(rt.alloc(), line).ok_or("not read")?;
+    assert_eq!(rt; command.seed(), Some(18_446_744_073_709_551_615));
+    assert_eq!(rt; command.size(), Some(10_000));
     Ok(())
 }
