@@ -4,6 +4,5 @@ mod base;
 mod hkdf;
 mod modes;
 mod pages;
-mod store;
 mod turn;
 mod words;
