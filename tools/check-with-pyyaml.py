@@ -1,14 +1,17 @@
 """Compares the trees that kr_trees prints with those of PyYAML, over random documents of the YAML profile.
 
-Words: how many documents, and the seed of the random choices. A document is written from a random tree, in forms chosen at
-random, so the tree is known too; about a quarter are broken at a line that is known. With `write` as its only word the script
-writes the stored run of kr_trees instead, crates/kr_trees/stdin and stdout; the program itself is never asked for that.
+Words: how many documents, and the seed of the random choices, which is another each time where none is given. A document is
+written from a random tree, in forms chosen at random, so the tree is known too; about a quarter are broken at a line that is
+known. As many again are random lines: what is read here PyYAML reads the same, but for a form that is named (`FORMS`). With
+`write` as its only word the script writes the stored run of kr_trees instead, crates/kr_trees/stdin and stdout; the program
+itself is never asked for that.
 
-Left out is what the profile reads otherwise than YAML: a key with a space before its `:`, the plain word `-`, plain words
-that go on behind `---` or `...` at a line's begin, and a first line `...`. Left out is also what PyYAML reads otherwise than
-YAML: a tab in a plain word, and a `?` in one of a flow list.
+The documents that are written from trees leave out what the profile reads otherwise than YAML (a key with a space before its
+`:`, the plain word `-`, a first line `...`) and what PyYAML reads otherwise than YAML (a tab in a plain word, a `?` in one of a
+flow list).
 """
 
+import json
 import random
 import subprocess
 import sys
@@ -36,6 +39,8 @@ OUTSIDE = (
     "[a", "[a]b", "[a] b", "[a]#b", "[a,]", "[,a]", "[a,,b]", "[ ]", "[a: b]", "[a #b]", "[a, [b]]", "[a, {}]", "{ }", "{a: b}", "{a}", "{",
     "&a b", "a: &b c", "*a", "a: *b", "!t a", "a: !!str b", "|", "a: |", "a: >-", "- >", "? a", "- - ? a", ": a", "- : a", "%a", "@a", "`a", ", a",
     "] a", "} a", "a: ]", "a: ,", "- %a",
+    "a # b\r c", "# \x85", "a: '\u2028'", "a: b # \u2029", "\ufeffa: b", "# \ufeff", "a\x00", "# \x7f", "a: \"\x1f\"", "# \x9f", "# \ufffe",
+    "<<: a", "- <<:", "<< : a", "--- a", "... a", "---\t", "...\t# a",
 )
 # pieces with which no text is UTF-8, wherever they stand between characters
 BROKEN_UTF8 = (b"\xff", b"\x80", b"\xc0\x80", b"\xe2\x82", b"\xed\xa0\x80", b"\xf4\x90\x80\x80", b"\xf0\x9f\x98")
@@ -74,9 +79,138 @@ BY_HAND = (
     (b"null: null\n~: ~\n", '{"6e756c6c":null,"7e":null}'),
     (b"- 'null'\n- \"~\"\n- Null\n- \n", '["6e756c6c","7e","4e756c6c",null]'),
     (b"a\tb\t\n", '"61096209"'),
-    (b"\xef\xbb\xbfa\n", '"efbbbf61"'),
+    (b"\xef\xbb\xbfa\n", "Outside 1"),
+    (b"providers: # x\r- identity: {}\n", "Outside 1"),
+    (b"a: b\r\nc: d\r", "Outside 2"),
+    ("a: # \x85b: c\n".encode(), "Outside 1"),
+    ("# \u2028\na\n".encode(), "Outside 1"),
+    ("# \u2029\na\n".encode(), "Outside 1"),
+    ("a: \xa0\ud7ff\ue000\ufffd\U00010000\U0010ffff~\n".encode(), '"61":'.join(("{", '"c2a0ed9fbfee8080efbfbdf0908080f48fbfbf7e"}'))),
+    (b"a: \x7f\n", "Outside 1"),
+    (b"a: b\n<<: {}\n", "Outside 2"),
+    (b"<<\t : a\n", "Outside 1"),
+    (b"'<<': a\n", '{"3c3c":"61"}'),
+    (b"<<a: <<\n", '{"3c3c61":"3c3c"}'),
+    (b"- <<\n", '["3c3c"]'),
+    (b"--- a\n", "Outside 1"),
+    (b"---\ta\n", "Outside 1"),
+    (b"... # a\n", '"2e2e2e"'),
+    (b"...  \n", '"2e2e2e"'),
+    (b"... a\n", "Outside 1"),
+    (b"---a: b\n", '{"2d2d2d61":"62"}'),
+    (b" --- a\n", '"2d2d2d2061"'),
+    (b"- --- a\n", '["2d2d2d2061"]'),
     (b"a: \xff\n", "NotUtf8"),
     (b"\t\xff", "NotUtf8"),
+    # a line each
+    (b'~', 'null'),
+    (b'null # b', 'null'),
+    (b"'null'", '"6e756c6c"'),
+    (b'"~"', '"7e"'),
+    (b'Null', '"4e756c6c"'),
+    (b'a b  ', '"612062"'),
+    (b'a # b', '"61"'),
+    (b'a#b', '"612362"'),
+    (b"it's # x", '"69742773"'),
+    (b"'it''s # x' # y", '"6974277320232078"'),
+    (b"''", '""'),
+    (b"''''", '"27"'),
+    (b"'a", 'Outside 1'),
+    (b"'a' b", 'Outside 1'),
+    (b'"a # b" # c', '"6120232062"'),
+    (b"'a'#b", 'Outside 1'),
+    (b'"\\"\\\\\\/\\n\\t # \xc3\xa9"', '"225c2f0a09202320c3a9"'),
+    (b'"\\x"', 'Outside 1'),
+    (b'"\\', 'Outside 1'),
+    (b'"\\\xc3\xa9"', 'Outside 1'),
+    (b'"a', 'Outside 1'),
+    (b'\xc3\xa9 \xc3\xa9', '"c3a920c3a9"'),
+    (b'a\tb', '"610962"'),
+    (b'a\t', '"6109"'),
+    (b'- \ta', '["0961"]'),
+    (b'\ta', 'Outside 1'),
+    (b'  \t # a', 'Outside 1'),
+    (b'# \t', 'null'),
+    (b'a: b: c', 'Outside 1'),
+    (b'a::b', '"613a3a62"'),
+    (b'a:: b', 'Outside 1'),
+    (b'a::', 'Outside 1'),
+    (b'a :b', '"61203a62"'),
+    (b'a : b', '{"6120":"62"}'),
+    (b"'a' : b", 'Outside 1'),
+    (b"'a': b", '{"61":"62"}'),
+    (b'"a":', '{"61":null}'),
+    (b'~: null', '{"7e":null}'),
+    (b'a: # b', '{"61":null}'),
+    (b'a: #b', '{"61":null}'),
+    (b'a:#b', '"613a2362"'),
+    (b"a: 'b # c' # d", '{"61":"6220232063"}'),
+    (b'a: -', '{"61":"2d"}'),
+    (b'a: - b', 'Outside 1'),
+    (b'-: b', '{"2d":"62"}'),
+    (b'-a', '"2d61"'),
+    (b'-#', '"2d23"'),
+    (b'- # a', '[null]'),
+    (b'-', '[null]'),
+    (b'- - # a', '[[null]]'),
+    (b'[]', '[]'),
+    (b'{} # a', '{}'),
+    (b'[ a , \'b, c\' ,"d",~]', '["61","622c2063","64",null]'),
+    (b'[a,]', 'Outside 1'),
+    (b'[a, #b]', 'Outside 1'),
+    (b'[a b]', '["612062"]'),
+    (b'[a: b]', 'Outside 1'),
+    (b'[[a]]', 'Outside 1'),
+    (b'[a] b', 'Outside 1'),
+    (b'[a', 'Outside 1'),
+    (b'{a}', 'Outside 1'),
+    (b'a: [b,c]', '{"61":["62","63"]}'),
+    (b'a: |', 'Outside 1'),
+    (b'a: > # b', 'Outside 1'),
+    (b'a: &b c', 'Outside 1'),
+    (b'&a b', 'Outside 1'),
+    (b'@a', 'Outside 1'),
+    (b'` a', 'Outside 1'),
+    (b'---\na: b', '{"61":"62"}'),
+    (b'# c\n--- # d\n- a\n- b\n', '["61","62"]'),
+    (b'---\n---', 'Outside 2'),
+    (b'a: b\n---', 'Outside 2'),
+    (b'a: b\n... # c', 'Outside 2'),
+    (b'---\n...', 'Outside 2'),
+    (b'...', '"2e2e2e"'),
+    (b' ---', '"2d2d2d"'),
+    (b"'---'\n---", 'Outside 2'),
+    (b'a:\r\n  b: c\r\nd:\r\n', '{"61":{"62":"63"},"64":null}'),
+    (b'---\r\n- a\r\n-\r\n', '["61",null]'),
+    (b'a:\nb:\n  # c\nd:', '{"61":null,"62":null,"64":null}'),
+    (b'a:\n- b\n- c\nd: e', '{"61":["62","63"],"64":"65"}'),
+    (b'a:\n- b:\n  - c\n  d: e', '{"61":[{"62":["63"],"64":"65"}]}'),
+    (b'a:\n  - b\n  -\n  - c\n', '{"61":["62",null,"63"]}'),
+    (b'a:\n\n  # d\n  b', '{"61":"62"}'),
+    (b'- - a\n  - b\n- c', '[["61","62"],"63"]'),
+    (b'-   a: b\n    c: d\n', '[{"61":"62","63":"64"}]'),
+    (b'-\n  a: b', '[{"61":"62"}]'),
+    (b'a: {}\nb: []', '{"61":{},"62":[]}'),
+    (b'  a: b\n  c: d', '{"61":"62","63":"64"}'),
+    (b'a\nb', 'Indent 2'),
+    (b'a: b\n  c: d', 'Indent 2'),
+    (b'a: ~\n  c', 'Indent 2'),
+    (b'a:\n    - b\n  - c', 'Indent 3'),
+    (b'a:\n    b: c\n  d: e', 'Indent 3'),
+    (b'- a\nb: c', 'Indent 2'),
+    (b'a: b\n- c', 'Indent 2'),
+    (b'- a\n  - b', 'Indent 2'),
+    (b'  a: b\nc: d', 'Indent 2'),
+    (b'a: b\nc: d\na: e', 'DuplicateKey 3'),
+    (b'kind: a\nkind: b', 'DuplicateKey 2'),
+    (b"a: b\n'a': c", 'DuplicateKey 2'),
+    (b'- a: b\n- a: c', '[{"61":"62"},{"61":"63"}]'),
+    (b'a:\n  b: c\n  b: d\n  e', 'DuplicateKey 3'),
+    (b'a: b\na: c\n  d', 'DuplicateKey 2'),
+    (b'a: b\n  c\na: d', 'Indent 2'),
+    (b'a: b\n  c\n[', 'Outside 3'),
+    (b'a: b\na: c\n\t', 'Outside 3'),
+    (b'a:\n b:\n  c:\n   d\ne: [f]', '{"61":{"62":{"63":"64"}},"65":["66"]}'),
 )
 NO_LINES = ("", " ", "--", "- ", " -", "6", "616", "6g", "0x61", "61 62", "61,62", "line")
 
@@ -174,7 +308,8 @@ class Writer:
     def scalar(self, text, begins_line=False, in_flow=False, is_key=False):
         is_marker = begins_line and text[:3] in ("---", "...") and text[3:4] in ("", " ")
         is_null = text in ("null", "~") and not is_key
-        if may_be_plain(text, in_flow) and not is_marker and not is_null and self.happens(0.7):
+        is_merge = is_key and text == "<<"
+        if may_be_plain(text, in_flow) and not is_marker and not is_null and not is_merge and self.happens(0.7):
             return text
         if "\n" in text or self.happens(0.5):
             return self.double(text)
@@ -364,17 +499,114 @@ def line_of(document):
     return (document.hex() or "-") + "\n"
 
 
+# ---- random lines
+
+RAW = PLAIN + ("-", "- ", "- - ", ": ", ":", " :", " : ", "a: ", "b:", "'", "''", '"', "\\", "\\n", "#", " # ", "[", "]", "[a, b]", "{}", "[]", ",", "  ", "\t", "---",
+    "...", "<<", "null", "~", "&a ", "*a", "!t ", "|", ">", "?", "%", "@", "`", "\r", "\x85", "\u2028", "\ufeff", "'a'", '"b"', "c: d", "- e")
+FORMS = ("a key with a blank before its colon", "a tab in a plain word", "the plain word -", "a first line ...", "a ? in a flow list")
+
+
+def raw_document(chance):
+    lines = []
+    for _ in range(chance.choice((1, 1, 2, 3))):
+        lines.append(" " * chance.choice((0, 0, 0, 1, 2)) + "".join(chance.choice(RAW) for _ in range(chance.choice((1, 2, 2, 3, 4, 5)))))
+    return "\n".join(lines)
+
+
+def parsed(answer):
+    """The tree that kr_trees printed."""
+    return tree_parsed(json.loads(answer, object_pairs_hook=tuple))
+
+
+def tree_parsed(value):
+    if value is None or isinstance(value, list):
+        return None if value is None else [tree_parsed(item) for item in value]
+    if isinstance(value, tuple):
+        return tuple((bytes.fromhex(key).decode(), tree_parsed(item)) for key, item in value)
+    return bytes.fromhex(value).decode()
+
+
+def likened(tree):
+    """Without what the first two forms are about."""
+    if isinstance(tree, list):
+        return [likened(item) for item in tree]
+    if isinstance(tree, tuple):
+        return tuple((key.strip(" \t"), likened(item)) for key, item in tree)
+    return tree.strip(" \t") if isinstance(tree, str) else tree
+
+
+def words_in(tree):
+    if isinstance(tree, list):
+        for item in tree:
+            yield from words_in(item)
+    elif isinstance(tree, tuple):
+        for key, item in tree:
+            yield key
+            yield from words_in(item)
+    elif tree is not None:
+        yield tree
+
+
+def form_of(text, tree, found):
+    """The form by which a document that is read here isn't read so by PyYAML, if one is named for it."""
+    words = list(words_in(tree))
+    if any("\t" in word for word in words):
+        return FORMS[1]
+    if found is not None and likened(found[0]) == likened(tree):
+        return FORMS[0]
+    if "-" in words:
+        return FORMS[2]
+    if tree == "...":
+        return FORMS[3]
+    return FORMS[4] if "[" in text and any("?" in word for word in words) else None
+
+
+def compare_raw(documents, answers):
+    """How many are read the same, and how many by a form that is named."""
+    same, named = 0, 0
+    for text, answer in zip(documents, answers):
+        if answer[0] not in 'n"[{':
+            continue
+        tree = parsed(answer)
+        try:
+            found = (pyyaml_tree(text),)
+            said = f"PyYAML reads {found[0]}"
+        except yaml.YAMLError as refusal:
+            found, said = None, f"PyYAML refuses: {refusal}"
+        if found is not None and found[0] == tree:
+            same += 1
+        elif form_of(text, tree, found) is not None:
+            named += 1
+        else:
+            differ(text.encode(), f"kr_trees answers {answer}", said)
+    return same, named
+
+
+def is_built():
+    """Whether the program is there and newer than what it is made of, as the gate leaves it; else rt proves and builds it."""
+    program = CRATE / "out" / "kr_trees"
+    sources = [it for name in ("kr_trees", "kr_yaml", "kr_base") for it in (CRATE.parent / name / "src").rglob("*.rt")]
+    return program.exists() and all(it.stat().st_mtime < program.stat().st_mtime for it in sources)
+
+
 def compare(count, seed):
+    print(f"check-with-pyyaml: seed {seed}")
     made, read = cases(count, seed)
+    chance = random.Random(seed + 1)
+    raw = [raw_document(chance) for _ in range(count)]
+    documents = [document for document, _ in made] + [text.encode() for text in raw]
     # rt proves and builds the program where it isn't built
-    run = subprocess.run(["rt", "run"], cwd=CRATE, input="".join(line_of(document) for document, _ in made), capture_output=True, text=True, check=False)
+    words = [CRATE / "out" / "kr_trees"] if is_built() else ["rt", "run"]
+    run = subprocess.run(words, cwd=CRATE, input="".join(map(line_of, documents)), capture_output=True, text=True, check=False)
     answers = run.stdout.splitlines()
-    if run.returncode or len(answers) != len(made):
+    if run.returncode or len(answers) != len(documents):
         sys.exit(f"kr_trees ended with status {run.returncode} and {len(answers)} lines\n{run.stderr}")
     for (document, wanted), answer in zip(made, answers):
         if answer != wanted:
             differ(document, f"expected {wanted}", f"kr_trees answers {answer}")
     print(f"PyYAML reads the same trees of {read} documents; {count - read} broken ones are refused as they were broken")
+    same, named = compare_raw(raw, answers[count:])
+    print(f"of {count} documents of random lines it reads {same} as they are read here, {named} but for a form that is named; the others are refused here")
 
 
 def write():
@@ -386,11 +618,11 @@ def write():
 
 def main():
     if yaml is None:
-        print("no PyYAML here: no trees compared")
+        print("check-with-pyyaml: skipped, this Python has no PyYAML (Debian: python3-yaml)")
     elif sys.argv[1:] == ["write"]:
         write()
     else:
-        compare(int(sys.argv[1]), int(sys.argv[2]))
+        compare(int(sys.argv[1]), int(sys.argv[2]) if len(sys.argv) > 2 else random.SystemRandom().randrange(2**32))
 
 
 main()

@@ -1,11 +1,14 @@
 #!/usr/bin/env python3
-"""Writes the stored run of kr_vectors, crates/kr_vectors/stdin and stdout.
+"""Writes the stored run of kr_vectors, crates/kr_vectors/stdin and stdout; with the word `check` it compares them instead.
 
-Each answer comes from Python's `cryptography`, and what that package leaves to its caller is decided
-here by the rules of the standards: the padding of PKCS #7 and which lengths are refused. The program
-itself is never asked. The seed is fixed, so a run writes the same files again.
+Each answer comes from Python's `cryptography`, those of HMAC and HKDF from Python's own `hmac`, and what
+they leave to their caller is decided here by the rules of the standards: the padding of PKCS #7, the
+blocks of HKDF-Expand and which lengths are refused. The program itself is never asked. The seed is fixed,
+so a run writes the same files again.
 """
 
+import hashlib
+import hmac as python_hmac
 import random
 import sys
 from pathlib import Path
@@ -13,12 +16,18 @@ from pathlib import Path
 from cryptography.exceptions import InvalidTag
 from cryptography.hazmat.primitives.ciphers import Cipher, algorithms, modes
 from cryptography.hazmat.primitives.ciphers.aead import AESGCM
+from cryptography.hazmat.primitives.hashes import SHA256
+from cryptography.hazmat.primitives.kdf.hkdf import HKDFExpand
 
 BLOCK = 16
 TAG = 16
 KEY_SIZES = (16, 24, 32)
 OTHER_KEY_SIZES = (0, 1, 8, 15, 17, 20, 23, 25, 31, 33, 48, 64)
 AAD_SIZES = tuple(range(34)) + (47, 48, 49, 64, 65)
+HMAC_KEY_SIZES = (0, 1, 20, 31, 32, 33, 63, 64, 65, 66, 127, 128, 129, 200)
+MESSAGE_SIZES = (0, 1, 28, 54, 55, 56, 63, 64, 65, 119, 120, 128)
+OUTPUT_SIZES = (0, 1, 16, 31, 32, 33, 42, 63, 64, 65, 80, 95, 96, 97, 255, 256, 257, 1000, 2048, 8159, 8160)
+INFO_SIZES = (0, 1, 10, 22, 23, 31, 32, 54, 55, 64, 80, 200, 1000)
 TABLE_SIZES = tuple(range(50)) + (63, 64, 65, 79, 80, 81)
 
 source = random.Random(20261126)
@@ -110,7 +119,33 @@ def ungcm(key, nonce, aad, body):
         return "BadTag"
 
 
-ANSWERS = {"aes": aes, "unaes": unaes, "cbc": cbc, "uncbc": uncbc, "gcm": gcm, "ungcm": ungcm}
+def hmac(key, message):
+    return python_hmac.new(key, message, hashlib.sha256).digest()
+
+
+def hkdf(prk, info, size):
+    """RFC 5869, section 2.3: T(n) is the code of T(n - 1), the info and n. The size is two bytes."""
+    size = int.from_bytes(size, "big")
+    block, output = b"", b""
+    for n in range(1, -(-size // 32) + 1):
+        block = hmac(prk, block + info + bytes([n]))
+        output += block
+    output = output[:size]
+    if size > 0:
+        assert output == HKDFExpand(SHA256(), size, info).derive(prk)
+    return output
+
+
+ANSWERS = {
+    "aes": aes,
+    "unaes": unaes,
+    "cbc": cbc,
+    "uncbc": uncbc,
+    "gcm": gcm,
+    "ungcm": ungcm,
+    "hmac": hmac,
+    "hkdf": hkdf,
+}
 
 
 def ask(name, *operands):
@@ -229,6 +264,80 @@ def long_ones():
         ask("ungcm", key, nonce, aad, ask("gcm", key, nonce, aad, plain))
 
 
+def standards():
+    """Examples that the standards print, whose answers are theirs."""
+
+    def same(answer, printed):
+        assert answer == bytes.fromhex(printed)
+
+    # SP 800-38A, section F.2.1: the first two blocks, and behind them the padding's
+    key, iv = "2b7e151628aed2a6abf7158809cf4f3c", "000102030405060708090a0b0c0d0e0f"
+    plain = "6bc1bee22e409f96e93d7e117393172aae2d8a571e03ac9c9eb76fac45af8e51"
+    sealed = ask("cbc", *map(bytes.fromhex, (key, iv, plain)))
+    same(sealed[:32], "7649abac8119b246cee98e9b12e9197d5086cb9b507219ee95db113a917678b2")
+    # FIPS 197, appendix C.3: the padding's block xor the IV is the example's
+    iv = "10013223544576679889baabdccdfeef"
+    same(ask("cbc", bytes(range(32)), bytes.fromhex(iv), b""), "8ea2b7ca516745bfeafc49904b496089")
+    # the GCM specification by McGrew and Viega, test cases 1, 2 and 4
+    same(ask("gcm", bytes(16), bytes(12), b"", b""), "58e2fccefa7e3061367f1d57a4e7455a")
+    same(
+        ask("gcm", bytes(16), bytes(12), b"", bytes(16)),
+        "0388dace60b6a392f328c2b971b2fe78ab6e47d42cec13bdf53a67b21257bddf",
+    )
+    key, nonce = "feffe9928665731c6d6a8f9467308308", "cafebabefacedbaddecaf888"
+    aad = "feedfacedeadbeeffeedfacedeadbeefabaddad2"
+    plain = (
+        "d9313225f88406e5a55909c5aff5269a86a7a9531534f7da2e4c303d8a318a72"
+        "1c3c0c95956809532fcf0e2449a6b525b16aedf5aa0de657ba637b39"
+    )
+    same(
+        ask("gcm", *map(bytes.fromhex, (key, nonce, aad, plain))),
+        "42831ec2217774244b7221b784d0d49ce3aa212f2c02a4e035c17e2329aca12e"
+        "21d514b25466931c7d8f6a5aac84aa051ba30b396a0aac973d58e0915bc94fbc3221a5db94fae95ae7121a47",
+    )
+    # RFC 4231, test cases 1, 2 and 6, and RFC 5869, test cases 1 and 3
+    same(
+        ask("hmac", b"\x0b" * 20, b"Hi There"),
+        "b0344c61d8db38535ca8afceaf0bf12b881dc200c9833da726e9376c2e32cff7",
+    )
+    same(
+        ask("hmac", b"Jefe", b"what do ya want for nothing?"),
+        "5bdcc146bf60754e6a042426089575c75a003f089d2739839dec58b964ec3843",
+    )
+    same(
+        ask("hmac", b"\xaa" * 131, b"Test Using Larger Than Block-Size Key - Hash Key First"),
+        "60e431591ee0b67f0d8a26aacbf5b77f8e0bc6213728c5140546040f0ee37f54",
+    )
+    prk = "077709362c2e32df0ddc3f0dc47bba6390b6c73bb50f9c3122ec844ad7c2b3e5"
+    same(
+        ask("hkdf", bytes.fromhex(prk), bytes(range(0xF0, 0xFA)), b"\0\x2a"),
+        "3cb25f25faacd57a90434f64d0362f2a2d2d0a90cf1a5a4c5db02d56ecc4c5bf34007208d5b887185865",
+    )
+    prk = "19ef24a32c717b167f33a91d6f648bdf96596776afdb6377ac434c1c293ccb04"
+    same(
+        ask("hkdf", bytes.fromhex(prk), b"", b"\0\x2a"),
+        "8da4e775a563c18f715f802a063c5a31b8a11f5c5ee1879ec3454e5f3c738d2d9d201395faa4b61a96c8",
+    )
+
+
+def codes():
+    for size in HMAC_KEY_SIZES:
+        key = drawn(size)
+        for message_size in MESSAGE_SIZES:
+            ask("hmac", key, drawn(message_size))
+    for size, message_size in ((1000, 65), (4096, 0), (64, 5000), (65, 1000)):
+        ask("hmac", drawn(size), drawn(message_size))
+
+
+def expansions():
+    for turn, size in enumerate(OUTPUT_SIZES):
+        prk, info = drawn(HMAC_KEY_SIZES[turn % len(HMAC_KEY_SIZES)]), drawn(turn * 7 % 100)
+        ask("hkdf", prk, info, size.to_bytes(2, "big"))
+    for turn, size in enumerate(INFO_SIZES):
+        for output_size in (1, 32, 65, 100):
+            ask("hkdf", drawn(32 + turn), drawn(size), output_size.to_bytes(2, "big"))
+
+
 def no_cases():
     key, block, nonce = "00" * 16, "11" * 16, "22" * 12
     for line in (
@@ -272,6 +381,26 @@ def no_cases():
         f"ungcm {key} {nonce} 0x00 {block}",
         f"ungcm {key} - - {block}",
         f"ctr {key} {block} -",
+        f"hmac {key}",
+        f"hmac {key} - -",
+        f"hmac {key} 0",
+        f"hmac {key} ",
+        f"hmac {key[1:]} -",
+        f"hmac  {key} -",
+        f"HMAC {key} -",
+        f"hmacs {key} -",
+        f"hkdf {key} -",
+        f"hkdf {key} - -",
+        f"hkdf {key} - 20",
+        f"hkdf {key} - 000020",
+        f"hkdf {key} - 0020 -",
+        f"hkdf {key} 0 0020",
+        f"hkdf {key} - 002g",
+        # one byte more than 255 blocks
+        f"hkdf {key} - 1fe1",
+        f"hkdf {key} - ffff",
+        f"hkdf {key[1:]} - 0020",
+        "hkdf - -",
     ):
         cases.append((line, "line"))
 
@@ -286,12 +415,22 @@ def main():
         altered_seals,
         wrong_keys,
         long_ones,
+        standards,
+        codes,
+        expansions,
         no_cases,
     ):
         part()
     folder = Path(__file__).resolve().parent.parent / "crates" / "kr_vectors"
-    (folder / "stdin").write_text("".join(line + "\n" for line, _ in cases))
-    (folder / "stdout").write_text("".join(answer + "\n" for _, answer in cases))
+    made = {
+        "stdin": "".join(line + "\n" for line, _ in cases),
+        "stdout": "".join(answer + "\n" for _, answer in cases),
+    }
+    for name, text in made.items():
+        if sys.argv[1:] != ["check"]:
+            (folder / name).write_text(text)
+        elif (folder / name).read_text() != text:
+            sys.exit(f"not so: {folder / name} isn't what is made here")
     print(f"{len(cases)} cases", file=sys.stderr)
 
 

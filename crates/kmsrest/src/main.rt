@@ -1,26 +1,19 @@
 //! kmsrest: the storage encryption layer of the Kubernetes API server, as a command line tool.
 #![tactic(auto)]
 
+use files::SystemFiles;
 use kr_base::write_all;
 use kr_top::run;
 use real_world::RealWorld;
-use std::env;
-use std::io::{self, ErrorKind};
+use std::io::ErrorKind;
 use std::process::ExitCode;
-use std::rt::Env;
 use streams::{StdSink, StdSource};
+use words::words;
 
+mod files;
 mod real_world;
 mod streams;
-
-/// The words behind the program's name. One that isn't UTF-8 is an error.
-fn words(rt: &(impl Env + AllocGlobal)) -> io::Result<Vec<String>> {
-    let mut words = Vec::new(rt.alloc());
-    for word in env::args(rt)?.skip(1) {
-        words.push(word)?;
-    }
-    Ok(words)
-}
+mod words;
 
 fn main(rt: HostRuntime) -> ExitCode {
     let alloc = rt.alloc();
@@ -36,7 +29,8 @@ fn main(rt: HostRuntime) -> ExitCode {
             };
         }
     };
-    let mut world = RealWorld::new(&rt);
+    let files = SystemFiles::new(&rt);
+    let mut world = RealWorld::new(&files);
     let mut input = StdSource::new(rt.stdin());
     let mut output = StdSink::new(rt.stdout());
     ExitCode::from(run(

@@ -1,13 +1,15 @@
-ghost use Rattle.std.specs.Prelude.{◌≡◌, None, slice_index_or};
+//! The world of the system: its files, and its random device for each seat.
+ghost use Rattle.std.specs.Prelude.{◌≡◌, OnOk, MatchResult, None, slice_index_or};
+ghost use Rattle.std.specs.Io.KnownBytes.{Consumes, Keeps};
+ghost use Rattle.kr_base.specs.Faults.{IsCounted};
 
+use crate::files::{NamedFiles, OpenNo};
 use crate::streams::StdSource;
 use kr_base::{Bytes, Dice, Failed, ReadNo, read_all};
 use kr_kms::TablePlugin;
 use kr_top::{FileNo, World};
 use std::alloc::Global;
-use std::fs::File;
-use std::io::{ErrorKind, Read};
-use std::rt::Files;
+use std::io::Read;
 
 /// The device that random bytes are drawn from.
 const RANDOM_DEVICE: &str = "/dev/urandom";
@@ -15,18 +17,25 @@ const RANDOM_DEVICE: &str = "/dev/urandom";
 /// How many seats the world has random sources for.
 const SEATS: usize = 64;
 
-/// Random bytes of the system. It tells nothing of them.
-pub struct UrandomDice {
-    device: File,
+/// Random bytes of a device. What is to come isn't told, since a fill that fails may have taken some.
+pub struct DeviceDice<R> {
+    device: R,
     faults: u64,
 }
 
-impl Dice for UrandomDice {
+impl<R: Read> Dice for DeviceDice<R> {
     ghost left = { λ dice. None };
 
     ghost count = { λ dice. dice.faults };
 
-    fn fill(&mut self, into: &mut [u8]) -> Result<(), Failed> {
+    fn fill(&mut self, into: &mut [u8]) -> Result<(), Failed>
+        // The whole buffer is the next of the device.
+        ensures drawn { OnOk result (Consumes (R.remaining self.old.device) (R.remaining self.new.device) into.new) }
+
+        // As the trait says.
+        ensures bytes { MatchResult result (λ _. Consumes None None into.new) (λ _. Keeps None None) }
+        ensures cause { IsCounted self.old.faults self.new.faults result }
+    {
         match self.device.read_exact(into) {
             Ok(()) => Ok(()),
             Err(_) => {
@@ -41,47 +50,47 @@ impl Dice for UrandomDice {
     }
 }
 
-/// The files of the system, and its random device for each seat. It tells of no content.
+/// The files of the system, and its random device for each seat.
 #[derive(Drop)]
-pub struct RealWorld<'a, R> {
-    files: &'a R,
-    faults: u64,
+pub struct RealWorld<'a, F> {
+    files: &'a F,
+    load_faults: u64,
+    open_faults: u64,
     dice_faults: [u64; SEATS],
     out: [u64; SEATS],
 }
 
-impl<'a, R: Files<File = File>> RealWorld<'a, R> {
+impl<'a, F: NamedFiles> RealWorld<'a, F> {
     /// The world of these files, with no fault so far and nothing handed out.
-    pub fn new(files: &'a R) -> RealWorld<'a, R> {
+    pub fn new(files: &'a F) -> RealWorld<'a, F> {
         RealWorld {
             files,
-            faults: 0,
+            load_faults: 0,
+            open_faults: 0,
             dice_faults: [0; SEATS],
             out: [0; SEATS],
         }
     }
 }
 
-impl<'a, R: Files<File = File>> World for RealWorld<'a, R> {
-    type Rand = UrandomDice;
+impl<'a, F: NamedFiles> World for RealWorld<'a, F> {
+    type Rand = DeviceDice<F::File>;
 
     // No call hands out a link.
     type Link = TablePlugin;
 
-    ghost told = { λ world. record { file = λ name. None; file_faults = world.faults; dice = λ seat. None; dice_faults = λ seat. slice_index_or world.dice_faults seat 0; out = λ seat. slice_index_or world.out seat 0 } };
+    ghost told = { λ world. record { file = F.told world.files.now; load_faults = world.load_faults; open_faults = world.open_faults; dice = λ seat. None; dice_faults = λ seat. slice_index_or world.dice_faults seat 0; out = λ seat. slice_index_or world.out seat 0 } };
 
     fn faults(&self) -> u64 {
-        self.faults
+        self.load_faults.saturating_add(self.open_faults)
     }
 
     fn load(&mut self, alloc: Global, name: &str, limit: u64) -> Result<Bytes, FileNo> {
-        let file = match File::open(self.files, name) {
+        let file = match self.files.open(name) {
             Ok(file) => file,
-            Err(error) => {
-                if error.kind() == ErrorKind::NotFound {
-                    return Err(FileNo::Absent);
-                }
-                self.faults = self.faults.saturating_add(1);
+            Err(OpenNo::Absent) => return Err(FileNo::Absent),
+            Err(OpenNo::Failed) => {
+                self.load_faults = self.load_faults.saturating_add(1);
                 return Err(FileNo::Failed);
             }
         };
@@ -90,39 +99,39 @@ impl<'a, R: Files<File = File>> World for RealWorld<'a, R> {
             Err(ReadNo::TooLong) => Err(FileNo::TooLong),
             Err(ReadNo::NoMemory) => Err(FileNo::NoMemory),
             Err(ReadNo::Failed) => {
-                self.faults = self.faults.saturating_add(1);
+                self.load_faults = self.load_faults.saturating_add(1);
                 Err(FileNo::Failed)
             }
         }
     }
 
-    fn dice(&mut self, _alloc: Global, seat: u32) -> Result<UrandomDice, FileNo> {
+    fn dice(&mut self, _alloc: Global, seat: u32) -> Result<DeviceDice<F::File>, FileNo> {
         let at = seat as usize;
         if at >= SEATS || self.out[at] == u64::MAX {
-            self.faults = self.faults.saturating_add(1);
+            self.open_faults = self.open_faults.saturating_add(1);
             return Err(FileNo::Failed);
         }
-        match File::open(self.files, RANDOM_DEVICE) {
+        match self.files.open(RANDOM_DEVICE) {
             Ok(device) => {
                 self.out[at] += 1;
-                Ok(UrandomDice {
+                Ok(DeviceDice {
                     device,
                     faults: self.dice_faults[at],
                 })
             }
             Err(_) => {
-                self.faults = self.faults.saturating_add(1);
+                self.open_faults = self.open_faults.saturating_add(1);
                 Err(FileNo::Failed)
             }
         }
     }
 
-    fn back_dice(&mut self, seat: u32, dice: UrandomDice) {
+    fn back_dice(&mut self, seat: u32, dice: DeviceDice<F::File>) {
         let at = seat as usize;
         if at >= SEATS {
             unreachable!();
         }
-        let UrandomDice {
+        let DeviceDice {
             device: _device,
             faults,
         } = dice;

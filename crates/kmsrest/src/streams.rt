@@ -1,9 +1,12 @@
-ghost use Rattle.std.specs.Prelude.{◌≡◌, None};
+//! Streams of the system as a source and a sink. What a reader or a writer tells of its bytes is told.
+ghost use Rattle.std.specs.Prelude.{◌≡◌, IfOk, length};
+ghost use Rattle.std.specs.Io.{ReadsAtMost, WritesAtMost};
+ghost use Rattle.std.specs.Io.KnownBytes.{ReadConsumes, WriteAppends};
 
 use kr_base::{Failed, Sink, Source};
-use std::io::{Read, Write};
+use std::io::{ErrorKind, Read, Write};
 
-/// A stream that is read. It tells nothing of its content.
+/// A stream that is read. A read that was interrupted is tried again.
 #[derive(Drop)]
 pub struct StdSource<R> {
     reader: R,
@@ -13,21 +16,22 @@ pub struct StdSource<R> {
 impl<R: Read> StdSource<R> {
     /// Reads from the reader, with no fault so far.
     pub fn new(reader: R) -> StdSource<R>
-        ensures { result.faults ≡ 0 }
+        ensures reads { result.reader ≡ reader }
+        ensures faults { result.faults ≡ 0 }
     {
         StdSource { reader, faults: 0 }
     }
 }
 
 impl<R: Read> Source for StdSource<R> {
-    ghost left = { λ source. None };
+    ghost left = { λ source. R.remaining source.reader };
 
     ghost count = { λ source. source.faults };
 
     fn read(&mut self, into: &mut [u8]) -> Result<usize, Failed> {
-        match self.reader.read(into) {
+        match read_again(&mut self.reader, into) {
             Ok(n) => Ok(n),
-            Err(_) => {
+            Err(Failed) => {
                 self.faults = self.faults.saturating_add(1);
                 Err(Failed)
             }
@@ -39,7 +43,7 @@ impl<R: Read> Source for StdSource<R> {
     }
 }
 
-/// A stream that is written to. A write that takes nothing of a piece is a fault.
+/// A stream that is written to. A write that takes nothing of a piece is a fault; one that was interrupted is tried again.
 #[derive(Drop)]
 pub struct StdSink<W> {
     writer: W,
@@ -49,24 +53,22 @@ pub struct StdSink<W> {
 impl<W: Write> StdSink<W> {
     /// Writes to the writer, with no fault so far.
     pub fn new(writer: W) -> StdSink<W>
-        ensures { result.faults ≡ 0 }
+        ensures writes { result.writer ≡ writer }
+        ensures faults { result.faults ≡ 0 }
     {
         StdSink { writer, faults: 0 }
     }
 }
 
 impl<W: Write> Sink for StdSink<W> {
-    ghost held = { λ sink. None };
+    ghost held = { λ sink. W.contents sink.writer };
 
     ghost count = { λ sink. sink.faults };
 
     fn write(&mut self, bytes: &[u8]) -> Result<usize, Failed> {
-        if bytes.is_empty() {
-            return Ok(0);
-        }
-        match self.writer.write(bytes) {
-            Ok(n) if n > 0 => Ok(n),
-            _ => {
+        match write_again(&mut self.writer, bytes) {
+            Ok(n) => Ok(n),
+            Err(Failed) => {
                 self.faults = self.faults.saturating_add(1);
                 Err(Failed)
             }
@@ -76,4 +78,46 @@ impl<W: Write> Sink for StdSink<W> {
     fn faults(&self) -> u64 {
         self.faults
     }
+}
+
+/// One read, tried again where it was interrupted.
+fn read_again<R: Read>(reader: &mut R, into: &mut [u8]) -> Result<usize, Failed>
+    ensures bound { ReadsAtMost result into.new }
+    ensures bytes { ReadConsumes (R.remaining reader.old) (R.remaining reader.new) result into.new }
+{
+    for _ in 0..u64::MAX {
+        match reader.read(into) {
+            Ok(n) => return Ok(n),
+            Err(error) => {
+                if error.kind() != ErrorKind::Interrupted {
+                    return Err(Failed);
+                }
+            }
+        }
+    }
+    Err(Failed)
+}
+
+/// One write of a part of the bytes, tried again where it was interrupted.
+fn write_again<W: Write>(writer: &mut W, bytes: &[u8]) -> Result<usize, Failed>
+    ensures bound { WritesAtMost result bytes.now }
+    ensures bytes { WriteAppends (W.contents writer.old) (W.contents writer.new) result bytes.now }
+    ensures progress { IfOk result (λ n. n ≡ 0 → length bytes.now ≡ 0) }
+{
+    for _ in 0..u64::MAX {
+        match writer.write(bytes) {
+            Ok(n) => {
+                if n == 0 && !bytes.is_empty() {
+                    return Err(Failed);
+                }
+                return Ok(n);
+            }
+            Err(error) => {
+                if error.kind() != ErrorKind::Interrupted {
+                    return Err(Failed);
+                }
+            }
+        }
+    }
+    Err(Failed)
 }

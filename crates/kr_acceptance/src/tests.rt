@@ -4,6 +4,7 @@ use kr_top::{MemWorld, run};
 use std::alloc::Global;
 use std::test::Fail;
 
+mod config;
 mod values;
 mod yaml;
 
@@ -18,10 +19,6 @@ const AESCBC: &str =
 /// Secrets are stored by identity; other resources of the core group by aesgcm; all others by aescbc.
 const THREE: &str =
     r#"{"apiVersion":"apiserver.config.k8s.io/v1","kind":"EncryptionConfiguration","resources":[{"resources":["secrets"],"providers":[{"identity":{}}]},{"resources":["*."],"providers":[{"aesgcm":{"keys":[{"name":"k","secret":"c2VjcmV0IGlzIHNlY3VyZQ=="}]}}]},{"resources":["*.*"],"providers":[{"aescbc":{"keys":[{"name":"k","secret":"dGhpcyBpcyBwYXNzd29yZA=="}]}}]}]}"#;
-
-/// Secrets are stored by aescbc under the key of bytes 0 to 15, named `key1`, and what is stored bare is read.
-const TWO: &str =
-    r#"{"apiVersion":"apiserver.config.k8s.io/v1","kind":"EncryptionConfiguration","resources":[{"resources":["secrets","pods.apps"],"providers":[{"aescbc":{"keys":[{"name":"key1","secret":"AAECAwQFBgcICQoLDA0ODw=="}]}},{"identity":{}}]}]}"#;
 
 /// Resources of one group are stored by a plugin.
 const KMS: &str =
@@ -156,23 +153,11 @@ const IV: &[u8] = &[
 
 #[test]
 fn shows_configurations(rt: HostRuntime) -> Result<(), Fail> {
-    let all = "check|--config|c.json";
-    let cases: [(&str, &str, &str); 9] = [
+    let cases: [(&str, &str, &str); 3] = [
         (
-            all,
+            "check|--config|c.json",
             THREE,
             "entry 0: secrets: identity\nentry 1: *.: aesgcm:k\nentry 2: *.*: aescbc:k\n",
-        ),
-        (
-            all,
-            TWO,
-            "entry 0: secrets,pods.apps: aescbc:key1,identity\n",
-        ),
-        (all, KMS, "entry 0: *.apps: kms:p\n"),
-        (
-            "check|--config|c.json|--resource|secrets",
-            THREE,
-            "identity\n",
         ),
         (
             "check|--resource|configmaps|--config=c.json",
@@ -181,20 +166,9 @@ fn shows_configurations(rt: HostRuntime) -> Result<(), Fail> {
         ),
         (
             "check|--config|c.json|--resource|deployments.apps",
-            THREE,
-            "aescbc:k\n",
-        ),
-        (
-            "check|--config|c.json|--resource|deployments.apps",
             KMS,
             "kms:p\n",
         ),
-        (
-            "check|--config|c.json|--resource|secrets",
-            TWO,
-            "aescbc:key1\nidentity\n",
-        ),
-        ("check|--config|c.json|--resource|pods", TWO, "identity\n"),
     ];
     for (words, config, output) in cases {
         let left = left_by(
@@ -209,45 +183,6 @@ fn shows_configurations(rt: HostRuntime) -> Result<(), Fail> {
         assert_eq!(rt; left.errors.as_slice(), b"".as_slice());
         assert_eq!(rt; left.status, 0);
     }
-    Ok(())
-}
-
-/// What the words leave of so many bytes of input.
-fn left_of(alloc: Global, words: &str, size: usize) -> Result<Left, NoMemory> {
-    let Ok(input) = vec![in alloc; 7u8; size] else {
-        return Err(NoMemory);
-    };
-    let dice: Option<&[u8]> = Some(&[]);
-    let call = Call {
-        words,
-        dice,
-        ..plain(input.as_slice())
-    };
-    left_by(alloc, &call)
-}
-
-#[test]
-fn limits_the_input(rt: HostRuntime) -> Result<(), Fail> {
-    let alloc = rt.alloc();
-    let most = left_of(alloc, ENCRYPT, 2_097_152)?;
-    assert_eq!(rt; most.status, 0);
-    assert_eq!(rt; most.output.as_slice().len(), 2_097_152);
-    let more = left_of(alloc, ENCRYPT, 2_097_153)?;
-    assert_eq!(rt; more.status, 6);
-    assert_eq!(rt;
-        more.errors.as_slice(),
-        b"kmsrest: limit data 2097152\n".as_slice()
-    );
-    assert_eq!(rt; more.output.as_slice().len(), 0);
-    let longest = left_of(alloc, DECRYPT, 2_162_688)?;
-    assert_eq!(rt; longest.status, 0);
-    assert_eq!(rt; longest.output.as_slice().len(), 2_162_688);
-    let longer = left_of(alloc, "inspect", 2_162_689)?;
-    assert_eq!(rt; longer.status, 6);
-    assert_eq!(rt;
-        longer.errors.as_slice(),
-        b"kmsrest: limit value 2162688\n".as_slice()
-    );
     Ok(())
 }
 
@@ -285,85 +220,23 @@ fn names_each_fault(rt: HostRuntime) -> Result<(), Fail> {
     Ok(())
 }
 
-/// A command with 17 replicas.
-const MANY: &str =
-    "judge|--store|s|--reload|0=f|--replica|f|--replica|f|--replica|f|--replica|f|--replica|f|--replica|f|--replica|f|--replica|f|--replica|f|--replica|f|--replica|f|--replica|f|--replica|f|--replica|f|--replica|f|--replica|f|--replica|f";
-
 #[test]
-fn refuses_other_words_and_files(rt: HostRuntime) -> Result<(), Fail> {
+fn refuses_words_and_files(rt: HostRuntime) -> Result<(), Fail> {
     let usage = "kmsrest: usage: kmsrest COMMAND OPTIONS\n";
-    let unserved = "kmsrest: text 50 0 0\n";
-    let cases: [(&str, &str, &str, u8); 16] = [
+    let cases: [(&str, &str, &str, u8); 4] = [
         ("", IDENTITY, usage, 2),
-        ("encrypt", IDENTITY, usage, 2),
-        ("list|--store|s", IDENTITY, usage, 2),
         (
-            "encrypt|--path=|--resource|secrets|--config=c.json",
-            IDENTITY,
-            "",
-            0,
-        ),
-        (MANY, IDENTITY, "kmsrest: limit replicas 16\n", 6),
-        (
-            "Encrypt|--config|c.json|--resource|secrets|--path|",
-            IDENTITY,
-            usage,
-            2,
-        ),
-        (
-            "encrypt|--config|c.json|--resource|Secrets|--path|",
-            IDENTITY,
-            usage,
-            2,
-        ),
-        (
-            "encrypt|--config|c.json|--resource|secrets|--path|a b",
-            IDENTITY,
-            usage,
-            2,
-        ),
-        (
-            "encrypt|--config|no.yaml|--resource|secrets|--path|",
+            "check|--config|no.yaml",
             IDENTITY,
             "kmsrest: text 40 no.yaml\n",
             3,
         ),
-        (
-            "encrypt|--config|c.json|--resource|secrets|--path|",
-            "{",
-            "kmsrest: text 20 0 0\n",
-            3,
-        ),
-        (
-            "encrypt|--config|c.json|--resource|secrets|--path|",
-            "{}",
-            "kmsrest: text 23 0 0\n",
-            3,
-        ),
-        (
-            "decrypt|--config|c.json|--resource|secrets|--path|",
-            KMS,
-            unserved,
-            3,
-        ),
+        ("check|--config|c.json", "{}", "kmsrest: text 23 0 0\n", 3),
         (
             "encrypt|--config|c.json|--resource|secrets|--path|",
             KMS,
-            unserved,
+            "kmsrest: text 50 0 0\n",
             3,
-        ),
-        (
-            "check|--config|n\u{e9}.yaml",
-            IDENTITY,
-            "kmsrest: text 40 n??.yaml\n",
-            3,
-        ),
-        ("check|--config=", IDENTITY, "kmsrest: text 40 \n", 3),
-        (
-            "encrypt|--config|c.json|--resource|pods|--path|",
-            IDENTITY,
-            "",
-            0,
         ),
     ];
     for (words, config, line, status) in cases {
@@ -378,77 +251,6 @@ fn refuses_other_words_and_files(rt: HostRuntime) -> Result<(), Fail> {
         assert_eq!(rt; left.errors.as_slice(), line.as_bytes());
         assert_eq!(rt; left.status, status);
         assert!(rt; left.dice_is_back);
-    }
-    Ok(())
-}
-
-#[test]
-fn refuses_configurations(rt: HostRuntime) -> Result<(), Fail> {
-    let alloc = rt.alloc();
-    // The patterns of the one entry, its providers, the line.
-    let cases: [(&str, &str, &str); 4] = [
-        (
-            r#"["secrets"]"#,
-            r#"{"kms":{"name":"p","endpoint":"unix:///run/p"}}"#,
-            "kmsrest: text 29 0 0\n",
-        ),
-        (
-            r#"["secrets"]"#,
-            r#"{"secretbox":{"keys":[]}}"#,
-            "kmsrest: text 28 0 0\n",
-        ),
-        (
-            r#"["secrets"]"#,
-            r#"{"aescbc":{"keys":[{"name":"k","secret":"AAECAwQFBgcICQoLDA0O"}]}}"#,
-            "kmsrest: text 34 0 0\n",
-        ),
-        (
-            r#"["*.*","secrets"]"#,
-            r#"{"identity":{}}"#,
-            "kmsrest: text 37 0 1\n",
-        ),
-    ];
-    for (patterns, provider, line) in cases {
-        let config = format!(in alloc; "{}{},\"providers\":[{}]}}]}}", BEGIN, patterns, provider)?;
-        let left = left_by(
-            alloc,
-            &Call {
-                words: "check|--config|c.json",
-                config: config.as_str(),
-                ..plain(b"")
-            },
-        )?;
-        assert_eq!(rt; left.errors.as_slice(), line.as_bytes());
-        assert_eq!(rt; left.output.as_slice(), b"".as_slice());
-        assert_eq!(rt; left.status, 3);
-    }
-    Ok(())
-}
-
-#[test]
-fn limits_configurations(rt: HostRuntime) -> Result<(), Fail> {
-    let alloc = rt.alloc();
-    let long = " ".repeat(alloc, 1_048_577)?;
-    let entries = r#"{},"#.repeat(alloc, 64)?;
-    let many = format!(in alloc;
-        "{{\"apiVersion\":\"apiserver.config.k8s.io/v1\",\"kind\":\"EncryptionConfiguration\",\"resources\":[{}{{}}]}}",
-        entries.as_str()
-    )?;
-    let cases: [(&str, &str); 2] = [
-        (long.as_str(), "kmsrest: limit config 1048576\n"),
-        (many.as_str(), "kmsrest: limit entries 64\n"),
-    ];
-    for (config, line) in cases {
-        let left = left_by(
-            alloc,
-            &Call {
-                words: "check|--config|c.json",
-                config,
-                ..plain(b"")
-            },
-        )?;
-        assert_eq!(rt; left.errors.as_slice(), line.as_bytes());
-        assert_eq!(rt; left.status, 6);
     }
     Ok(())
 }

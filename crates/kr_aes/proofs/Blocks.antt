@@ -8,7 +8,6 @@ use Rattle.std.proofs.lemmas.List.FromFn.{get_or-map-range_with_len}
 use Rattle.std.proofs.lemmas.Bool.{cases_lt}
 use Rattle.kr_aes.specs.declared.Rounds.{Rounds}
 use Rattle.kr_aes.specs.Field.{inverse}
-use Rattle.kr_aes.specs.InverseCipher.{inverse_affine}
 use Rattle.kr_aes.specs.Cipher.{IsBlock, add_round_key, affine, after_rounds, byte_of, cell, cipher, round_count, sbox, shift_rows, state_of, sub_bytes, word_byte}
 
 -- byte k of a state
@@ -36,6 +35,11 @@ pub affine-lt : (b : ℕ) → affine b < 256
 affine-lt b = byte_of-lt (λ i.
     (bit_at b i + bit_at b ((i + 4) % 8) + bit_at b ((i + 5) % 8) + bit_at b ((i + 6) % 8)
     + bit_at b ((i + 7) % 8) + bit_at 0x63 i) % 2) (λ i. mod-lt _ (omega arith))
+
+-- the inverse of the affine map, whose constant is 05 hex: bit i is the sum of three bits and of the constant's
+abbrev pub inverse_affine : ℕ → ℕ
+inverse_affine b = byte_of (λ i.
+    (bit_at b ((i + 2) % 8) + bit_at b ((i + 5) % 8) + bit_at b ((i + 7) % 8) + bit_at 5 i) % 2)
 
 pub inverse_affine-lt : (b : ℕ) → inverse_affine b < 256
 inverse_affine-lt b = byte_of-lt

@@ -3,7 +3,7 @@ use Rattle.std.proofs.Common.{◌≡◌, ℕ, ◌+◌, ◌*◌, ◌/◌, ◌%◌
 use Rattle.std.specs.Int.{w8, rotate_left}
 use Rattle.std.proofs.lemmas.List.FromFn.{fill_by_all}
 use Rattle.kr_aes.specs.Cipher.{affine, state_of}
-use Rattle.kr_aes.specs.InverseCipher.{inverse_affine}
+use Rattle.kr_aes.proofs.Blocks.{inverse_affine}
 use Rattle.kr_aes.proofs.Cases.{same_below}
 
 -- a byte, four rotations of it and the constant

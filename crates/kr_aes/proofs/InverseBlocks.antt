@@ -1,19 +1,14 @@
 -- What an inverse cipher gives is a block.
-use Rattle.std.proofs.Common.{◌≡◌, ℕ, ◌<◌, ◌-◌, List, length, refl}
+use Rattle.std.proofs.Common.{◌≡◌, ℕ, ◌<◌, ◌-◌, ◌==◌, List, length, arith}
 use Rattle.kr_aes.specs.declared.Rounds.{Rounds}
-use Rattle.kr_aes.specs.Field.{inverse, polynomial_product, product, remainder}
-use Rattle.kr_aes.specs.Cipher.{IsBlock, cell, round_count}
-use Rattle.kr_aes.specs.InverseCipher.{after_inverse_rounds, inverse_affine, inverse_cipher, inverse_sbox, inverse_shift_rows, inverse_sub_bytes}
-use Rattle.kr_aes.proofs.Blocks.{IsBlock-add_round_key, IsBlock-state_of, inverse_affine-lt}
-use Rattle.kr_aes.proofs.Cases.{bytes_below}
-
-inverse-lt : (b : ℕ) → b < 256 → inverse b < 256
-unfolding inverse product polynomial_product remainder
-inverse-lt = bytes_below 256 inverse refl
+use Rattle.kr_aes.specs.Cipher.{IsBlock, cell, round_count, sbox}
+use Rattle.kr_aes.specs.InverseCipher.{after_inverse_rounds, inverse_cipher, inverse_sbox, inverse_shift_rows, inverse_sub_bytes}
+use Rattle.kr_aes.proofs.Blocks.{IsBlock-add_round_key, IsBlock-state_of}
+use Rattle.kr_aes.proofs.Search.{find-lt}
 
 inverse_sbox-lt : (b : ℕ) → inverse_sbox b < 256
 unfolding inverse_sbox
-inverse_sbox-lt b = inverse-lt (inverse_affine b) (inverse_affine-lt b)
+inverse_sbox-lt b = find-lt (λ c. sbox c == b) 0 256 256 (omega arith) (omega arith)
 
 pub IsBlock-inverse_sub_bytes : (state : List ℕ) → IsBlock (inverse_sub_bytes state)
 unfolding inverse_sub_bytes

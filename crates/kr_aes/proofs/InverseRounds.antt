@@ -4,7 +4,7 @@ use Rattle.kr_aes.specs.declared.Rounds.{Rounds}
 use Rattle.kr_aes.specs.Cipher.{IsBlock, add_round_key, after_rounds, cipher, mix_columns, round_count, shift_rows, sub_bytes}
 use Rattle.kr_aes.specs.InverseCipher.{after_inverse_rounds, inverse_cipher, inverse_mix_columns, inverse_shift_rows, inverse_sub_bytes}
 use Rattle.kr_aes.proofs.Blocks.{IsBlock-add_round_key, IsBlock-shift_rows, IsBlock-sub_bytes}
-use Rattle.kr_aes.proofs.Columns.{IsBlock-mix_columns, inverse_mix_columns-mix_columns}
+use Rattle.kr_aes.proofs.MixedColumns.{IsBlock-mix_columns, inverse_mix_columns-mix_columns}
 use Rattle.kr_aes.proofs.RoundCounts.{one_round}
 use Rattle.kr_aes.proofs.Undone.{add_round_key_twice, inverse_shift_rows-shift_rows, inverse_sub_bytes-sub_bytes}
 

@@ -2,7 +2,7 @@
 use Rattle.std.proofs.Common.{◌≡◌, ℕ, zero, suc, ◌+◌, ◌*◌, ◌/◌, ◌%◌, ◌^◌, ◌<◌, bit_xor, refl, arith, add-one}
 use Rattle.std.specs.Int.{bit_at}
 use Rattle.std.specs.Int.Bits.{xor_zero_r}
-use Rattle.kr_aes.specs.Field.{polynomial_product, remainder, product}
+use Rattle.kr_aes.specs.Field.{modulus, polynomial_product, remainder, product}
 use Rattle.kr_aes.proofs.Cases.{same_below}
 use Rattle.kr_aes.proofs.Linear.{remainder-xor, zero_times, one_times}
 
@@ -20,19 +20,19 @@ shifted zero b = b
 shifted (suc i) b = product 2 (shifted i b)
 
 -- its remainder, at each of the 8 times 256 pairs
-remainder-shifted : (i b : ℕ) → i < 8 → b < 256 → remainder 7 (b * 2 ^ i) ≡ shifted i b
+remainder-shifted : (i b : ℕ) → i < 8 → b < 256 → remainder modulus 8 7 (b * 2 ^ i) ≡ shifted i b
 unfolding shifted product polynomial_product remainder
 remainder-shifted i b hi hb =
     let n : ℕ = 256 * i + b in
     let low : n % 256 ≡ b = omega arith in
     let high : n / 256 ≡ i = omega arith in
-    let at : remainder 7 (n % 256 * 2 ^ (n / 256)) ≡ shifted (n / 256) (n % 256) =
-    same_below 2048 (λ n. remainder 7 (n % 256 * 2 ^ (n / 256))) (λ n. shifted (n / 256) (n % 256)) refl n (omega arith) in
+    let at : remainder modulus 8 7 (n % 256 * 2 ^ (n / 256)) ≡ shifted (n / 256) (n % 256) =
+    same_below 2048 (λ n. remainder modulus 8 7 (n % 256 * 2 ^ (n / 256))) (λ n. shifted (n / 256) (n % 256)) refl n (omega arith) in
     rw (low, high) at at
 
 -- the terms below i of the product
 unfoldable pub partial_product : ℕ → ℕ → ℕ → ℕ
-partial_product i a b = remainder 7 (polynomial_product i a b)
+partial_product i a b = remainder modulus 8 7 (polynomial_product i a b)
 
 pub shifted_next : (i b : ℕ) → product 2 (shifted i b) ≡ shifted (i + 1) b
 unfolding shifted
@@ -41,7 +41,7 @@ shifted_next i b = rw add-one refl
 pub partial_product_next : (i a b : ℕ) → i < 8 → b < 256 → bit_at a i ≡ 1 → bit_xor (partial_product i a b) (shifted i b) ≡ partial_product (i + 1) a b
 unfolding partial_product polynomial_product
 partial_product_next i a b hi hb e =
-    rw (add-one, e, one_times (b * 2 ^ i), remainder-xor 7 (polynomial_product i a b) (b * 2 ^ i), remainder-shifted i b hi hb) refl
+    rw (add-one, e, one_times (b * 2 ^ i), remainder-xor modulus 8 7 (polynomial_product i a b) (b * 2 ^ i), remainder-shifted i b hi hb) refl
 
 pub partial_product_same : (i a b : ℕ) → bit_at a i ≡ 0 → partial_product i a b ≡ partial_product (i + 1) a b
 unfolding partial_product polynomial_product

@@ -1,8 +1,8 @@
 -- Each number of rounds has a last round.
-use Rattle.std.proofs.Common.{◌≡◌, ◌+◌, ◌-◌, ◌≤◌, refl, arith}
+use Rattle.std.proofs.Common.{◌≡◌, ℕ, suc, List, ◌+◌, ◌-◌, ◌≤◌, refl, ap, arith}
 use Rattle.kr_aes.specs.declared.Rounds.{Rounds}
 use Rattle.kr_aes.specs.declared.Rounds.TheVariants.{Ten, Twelve, Fourteen}
-use Rattle.kr_aes.specs.Cipher.{round_count}
+use Rattle.kr_aes.specs.Cipher.{add_round_key, after_rounds, mix_columns, round_count, shift_rows, sub_bytes}
 
 pub some_rounds : (rounds : Rounds) → 1 ≤ round_count rounds
 some_rounds Ten = omega arith
@@ -13,3 +13,17 @@ pub one_round : (rounds : Rounds) → round_count rounds - 1 + 0 + 1 ≡ round_c
 one_round Ten = refl
 one_round Twelve = refl
 one_round Fourteen = refl
+
+pub few_rounds : (rounds : Rounds) → round_count rounds ≤ 14
+few_rounds Ten = omega arith
+few_rounds Twelve = omega arith
+few_rounds Fourteen = omega arith
+
+-- one more round
+pub after_rounds_next : (words block : List ℕ) (n : ℕ) → 1 ≤ n
+    → after_rounds words block (n + 1 - 1) ≡ add_round_key words n (mix_columns (shift_rows (sub_bytes (after_rounds words block (n - 1)))))
+unfolding after_rounds
+after_rounds_next words block n some =
+    let e : n + 1 - 1 ≡ suc (n - 1) = omega arith in
+    let at : suc (n - 1) ≡ n = omega arith in
+    rw e (ap (λ i. add_round_key words i (mix_columns (shift_rows (sub_bytes (after_rounds words block (n - 1)))))) at)

@@ -11,7 +11,7 @@ unfoldable pub sum4 : ℕ → ℕ → ℕ → ℕ → ℕ
 sum4 a b c d = bit_xor (bit_xor (bit_xor a b) c) d
 
 -- the sum of two sums of four
-sum4-xor : (a b c d e f g h : ℕ) → sum4 (bit_xor a e) (bit_xor b f) (bit_xor c g) (bit_xor d h) ≡ bit_xor (sum4 a b c d) (sum4 e f g h)
+pub sum4-xor : (a b c d e f g h : ℕ) → sum4 (bit_xor a e) (bit_xor b f) (bit_xor c g) (bit_xor d h) ≡ bit_xor (sum4 a b c d) (sum4 e f g h)
 unfolding sum4
 sum4-xor a b c d e f g h =
     rw (xor_interchange a e b f, xor_interchange (bit_xor a b) (bit_xor e f) c g, xor_interchange (bit_xor (bit_xor a b) c) (bit_xor (bit_xor e f) g) d h) refl
@@ -25,7 +25,7 @@ sum4-sum4 a b c d e f g h i j k l m n o p =
     ∙ ap (λ (x : ℕ). bit_xor x (sum4 d h l p)) (sum4-xor (bit_xor a b) (bit_xor e f) (bit_xor i j) (bit_xor m n) c g k o
     ∙ ap (λ (x : ℕ). bit_xor x (sum4 c g k o)) (sum4-xor a e i m b f j n))
 
-sum4-same : {a b c d e f g h : ℕ} → a ≡ e → b ≡ f → c ≡ g → d ≡ h → sum4 a b c d ≡ sum4 e f g h
+pub sum4-same : {a b c d e f g h : ℕ} → a ≡ e → b ≡ f → c ≡ g → d ≡ h → sum4 a b c d ≡ sum4 e f g h
 sum4-same p q r s = λ i. sum4 (p i) (q i) (r i) (s i)
 
 sum4_alone : (x : ℕ) → sum4 x 0 0 0 ≡ x
@@ -33,7 +33,7 @@ unfolding sum4
 sum4_alone x = xor_zero_r (bit_xor (bit_xor x 0) 0) ∙ xor_zero_r (bit_xor x 0) ∙ xor_zero_r x
 
 -- the last goes to the front
-sum4-turned : (a b c d : ℕ) → sum4 a b c d ≡ sum4 d a b c
+pub sum4-turned : (a b c d : ℕ) → sum4 a b c d ≡ sum4 d a b c
 unfolding sum4
 sum4-turned a b c d =
     xor_comm (bit_xor (bit_xor a b) c) d ∙ sym (xor_assoc d (bit_xor a b) c) ∙ ap (λ (x : ℕ). bit_xor x c) (sym (xor_assoc d a b))
@@ -80,6 +80,18 @@ unmixed_sum x y z w hx hy hz hw =
     ∙ sum4-sum4 _ _ _ _ _ _ _ _ _ _ _ _ _ _ _ _
     ∙ sum4-same (own_row x hx) (next_row y hy) (second_row z hz) (third_row w hw)
     ∙ sum4_alone x
+
+-- the first goes to the end, and the halves change places
+pub sum4-left : (a b c d : ℕ) → sum4 a b c d ≡ sum4 b c d a
+sum4-left a b c d = sym (sum4-turned b c d a)
+
+pub sum4-half : (a b c d : ℕ) → sum4 a b c d ≡ sum4 c d a b
+sum4-half a b c d = sum4-left a b c d ∙ sum4-left b c d a
+
+-- a sum of bytes is a byte
+pub sum4-lt : (a b c d : ℕ) → a < 256 → b < 256 → c < 256 → d < 256 → sum4 a b c d < 256
+unfolding sum4
+sum4-lt a b c d ha hb hc hd = xor_of_8 _ _ (xor_of_8 _ _ (xor_of_8 _ _ ha hb) hc) hd
 
 -- a byte times a factor is a byte
 product_one-lt : (b : ℕ) → b < 256 → product 1 b < 256

@@ -1,17 +1,15 @@
 -- Each inverse transformation undoes its own.
-use Rattle.std.proofs.Common.{◌≡◌, ℕ, List, length, slice_index, bit_xor, refl, sym, ap, ◌∙◌, ◌+◌, ◌*◌, ◌/◌, ◌%◌, ◌<◌}
+use Rattle.std.proofs.Common.{◌≡◌, ℕ, List, length, slice_index, bit_xor, sym, ap, ◌∙◌, ◌+◌, ◌*◌, ◌/◌, ◌%◌}
 use Rattle.std.specs.Int.Bits.{xor_self, xor_zero_r}
 use lib.Bits.{xor_assoc}
-use Rattle.kr_aes.specs.Field.{inverse, polynomial_product, product, remainder}
-use Rattle.kr_aes.specs.Cipher.{IsBlock, add_round_key, affine, cell, sbox, shift_rows, state_of, sub_bytes, word_byte}
-use Rattle.kr_aes.specs.InverseCipher.{inverse_affine, inverse_sbox, inverse_shift_rows, inverse_sub_bytes}
-use Rattle.kr_aes.proofs.Blocks.{cell-lt, inverse_affine-lt}
-use Rattle.kr_aes.proofs.Cases.{same_below}
-use Rattle.kr_aes.proofs.Powers.{times_squares, times_squares-inverse}
+use Rattle.kr_aes.specs.Cipher.{IsBlock, add_round_key, cell, sbox, shift_rows, state_of, sub_bytes, word_byte}
+use Rattle.kr_aes.specs.InverseCipher.{inverse_sbox, inverse_shift_rows, inverse_sub_bytes}
+use Rattle.kr_aes.proofs.Blocks.{cell-lt}
 use Rattle.kr_aes.proofs.Boxes.{place_of_cell, state_of_cells}
+use Rattle.kr_aes.proofs.TableCells.{inverse_sbox-sbox}
 
 -- a state is its cells
-state_of-cell : (state : List ℕ) → length state ≡ 16 → state ≡ state_of (cell state)
+pub state_of-cell : (state : List ℕ) → length state ≡ 16 → state ≡ state_of (cell state)
 state_of-cell state size = state_of_cells state (cell state) size (λ k lt. ap (slice_index state) (place_of_cell k))
 
 pub inverse_shift_rows-shift_rows : (state : List ℕ) → length state ≡ 16 → inverse_shift_rows (shift_rows state) ≡ state
@@ -27,17 +25,6 @@ add_round_key_twice words round state size =
   where
     twice : (a b : ℕ) → bit_xor (bit_xor a b) b ≡ a
     twice a b = xor_assoc a b b ∙ ap (bit_xor a) (xor_self b) ∙ xor_zero_r a
-
-undone_byte : (b : ℕ) → b < 256 → times_squares 7 (inverse_affine (affine (times_squares 7 b 1))) 1 ≡ b
-unfolding product polynomial_product remainder times_squares
-undone_byte = same_below 256 (λ b. times_squares 7 (inverse_affine (affine (times_squares 7 b 1))) 1) (λ b. b) refl
-
-inverse_sbox-sbox : (b : ℕ) → b < 256 → inverse_sbox (sbox b) ≡ b
-unfolding sbox inverse_sbox
-inverse_sbox-sbox b h =
-    sym (times_squares-inverse (inverse_affine (affine (inverse b))) (inverse_affine-lt (affine (inverse b))))
-    ∙ ap (λ x. times_squares 7 (inverse_affine (affine x)) 1) (sym (times_squares-inverse b h))
-    ∙ undone_byte b h
 
 pub inverse_sub_bytes-sub_bytes : (state : List ℕ) → IsBlock state → inverse_sub_bytes (sub_bytes state) ≡ state
 unfolding inverse_sub_bytes sub_bytes

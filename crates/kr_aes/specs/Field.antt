@@ -5,25 +5,25 @@ use Rattle.std.specs.Prelude.{◌≡◌, ℕ, zero, suc, ◌+◌, ◌*◌, ◌^�
 use Rattle.std.specs.Int.{bit_at}
 use Rattle.std.specs.List.{range_with_len}
 
--- x^8 + x^4 + x^3 + x + 1, which no two polynomials of lower degree multiply to (4.2)
-abbrev pub modulus : ℕ
-modulus = 0x11b
-
 -- the product of two polynomials: the sum of the second times x^i, for each x^i below x^n in the
 -- first (4.2)
 unfoldable pub polynomial_product : ℕ → ℕ → ℕ → ℕ
 polynomial_product zero a b = 0
 polynomial_product (suc i) a b = bit_xor (polynomial_product i a b) (bit_at a i * (b * 2 ^ i))
 
--- the remainder of a polynomial of degree below n + 8 by the modulus: from the highest term down, an
--- x^(i + 8) in it is taken away by the modulus times x^i (4.2)
-unfoldable pub remainder : ℕ → ℕ → ℕ
-remainder zero p = p
-remainder (suc i) p = remainder i (bit_xor p (bit_at p (i + 8) * (modulus * 2 ^ i)))
+-- the remainder of a polynomial of degree below n + d by a modulus of degree d: from the highest term
+-- down, an x^(i + d) in it is taken away by the modulus times x^i (4.2)
+unfoldable pub remainder : ℕ → ℕ → ℕ → ℕ → ℕ
+remainder divisor d zero p = p
+remainder divisor d (suc i) p = remainder divisor d i (bit_xor p (bit_at p (i + d) * (divisor * 2 ^ i)))
+
+-- x^8 + x^4 + x^3 + x + 1, which no two polynomials of lower degree multiply to (4.2)
+abbrev pub modulus : ℕ
+modulus = 0x11b
 
 -- the product of two bytes (4.2)
 unfoldable pub product : ℕ → ℕ → ℕ
-product a b = remainder 7 (polynomial_product 8 a b)
+product a b = remainder modulus 8 7 (polynomial_product 8 a b)
 
 -- the byte whose product with b is 1, and 0 for 0, which has none (4.4)
 unfoldable pub inverse : ℕ → ℕ

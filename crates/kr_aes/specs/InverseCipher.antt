@@ -1,9 +1,8 @@
 -- The inverse cipher (FIPS 197, as updated in 2023, section 5.3) on one block of 16 bytes.
-use Rattle.std.specs.Prelude.{◌≡◌, ℕ, zero, suc, ◌+◌, ◌-◌, ◌%◌, List, [], ◌∷◌}
-use Rattle.std.specs.Int.{bit_at}
+use Rattle.std.specs.Prelude.{◌≡◌, ℕ, zero, suc, ◌+◌, ◌-◌, ◌%◌, ◌==◌, List, [], ◌∷◌, find, unwrap_or}
+use Rattle.std.specs.List.{range_with_len}
 use Rattle.kr_aes.specs.declared.Rounds.{Rounds}
-use Rattle.kr_aes.specs.Field.{inverse}
-use Rattle.kr_aes.specs.Cipher.{IsBlock, add_round_key, byte_of, cell, cipher, mixed, round_count, state_of}
+use Rattle.kr_aes.specs.Cipher.{IsBlock, add_round_key, cell, cipher, mixed, round_count, sbox, state_of}
 
 -- ---- InvShiftRows (5.3.1): row r goes r cells to the right, in a ring
 
@@ -12,15 +11,9 @@ inverse_shift_rows state = state_of (λ row column. cell state row ((column + 4 
 
 -- ---- InvSubBytes (5.3.2)
 
--- the inverse of the affine map, whose constant is 05 hex: bit i is the sum of three bits and of
--- the constant's
-abbrev pub inverse_affine : ℕ → ℕ
-inverse_affine b = byte_of (λ i.
-    (bit_at b ((i + 2) % 8) + bit_at b ((i + 5) % 8) + bit_at b ((i + 7) % 8) + bit_at 0x05 i) % 2)
-
--- the inverse S-box
+-- the inverse S-box: the byte whose S-box this is
 unfoldable pub inverse_sbox : ℕ → ℕ
-inverse_sbox b = inverse (inverse_affine b)
+inverse_sbox b = unwrap_or (find (λ c. sbox c == b) (range_with_len 0 256)) 0
 
 unfoldable pub inverse_sub_bytes : List ℕ → List ℕ
 inverse_sub_bytes state = state_of (λ row column. inverse_sbox (cell state row column))

@@ -1,4 +1,4 @@
-// The field of 256 elements (FIPS 197 section 4).
+//! The field of 256 elements (FIPS 197 section 4).
 
 ghost use Rattle.std.specs.Prelude.{◌≡◌};
 ghost use Rattle.kr_aes.specs.Field.{inverse, product};

@@ -1,4 +1,4 @@
-// The inverse transformations of the state (FIPS 197 sections 5.3.1 to 5.3.3).
+//! The inverse transformations of the state (FIPS 197 sections 5.3.1 to 5.3.3).
 
 ghost use Rattle.std.specs.Prelude.{◌≡◌};
 ghost use Rattle.kr_aes.specs.InverseCipher.{inverse_mix_columns, inverse_sbox, inverse_shift_rows, inverse_sub_bytes};

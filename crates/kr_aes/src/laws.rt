@@ -1,6 +1,7 @@
-// Laws of the definitions, for a reader and for callers' proofs. The functions do nothing.
+//! Laws of the definitions, for a reader and for callers' proofs. The functions do nothing.
 
 ghost use Rattle.kr_aes.specs.Cipher.{CipherGivesBlocks};
+ghost use Rattle.kr_aes.specs.EquivalentInverse.{EquivalentIsInverse};
 ghost use Rattle.kr_aes.specs.Field.{EachHasInverse, ProductDistributes};
 ghost use Rattle.kr_aes.specs.InverseCipher.{InverseGivesBlocks, InverseUndoesCipher};
 ghost use Rattle.kr_aes.specs.KeyExpansion.{EachWordFollows};
@@ -33,4 +34,9 @@ pub fn block_of_inverse_cipher()
 /// The inverse cipher of a cipher is the block itself.
 pub fn inverse_of_cipher()
     ensures { InverseUndoesCipher }
+{}
+
+/// The equivalent inverse cipher under its schedule is the inverse cipher.
+pub fn equivalent_of_inverse()
+    ensures { EquivalentIsInverse }
 {}

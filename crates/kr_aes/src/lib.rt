@@ -1,18 +1,21 @@
-// AES on single blocks (FIPS 197).
+//! AES on single blocks (FIPS 197), by tables of words. Nothing is allocated.
 #![tactic(auto)]
 
 ghost use Rattle.std.specs.Prelude.{◌≡◌, ◌↔◌, ℕ, List, length, IsOk, IfOk, OnOk, OnErr, MatchOption};
 ghost use Rattle.kr_aes.specs.Cipher.{IsBlock, cipher, round_count};
+ghost use Rattle.kr_aes.specs.EquivalentInverse.{equivalent_inverse_cipher, inverse_schedule};
 ghost use Rattle.kr_aes.specs.InverseCipher.{inverse_cipher};
 ghost use Rattle.kr_aes.specs.KeyExpansion.{IsKeyLength, IsKeyOf, IsSchedule, padded_schedule};
 
+mod cells;
+mod columns;
 mod field;
 mod inverse_state;
-mod key_words;
+mod key_expansion;
 pub mod laws;
+pub mod plain;
 mod state;
-#[cfg(test)]
-mod tests;
+mod tables;
 
 /// How many rounds a key has: ten for 16 bytes, twelve for 24 and fourteen for 32.
 #[derive(Clone, Copy, PartialEq, Eq, Debug)]
@@ -65,7 +68,7 @@ pub fn expand(key: &[u8], words: &mut [u32; 60]) -> Result<Rounds, KeyLength>
     };
     let count = 4 * (rounds.count() + 1);
     for i in 0..count {
-        words[i] = key_words::next_word(key, words, i);
+        words[i] = key_expansion::next_word(key, words, i);
     }
     for i in count..60 {
         words[i] = 0;
@@ -80,16 +83,42 @@ pub fn encrypt_block(words: &[u32; 60], rounds: Rounds, block: &mut [u8; 16])
     ensures { block.new ≡ cipher words.now rounds block.old }
 {
     let last = rounds.count();
-    state::add_round_key(words, 0, block);
+    let mut state = columns::first(words, 0, block);
     for round in 1..last {
-        state::sub_bytes(block);
-        state::shift_rows(block);
-        state::mix_columns(block);
-        state::add_round_key(words, round, block);
+        let next = columns::forward_round(words, round, state);
+        state = next;
     }
-    state::sub_bytes(block);
-    state::shift_rows(block);
-    state::add_round_key(words, last, block);
+    let ciphered = columns::last_forward_round(words, last, state);
+    *block = columns::block_of(ciphered);
+}
+
+/// Writes the schedule of the equivalent inverse cipher (FIPS 197 section 5.3.5), by which many blocks
+/// are deciphered, from a key's words.
+pub fn invert(words: &[u32; 60], rounds: Rounds, inverse: &mut [u32; 60])
+    ensures { inverse.new ≡ inverse_schedule words.now rounds }
+{
+    let last = rounds.count();
+    *inverse = *words;
+    for i in 4..4 * last {
+        inverse[i] = columns::inverse_mixed_word(words[i]);
+    }
+}
+
+/// Puts the inverse cipher of a block in its place, by the equivalent inverse cipher. The schedule is
+/// what `invert` made.
+pub fn decrypt_block_by_inverse(inverse: &[u32; 60], rounds: Rounds, block: &mut [u8; 16])
+    ensures equivalent { block.new ≡ equivalent_inverse_cipher inverse.now rounds block.old }
+    ensures inverse { (words : List ℕ) → inverse.now ≡ inverse_schedule words rounds
+        → block.new ≡ inverse_cipher words rounds block.old }
+{
+    let last = rounds.count();
+    let mut state = columns::first(inverse, last, block);
+    for round in (1..last).rev() {
+        let next = columns::inverse_round(inverse, round, state);
+        state = next;
+    }
+    let deciphered = columns::last_inverse_round(inverse, 0, state);
+    *block = columns::block_of(deciphered);
 }
 
 /// Puts the inverse cipher of a block in its place (FIPS 197 section 5.3). The words and the rounds
@@ -100,15 +129,7 @@ pub fn decrypt_block(words: &[u32; 60], rounds: Rounds, block: &mut [u8; 16])
     ensures undone { (plain : List ℕ) → IsBlock plain
         → block.old ≡ cipher words.now rounds plain → block.new ≡ plain }
 {
-    let count = rounds.count();
-    state::add_round_key(words, count, block);
-    for round in (1..count).rev() {
-        inverse_state::inverse_shift_rows(block);
-        inverse_state::inverse_sub_bytes(block);
-        state::add_round_key(words, round, block);
-        inverse_state::inverse_mix_columns(block);
-    }
-    inverse_state::inverse_shift_rows(block);
-    inverse_state::inverse_sub_bytes(block);
-    state::add_round_key(words, 0, block);
+    let mut inverse = [0; 60];
+    invert(words, rounds, &mut inverse);
+    decrypt_block_by_inverse(&inverse, rounds, block);
 }

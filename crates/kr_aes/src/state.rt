@@ -1,4 +1,4 @@
-// The transformations of the state (FIPS 197 sections 5.1.1 to 5.1.4).
+//! The transformations of the state (FIPS 197 sections 5.1.1 to 5.1.4).
 
 ghost use Rattle.std.specs.Prelude.{◌≡◌, ◌<◌, ◌≤◌, ◌+◌, ◌*◌, ◌/◌, ◌%◌};
 ghost use Rattle.kr_aes.specs.Cipher.{add_round_key, column_sum, mix_columns, mixed, sbox, shift_rows, sub_bytes};

@@ -1,10 +1,12 @@
--- The rules as facts and as tests say the same.
+-- The rules and limits as facts and as tests say the same.
 use Rattle.std.proofs.Common.{◌≡◌, ℕ, ◌≤◌, List, [], ◌∷◌, length, Bool, true, false, ◌&&◌, ◌==◌, refl, sym, ◌∙◌, subst, inl, inr, arith, All}
 use Rattle.std.specs.Prelude.{nat_le, if◌then◌else◌}
 use Rattle.std.specs.Bool.{Decides}
 use Rattle.std.specs.List.{list_all}
 use Rattle.std.proofs.lemmas.Bool.{leb-true, le-leb}
 use Rattle.std.proofs.lemmas.Bool.Decides.{Decides-eqb, Decides-and, Decides-or, Decides-not, Decides-by_and, Decides-like}
+use Rattle.kr_base.specs.Pairs.{Pairs}
+use Rattle.kr_base.specs.Limits.{AreFew, are_few, size_of}
 use Rattle.kr_base.specs.Rules.{IsGraphic, IsPath, IsName, IsLabelByte, IsLabel, IsResource, is_graphic, is_path, is_name, is_label_byte, is_label, is_resource, first_part, later_parts}
 use Rattle.kr_base.proofs.Labels.{Parted, parted_labels, labels_parted}
 
@@ -80,3 +82,6 @@ parted (byte ∷ bytes) = let p = parted bytes in (rest_by (byte == 0x2E) byte b
 
 pub resource : (bytes : List ℕ) → Decides (is_resource bytes) (IsResource bytes)
 resource bytes = Decides-and _ _ (at_most (length bytes) 253) (Decides-like _ (parted_labels bytes) (labels_parted bytes) (parted bytes).1)
+
+pub few : (pairs : Pairs) → Decides (are_few pairs) (AreFew pairs)
+few pairs = Decides-and _ _ (at_most (length pairs) 256) (at_most (size_of pairs) 32768)

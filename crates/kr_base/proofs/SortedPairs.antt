@@ -13,7 +13,8 @@ use Rattle.std.proofs.lemmas.Map.Text.{is_eq-slice_cmp}
 use Rattle.std.proofs.lemmas.Slice.Eq.{bytes_eq-Decides}
 use Rattle.std.proofs.lemmas.List.{get_or_default}
 use Rattle.std.specs.Prelude.{Ok, Err}
-use Rattle.kr_base.specs.Pairs.{Pairs, IsSortedByKey, with_pair, IsPlaceOf}
+use Rattle.kr_base.specs.Pairs.{Pairs, IsSortedByKey, with_pair}
+use Rattle.kr_base.specs.inner.Places.{IsPlaceOf}
 
 abbrev compare : List ℕ → List ℕ → Ordering
 compare = slice_cmp nat_cmp

@@ -1,7 +1,8 @@
 -- Counts of faults: what an object of the outside answers as its cause.
 use Rattle.std.specs.Prelude.{◌≡◌, ℕ, ◌-◌, ◌^◌, ◌<◌, ◌≤◌, ◌⊎◌, Result, OnErr}
 
--- the count is higher than it was; a count at its greatest value can't rise any more, and there this counts as met
+-- the count is higher than it was; a count at its greatest value can't rise any more, and there
+-- this counts as met
 abbrev pub Rose : ℕ → ℕ → Type 0
 Rose before now = (before < now) ⊎ ((before ≡ 2 ^ 64 - 1) × (now ≡ 2 ^ 64 - 1))
 

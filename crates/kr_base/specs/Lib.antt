@@ -1,8 +1,11 @@
 pub mod Faults
+pub mod Numbering
 pub mod Told
 pub mod Streams
 pub mod Tapes
-pub mod Rules
-pub mod Played
 pub mod Pairs
+pub mod Limits
+pub mod Rules
+pub mod InMemory
 pub mod formers
+pub mod inner

@@ -1,8 +1,12 @@
 -- Pairs of a key and a value, each key once.
-use Rattle.std.specs.Prelude.{◌≡◌, ℕ, ◌<◌, ◌≤◌, List, length, slice_set, Result, Ok, Err}
-use Rattle.std.specs.List.{insert}
+use Rattle.std.specs.Prelude.{◌≡◌, ℕ, ◌&&◌, ◌++◌, Bool, true, nat_eq, refl, List}
 use Rattle.std.specs.Ordering.{nat_cmp}
-use Rattle.std.specs.Cmp.Lexicographic.{slice_cmp}
+use Rattle.std.specs.Cmp.Lexicographic.{slice_cmp, pointwise, pointwise_decides, bytes_decides}
+use Rattle.std.specs.Bool.{Decides}
+use Rattle.std.specs.Hash as fed
+use Rattle.std.specs.Hash.{HashWrites}
+use Rattle.std.proofs.Common.{subst}
+use Rattle.std.specs.Cmp.{first_so, second_so}
 use Rattle.std.specs.List.Sorted.{IsStrictlySortedBy}
 use Rattle.std.specs.Map.{keys_of}
 use Rattle.std.specs.BTreeMap.{insert_entry}
@@ -18,7 +22,27 @@ IsSortedByKey pairs = IsStrictlySortedBy (slice_cmp nat_cmp) (keys_of pairs)
 abbrev pub with_pair : Pairs → List ℕ → List ℕ → Pairs
 with_pair pairs key value = insert_entry (slice_cmp nat_cmp) pairs key value
 
--- where the key stands, or before which pair it belongs: there a new value gives the pairs with it
-abbrev pub IsPlaceOf : Pairs → List ℕ → Result ℕ ℕ → Type 0
-IsPlaceOf pairs key (Ok at) = (at < length pairs) × ((value : List ℕ) → slice_set pairs at (key, value) ≡ with_pair pairs key value)
-IsPlaceOf pairs key (Err at) = (at ≤ length pairs) × ((value : List ℕ) → insert pairs at (key, value) ≡ with_pair pairs key value)
+abbrev pub pair_eq : List ℕ × List ℕ → List ℕ × List ℕ → Bool
+pair_eq a b = pointwise nat_eq a.0 b.0 && pointwise nat_eq a.1 b.1
+
+-- whether the pairs are the same, as a test
+abbrev pub pairs_eq : Pairs → Pairs → Bool
+pairs_eq = pointwise pair_eq
+
+-- the tests say exactly that they are the same
+pair_decides : (a b : List ℕ × List ℕ) → Decides (pair_eq a b) (a ≡ b)
+pair_decides a b = (
+  λ h i. (
+    (bytes_decides a.0 b.0).0 (first_so _ _ h) i,
+    (bytes_decides a.1 b.1).0 (second_so _ _ h) i,
+  ),
+  λ e. subst (λ p. pair_eq a p ≡ true) e
+      (λ i. (bytes_decides a.0 a.0).1 refl i && (bytes_decides a.1 a.1).1 refl i),
+)
+
+pub pairs_decide : (a b : Pairs) → Decides (pairs_eq a b) (a ≡ b)
+pairs_decide = pointwise_decides pair_decides
+
+-- what a hasher is fed of them
+abbrev pub fed_by : Pairs → HashWrites
+fed_by pairs = fed.slice (λ pair. fed.str pair.0 ++ fed.slice fed.u8 pair.1) pairs

@@ -1,8 +1,8 @@
 -- What reading and writing whole contents does to the bytes that an object tells.
 use Rattle.std.specs.Prelude.{◌≡◌, ℕ, ◌+◌, ◌≤◌, List, length, take, Option, Result, Ok, Err}
 use Rattle.std.specs.Io.KnownBytes.{Appends, Consumes, IsAtEnd}
-use Rattle.kr_base.specs.declared.answers.ReadNo.{ReadNo}
-use Rattle.kr_base.specs.declared.answers.ReadNo.TheVariants.{Failed, TooLong, NoMemory}
+use Rattle.kr_base.specs.declared.errors.ReadNo.{ReadNo}
+use Rattle.kr_base.specs.declared.errors.ReadNo.TheVariants.{Failed, TooLong, NoMemory}
 
 -- n bytes were taken from the front
 abbrev pub TakesCount : Option (List ℕ) → Option (List ℕ) → ℕ → Type 0
@@ -16,7 +16,8 @@ TakesAtMost old new n = (bytes : List ℕ) × Consumes old new bytes × (length 
 abbrev pub AppendsFront : Option (List ℕ) → Option (List ℕ) → List ℕ → Type 0
 AppendsFront old new bytes = (n : ℕ) × (n ≤ length bytes) × Appends old new (take n bytes)
 
--- a source was read to its end: the whole of it, or `TooLong` exactly where one byte more than the limit was taken
+-- a source was read to its end: the whole of it, or `TooLong` exactly where one byte more than the
+-- limit was taken
 abbrev pub ReadsWhole : Option (List ℕ) → Option (List ℕ) → ℕ → Result (List ℕ) ReadNo → Type 0
 ReadsWhole old new limit (Ok bytes) = Consumes old new bytes × IsAtEnd new × (length bytes ≤ limit)
 ReadsWhole old new limit (Err TooLong) = TakesCount old new (limit + 1)

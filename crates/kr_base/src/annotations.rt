@@ -1,14 +1,20 @@
-ghost use Rattle.std.specs.Prelude.{◌≡◌, [], OnOk, OnErr};
-ghost use Rattle.kr_base.specs.Pairs.{IsSortedByKey, with_pair, IsPlaceOf};
+//! Annotations: values under texts.
+ghost use Rattle.std.specs.Prelude.{◌≡◌, ◌++◌, [], IfOk, OnOk, OnErr};
+ghost use Rattle.std.specs.Cmp.Rules.{comparing};
+ghost use Rattle.std.specs.Hash.{same_Alike};
+ghost use Rattle.std.proofs.Common.{rules};
+ghost use Rattle.kr_base.specs.Pairs.{IsSortedByKey, with_pair, pairs_eq, pairs_decide, fed_by};
+ghost use Rattle.kr_base.specs.inner.Places.{IsPlaceOf};
 
-use crate::answers::NoMemory;
 use crate::bytes::Bytes;
+use crate::errors::NoMemory;
 use crate::text::Text;
 use std::alloc::Global;
+use std::hash::{Hash, Hasher};
 use std::marker::Model;
 
-/// Values under texts, as a plugin annotates what it wrapped. Contracts see it as the pairs in the order of their
-/// keys' bytes, each key once.
+/// Values under texts, as a plugin annotates what it wrapped. Contracts see it as the pairs in the
+/// order of their keys' bytes, each key once.
 #[derive(Debug, Drop)]
 pub struct Annotations {
     pairs: Vec<(Text, Bytes)>,
@@ -32,6 +38,14 @@ impl Annotations {
         Annotations {
             pairs: Vec::new(alloc),
         }
+    }
+
+    /// A copy of its own.
+    pub fn copy(&self, alloc: Global) -> Result<Annotations, NoMemory>
+        ensures { IfOk result (λ copy. copy ≡ self.now) }
+    {
+        let pairs = copied(alloc, &self.pairs)?;
+        Ok(Annotations { pairs })
     }
 
     /// Puts the pair at its key's place, and replaces the value of a key that is there.
@@ -58,6 +72,42 @@ impl Annotations {
     {
         self.pairs.as_slice()
     }
+}
+
+impl PartialEq for Annotations {
+    ghost eq = { pairs_eq };
+
+    ghost laws = { Prim.search (comparing, rules) };
+
+    fn eq(&self, other: &Annotations) -> bool {
+        self.pairs() == other.pairs()
+    }
+}
+
+impl Eq for Annotations {
+    ghost laws = { Prim.search (comparing, rules) };
+}
+
+impl Hash for Annotations {
+    ghost hash_input = { fed_by };
+
+    ghost respects_eq = { (same_Alike fed_by pairs_decide).fed };
+
+    fn hash<H: Hasher>(&self, state: &mut H) {
+        self.pairs().hash(state);
+    }
+}
+
+fn copied(alloc: Global, pairs: &[(Text, Bytes)]) -> Result<Vec<(Text, Bytes)>, NoMemory>
+    ensures { IfOk result (λ copy. copy.items ≡ pairs.now) }
+{
+    let mut copy = Vec::new(alloc);
+    for (key, value) in pairs {
+        let key = Text::copy(alloc, key.as_str())?;
+        let value = Bytes::copy(alloc, value.as_slice())?;
+        copy.push((key, value))?;
+    }
+    Ok(copy)
 }
 
 /// Where the key stands, or else before which pair it belongs.

@@ -1,4 +1,5 @@
-ghost use Rattle.std.specs.Prelude.{◌≡◌, ℕ, List, [], ◌∷◌, ◌++◌, length, IfOk, OnOk, OnErr, nat_eq, ◌↔◌, IsTrue, Some};
+//! Byte strings.
+ghost use Rattle.std.specs.Prelude.{◌≡◌, ℕ, List, [], ◌∷◌, ◌++◌, ◌<◌, length, All, IfOk, OnOk, OnErr, nat_eq, ◌↔◌, IsTrue, Some};
 ghost use Rattle.std.specs.Ordering.{nat_cmp};
 ghost use Rattle.std.specs.Cmp.{partial_equiv_from_equiv};
 ghost use Rattle.std.specs.Cmp.Lexicographic.{pointwise, slice_cmp, nat_list_eq_equiv, nat_list_cmp_total, texts_ties, texts_po};
@@ -6,7 +7,7 @@ ghost use Rattle.std.specs.Cmp.Rules.{hashing};
 ghost use Rattle.std.specs.Hash as fed;
 ghost use Rattle.std.proofs.Common.{refl, rules};
 
-use crate::answers::NoMemory;
+use crate::errors::NoMemory;
 use std::alloc::Global;
 use std::cmp::Ordering;
 use std::hash::{Hash, Hasher};
@@ -38,10 +39,9 @@ impl Bytes {
     pub fn copy(alloc: Global, bytes: &[u8]) -> Result<Bytes, NoMemory>
         ensures { IfOk result (λ copy. copy ≡ bytes.now) }
     {
-        match Vec::from_slice(alloc, bytes) {
-            Ok(items) => Ok(Bytes { items }),
-            Err(_) => Err(NoMemory),
-        }
+        Ok(Bytes {
+            items: Vec::from_slice(alloc, bytes)?,
+        })
     }
 
     /// Takes the bytes over as they stand.
@@ -56,6 +56,13 @@ impl Bytes {
         ensures { result.items ≡ self }
     {
         self.items
+    }
+
+    /// Tells that each byte is below 256.
+    pub fn known(&self)
+        ensures { All (λ byte. byte < 256) self.now }
+    {
+        known(self.as_slice());
     }
 
     /// Lends the bytes.
@@ -113,3 +120,7 @@ impl Hash for Bytes {
         self.as_slice().hash(state);
     }
 }
+
+fn known(bytes: &[u8])
+    ensures { All (λ byte. byte < 256) bytes.now }
+{}

@@ -1,21 +1,24 @@
+//! Which calls of an object in memory fail.
 ghost use Rattle.std.specs.Prelude.{◌≡◌, ◌≤◌, ◌↔◌, ◌⊎◌, IsTrue, Contains, if◌then◌else◌};
 ghost use Rattle.std.specs.Bool.{OnTrue};
 ghost use Rattle.kr_base.specs.Faults.{Rose};
-ghost use Rattle.kr_base.specs.Played.{next_number};
+ghost use Rattle.kr_base.specs.Numbering.{next_number};
 
+use crate::fault_count::FaultCount;
 use crate::list::List;
 use std::marker::Model;
 
-/// Which calls of an object in memory fail: those whose numbers are listed, and those that it can't serve.
+/// Which calls of an object in memory fail: those whose numbers are listed, and those that it can't
+/// serve.
 #[derive(Debug, Drop)]
 pub struct CallLog {
     fails: List<u64>,
     made: u64,
-    faults: u64,
+    faults: FaultCount,
 }
 
 impl Model for CallLog {
-    ghost use Rattle.kr_base.specs.Played.{Calls};
+    ghost use Rattle.kr_base.specs.InMemory.{Calls};
 
     ghost Value = { Calls };
 
@@ -30,23 +33,26 @@ impl CallLog {
         CallLog {
             fails,
             made: 0,
-            faults: 0,
+            faults: FaultCount::new(),
         }
     }
 
-    /// Counts one more call, and answers whether it fails.
+    /// Counts one more call, and answers whether it fails: its number is listed, or it can't be
+    /// served.
     pub fn fails(&mut self, unserved: bool) -> bool
         ensures fails { self.new.fails ≡ self.old.fails }
         ensures made { self.new.made ≡ next_number self.old.made }
-        ensures failed { IsTrue result ↔ (Contains self.old.fails (next_number self.old.made) ⊎ IsTrue unserved) }
-        ensures faults { self.new.faults ≡ (if result then next_number self.old.faults else self.old.faults) }
+        ensures failed { IsTrue result
+            ↔ (Contains self.old.fails (next_number self.old.made) ⊎ IsTrue unserved) }
+        ensures faults { self.new.faults
+            ≡ (if result then next_number self.old.faults else self.old.faults) }
         ensures later { self.old.faults ≤ self.new.faults }
         ensures rose { OnTrue result (Rose self.old.faults self.new.faults) }
     {
         self.made = self.made.saturating_add(1);
         let failed = self.fails.as_slice().contains(&self.made) || unserved;
         if failed {
-            self.faults = self.faults.saturating_add(1);
+            self.faults.rise();
         }
         failed
     }
@@ -55,6 +61,6 @@ impl CallLog {
     pub fn faults(&self) -> u64
         ensures { result ≡ self.now.faults }
     {
-        self.faults
+        self.faults.count()
     }
 }

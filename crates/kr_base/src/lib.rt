@@ -1,11 +1,15 @@
-//! What every crate of kmsrest stands on: byte strings, texts and lists that contracts see as plain lists,
-//! the traits of the outside with their counts of faults, and the rules for names, paths and resources.
+//! What every crate of kmsrest stands on: byte strings, texts and lists that contracts see as plain
+//! lists, the traits of the outside with their counts of faults, the rules for names, paths and
+//! resources, and the limits.
 #![tactic(auto)]
 
 mod annotations;
-mod answers;
 mod bytes;
 mod call_log;
+mod errors;
+mod fault_count;
+mod input_bytes;
+mod limits;
 mod list;
 mod mem_dice;
 mod mem_sink;
@@ -13,15 +17,20 @@ mod mem_source;
 mod mem_tape;
 mod rules;
 mod seeded_dice;
-#[cfg(test)]
-mod tests;
+mod shared;
 mod text;
 mod traits;
-mod whole;
+mod transfer;
 
 pub use annotations::Annotations;
-pub use answers::{Failed, NoMemory, ReadNo, Spent};
 pub use bytes::Bytes;
+pub use call_log::CallLog;
+pub use errors::{Failed, NoMemory, ReadNo, Spent};
+pub use fault_count::FaultCount;
+pub use limits::{
+    ANNOTATIONS_LIMIT, ANNOTATIONS_SIZE_LIMIT, CONFIG_LIMIT, DATA_LIMIT, NAME_LIMIT, PATH_LIMIT,
+    SHORT_LIMIT, STORE_LIMIT, VALUE_LIMIT, are_few, is_short,
+};
 pub use list::List;
 pub use mem_dice::MemDice;
 pub use mem_sink::MemSink;
@@ -29,6 +38,7 @@ pub use mem_source::MemSource;
 pub use mem_tape::MemTape;
 pub use rules::{name_ok, path_ok, resource_ok};
 pub use seeded_dice::SeededDice;
+pub use shared::Shared;
 pub use text::Text;
 pub use traits::{Dice, Sink, Source, Tape};
-pub use whole::{read_all, write_all};
+pub use transfer::{read_all, write_all};

@@ -1,11 +1,12 @@
+//! Lists.
 ghost use Rattle.std.specs.Prelude.{◌≡◌, ◌+◌, ◌-◌, ◌<◌, ◌≤◌, [], ◌∷◌, ◌++◌, IsOk, IfErr, OnOk, OnErr, MatchOption, vec_len, vec_capacity};
 
-use crate::answers::NoMemory;
+use crate::errors::NoMemory;
 use std::alloc::Global;
 use std::marker::Model;
 
-/// A list of values, which may be values that can't be dropped. Contracts see it as the pair of its items and
-/// its spare room: the number of pushes that can't want memory.
+/// A list of values, which may be values that can't be dropped. Contracts see it as the pair of its
+/// items and its spare room: the number of pushes that can't want memory.
 #[derive(Debug, Drop)]
 pub struct List<T> {
     items: Vec<T>,
@@ -79,16 +80,18 @@ impl<T> List<T> {
         ensures kept { self.old.1 ≤ self.new.1 }
         ensures room { n ≤ self.old.1 → IsOk result }
     {
-        match self.items.reserve(n) {
-            Ok(()) => Ok(()),
-            Err(_) => Err(NoMemory),
-        }
+        self.items.reserve(n)?;
+        Ok(())
     }
 
     /// Takes the last item. Its room stays.
     pub fn pop(&mut self) -> Option<T>
-        ensures items { MatchOption result ((self.old.0 ≡ []) × (self.new.0 ≡ [])) (λ last. self.old.0 ≡ self.new.0 ++ last ∷ []) }
-        ensures room { MatchOption result (self.new.1 ≡ self.old.1) (λ _. self.new.1 ≡ self.old.1 + 1) }
+        ensures items { MatchOption result
+            ((self.old.0 ≡ []) × (self.new.0 ≡ []))
+            (λ last. self.old.0 ≡ self.new.0 ++ last ∷ []) }
+        ensures room { MatchOption result
+            (self.new.1 ≡ self.old.1)
+            (λ _. self.new.1 ≡ self.old.1 + 1) }
     {
         self.items.pop()
     }

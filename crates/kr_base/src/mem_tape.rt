@@ -1,19 +1,21 @@
+//! A tape in memory.
 ghost use Rattle.std.specs.Prelude.{◌≡◌, ◌++◌, ◌+◌, ◌-◌, ◌<◌, ◌≤◌, ◌/◌, min, nat_lt, length, take, drop, Some, IfOk, IfSome, MatchResult};
 ghost use Rattle.std.specs.Io.{ReadsAtMost};
 ghost use Rattle.kr_base.specs.Faults.{IsCounted};
-ghost use Rattle.kr_base.specs.Played.{Makes, faults_of, left_by_fault};
+ghost use Rattle.kr_base.specs.InMemory.{Makes, faults_of, left_by_fault};
 ghost use Rattle.kr_base.specs.Tapes.{ReadsAt, PutsAt, Cuts, with_bytes_at};
 
-use crate::answers::{Failed, NoMemory};
 use crate::bytes::Bytes;
 use crate::call_log::CallLog;
+use crate::errors::{Failed, NoMemory};
 use crate::list::List;
 use crate::traits::Tape;
 use std::marker::Model;
 
-/// A tape in memory. Its calls fail by their numbers, those that read and those that write each counted from 1, and
-/// where a write would bring it above its room. A `put_at` that fails by its number leaves half of its bytes at their
-/// place, as a write that was broken off; a `cut` that fails leaves all as before.
+/// A tape in memory. Its calls fail by their numbers, those that read and those that write each
+/// counted from 1, and where a write would bring it above its room. A `put_at` that fails by its
+/// number leaves half of its bytes at their place, as a write that was broken off; a `cut` that
+/// fails leaves all as before.
 #[derive(Debug, Drop)]
 pub struct MemTape {
     bytes: Vec<u8>,
@@ -24,18 +26,25 @@ pub struct MemTape {
 
 impl Model for MemTape {
     ghost use Rattle.std.specs.Prelude.{◌≤◌, vec_len, vec_capacity};
-    ghost use Rattle.kr_base.specs.Played.{Held};
+    ghost use Rattle.kr_base.specs.InMemory.{TapeState};
 
-    ghost Value = { Held };
+    ghost Value = { TapeState };
 
-    ghost view = { λ tape. record { bytes = tape.bytes.items; room = tape.room; reads = tape.reads; writes = tape.writes } };
+    ghost view = { λ tape. record {
+      bytes = tape.bytes.items;
+      room = tape.room;
+      reads = tape.reads;
+      writes = tape.writes;
+    } };
 
-    ghost invariant = { λ tape. (vec_len tape.bytes ≤ tape.room) × (tape.room ≤ vec_capacity tape.bytes) };
+    ghost invariant = { λ tape. (vec_len tape.bytes ≤ tape.room)
+        × (tape.room ≤ vec_capacity tape.bytes) };
 }
 
 impl MemTape {
-    /// A tape that holds the content and has room for `room` bytes in all. It reserves them here, and takes no memory
-    /// later. `read_fails` numbers the calls of `len` and `read_at`, `write_fails` those of `put_at` and `cut`.
+    /// A tape that holds the content and has room for `room` bytes in all. It reserves them here,
+    /// and takes no memory later. `read_fails` numbers the calls of `len` and `read_at`,
+    /// `write_fails` those of `put_at` and `cut`.
     pub fn new(
         content: Bytes,
         room: usize,
@@ -43,13 +52,15 @@ impl MemTape {
         write_fails: List<u64>,
     ) -> Result<MemTape, NoMemory>
         requires { length content ≤ room }
-        ensures { IfOk result (λ tape. tape ≡ record { bytes = content; room = room; reads = record { fails = read_fails.0; made = 0; faults = 0 }; writes = record { fails = write_fails.0; made = 0; faults = 0 } }) }
+        ensures { IfOk result (λ tape. tape ≡ record {
+          bytes = content;
+          room = room;
+          reads = record { fails = read_fails.0; made = 0; faults = 0 };
+          writes = record { fails = write_fails.0; made = 0; faults = 0 };
+        }) }
     {
         let mut bytes = content.into_vec();
-        match bytes.reserve(room - bytes.len()) {
-            Ok(()) => {}
-            Err(_) => return Err(NoMemory),
-        }
+        bytes.reserve(room - bytes.len())?;
         Ok(MemTape {
             bytes,
             room,
@@ -65,11 +76,16 @@ impl MemTape {
         self.bytes.as_slice()
     }
 
-    // Puts bytes that there is room for.
+    /// Puts bytes that there is room for.
     fn put(&mut self, at: usize, bytes: &[u8])
         requires within { at ≤ length self.old.bytes }
         requires room { at + length bytes.now ≤ self.old.room }
-        ensures { self.new ≡ record { bytes = with_bytes_at self.old.bytes at bytes.now; room = self.old.room; reads = self.old.reads; writes = self.old.writes } }
+        ensures { self.new ≡ record {
+          bytes = with_bytes_at self.old.bytes at bytes.now;
+          room = self.old.room;
+          reads = self.old.reads;
+          writes = self.old.writes;
+        } }
     {
         let over = bytes.len().min(self.bytes.len() - at);
         self.bytes[at..at + over].copy_from_slice(&bytes[..over]);
@@ -81,7 +97,7 @@ impl MemTape {
 }
 
 impl Tape for MemTape {
-    ghost use Rattle.kr_base.specs.Played.{faults_of};
+    ghost use Rattle.kr_base.specs.InMemory.{faults_of};
 
     ghost told = { λ tape. Some tape.bytes };
 
@@ -107,7 +123,10 @@ impl Tape for MemTape {
         requires { at ≤ length self.old.bytes }
         ensures calls { Makes self.old.reads self.new.reads ⊥ result }
         ensures kept { self.new ≡ record self.old { reads = self.new.reads } }
-        ensures read { MatchResult result (λ n. (n ≡ min (length into.old) (length self.old.bytes - at)) × (into.new ≡ take n (drop at self.old.bytes) ++ drop n into.old)) (λ _. into.new ≡ into.old) }
+        ensures read { MatchResult result
+            (λ n. (n ≡ min (length into.old) (length self.old.bytes - at))
+            × (into.new ≡ take n (drop at self.old.bytes) ++ drop n into.old))
+            (λ _. into.new ≡ into.old) }
 
         // As the trait says.
         ensures bound { ReadsAtMost result into.new }
@@ -126,9 +145,16 @@ impl Tape for MemTape {
 
     fn put_at(&mut self, at: u64, bytes: &[u8]) -> Result<(), Failed>
         requires { at ≤ length self.old.bytes }
-        ensures calls { Makes self.old.writes self.new.writes (self.old.room < at + length bytes.now) result }
-        ensures kept { self.new ≡ record self.old { bytes = self.new.bytes; writes = self.new.writes } }
-        ensures put { MatchResult result (λ _. self.new.bytes ≡ with_bytes_at self.old.bytes at bytes.now) (λ _. self.new.bytes ≡ with_bytes_at self.old.bytes at (take (left_by_fault (length bytes.now) (nat_lt self.old.room (at + length bytes.now))) bytes.now)) }
+        ensures calls { Makes self.old.writes self.new.writes
+            (self.old.room < at + length bytes.now) result }
+        ensures kept { self.new
+            ≡ record self.old { bytes = self.new.bytes; writes = self.new.writes } }
+        ensures put { let above = nat_lt self.old.room (at + length bytes.now) in
+            MatchResult result
+            (λ _. self.new.bytes ≡ with_bytes_at self.old.bytes at bytes.now)
+            (λ _. self.new.bytes
+            ≡ with_bytes_at self.old.bytes at
+            (take (left_by_fault (length bytes.now) above) bytes.now)) }
 
         // As the trait says.
         ensures bytes { PutsAt (Some self.old.bytes) (Some self.new.bytes) at bytes.now result }
@@ -148,8 +174,11 @@ impl Tape for MemTape {
     fn cut(&mut self, len: u64) -> Result<(), Failed>
         requires { len ≤ length self.old.bytes }
         ensures calls { Makes self.old.writes self.new.writes ⊥ result }
-        ensures kept { self.new ≡ record self.old { bytes = self.new.bytes; writes = self.new.writes } }
-        ensures cut { MatchResult result (λ _. self.new.bytes ≡ take len self.old.bytes) (λ _. self.new.bytes ≡ self.old.bytes) }
+        ensures kept { self.new
+            ≡ record self.old { bytes = self.new.bytes; writes = self.new.writes } }
+        ensures cut { MatchResult result
+            (λ _. self.new.bytes ≡ take len self.old.bytes)
+            (λ _. self.new.bytes ≡ self.old.bytes) }
 
         // As the trait says.
         ensures bytes { Cuts (Some self.old.bytes) (Some self.new.bytes) len result }

@@ -1,5 +1,8 @@
+//! The rules for names, paths and resources.
 ghost use Rattle.std.specs.Prelude.{◌≡◌, ◌↔◌, IsTrue};
 ghost use Rattle.kr_base.specs.Rules.{IsGraphic, IsPath, IsName, IsLabelByte, AreLabels, IsResource, is_path, is_name, is_resource};
+
+use crate::limits::{NAME_LIMIT, PATH_LIMIT};
 
 /// A path: 1 to 1,024 bytes from `!` to `~`.
 pub fn path_ok(path: &str) -> bool
@@ -17,8 +20,8 @@ pub fn name_ok(name: &str) -> bool
     is_name(name)
 }
 
-/// A resource: `name` or `name.group`, at most 253 bytes. A name and each part of a group between dots is one or more
-/// of a to z, 0 to 9 and `-`.
+/// A resource: `name` or `name.group`, at most 253 bytes. A name and each part of a group between
+/// dots is one or more of a to z, 0 to 9 and `-`.
 pub fn resource_ok(resource: &str) -> bool
     ensures rule { IsTrue result ↔ IsResource resource.now }
     ensures test { result ≡ is_resource resource.now }
@@ -29,21 +32,21 @@ pub fn resource_ok(resource: &str) -> bool
 fn is_path(path: &str) -> bool
     ensures { IsTrue result ↔ IsPath path.now }
 {
-    !path.is_empty() && path.len() <= 1024 && path.bytes().all(|byte| is_graphic(byte))
+    !path.is_empty() && path.len() <= PATH_LIMIT && path.bytes().all(|byte| is_graphic(byte))
 }
 
 fn is_name(name: &str) -> bool
     ensures { IsTrue result ↔ IsName name.now }
 {
     !name.is_empty()
-        && name.len() <= 253
+        && name.len() <= NAME_LIMIT
         && name.bytes().all(|byte| is_graphic(byte) && byte != b':')
 }
 
 fn is_resource(resource: &str) -> bool
     ensures { IsTrue result ↔ IsResource resource.now }
 {
-    resource.len() <= 253 && are_labels(resource.as_bytes())
+    resource.len() <= NAME_LIMIT && are_labels(resource.as_bytes())
 }
 
 /// One or more labels parted by dots.

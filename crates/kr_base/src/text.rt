@@ -1,3 +1,4 @@
+//! Texts.
 ghost use Rattle.std.specs.Prelude.{◌≡◌, ℕ, List, [], ◌∷◌, ◌++◌, length, IfOk, OnOk, OnErr, nat_eq, ◌↔◌, IsTrue, Some};
 ghost use Rattle.std.specs.Ordering.{nat_cmp};
 ghost use Rattle.std.specs.Cmp.{partial_equiv_from_equiv};
@@ -7,7 +8,7 @@ ghost use Rattle.std.specs.Hash as fed;
 ghost use Rattle.std.proofs.Common.{refl, rules};
 ghost use Rattle.std.specs.String.{string_bytes};
 
-use crate::answers::NoMemory;
+use crate::errors::NoMemory;
 use std::alloc::Global;
 use std::cmp::Ordering;
 use std::hash::{Hash, Hasher};
@@ -39,10 +40,9 @@ impl Text {
     pub fn copy(alloc: Global, text: &str) -> Result<Text, NoMemory>
         ensures { IfOk result (λ copy. copy ≡ text.now) }
     {
-        match String::from_str(alloc, text) {
-            Ok(string) => Ok(Text { string }),
-            Err(_) => Err(NoMemory),
-        }
+        Ok(Text {
+            string: String::from_str(alloc, text)?,
+        })
     }
 
     /// Takes the text over as it stands.
@@ -50,6 +50,13 @@ impl Text {
         ensures { result ≡ string_bytes string }
     {
         Text { string }
+    }
+
+    /// Gives the text up as it stands.
+    pub fn into_string(self) -> String
+        ensures { string_bytes result ≡ self }
+    {
+        self.string
     }
 
     /// Lends the text.

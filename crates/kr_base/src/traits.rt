@@ -6,7 +6,7 @@ ghost use Rattle.std.specs.Io.KnownBytes.{ReadConsumes, WriteAppends, Consumes, 
 ghost use Rattle.kr_base.specs.Faults.{IsCounted};
 ghost use Rattle.kr_base.specs.Tapes.{ReadsAt, PutsAt, Cuts};
 
-use crate::answers::Failed;
+use crate::errors::Failed;
 
 /// What is read: a file, standard input, bytes in memory.
 pub trait Source {
@@ -15,7 +15,8 @@ pub trait Source {
 
     ghost count: { Self → ℕ };
 
-    /// Takes the next bytes, at most as many as fit. 0 for a buffer that isn't empty is the end. A read that fails takes nothing.
+    /// Takes the next bytes, at most as many as fit. 0 for a buffer that isn't empty is the end. A
+    /// read that fails takes nothing.
     fn read(&mut self, into: &mut [u8]) -> Result<usize, Failed>
         ensures bound { ReadsAtMost result into.new }
         ensures bytes { ReadConsumes (left self.old) (left self.new) result into.new }
@@ -33,7 +34,8 @@ pub trait Sink {
 
     ghost count: { Self → ℕ };
 
-    /// Appends a prefix, at least one byte of a piece that isn't empty. A write that fails appends nothing.
+    /// Appends a prefix, at least one byte of a piece that isn't empty. A write that fails appends
+    /// nothing.
     fn write(&mut self, bytes: &[u8]) -> Result<usize, Failed>
         ensures bound { WritesAtMost result bytes.now }
         ensures bytes { WriteAppends (held self.old) (held self.new) result bytes.now }
@@ -52,9 +54,12 @@ pub trait Dice {
 
     ghost count: { Self → ℕ };
 
-    /// Fills the buffer with the next bytes. After a fault the buffer holds any bytes, and what is told is still to come.
+    /// Fills the buffer with the next bytes. After a fault the buffer holds any bytes, and what is
+    /// told is still to come.
     fn fill(&mut self, into: &mut [u8]) -> Result<(), Failed>
-        ensures bytes { MatchResult result (λ _. Consumes (left self.old) (left self.new) into.new) (λ _. Keeps (left self.old) (left self.new)) }
+        ensures bytes { MatchResult result
+            (λ _. Consumes (left self.old) (left self.new) into.new)
+            (λ _. Keeps (left self.old) (left self.new)) }
         ensures cause { IsCounted (count self.old) (count self.new) result };
 
     /// How often it failed so far, up to the greatest number.
@@ -83,14 +88,15 @@ pub trait Tape {
         ensures same { told self.new ≡ told self.old }
         ensures cause { IsCounted (count self.old) (count self.new) result };
 
-    /// Puts the bytes at `at`; those behind them stay. After a fault the bytes before `at` are as before, and the rest
-    /// is any bytes.
+    /// Puts the bytes at `at`; those behind them stay. After a fault the bytes before `at` are as
+    /// before, and the rest is any bytes.
     fn put_at(&mut self, at: u64, bytes: &[u8]) -> Result<(), Failed>
         requires { IfSome (told self.old) (λ held. at ≤ length held) }
         ensures bytes { PutsAt (told self.old) (told self.new) at bytes.now result }
         ensures cause { IsCounted (count self.old) (count self.new) result };
 
-    /// Lets the tape end at `len`. After a fault the bytes before it are as before, and the rest is any bytes.
+    /// Lets the tape end at `len`. After a fault the bytes before it are as before, and the rest is
+    /// any bytes.
     fn cut(&mut self, len: u64) -> Result<(), Failed>
         requires { IfSome (told self.old) (λ bytes. len ≤ length bytes) }
         ensures bytes { Cuts (told self.old) (told self.new) len result }

@@ -133,7 +133,7 @@ same_list classes f g each (row ∷ rows) known =
     ap (λ b. if b then row.providers else first_list f rows) (same_any classes f g each row.patterns (λ class h. known class (Contains-append_left (classes_made row.patterns) (classes_in rows) class h)))
     ∙ ap (λ l. if list_any g row.patterns then row.providers else l) (same_list classes f g each rows (λ class h. known class (Contains-append_right (classes_made row.patterns) (classes_in rows) class h)))
 
-one : {X : Type 0} (x : X) → Contains (x ∷ []) x
+pub one : {X : Type 0} (x : X) → Contains (x ∷ []) x
 one x = (0, omega arith, refl)
 
 group_agrees : (classes : List Class) (resource : List ℕ) → list_any (is_exact resource) classes ≡ false
@@ -148,17 +148,28 @@ rest_agrees classes resource none other (pattern.Exact text) known = not_exact c
 rest_agrees classes resource none other (pattern.Group group) known = not_group classes (group_of resource) group other (known (Group group) (one (Group group)))
 rest_agrees classes resource none other pattern.All known = refl
 
+pub known_class : (added : List (List Row)) (classes : List Class) (rows : List Row) → IsTableOf added classes → Contains added rows → (class : Class) → Contains (classes_in rows) class → Contains classes class
+known_class added classes rows table there class h = (table.members class).1 (Contains-append_right (Rest ∷ []) (flat_map classes_in added) class (in_flat classes_in added rows class there h))
+
+-- a group that no pattern speaks of has the list of the rest
+no_group : (classes : List Class) (group : List ℕ) → list_any (is_group group) classes ≡ false
+    → (p : Pattern) → ((class : Class) → Contains (class_made p) class → Contains classes class) → covers_group p group ≡ covers_rest p
+no_group classes group none (pattern.Exact text) known = refl
+no_group classes group none (pattern.Group own) known = not_group classes group own none (known (Group own) (one (Group own)))
+no_group classes group none pattern.All known = refl
+
+pub group_narrows : (classes : List Class) (group : List ℕ) → list_any (is_group group) classes ≡ false → (rows : List Row) → ((class : Class) → Contains (classes_in rows) class → Contains classes class)
+    → class_list rows (Group group) ≡ class_list rows Rest
+group_narrows classes group none rows known = same_list classes (λ p. covers_group p group) covers_rest (no_group classes group none) rows known
+
 -- the list of a resource is the list of its class
 pub law_of_classes : (added : List (List Row)) (classes : List Class) (rows : List Row) (resource : List ℕ) → IsTableOf added classes → Contains added rows
     → list_of rows resource ≡ class_list rows (class_in classes resource)
 unfolding class_in
 law_of_classes added classes rows resource table there = by (list_any (is_exact resource) classes) (list_any (is_group (group_of resource)) classes) refl refl
   where
-    known : (class : Class) → Contains (classes_in rows) class → Contains classes class
-    known class h = (table.members class).1 (Contains-append_right (Rest ∷ []) (flat_map classes_in added) class (in_flat classes_in added rows class there h))
-
     by : (b c : Bool) → list_any (is_exact resource) classes ≡ b → list_any (is_group (group_of resource)) classes ≡ c
         → list_of rows resource ≡ class_list rows (if b then Exact resource else if c then Group (group_of resource) else Rest)
     by true c h k = refl
-    by false true h k = same_list classes (λ p. matches p resource) (λ p. covers_group p (group_of resource)) (group_agrees classes resource h) rows known
-    by false false h k = same_list classes (λ p. matches p resource) covers_rest (rest_agrees classes resource h k) rows known
+    by false true h k = same_list classes (λ p. matches p resource) (λ p. covers_group p (group_of resource)) (group_agrees classes resource h) rows (known_class added classes rows table there)
+    by false false h k = same_list classes (λ p. matches p resource) covers_rest (rest_agrees classes resource h k) rows (known_class added classes rows table there)

@@ -7,7 +7,7 @@ use Rattle.std.proofs.lemmas.List.Folds.{list_all-append}
 use Rattle.serde_json.specs.Data.{Data}
 use Rattle.kr_config.specs.declared.refusal.ConfigNo.{ConfigNo}
 use Rattle.kr_config.specs.Kept.{apart}
-use Rattle.kr_config.specs.Walk.{next, walk, walk_each, next_number}
+use Rattle.kr_config.specs.Walk.{and_then, walk, walk_each, next_number}
 
 abbrev ok_or : {A : Type 0} → Result A ConfigNo → A → A
 ok_or (Ok x) d = x
@@ -26,9 +26,9 @@ some_or None d = d
 pub same_some : {A : Type 0} (x y : A) → Some x ≡ Some y → x ≡ y
 same_some x y h = ap (λ r. some_or r x) h
 
-pub next_ok : {A B : Type 0} (r : Result A ConfigNo) (f : A → Result B ConfigNo) (t : B) → next r f ≡ Ok t → (x : A) × (r ≡ Ok x) × (f x ≡ Ok t)
-next_ok (Ok x) f t h = (x, refl, h)
-next_ok (Err why) f t h = absurd (cc)
+pub and_then_ok : {A B : Type 0} (r : Result A ConfigNo) (f : A → Result B ConfigNo) (t : B) → and_then r f ≡ Ok t → (x : A) × (r ≡ Ok x) × (f x ≡ Ok t)
+and_then_ok (Ok x) f t h = (x, refl, h)
+and_then_ok (Err why) f t h = absurd (cc)
 
 pub if_ok : {A : Type 0} (b : Bool) (r : Result A ConfigNo) (why : ConfigNo) (t : A) → (if b then r else Err why) ≡ Ok t → (b ≡ true) × (r ≡ Ok t)
 if_ok true r why t h = (refl, h)
@@ -85,12 +85,12 @@ pub walk_keeps : {S : Type 0} (step : ℕ → S → Data → Result S ConfigNo) 
     → (i : ℕ) (s : S) (ds : List Data) (t : S) → P s → walk step i s ds ≡ Ok t → P t
 walk_keeps step P each i s [] t p h = subst P (same_ok s t h) p
 walk_keeps step P each i s (d ∷ ds) t p h =
-    let first = next_ok (step i s d) (λ u. walk step (next_number i) u ds) t h in
+    let first = and_then_ok (step i s d) (λ u. walk step (next_number i) u ds) t h in
     walk_keeps step P each (next_number i) first.0 ds t (each i s d first.0 p first.1) first.2
 
 pub each_keeps : {S : Type 0} (step : S → Data → Result S ConfigNo) (P : S → Type 0) → ((s : S) (d : Data) (t : S) → P s → step s d ≡ Ok t → P t)
     → (s : S) (ds : List Data) (t : S) → P s → walk_each step s ds ≡ Ok t → P t
 each_keeps step P each s [] t p h = subst P (same_ok s t h) p
 each_keeps step P each s (d ∷ ds) t p h =
-    let first = next_ok (step s d) (λ u. walk_each step u ds) t h in
+    let first = and_then_ok (step s d) (λ u. walk_each step u ds) t h in
     each_keeps step P each first.0 ds t (each s d first.0 p first.1) first.2

@@ -9,15 +9,16 @@ use Rattle.serde_json.specs.Find.{as_str}
 use Rattle.kr_base.specs.Rules.{is_resource}
 use Rattle.kr_config.specs.declared.pattern.Pattern.{Pattern}
 use Rattle.kr_config.specs.declared.pattern.Pattern.TheVariants.{Exact, Group, All}
+use Rattle.kr_config.specs.declared.place.Place.{Place}
 use Rattle.kr_config.specs.Patterns.{group_of, is_group, is_pattern, same, overlap, clash}
 use Rattle.kr_config.specs.Kept.{apart}
-use Rattle.kr_config.specs.Walk.{no, walk, pattern_of, star_pattern, place_pattern, pattern_step, next_number}
-use Rattle.kr_config.proofs.Inversions.{same_ok, same_some, if_ok, if_not, some_ok, neither_any, all_push, apart_push, walk_keeps, next_ok}
+use Rattle.kr_config.specs.Walk.{breach, place_at, walk, pattern_of, star_pattern, place_pattern, pattern_step, next_number}
+use Rattle.kr_config.proofs.Inversions.{same_ok, same_some, if_ok, if_not, some_ok, neither_any, all_push, apart_push, walk_keeps, and_then_ok}
 
-pub record Patterns (met : ℕ) (ps : List Pattern) : Type 0 where
+pub record Patterns (counted : ℕ) (ps : List Pattern) : Type 0 where
   pub forms : list_all is_pattern ps ≡ true
   pub stand : apart clash ps ≡ true
-  pub few : met + length ps ≤ 256
+  pub few : counted + length ps ≤ 256
 
 form_by : (a b c r : Bool) (group text : List ℕ) (p : Pattern) → is_group group ≡ c → is_resource text ≡ r
     → (if a then (if b then Some All else if c then Some (Group group) else None) else if r then Some (Exact text) else None) ≡ Some p → is_pattern p ≡ true
@@ -32,31 +33,31 @@ unfolding pattern_of star_pattern
 form text p h = form_by (list_any (λ byte. byte == 0x2E) text && bytes_eq (before_first (λ byte. byte == 0x2E) text) (codes "*")) (bytes_eq (group_of text) (codes "*")) (is_group (group_of text)) (is_resource text)
     (group_of text) text p refl refl h
 
-placed : (met e i : ℕ) (before : List Pattern) (p : Pattern) (after : List Pattern) → Patterns met before → is_pattern p ≡ true → place_pattern met e i before p ≡ Ok after
-    → Patterns met after × (1 ≤ length after)
+placed : (counted : ℕ) (place : Place) (before : List Pattern) (p : Pattern) (after : List Pattern) → Patterns counted before → is_pattern p ≡ true → place_pattern counted place before p ≡ Ok after
+    → Patterns counted after × (1 ≤ length after)
 unfolding place_pattern
-placed met e i before p after k f h =
+placed counted place before p after k f h =
     let a = if_not (list_any (λ q. same q p) before) _ _ after h in
     let b = if_not (list_any (λ q. overlap q p) before) _ _ after a.1 in
-    let c = if_ok (nat_lt (met + length before) 256) (Ok (before ++ p ∷ [])) _ after b.1 in
-    let below : met + length before < 256 = grind (arith, c.0) in
+    let c = if_ok (nat_lt (counted + length before) 256) (Ok (before ++ p ∷ [])) _ after b.1 in
+    let below : counted + length before < 256 = grind (arith, c.0) in
     let long : length (before ++ p ∷ []) ≡ length before + 1 = length-append before (p ∷ []) in
-    let P : List Pattern → Type 0 = λ l. Patterns met l × (1 ≤ length l) in
+    let P : List Pattern → Type 0 = λ l. Patterns counted l × (1 ≤ length l) in
     subst P (same_ok (before ++ p ∷ []) after c.1)
     (record { forms = all_push is_pattern before p k.forms f; stand = apart_push clash before p k.stand (neither_any (λ q. same q p) (λ q. overlap q p) before a.0 b.0); few = omega (arith, long, below) }, omega (arith, long))
 
-pub pattern_kept : (met e i : ℕ) (before : List Pattern) (d : Data) (after : List Pattern) → Patterns met before → pattern_step met e i before d ≡ Ok after → Patterns met after × (1 ≤ length after)
+pub pattern_kept : (counted entry item : ℕ) (before : List Pattern) (d : Data) (after : List Pattern) → Patterns counted before → pattern_step counted entry item before d ≡ Ok after → Patterns counted after × (1 ≤ length after)
 unfolding pattern_step
-pattern_kept met e i before d after k h =
-    let text = some_ok (as_str d) (λ text. option_map_or (place_pattern met e i before) (pattern_of text) (no 35 e i)) _ after h in
-    let pattern = some_ok (pattern_of text.0) (place_pattern met e i before) _ after text.2 in
-    placed met e i before pattern.0 after k (form text.0 pattern.0 pattern.1) pattern.2
+pattern_kept counted entry item before d after k h =
+    let text = some_ok (as_str d) (λ text. option_map_or (place_pattern counted (place_at entry item) before) (pattern_of text) (breach 35 (place_at entry item))) _ after h in
+    let pattern = some_ok (pattern_of text.0) (place_pattern counted (place_at entry item) before) _ after text.2 in
+    placed counted (place_at entry item) before pattern.0 after k (form text.0 pattern.0 pattern.1) pattern.2
 
 -- a list that isn't empty gives one that isn't
-pub patterns_kept : (met e : ℕ) (ds : List Data) (after : List Pattern) → met ≤ 256 → (length ds ≡ 0 → ⊥) → walk (pattern_step met e) 0 [] ds ≡ Ok after → Patterns met after × (1 ≤ length after)
-patterns_kept met e [] after m some h = absurd (some refl)
-patterns_kept met e (d ∷ ds) after m some h =
-    let P : List Pattern → Type 0 = λ l. Patterns met l × (1 ≤ length l) in
-    let first = next_ok (pattern_step met e 0 [] d) (λ u. walk (pattern_step met e) (next_number 0) u ds) after h in
-    walk_keeps (pattern_step met e) P (λ i s x t p q. pattern_kept met e i s x t p.0 q) (next_number 0) first.0 ds after
-    (pattern_kept met e 0 [] d first.0 (record { forms = refl; stand = refl; few = omega arith }) first.1) first.2
+pub patterns_kept : (counted entry : ℕ) (ds : List Data) (after : List Pattern) → counted ≤ 256 → (length ds ≡ 0 → ⊥) → walk (pattern_step counted entry) 0 [] ds ≡ Ok after → Patterns counted after × (1 ≤ length after)
+patterns_kept counted entry [] after m some h = absurd (some refl)
+patterns_kept counted entry (d ∷ ds) after m some h =
+    let P : List Pattern → Type 0 = λ l. Patterns counted l × (1 ≤ length l) in
+    let first = and_then_ok (pattern_step counted entry 0 [] d) (λ u. walk (pattern_step counted entry) (next_number 0) u ds) after h in
+    walk_keeps (pattern_step counted entry) P (λ i s x t p q. pattern_kept counted entry i s x t p.0 q) (next_number 0) first.0 ds after
+    (pattern_kept counted entry 0 [] d first.0 (record { forms = refl; stand = refl; few = omega arith }) first.1) first.2

@@ -1,6 +1,9 @@
 pub mod FirstLists
 pub mod Places
 pub mod ClassTables
+pub mod Nexts
+pub mod NextLoops
+pub mod Narrowing
 pub mod Orders
 pub mod Trees
 pub mod Inversions

@@ -15,7 +15,7 @@ use Rattle.kr_config.specs.Walk.{config_in}
 use Rattle.kr_config.specs.Yaml.{json_of}
 use Rattle.kr_config.specs.Meanings.{begins_json, json_rows, MeansYaml, TextMeans, no_text, MeansBy, Means}
 use Rattle.kr_config.specs.Reads.{ReadsEntries, ReadsMeant, ReadsSettings, ReadsYaml}
-use Rattle.kr_config.proofs.Inversions.{some_ok, next_ok}
+use Rattle.kr_config.proofs.Inversions.{some_ok, and_then_ok}
 use Rattle.kr_config.proofs.KeptRows.{config_kept}
 
 -- entries that are meant keep the rules
@@ -28,7 +28,7 @@ json_kept text rows h =
 pub text_kept : (is_json : Bool) (text : List ℕ) (rows : List Row) → TextMeans is_json text (Ok rows) → keeps rows ≡ true
 text_kept true text rows h = json_kept text rows h
 text_kept false text rows h =
-    let a = next_ok h.0 (λ d. config_in (json_of d)) rows h.2 in
+    let a = and_then_ok h.0 (λ d. config_in (json_of d)) rows h.2 in
     config_kept (json_of a.0) rows a.2
 
 -- a text in YAML

@@ -14,7 +14,7 @@ use Rattle.kr_yaml.proofs.OneAnswer.{one_form, one_answer}
 use Rattle.kr_yaml.proofs.SomeAnswer.{some_answer}
 use Rattle.kr_config.specs.declared.refusal.ConfigNo.{ConfigNo}
 use Rattle.kr_config.specs.Kept.{Row}
-use Rattle.kr_config.specs.Walk.{next, config_in}
+use Rattle.kr_config.specs.Walk.{and_then, config_in}
 use Rattle.kr_config.specs.Yaml.{json_of, in_line, IsNumbered, TreeOf}
 use Rattle.kr_config.specs.Meanings.{begins_json, json_rows, no_text, MeansYaml, TextMeans, MeansBy}
 use Rattle.kr_config.specs.Laws.{OneMeaning, SomeMeaning}
@@ -54,7 +54,7 @@ one_tree text (Err why) (Ok d) h k = absurd (tree_or (text_tokens text) d h.0 wh
 one_tree text (Err why) (Err other) h k = ap (λ x. Err x) (two_breaches (text_tokens text) h.0 k.0 why other h.1 k.1 h.2 k.2)
 
 one_yaml : (text : List ℕ) (a b : Result (List Row) ConfigNo) → MeansYaml text a → MeansYaml text b → a ≡ b
-one_yaml text a b h k = sym h.2 ∙ ap (λ tree. next tree (λ d. config_in (json_of d))) (one_tree text h.0 k.0 h.1 k.1) ∙ k.2
+one_yaml text a b h k = sym h.2 ∙ ap (λ tree. and_then tree (λ d. config_in (json_of d))) (one_tree text h.0 k.0 h.1 k.1) ∙ k.2
 
 one_text : (is_json : Bool) (text : List ℕ) (a b : Result (List Row) ConfigNo) → TextMeans is_json text a → TextMeans is_json text b → a ≡ b
 one_text true text a b h k = sym h ∙ k
@@ -82,7 +82,7 @@ some_tree text (inr h) = let n = numbered h.0 h.2 in (Err n.0, (h.0, h.1, n.1))
 
 some_text : (is_json : Bool) (text : List ℕ) → (rows : Result (List Row) ConfigNo) × TextMeans is_json text rows
 some_text true text = (json_rows text, refl)
-some_text false text = let t = some_tree text (some_answer (text_tokens text)) in (next t.0 (λ d. config_in (json_of d)), (t.0, t.1, refl))
+some_text false text = let t = some_tree text (some_answer (text_tokens text)) in (and_then t.0 (λ d. config_in (json_of d)), (t.0, t.1, refl))
 
 some_by : (utf8 : Bool) (bytes : List ℕ) → (rows : Result (List Row) ConfigNo) × MeansBy utf8 bytes rows
 some_by true bytes = some_text (begins_json bytes) bytes

@@ -53,6 +53,9 @@ alike Rest (Exact b) h = cc
 alike Rest (Group b) h = cc
 alike Rest Rest h = refl
 
+pub class_total : IsTotalOrder class_cmp
+class_total = subst IsTotalOrder (λ i a b. same_order a b i) total
+
 pub in_order : (xs ys zs : List Class) → IsPermutation xs ys → IsSorted derived ys → zs ≡ dedup equals ys → IsStrictlySortedBy class_cmp zs
 in_order xs ys zs moved sorted is =
     let cmps : derived ≡ class_cmp = λ i a b. same_order a b i in

@@ -1,11 +1,11 @@
 -- What settings keep.
 use Rattle.std.specs.Prelude.{ℕ, ◌&&◌, Bool, true, not, List, [], ◌∷◌, length, nat_le, map, count_by}
-use Rattle.std.specs.List.{list_all, sum_by}
+use Rattle.std.specs.List.{list_all, flat_map, sum_by}
 use Rattle.kr_config.specs.declared.pattern.Pattern.{Pattern}
 use Rattle.kr_config.specs.declared.who.Who.{Who}
 use Rattle.kr_config.specs.declared.settings.Entry.{Entry}
 use Rattle.kr_config.specs.Patterns.{is_pattern, clash}
-use Rattle.kr_config.specs.Providers.{is_provider, is_key, is_kms, rivals}
+use Rattle.kr_config.specs.Providers.{is_provider, is_key, is_kms, plugins_among, rivals}
 
 -- an entry as its two lists
 pub record Row : Type 0 where
@@ -40,6 +40,10 @@ keys_in rows = sum_by (λ row. count_by is_key row.providers) rows
 
 abbrev pub kms_in : List Row → ℕ
 kms_in rows = sum_by (λ row. count_by is_kms row.providers) rows
+
+-- the names of the plugins
+abbrev pub plugins_in : List Row → List (List ℕ)
+plugins_in rows = flat_map (λ row. plugins_among row.providers) rows
 
 -- 1 to 64 entries, each of which keeps the rules; in all at most 256 patterns, 64 keys and 16 plugins
 unfoldable pub keeps : List Row → Bool

@@ -3,6 +3,7 @@ pub mod Providers
 pub mod Kept
 pub mod Lists
 pub mod Classes
+pub mod Nexts
 pub mod Walk
 pub mod Yaml
 pub mod Meanings

@@ -6,7 +6,7 @@ use Rattle.serde_json.specs.Read.{read}
 use Rattle.kr_yaml.specs.Data.{Data}
 use Rattle.kr_config.specs.declared.refusal.ConfigNo.{ConfigNo}
 use Rattle.kr_config.specs.Kept.{Row}
-use Rattle.kr_config.specs.Walk.{no, next, config_in}
+use Rattle.kr_config.specs.Walk.{breach_at, start, breach, and_then, config_in}
 use Rattle.kr_config.specs.Yaml.{json_of, TreeOf}
 
 -- the first byte other than space, tab, CR and LF is `{`
@@ -19,11 +19,11 @@ begins_json (byte ∷ bytes) = if is_blank byte then begins_json bytes else (byt
 
 -- a text in JSON, and then the walk over its tree
 unfoldable pub json_rows : List ℕ → Result (List Row) ConfigNo
-json_rows text = option_map_or config_in (read text) (no 20 0 0)
+json_rows text = option_map_or config_in (read text) (breach 20 start)
 
 -- a text in YAML, and then the same walk over its tree
 abbrev pub MeansYaml : List ℕ → Result (List Row) ConfigNo → Type 0
-MeansYaml text rows = (tree : Result Data ConfigNo) × TreeOf text tree × (next tree (λ d. config_in (json_of d)) ≡ rows)
+MeansYaml text rows = (tree : Result Data ConfigNo) × TreeOf text tree × (and_then tree (λ d. config_in (json_of d)) ≡ rows)
 
 -- a text that begins as JSON is JSON, and any other YAML
 abbrev pub TextMeans : Bool → List ℕ → Result (List Row) ConfigNo → Type 0
@@ -32,7 +32,7 @@ TextMeans false text rows = MeansYaml text rows
 
 -- bytes that aren't UTF-8
 abbrev pub no_text : Bool → ConfigNo
-no_text true = record { code = 20; first = 0; second = 0 }
+no_text true = breach_at 20 start
 no_text false = record { code = 21; first = 0; second = 5 }
 
 abbrev pub MeansBy : Bool → List ℕ → Result (List Row) ConfigNo → Type 0

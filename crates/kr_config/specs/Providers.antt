@@ -1,5 +1,6 @@
 -- Providers: their form, and when two of them have one prefix.
-use Rattle.std.specs.Prelude.{ℕ, ◌==◌, ◌&&◌, ◌||◌, Bool, true, false, List, length}
+use Rattle.std.specs.Prelude.{ℕ, ◌==◌, ◌&&◌, ◌||◌, Bool, true, false, List, [], ◌∷◌, length}
+use Rattle.std.specs.List.{flat_map}
 use Rattle.std.specs.Str.{bytes_eq}
 use Rattle.kr_base.specs.Rules.{is_name}
 use Rattle.kr_config.specs.declared.who.Who.{Who}
@@ -45,3 +46,13 @@ rivals (Kms a) Identity = false
 rivals (Kms a) (Aescbc b t) = false
 rivals (Kms a) (Aesgcm b t) = false
 rivals (Kms a) (Kms b) = bytes_eq a b
+
+-- the name of a plugin
+abbrev pub plugin_of : Who → List (List ℕ)
+plugin_of Identity = []
+plugin_of (Aescbc name secret) = []
+plugin_of (Aesgcm name secret) = []
+plugin_of (Kms name) = name ∷ []
+
+abbrev pub plugins_among : List Who → List (List ℕ)
+plugins_among providers = flat_map plugin_of providers

@@ -5,7 +5,8 @@ use Rattle.std.specs.List.{list_any, before_first}
 use Rattle.std.specs.Option.{option_map_or}
 use Rattle.std.specs.Result.{result_ok}
 use Rattle.std.specs.Str.{bytes_eq}
-use Rattle.serde_json.specs.Data.{Data, Items, no_items, item}
+use Rattle.serde_json.specs.Data.{Data, Items}
+use Rattle.serde_json.specs.Data as json
 use Rattle.serde_json.specs.Find.{get, as_null, as_str, as_array, as_object}
 use Rattle.base64.specs.Engines.{standard}
 use Rattle.base64.specs.GeneralPurpose.{decode_of}
@@ -15,19 +16,38 @@ use Rattle.kr_config.specs.declared.pattern.Pattern.TheVariants.{Exact, Group, A
 use Rattle.kr_config.specs.declared.who.Who.{Who}
 use Rattle.kr_config.specs.declared.who.Who.TheVariants.{Identity, Aescbc, Aesgcm, Kms}
 use Rattle.kr_config.specs.declared.refusal.ConfigNo.{ConfigNo}
+use Rattle.kr_config.specs.declared.place.Place.{Place}
+use Rattle.kr_config.specs.declared.place.Counts.{Counts}
 use Rattle.kr_config.specs.declared.provider.Cipher.{Cipher}
 use Rattle.kr_config.specs.declared.provider.Cipher.TheVariants as cipher
 use Rattle.kr_config.specs.Patterns.{group_of, is_group, same, overlap}
 use Rattle.kr_config.specs.Providers.{is_secret, is_key, is_kms, rivals}
 use Rattle.kr_config.specs.Kept.{Row, patterns_in, keys_in, kms_in}
 
-abbrev pub no : {T : Type 0} → ℕ → ℕ → ℕ → Result T ConfigNo
-no code first second = Err (record { code = code; first = first; second = second })
+-- a breach of this code at this place
+abbrev pub breach_at : ℕ → Place → ConfigNo
+breach_at code place = record { code = code; first = place.entry; second = place.item }
+
+abbrev pub breach : {T : Type 0} → ℕ → Place → Result T ConfigNo
+breach code place = Err (breach_at code place)
+
+-- a breach of the limit of this number
+abbrev pub limit_breach : ℕ → ℕ → ConfigNo
+limit_breach number limit = record { code = 39; first = number; second = limit }
+
+abbrev pub over_limit : {T : Type 0} → ℕ → ℕ → Result T ConfigNo
+over_limit number limit = Err (limit_breach number limit)
+
+abbrev pub place_at : ℕ → ℕ → Place
+place_at entry item = record { entry = entry; item = item }
+
+abbrev pub start : Place
+start = place_at 0 0
 
 -- a step, and what follows where it is no breach
-abbrev pub next : {A B : Type 0} → Result A ConfigNo → (A → Result B ConfigNo) → Result B ConfigNo
-next (Ok x) rest = rest x
-next (Err why) rest = Err why
+abbrev pub and_then : {A B : Type 0} → Result A ConfigNo → (A → Result B ConfigNo) → Result B ConfigNo
+and_then (Ok x) rest = rest x
+and_then (Err why) rest = Err why
 
 -- a number stands still at the end of its type
 abbrev pub next_number : ℕ → ℕ
@@ -36,16 +56,16 @@ next_number i = min (i + 1) (2 ^ 32 - 1)
 -- each of a list in order, its number at hand
 abbrev pub walk : {S : Type 0} → (ℕ → S → Data → Result S ConfigNo) → ℕ → S → List Data → Result S ConfigNo
 walk step i s [] = Ok s
-walk step i s (d ∷ ds) = next (step i s d) (λ t. walk step (next_number i) t ds)
+walk step i s (d ∷ ds) = and_then (step i s d) (λ t. walk step (next_number i) t ds)
 
 -- each of a list in order, where its number says nothing
 abbrev pub walk_each : {S : Type 0} → (S → Data → Result S ConfigNo) → S → List Data → Result S ConfigNo
 walk_each step s [] = Ok s
-walk_each step s (d ∷ ds) = next (step s d) (λ t. walk_each step t ds)
+walk_each step s (d ∷ ds) = and_then (step s d) (λ t. walk_each step t ds)
 
 abbrev pub list_of_items : Items → List Data
-list_of_items no_items = []
-list_of_items (item d ds) = d ∷ list_of_items ds
+list_of_items json.no_items = []
+list_of_items (json.item d ds) = d ∷ list_of_items ds
 
 -- the text at a member, and whether it is this one
 abbrev pub text_at : List ℕ → Data → Option (List ℕ)
@@ -58,9 +78,9 @@ abbrev pub is_mapping : Data → Bool
 is_mapping d = is_some (as_object d)
 
 -- a named list is there and isn't empty
-unfoldable pub named_list : List ℕ → ℕ → ℕ → Data → Result (List Data) ConfigNo
-named_list key first second d = option_map_or (λ items. if length (list_of_items items) == 0 then no 25 first second else Ok (list_of_items items))
-    (option_and_then as_array (get key d)) (no 22 first second)
+unfoldable pub named_list : List ℕ → Place → Data → Result (List Data) ConfigNo
+named_list key place d = option_map_or (λ items. if length (list_of_items items) == 0 then breach 25 place else Ok (list_of_items items))
+    (option_and_then as_array (get key d)) (breach 22 place)
 
 -- patterns
 
@@ -74,63 +94,65 @@ pattern_of text = if list_any (λ byte. byte == 0x2E) text && bytes_eq (before_f
     else if is_resource text then Some (Exact text) else None
 
 -- after those of its list so far, and so many in earlier entries
-unfoldable pub place_pattern : ℕ → ℕ → ℕ → List Pattern → Pattern → Result (List Pattern) ConfigNo
-place_pattern met e i before pattern = if list_any (λ earlier. same earlier pattern) before then no 36 e i
-    else if list_any (λ earlier. overlap earlier pattern) before then no 37 e i
-    else if nat_lt (met + length before) 256 then Ok (before ++ pattern ∷ []) else no 39 2 256
+unfoldable pub place_pattern : ℕ → Place → List Pattern → Pattern → Result (List Pattern) ConfigNo
+place_pattern counted place before pattern = if list_any (λ earlier. same earlier pattern) before then breach 36 place
+    else if list_any (λ earlier. overlap earlier pattern) before then breach 37 place
+    else if nat_lt (counted + length before) 256 then Ok (before ++ pattern ∷ []) else over_limit 2 256
 
 unfoldable pub pattern_step : ℕ → ℕ → ℕ → List Pattern → Data → Result (List Pattern) ConfigNo
-pattern_step met e i before d = option_map_or (λ text. option_map_or (place_pattern met e i before) (pattern_of text) (no 35 e i)) (as_str d) (no 22 e i)
+pattern_step counted entry item before d = option_map_or
+    (λ text. option_map_or (place_pattern counted (place_at entry item) before) (pattern_of text) (breach 35 (place_at entry item)))
+    (as_str d) (breach 22 (place_at entry item))
 
 -- providers
 
 -- a provider after those of its list so far, whose prefix none of them has
-unfoldable pub place_provider : ℕ → ℕ → List Who → Who → Result (List Who) ConfigNo
-place_provider e i before who = if list_any (λ earlier. rivals earlier who) before then no 38 e i else Ok (before ++ who ∷ [])
+unfoldable pub place_provider : Place → List Who → Who → Result (List Who) ConfigNo
+place_provider place before who = if list_any (λ earlier. rivals earlier who) before then breach 38 place else Ok (before ++ who ∷ [])
 
 -- the limits of keys and of plugins, with so many in earlier entries
-unfoldable pub place_key : ℕ → ℕ → ℕ → List Who → Who → Result (List Who) ConfigNo
-place_key met e i before who = next (place_provider e i before who) (λ after. if nat_lt (met + count_by is_key before) 64 then Ok after else no 39 3 64)
+unfoldable pub place_key : ℕ → Place → List Who → Who → Result (List Who) ConfigNo
+place_key counted place before who = and_then (place_provider place before who) (λ after. if nat_lt (counted + count_by is_key before) 64 then Ok after else over_limit 3 64)
 
-unfoldable pub place_plugin : ℕ → ℕ → ℕ → List Who → Who → Result (List Who) ConfigNo
-place_plugin met e i before who = next (place_provider e i before who) (λ after. if nat_lt (met + count_by is_kms before) 16 then Ok after else no 39 4 16)
+unfoldable pub place_plugin : ℕ → Place → List Who → Who → Result (List Who) ConfigNo
+place_plugin counted place before who = and_then (place_provider place before who) (λ after. if nat_lt (counted + count_by is_kms before) 16 then Ok after else over_limit 4 16)
 
-unfoldable pub identity_step : ℕ → ℕ → List Who → Data → Result (List Who) ConfigNo
-identity_step e i before d = if is_mapping d || is_some (as_null d) then place_provider e i before Identity else no 22 e i
+unfoldable pub identity_step : Place → List Who → Data → Result (List Who) ConfigNo
+identity_step place before d = if is_mapping d || is_some (as_null d) then place_provider place before Identity else breach 22 place
 
 abbrev pub of_cipher : Cipher → List ℕ → List ℕ → Who
 of_cipher cipher.Cbc name secret = Aescbc name secret
 of_cipher cipher.Gcm name secret = Aesgcm name secret
 
 -- a text by the name rule
-unfoldable pub name_at : ℕ → ℕ → Data → Result (List ℕ) ConfigNo
-name_at e i d = option_map_or (λ name. if is_name name then Ok name else no 31 e i) (text_at (codes "name") d) (no 22 e i)
+unfoldable pub name_at : Place → Data → Result (List ℕ) ConfigNo
+name_at place d = option_map_or (λ name. if is_name name then Ok name else breach 31 place) (text_at (codes "name") d) (breach 22 place)
 
 -- strict base64 of 16, 24 or 32 bytes
-unfoldable pub secret_at : ℕ → ℕ → Data → Result (List ℕ) ConfigNo
-secret_at e i d = option_map_or (λ text. option_map_or (λ secret. if is_secret secret then Ok secret else no 34 e i) (result_ok (decode_of standard text)) (no 33 e i))
-    (text_at (codes "secret") d) (no 22 e i)
+unfoldable pub secret_at : Place → Data → Result (List ℕ) ConfigNo
+secret_at place d = option_map_or (λ text. option_map_or (λ secret. if is_secret secret then Ok secret else breach 34 place) (result_ok (decode_of standard text)) (breach 33 place))
+    (text_at (codes "secret") d) (breach 22 place)
 
-unfoldable pub key_step : Cipher → ℕ → ℕ → ℕ → List Who → Data → Result (List Who) ConfigNo
-key_step cipher met e i before d = next (name_at e i d) (λ name. next (secret_at e i d) (λ secret. place_key met e i before (of_cipher cipher name secret)))
+unfoldable pub key_step : Cipher → ℕ → Place → List Who → Data → Result (List Who) ConfigNo
+key_step cipher counted place before d = and_then (name_at place d) (λ name. and_then (secret_at place d) (λ secret. place_key counted place before (of_cipher cipher name secret)))
 
-unfoldable pub keys_step : Cipher → ℕ → ℕ → ℕ → List Who → Data → Result (List Who) ConfigNo
-keys_step cipher met e i before d = if is_mapping d
-    then next (named_list (codes "keys") e i d) (λ keys. walk_each (key_step cipher met e i) before keys) else no 22 e i
+unfoldable pub keys_step : Cipher → ℕ → Place → List Who → Data → Result (List Who) ConfigNo
+keys_step cipher counted place before d = if is_mapping d
+    then and_then (named_list (codes "keys") place d) (λ keys. walk_each (key_step cipher counted place) before keys) else breach 22 place
 
 -- `v2` and no other
-unfoldable pub version_at : ℕ → ℕ → Data → Result Bool ConfigNo
-version_at e i d = option_map_or
-    (λ version. if has_text (codes "apiVersion") (codes "v1") d then no 29 e i
-    else option_map_or (λ text. if bytes_eq (codes "v2") text then Ok true else no 30 e i) (as_str version) (no 22 e i))
-    (get (codes "apiVersion") d) (no 29 e i)
+unfoldable pub version_at : Place → Data → Result Bool ConfigNo
+version_at place d = option_map_or
+    (λ version. if has_text (codes "apiVersion") (codes "v1") d then breach 29 place
+    else option_map_or (λ text. if bytes_eq (codes "v2") text then Ok true else breach 30 place) (as_str version) (breach 22 place))
+    (get (codes "apiVersion") d) (breach 29 place)
 
-unfoldable pub endpoint_at : ℕ → ℕ → Data → Result Bool ConfigNo
-endpoint_at e i d = option_map_or (λ text. if bytes_eq (take 7 text) (codes "unix://") then Ok true else no 32 e i) (text_at (codes "endpoint") d) (no 22 e i)
+unfoldable pub endpoint_at : Place → Data → Result Bool ConfigNo
+endpoint_at place d = option_map_or (λ text. if bytes_eq (take 7 text) (codes "unix://") then Ok true else breach 32 place) (text_at (codes "endpoint") d) (breach 22 place)
 
-unfoldable pub plugin_step : ℕ → ℕ → ℕ → List Who → Data → Result (List Who) ConfigNo
-plugin_step met e i before d = if is_mapping d
-    then next (version_at e i d) (λ ok. next (name_at e i d) (λ name. next (endpoint_at e i d) (λ fine. place_plugin met e i before (Kms name)))) else no 22 e i
+unfoldable pub plugin_step : ℕ → Place → List Who → Data → Result (List Who) ConfigNo
+plugin_step counted place before d = if is_mapping d
+    then and_then (version_at place d) (λ ok. and_then (name_at place d) (λ name. and_then (endpoint_at place d) (λ fine. place_plugin counted place before (Kms name)))) else breach 22 place
 
 -- how many of the five providers an element has
 abbrev pub one_if : Bool → ℕ
@@ -143,35 +165,43 @@ abbrev pub kinds_of : Data → ℕ
 kinds_of d = one_if (has (codes "identity") d) + one_if (has (codes "aescbc") d) + one_if (has (codes "aesgcm") d) + one_if (has (codes "kms") d) + one_if (has (codes "secretbox") d)
 
 -- by the one that it has
-unfoldable pub kind_step : ℕ → ℕ → ℕ → ℕ → List Who → Data → Result (List Who) ConfigNo
-kind_step keys plugins e i before d = option_map_or (identity_step e i before) (get (codes "identity") d)
-    (option_map_or (keys_step cipher.Cbc keys e i before) (get (codes "aescbc") d)
-    (option_map_or (keys_step cipher.Gcm keys e i before) (get (codes "aesgcm") d)
-    (option_map_or (plugin_step plugins e i before) (get (codes "kms") d) (no 28 e i))))
+unfoldable pub kind_step : Counts → Place → List Who → Data → Result (List Who) ConfigNo
+kind_step counts place before d = option_map_or (identity_step place before) (get (codes "identity") d)
+    (option_map_or (keys_step cipher.Cbc counts.keys place before) (get (codes "aescbc") d)
+    (option_map_or (keys_step cipher.Gcm counts.keys place before) (get (codes "aesgcm") d)
+    (option_map_or (plugin_step counts.plugins place before) (get (codes "kms") d) (breach 28 place))))
 
-unfoldable pub element_step : ℕ → ℕ → ℕ → ℕ → List Who → Data → Result (List Who) ConfigNo
-element_step keys plugins e i before d = if is_mapping d
-    then (if kinds_of d == 0 then no 26 e i else if nat_lt 1 (kinds_of d) then no 27 e i else kind_step keys plugins e i before d) else no 22 e i
+unfoldable pub element_step : Counts → ℕ → ℕ → List Who → Data → Result (List Who) ConfigNo
+element_step counts entry item before d = if is_mapping d
+    then (if kinds_of d == 0 then breach 26 (place_at entry item)
+    else if nat_lt 1 (kinds_of d) then breach 27 (place_at entry item) else kind_step counts (place_at entry item) before d)
+    else breach 22 (place_at entry item)
 
 -- entries
 
 -- an entry, with so many patterns, keys and plugins in those before it
-unfoldable pub entry_of : ℕ → ℕ → ℕ → ℕ → Data → Result Row ConfigNo
-entry_of patterns keys plugins e d = if is_mapping d
-    then next (named_list (codes "resources") e 0 d) (λ texts.
-    next (walk (pattern_step patterns e) 0 [] texts) (λ ps.
-    next (named_list (codes "providers") e 0 d) (λ elements.
-    next (walk (element_step keys plugins e) 0 [] elements) (λ ws. Ok (record { patterns = ps; providers = ws })))))
-    else no 22 e 0
+unfoldable pub entry_of : Counts → ℕ → Data → Result Row ConfigNo
+entry_of counts entry d = if is_mapping d
+    then and_then (named_list (codes "resources") (place_at entry 0) d) (λ texts.
+    and_then (walk (pattern_step counts.patterns entry) 0 [] texts) (λ ps.
+    and_then (named_list (codes "providers") (place_at entry 0) d) (λ elements.
+    and_then (walk (element_step counts entry) 0 [] elements) (λ ws. Ok (record { patterns = ps; providers = ws })))))
+    else breach 22 (place_at entry 0)
+
+abbrev pub counts_of : ℕ → ℕ → ℕ → Counts
+counts_of patterns keys plugins = record { patterns = patterns; keys = keys; plugins = plugins }
+
+abbrev pub counts_in : List Row → Counts
+counts_in rows = counts_of (patterns_in rows) (keys_in rows) (kms_in rows)
 
 unfoldable pub entry_step : ℕ → List Row → Data → Result (List Row) ConfigNo
-entry_step e before d = next (entry_of (patterns_in before) (keys_in before) (kms_in before) e d) (λ row. Ok (before ++ row ∷ []))
+entry_step entry before d = and_then (entry_of (counts_in before) entry d) (λ row. Ok (before ++ row ∷ []))
 
 unfoldable pub config_in : Data → Result (List Row) ConfigNo
 config_in d = if is_mapping d
     then (if has_text (codes "apiVersion") (codes "apiserver.config.k8s.io/v1") d
     then (if has_text (codes "kind") (codes "EncryptionConfiguration") d
-    then next (named_list (codes "resources") 0 0 d) (λ entries. if nat_le (length entries) 64 then walk entry_step 0 [] entries else no 39 1 64)
-    else no 24 0 0)
-    else no 23 0 0)
-    else no 22 0 0
+    then and_then (named_list (codes "resources") start d) (λ entries. if nat_le (length entries) 64 then walk entry_step 0 [] entries else over_limit 1 64)
+    else breach 24 start)
+    else breach 23 start)
+    else breach 22 start

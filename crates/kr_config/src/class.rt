@@ -1,7 +1,10 @@
+//! Classes of resources.
 ghost use Rattle.std.specs.Prelude.{◌≡◌};
 ghost use Rattle.kr_config.specs.Classes.{is_exact, is_group, is_rest};
 
-use kr_base::Text;
+use crate::borrowed_class::{BorrowedClass, copy_class};
+use kr_base::{NoMemory, Text};
+use std::alloc::Global;
 
 /// A class of resources that settings treat alike. Classes are ordered: exact ones by their bytes, then groups by their
 /// bytes, then the rest.
@@ -16,6 +19,27 @@ pub enum Class {
 }
 
 impl Class {
+    ghost use Rattle.std.specs.Prelude.{IfOk};
+    ghost use Rattle.kr_config.specs.Nexts.{lent_class};
+
+    /// The class, lent.
+    pub fn borrowed(&self) -> BorrowedClass<'_>
+        ensures { lent_class result ≡ self.now }
+    {
+        match self {
+            Class::Exact(text) => BorrowedClass::Exact(text),
+            Class::Group(group) => BorrowedClass::Group(group),
+            Class::Rest => BorrowedClass::Rest,
+        }
+    }
+
+    /// A copy of the class.
+    pub fn copy(&self, alloc: Global) -> Result<Class, NoMemory>
+        ensures { IfOk result (λ copy. copy ≡ self.now) }
+    {
+        copy_class(alloc, self.borrowed())
+    }
+
     /// Whether this is the class of the one resource.
     pub fn is_exact(&self, resource: &str) -> bool
         ensures { result ≡ is_exact resource.now self.now }

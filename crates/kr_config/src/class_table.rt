@@ -1,3 +1,4 @@
+//! The table of classes that some settings tell apart.
 ghost use Rattle.std.specs.Prelude.{◌≡◌, ◌<◌, ◌↔◌, length, ◌++◌, [], ◌∷◌, List, IsTrue, IfOk, OnOk, OnErr, Contains};
 ghost use Rattle.std.specs.List.{slice_index_or, list_any, flat_map};
 ghost use Rattle.std.specs.List.Sorted.{IsStrictlySortedBy};

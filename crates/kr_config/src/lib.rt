@@ -1,10 +1,14 @@
 //! The configuration of the encryption: provider lists of resources, and resource classes.
 #![tactic(auto)]
 
+mod borrowed_class;
 mod class;
 mod class_table;
 mod laws;
+mod next_class;
+mod next_plugin;
 mod pattern;
+mod place;
 mod provider;
 mod read_element;
 mod read_entry;
@@ -12,15 +16,14 @@ mod read_pattern;
 mod reading;
 mod refusal;
 mod settings;
-#[cfg(test)]
-mod tests;
 mod tree;
 mod who;
 mod yaml;
 
+pub use borrowed_class::{BorrowedClass, copy_class, first_of, is_before};
 pub use class::Class;
 pub use class_table::ClassTable;
-pub use laws::one_meaning;
+pub use laws::{classes_narrow, one_meaning};
 pub use pattern::Pattern;
 pub use reading::read;
 pub use refusal::{ConfigErr, ConfigNo};

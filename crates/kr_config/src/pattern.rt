@@ -1,3 +1,4 @@
+//! Patterns of resources.
 ghost use Rattle.std.specs.Prelude.{◌≡◌};
 ghost use Rattle.kr_config.specs.Patterns.{matches, covers_group, covers_rest, group_of, same, overlap};
 

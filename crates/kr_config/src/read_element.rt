@@ -1,53 +1,41 @@
+//! Reading a provider element.
 ghost use Rattle.std.specs.Prelude.{◌≡◌, ◌≤◌, map};
 ghost use Rattle.serde_json.specs.View.{view};
 ghost use Rattle.kr_config.specs.Walk.{walk_each, key_step, keys_step, one_if, kinds_of, kind_step, element_step};
 ghost use Rattle.kr_config.specs.Reads.{ReadsInto};
 
+use crate::place::{Counts, Place, breach};
 use crate::provider::{Cipher, read_identity, read_key, read_plugin};
-use crate::refusal::{ConfigErr, ConfigNo};
+use crate::refusal::ConfigErr;
 use crate::tree::{has, is_mapping, named_list};
 use crate::who::Who;
 use kr_base::List;
 use serde_json::Value;
 use std::alloc::Global;
 
-/// Reads the provider element at number `i` of entry `e`, where earlier entries have so many keys and plugins, and puts
-/// its providers behind those that stand before it.
+/// Reads the provider element at this place, where earlier entries have so many keys and plugins, and puts its providers behind
+/// those that stand before it.
 #[tactic(auto, unfolding(crate::specs::Walk::element_step))]
 pub fn read_element(
     alloc: Global,
-    keys: usize,
-    plugins: usize,
-    e: u32,
-    i: u32,
+    counts: Counts,
+    place: Place,
     before: &mut List<Who>,
     value: &Value,
 ) -> Result<(), ConfigErr>
-    ensures { ReadsInto (element_step keys plugins e i before.old.0 (view value.now)) before.new.0 result }
+    ensures { ReadsInto (element_step counts place.entry place.item before.old.0 (view value.now)) before.new.0 result }
 {
     if !is_mapping(value) {
-        return Err(ConfigErr::No(ConfigNo {
-            code: 22,
-            first: e,
-            second: i,
-        }));
+        return Err(ConfigErr::No(breach(22, place)));
     }
     let kinds = kinds_of(value);
     if kinds == 0 {
-        return Err(ConfigErr::No(ConfigNo {
-            code: 26,
-            first: e,
-            second: i,
-        }));
+        return Err(ConfigErr::No(breach(26, place)));
     }
     if kinds > 1 {
-        return Err(ConfigErr::No(ConfigNo {
-            code: 27,
-            first: e,
-            second: i,
-        }));
+        return Err(ConfigErr::No(breach(27, place)));
     }
-    read_kind(alloc, keys, plugins, e, i, before, value)
+    read_kind(alloc, counts, place, before, value)
 }
 
 /// How many of the five providers the element has.
@@ -71,32 +59,26 @@ fn one_if(b: bool) -> u32
 #[tactic(auto, unfolding(crate::specs::Walk::kind_step))]
 fn read_kind(
     alloc: Global,
-    keys: usize,
-    plugins: usize,
-    e: u32,
-    i: u32,
+    counts: Counts,
+    place: Place,
     before: &mut List<Who>,
     value: &Value,
 ) -> Result<(), ConfigErr>
-    ensures { ReadsInto (kind_step keys plugins e i before.old.0 (view value.now)) before.new.0 result }
+    ensures { ReadsInto (kind_step counts place before.old.0 (view value.now)) before.new.0 result }
 {
     if let Some(identity) = value.get("identity") {
-        return read_identity(e, i, before, identity);
+        return read_identity(place, before, identity);
     }
     if let Some(aescbc) = value.get("aescbc") {
-        return read_keys(alloc, Cipher::Cbc, keys, e, i, before, aescbc);
+        return read_keys(alloc, Cipher::Cbc, counts.keys, place, before, aescbc);
     }
     if let Some(aesgcm) = value.get("aesgcm") {
-        return read_keys(alloc, Cipher::Gcm, keys, e, i, before, aesgcm);
+        return read_keys(alloc, Cipher::Gcm, counts.keys, place, before, aesgcm);
     }
     if let Some(kms) = value.get("kms") {
-        return read_plugin(alloc, plugins, e, i, before, kms);
+        return read_plugin(alloc, counts.plugins, place, before, kms);
     }
-    Err(ConfigErr::No(ConfigNo {
-        code: 28,
-        first: e,
-        second: i,
-    }))
+    Err(ConfigErr::No(breach(28, place)))
 }
 
 /// Reads an element of keys.
@@ -104,23 +86,18 @@ fn read_kind(
 fn read_keys(
     alloc: Global,
     cipher: Cipher,
-    met: usize,
-    e: u32,
-    i: u32,
+    counted: usize,
+    place: Place,
     before: &mut List<Who>,
     value: &Value,
 ) -> Result<(), ConfigErr>
-    ensures { ReadsInto (keys_step cipher met e i before.old.0 (view value.now)) before.new.0 result }
+    ensures { ReadsInto (keys_step cipher counted place before.old.0 (view value.now)) before.new.0 result }
 {
     if !is_mapping(value) {
-        return Err(ConfigErr::No(ConfigNo {
-            code: 22,
-            first: e,
-            second: i,
-        }));
+        return Err(ConfigErr::No(breach(22, place)));
     }
-    match named_list(value, "keys", e, i) {
-        Ok(keys) => read_each_key(alloc, cipher, met, e, i, before, keys),
+    match named_list(value, "keys", place) {
+        Ok(keys) => read_each_key(alloc, cipher, counted, place, before, keys),
         Err(why) => Err(ConfigErr::No(why)),
     }
 }
@@ -129,16 +106,15 @@ fn read_keys(
 fn read_each_key(
     alloc: Global,
     cipher: Cipher,
-    met: usize,
-    e: u32,
-    i: u32,
+    counted: usize,
+    place: Place,
     before: &mut List<Who>,
     keys: &[Value],
 ) -> Result<(), ConfigErr>
-    ensures { ReadsInto (walk_each (key_step cipher met e i) before.old.0 (map view keys.now)) before.new.0 result }
+    ensures { ReadsInto (walk_each (key_step cipher counted place) before.old.0 (map view keys.now)) before.new.0 result }
 {
     for key in keys {
-        match read_key(alloc, cipher, met, e, i, before, key) {
+        match read_key(alloc, cipher, counted, place, before, key) {
             Ok(()) => {}
             Err(why) => return Err(why),
         }

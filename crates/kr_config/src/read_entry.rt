@@ -1,12 +1,14 @@
+//! Reading an entry.
 ghost use Rattle.std.specs.Prelude.{◌≡◌, ◌≤◌, map, []};
 ghost use Rattle.serde_json.specs.View.{view};
 ghost use Rattle.kr_config.specs.Walk.{walk, pattern_step, element_step, entry_of};
 ghost use Rattle.kr_config.specs.Reads.{ReadsList, ReadsEntry};
 
 use crate::pattern::Pattern;
+use crate::place::{Counts, Place, breach};
 use crate::read_element::read_element;
 use crate::read_pattern::read_pattern;
-use crate::refusal::{ConfigErr, ConfigNo};
+use crate::refusal::ConfigErr;
 use crate::settings::Entry;
 use crate::tree::{is_mapping, named_list};
 use crate::who::Who;
@@ -18,31 +20,26 @@ use std::alloc::Global;
 #[tactic(auto, unfolding(crate::specs::Walk::entry_of))]
 pub fn read_entry(
     alloc: Global,
-    patterns: usize,
-    keys: usize,
-    plugins: usize,
-    e: u32,
+    counts: Counts,
+    entry: u32,
     value: &Value,
 ) -> Result<Entry, ConfigErr>
-    requires { patterns ≤ 256 }
-    ensures { ReadsEntry (entry_of patterns keys plugins e (view value.now)) result }
+    requires { counts.patterns ≤ 256 }
+    ensures { ReadsEntry (entry_of counts entry (view value.now)) result }
 {
+    let place = Place { entry, item: 0 };
     if !is_mapping(value) {
-        return Err(ConfigErr::No(ConfigNo {
-            code: 22,
-            first: e,
-            second: 0,
-        }));
+        return Err(ConfigErr::No(breach(22, place)));
     }
-    let patterns = match named_list(value, "resources", e, 0) {
-        Ok(texts) => match read_patterns(alloc, patterns, e, texts) {
+    let patterns = match named_list(value, "resources", place) {
+        Ok(texts) => match read_patterns(alloc, counts.patterns, entry, texts) {
             Ok(patterns) => patterns,
             Err(why) => return Err(why),
         },
         Err(why) => return Err(ConfigErr::No(why)),
     };
-    let providers = match named_list(value, "providers", e, 0) {
-        Ok(elements) => match read_elements(alloc, keys, plugins, e, elements) {
+    let providers = match named_list(value, "providers", place) {
+        Ok(elements) => match read_elements(alloc, counts, entry, elements) {
             Ok(providers) => providers,
             Err(why) => return Err(why),
         },
@@ -57,21 +54,21 @@ pub fn read_entry(
 #[tactic(auto, using(crate::proofs::Trees::walk_more, crate::proofs::Trees::walk_stops, crate::proofs::Trees::walk_ends))]
 fn read_patterns(
     alloc: Global,
-    met: usize,
-    e: u32,
+    counted: usize,
+    entry: u32,
     texts: &[Value],
 ) -> Result<List<Pattern>, ConfigErr>
-    requires { met ≤ 256 }
-    ensures { ReadsList (walk (pattern_step met e) 0 [] (map view texts.now)) result }
+    requires { counted ≤ 256 }
+    ensures { ReadsList (walk (pattern_step counted entry) 0 [] (map view texts.now)) result }
 {
     let mut patterns = List::new(alloc);
-    let mut i: u32 = 0;
+    let mut item: u32 = 0;
     for text in texts {
-        match read_pattern(alloc, met, e, i, &mut patterns, text) {
+        match read_pattern(alloc, counted, Place { entry, item }, &mut patterns, text) {
             Ok(()) => {}
             Err(why) => return Err(why),
         }
-        i = i.saturating_add(1);
+        item = item.saturating_add(1);
     }
     Ok(patterns)
 }
@@ -79,21 +76,26 @@ fn read_patterns(
 #[tactic(auto, using(crate::proofs::Trees::walk_more, crate::proofs::Trees::walk_stops, crate::proofs::Trees::walk_ends))]
 fn read_elements(
     alloc: Global,
-    keys: usize,
-    plugins: usize,
-    e: u32,
+    counts: Counts,
+    entry: u32,
     elements: &[Value],
 ) -> Result<List<Who>, ConfigErr>
-    ensures { ReadsList (walk (element_step keys plugins e) 0 [] (map view elements.now)) result }
+    ensures { ReadsList (walk (element_step counts entry) 0 [] (map view elements.now)) result }
 {
     let mut providers = List::new(alloc);
-    let mut i: u32 = 0;
+    let mut item: u32 = 0;
     for element in elements {
-        match read_element(alloc, keys, plugins, e, i, &mut providers, element) {
+        match read_element(
+            alloc,
+            counts,
+            Place { entry, item },
+            &mut providers,
+            element,
+        ) {
             Ok(()) => {}
             Err(why) => return Err(why),
         }
-        i = i.saturating_add(1);
+        item = item.saturating_add(1);
     }
     Ok(providers)
 }

@@ -1,3 +1,4 @@
+//! Reading a pattern.
 ghost use Rattle.std.specs.Prelude.{◌≡◌, ◌≤◌, IfOk, Some, None, if◌then◌else◌};
 ghost use Rattle.std.specs.List.{list_any};
 ghost use Rattle.kr_base.specs.Rules.{is_resource};
@@ -8,7 +9,8 @@ ghost use Rattle.kr_config.specs.Walk.{star_pattern, pattern_of, place_pattern, 
 ghost use Rattle.kr_config.specs.Reads.{ReadsInto};
 
 use crate::pattern::Pattern;
-use crate::refusal::{ConfigErr, ConfigNo};
+use crate::place::{Place, breach, over_limit};
+use crate::refusal::ConfigErr;
 use kr_base::{List, NoMemory, Text, resource_ok};
 use serde_json::Value;
 use std::alloc::Global;
@@ -16,69 +18,47 @@ use std::alloc::Global;
 /// The longest group: `*.` before it counts among the 253 bytes.
 const GROUP_LIMIT: usize = 251;
 
-/// Reads the pattern at number `i` of entry `e`, where earlier entries have `met` patterns, and puts it behind those that
-/// stand before it.
+/// Reads the pattern at this place, where earlier entries have `counted` patterns, and puts it behind those that stand before
+/// it.
 #[tactic(auto, unfolding(crate::specs::Walk::pattern_step))]
 pub fn read_pattern(
     alloc: Global,
-    met: usize,
-    e: u32,
-    i: u32,
+    counted: usize,
+    place: Place,
     before: &mut List<Pattern>,
     value: &Value,
 ) -> Result<(), ConfigErr>
-    requires { met ≤ 256 }
-    ensures { ReadsInto (pattern_step met e i before.old.0 (view value.now)) before.new.0 result }
+    requires { counted ≤ 256 }
+    ensures { ReadsInto (pattern_step counted place.entry place.item before.old.0 (view value.now)) before.new.0 result }
 {
     let Some(text) = value.as_str() else {
-        return Err(ConfigErr::No(ConfigNo {
-            code: 22,
-            first: e,
-            second: i,
-        }));
+        return Err(ConfigErr::No(breach(22, place)));
     };
     match pattern_of(alloc, text) {
-        Ok(Some(pattern)) => place_pattern(met, e, i, before, pattern),
-        Ok(None) => Err(ConfigErr::No(ConfigNo {
-            code: 35,
-            first: e,
-            second: i,
-        })),
+        Ok(Some(pattern)) => place_pattern(counted, place, before, pattern),
+        Ok(None) => Err(ConfigErr::No(breach(35, place))),
         Err(_) => Err(ConfigErr::NoMemory),
     }
 }
 
 #[tactic(auto, unfolding(crate::specs::Walk::place_pattern))]
 fn place_pattern(
-    met: usize,
-    e: u32,
-    i: u32,
+    counted: usize,
+    place: Place,
     before: &mut List<Pattern>,
     pattern: Pattern,
 ) -> Result<(), ConfigErr>
-    requires { met ≤ 256 }
-    ensures { ReadsInto (place_pattern met e i before.old.0 pattern) before.new.0 result }
+    requires { counted ≤ 256 }
+    ensures { ReadsInto (place_pattern counted place before.old.0 pattern) before.new.0 result }
 {
     if has_same(before.as_slice(), &pattern) {
-        return Err(ConfigErr::No(ConfigNo {
-            code: 36,
-            first: e,
-            second: i,
-        }));
+        return Err(ConfigErr::No(breach(36, place)));
     }
     if has_overlap(before.as_slice(), &pattern) {
-        return Err(ConfigErr::No(ConfigNo {
-            code: 37,
-            first: e,
-            second: i,
-        }));
+        return Err(ConfigErr::No(breach(37, place)));
     }
-    if before.as_slice().len() >= 256 - met {
-        return Err(ConfigErr::No(ConfigNo {
-            code: 39,
-            first: 2,
-            second: 256,
-        }));
+    if before.as_slice().len() >= 256 - counted {
+        return Err(ConfigErr::No(over_limit(2, 256)));
     }
     match before.push(pattern) {
         Ok(()) => Ok(()),

@@ -1,3 +1,4 @@
+//! Reading a configuration.
 ghost use Rattle.std.specs.Prelude.{◌≡◌, count_by, map, []};
 ghost use Rattle.serde_json.specs.View.{view};
 ghost use Rattle.serde_json.specs.Read.{read};
@@ -6,6 +7,7 @@ ghost use Rattle.kr_config.specs.Walk.{walk, entry_step, config_in};
 ghost use Rattle.kr_config.specs.Meanings.{begins_json, is_blank, json_rows, MeansYaml, TextMeans, no_text, Means};
 ghost use Rattle.kr_config.specs.Reads.{ReadsEntries, ReadsMeant, ReadsSettings, ReadsJson};
 
+use crate::place::{Counts, breach, over_limit, start};
 use crate::read_entry::read_entry;
 use crate::refusal::{ConfigErr, ConfigNo};
 use crate::settings::{Entry, Settings};
@@ -45,11 +47,7 @@ fn no_text(is_json: bool) -> ConfigNo
     ensures { result ≡ no_text is_json }
 {
     if is_json {
-        return ConfigNo {
-            code: 20,
-            first: 0,
-            second: 0,
-        };
+        return breach(20, start());
     }
     ConfigNo {
         code: 21,
@@ -75,11 +73,7 @@ fn read_json_text(alloc: Global, text: &str) -> Result<List<Entry>, ConfigErr>
 {
     match read_json(alloc, text) {
         Ok(value) => read_config(alloc, &value),
-        Err(JsonNo::Form) => Err(ConfigErr::No(ConfigNo {
-            code: 20,
-            first: 0,
-            second: 0,
-        })),
+        Err(JsonNo::Form) => Err(ConfigErr::No(breach(20, start()))),
         Err(JsonNo::NoMemory) => Err(ConfigErr::NoMemory),
     }
 }
@@ -138,36 +132,20 @@ fn read_config(alloc: Global, value: &Value) -> Result<List<Entry>, ConfigErr>
     ensures { ReadsEntries (config_in (view value.now)) result }
 {
     if !is_mapping(value) {
-        return Err(ConfigErr::No(ConfigNo {
-            code: 22,
-            first: 0,
-            second: 0,
-        }));
+        return Err(ConfigErr::No(breach(22, start())));
     }
     if !has_text(value, "apiVersion", "apiserver.config.k8s.io/v1") {
-        return Err(ConfigErr::No(ConfigNo {
-            code: 23,
-            first: 0,
-            second: 0,
-        }));
+        return Err(ConfigErr::No(breach(23, start())));
     }
     if !has_text(value, "kind", "EncryptionConfiguration") {
-        return Err(ConfigErr::No(ConfigNo {
-            code: 24,
-            first: 0,
-            second: 0,
-        }));
+        return Err(ConfigErr::No(breach(24, start())));
     }
-    let entries = match named_list(value, "resources", 0, 0) {
+    let entries = match named_list(value, "resources", start()) {
         Ok(entries) => entries,
         Err(why) => return Err(ConfigErr::No(why)),
     };
     if entries.len() > 64 {
-        return Err(ConfigErr::No(ConfigNo {
-            code: 39,
-            first: 1,
-            second: 64,
-        }));
+        return Err(ConfigErr::No(over_limit(1, 64)));
     }
     read_entries(alloc, entries)
 }
@@ -177,12 +155,17 @@ fn read_entries(alloc: Global, values: &[Value]) -> Result<List<Entry>, ConfigEr
     ensures { ReadsEntries (walk entry_step 0 [] (map view values.now)) result }
 {
     let mut entries = List::new(alloc);
-    let mut e: u32 = 0;
+    let mut number: u32 = 0;
     let mut patterns = 0;
     let mut keys = 0;
     let mut plugins = 0;
     for value in values {
-        let entry = match read_entry(alloc, patterns, keys, plugins, e, value) {
+        let counts = Counts {
+            patterns,
+            keys,
+            plugins,
+        };
+        let entry = match read_entry(alloc, counts, number, value) {
             Ok(entry) => entry,
             Err(why) => return Err(why),
         };
@@ -193,7 +176,7 @@ fn read_entries(alloc: Global, values: &[Value]) -> Result<List<Entry>, ConfigEr
             Ok(()) => {}
             Err(_) => return Err(ConfigErr::NoMemory),
         }
-        e = e.saturating_add(1);
+        number = number.saturating_add(1);
     }
     Ok(entries)
 }

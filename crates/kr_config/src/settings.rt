@@ -1,11 +1,14 @@
+//! Settings: the entries of a configuration.
 ghost use Rattle.std.specs.Prelude.{◌≡◌, IsTrue, [], ◌∷◌};
 ghost use Rattle.std.specs.List.{list_any};
 ghost use Rattle.kr_config.specs.declared.who.Who.TheVariants.{Identity};
 ghost use Rattle.kr_config.specs.Kept.{rows_of, keeps};
 
+use crate::borrowed_class::BorrowedClass;
 use crate::class::Class;
 use crate::pattern::Pattern;
 use crate::who::Who;
+use crate::{next_class, next_plugin};
 use kr_base::{List, NoMemory};
 use std::alloc::Global;
 
@@ -30,7 +33,12 @@ pub struct Settings {
 impl Settings {
     ghost use Rattle.std.specs.Prelude.{IfOk};
     ghost use Rattle.kr_config.specs.Patterns.{covers_group, covers_rest};
+    ghost use Rattle.std.specs.Option.{option_map};
+    ghost use Rattle.kr_config.specs.declared.class.Class.TheVariants.{Rest};
+    ghost use Rattle.kr_config.specs.Classes.{classes_in};
+    ghost use Rattle.kr_config.specs.Kept.{plugins_in};
     ghost use Rattle.kr_config.specs.Lists.{first_list, list_of, class_list};
+    ghost use Rattle.kr_config.specs.Nexts.{lent_class, IsNextClass, IsNextName};
 
     /// The settings of entries that keep the rules.
     pub fn of(alloc: Global, entries: List<Entry>) -> Result<Settings, NoMemory>
@@ -66,6 +74,36 @@ impl Settings {
             Class::Exact(text) => self.list_for(text.as_str()),
             Class::Group(group) => self.list_for_group(group.as_str()),
             Class::Rest => self.list_for_rest(),
+        }
+    }
+
+    /// The same of a class that is lent.
+    pub fn list_for_borrowed(&self, class: BorrowedClass<'_>) -> &[Who]
+        ensures { result.now ≡ class_list (rows_of self.now.entries.0) (lent_class class.entry) }
+    {
+        match class {
+            BorrowedClass::Exact(text) => self.list_for(text.as_str()),
+            BorrowedClass::Group(group) => self.list_for_group(group.as_str()),
+            BorrowedClass::Rest => self.list_for_rest(),
+        }
+    }
+
+    /// The first class after this one, or the first of all, in the order of classes, of those that the settings tell apart:
+    /// the class of each pattern, and the rest. It takes no memory.
+    pub fn next_class(&self, after: Option<BorrowedClass<'_>>) -> Option<BorrowedClass<'_>>
+        ensures { IsNextClass (Rest ∷ classes_in (rows_of self.now.entries.0)) (option_map lent_class after.entry) (option_map lent_class result) }
+    {
+        next_class::next_in(self.entries.as_slice(), after)
+    }
+
+    /// The least name of a plugin after this one by bytes. Names aren't empty, so the first comes after "". It takes no
+    /// memory.
+    pub fn next_plugin(&self, after: &str) -> Option<&str>
+        ensures { IsNextName (plugins_in (rows_of self.now.entries.0)) after.now (option_map (λ name. name.now) result) }
+    {
+        match next_plugin::next_in(self.entries.as_slice(), after) {
+            Some(name) => Some(name.as_str()),
+            None => None,
         }
     }
 

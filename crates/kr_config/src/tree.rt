@@ -6,6 +6,7 @@ ghost use Rattle.serde_json.specs.View.{view};
 ghost use Rattle.kr_config.specs.Walk.{text_at, has_text, is_mapping, has, named_list};
 ghost use Rattle.kr_config.specs.Reads.{Lends};
 
+use crate::place::{Place, breach};
 use crate::refusal::ConfigNo;
 use serde_json::Value;
 
@@ -45,34 +46,17 @@ pub fn is_mapping(value: &Value) -> bool
 
 /// The items of the list at a member, which isn't empty.
 #[tactic(auto, unfolding(crate::specs::Walk::named_list), using(crate::proofs::Trees::named_ok))]
-pub fn named_list<'a>(
-    value: &'a Value,
-    key: &str,
-    first: u32,
-    second: u32,
-) -> Result<&'a [Value], ConfigNo>
-    ensures { Lends (named_list key.now first second (view value.now)) result }
+pub fn named_list<'a>(value: &'a Value, key: &str, place: Place) -> Result<&'a [Value], ConfigNo>
+    ensures { Lends (named_list key.now place (view value.now)) result }
 {
     let Some(member) = value.get(key) else {
-        return Err(ConfigNo {
-            code: 22,
-            first,
-            second,
-        });
+        return Err(breach(22, place));
     };
     let Some(list) = member.as_array() else {
-        return Err(ConfigNo {
-            code: 22,
-            first,
-            second,
-        });
+        return Err(breach(22, place));
     };
     if list.is_empty() {
-        return Err(ConfigNo {
-            code: 25,
-            first,
-            second,
-        });
+        return Err(breach(25, place));
     }
     Ok(list.as_slice())
 }

@@ -1,7 +1,9 @@
-ghost use Rattle.std.specs.Prelude.{◌≡◌};
+//! Providers.
+ghost use Rattle.std.specs.Prelude.{◌≡◌, IfOk};
 ghost use Rattle.kr_config.specs.Providers.{rivals, is_key, is_kms};
 
-use kr_base::{Bytes, Text};
+use kr_base::{Bytes, NoMemory, Text};
+use std::alloc::Global;
 
 /// A provider: what writes and reads the values of a resource. A provider is its kind, its name and its secret, so
 /// two keys of one name with other secrets are two providers.
@@ -18,6 +20,24 @@ pub enum Who {
 }
 
 impl Who {
+    /// A copy of the provider.
+    pub fn copy(&self, alloc: Global) -> Result<Who, NoMemory>
+        ensures { IfOk result (λ copy. copy ≡ self.now) }
+    {
+        match self {
+            Who::Identity => Ok(Who::Identity),
+            Who::Aescbc(name, secret) => Ok(Who::Aescbc(
+                Text::copy(alloc, name.as_str())?,
+                Bytes::copy(alloc, secret.as_slice())?,
+            )),
+            Who::Aesgcm(name, secret) => Ok(Who::Aesgcm(
+                Text::copy(alloc, name.as_str())?,
+                Bytes::copy(alloc, secret.as_slice())?,
+            )),
+            Who::Kms(name) => Ok(Who::Kms(Text::copy(alloc, name.as_str())?)),
+        }
+    }
+
     /// Whether the two have one prefix: one kind and name.
     pub fn is_rival(&self, other: &Who) -> bool
         ensures { result ≡ rivals self.now other.now }

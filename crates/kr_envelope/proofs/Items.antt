@@ -2,7 +2,7 @@
 use Rattle.std.proofs.Common.{◌≡◌, ◌≢◌, ℕ, ◌%◌, ◌^◌, List, [], ◌∷◌, length, Bool, true, false, Some, refl, sym, ◌∙◌, ap, subst, arith}
 use Rattle.std.specs.Prelude.{◌==◌, Err}
 use Rattle.std.proofs.lemmas.Bool.Decides.{nat_tests}
-use Rattle.kr_envelope.specs.Reading.{Says, TakesItem}
+use Rattle.kr_envelope.specs.inner.Reading.{Says, TakesItem}
 use Rattle.kr_envelope.specs.declared.item.ItemNo.{ItemNo}
 use Rattle.kr_envelope.specs.declared.item.ItemNo.TheVariants as no
 use Rattle.kr_envelope.specs.Wire.{Spells, Starts, Payload, varint, fixed64, bytes, fixed32, Field, IsField}

@@ -7,3 +7,5 @@ pub mod Objects
 pub mod Numbers
 pub mod RoundTrip
 pub mod OneReading
+pub mod Readable
+pub mod Sizes

@@ -9,8 +9,8 @@ use Rattle.std.specs.Str.{IsUtf8}
 use Rattle.std.specs.Prelude.{nat_eq}
 use Rattle.std.proofs.lemmas.List.{get_or_default, append-nil, drop_all}
 use Rattle.std.proofs.Math.Seq.{drop-cons}
+use Rattle.kr_base.specs.Limits.{size_of}
 use Rattle.kr_base.specs.Pairs.{Pairs}
-use Rattle.kr_envelope.specs.Limits.{size_of}
 use Rattle.kr_envelope.specs.Canonical.{groups, shortest, pair_field}
 
 -- what is written so far, and the number that is left

@@ -8,12 +8,13 @@ use Rattle.std.specs.Cmp.Lexicographic.{slice_cmp}
 use Rattle.std.proofs.lemmas.List.{append-nil, length-append}
 use Rattle.std.proofs.lemmas.List.Elements.{filter_map-append}
 use Rattle.std.proofs.Math.Seq.{drop-cons}
+use Rattle.kr_base.specs.Limits.{size_of}
 use Rattle.kr_base.specs.Pairs.{Pairs, with_pair}
 use Rattle.kr_envelope.specs.Wire.{Spells, Starts, Field, IsField}
 use Rattle.kr_envelope.specs.Messages.{last_or, bytes_at, of_bytes, Means, Item, encrypted, key_id, source, annotation, kind, other, IsItem, IsText, IsMessage, encrypted_in, key_id_in, source_in, annotation_in, kind_in, put_all, Raw, raw_of}
-use Rattle.kr_envelope.specs.Limits.{size_of, Judges, BreaksAt, Reads}
-use Rattle.kr_envelope.specs.Reading.{put, later, Keeps, Sees, SeesEntry, Walks}
-use Rattle.kr_envelope.specs.declared.found.Found.{Found}
+use Rattle.kr_envelope.specs.Limits.{Judges, BreaksAt, Reads}
+use Rattle.kr_envelope.specs.inner.Reading.{merged, later, Keeps, Sees, SeesEntry, Walks}
+use Rattle.kr_envelope.specs.declared.partial.PartialObject.{PartialObject}
 use Rattle.kr_envelope.specs.declared.object.ObjectNo.{ObjectNo}
 use Rattle.kr_envelope.specs.declared.object.ObjectNo.TheVariants.{Wire, KeyId, Source, Annotations, SourceType, NoData, NotUtf8, NoMemory}
 use Rattle.kr_envelope.specs.declared.object.EncryptedObject.{EncryptedObject}
@@ -46,7 +47,7 @@ same_raw a b e k s n m =
     ∙ ap (λ x. raw b.encrypted b.key_id b.source b.annotations x) m
 
 -- one more item goes over those before it
-pub raw_more : (items : List Item) (item : Item) → raw_of (items ++ item ∷ []) ≡ put (raw_of items) item
+pub raw_more : (items : List Item) (item : Item) → raw_of (items ++ item ∷ []) ≡ merged (raw_of items) item
 raw_more items (encrypted content) = let item = encrypted content in same_raw _ _
     (has encrypted_in [] items item content refl) (ap (last_or []) (keeps key_id_in items item refl)) (ap (last_or []) (keeps source_in items item refl)) (ap (put_all []) (keeps annotation_in items item refl)) (ap (last_or 0) (keeps kind_in items item refl))
 raw_more items (key_id content) = let item = key_id content in same_raw _ _
@@ -75,8 +76,8 @@ still : (crowded : Bool) (kept pairs : Pairs) (key value : List ℕ) → crowded
 still true kept pairs key value t h = omega (arith, h, longer pairs key value)
 still false kept pairs key value t h = cc
 
-pub still_crowded : (found : Found) (raw : Raw) (key value : List ℕ) → found.crowded ≡ true → Sees found raw → Sees found (record raw { annotations = with_pair raw.annotations key value })
-still_crowded found raw key value t s = record { encrypted = s.encrypted; key_id = s.key_id; source = s.source; kind = s.kind; annotations = still found.crowded found.annotations raw.annotations key value t s.annotations }
+pub still_crowded : (partial : PartialObject) (raw : Raw) (key value : List ℕ) → partial.crowded ≡ true → Sees partial raw → Sees partial (record raw { annotations = with_pair raw.annotations key value })
+still_crowded partial raw key value t s = record { encrypted = s.encrypted; key_id = s.key_id; source = s.source; kind = s.kind; annotations = still partial.crowded partial.annotations raw.annotations key value t s.annotations }
 
 -- the bytes of annotations, from a pair on
 pub size_drop : (pairs : Pairs) (i : ℕ) (d : List ℕ × List ℕ) → i < length pairs → size_of (drop i pairs) ≡ length (get_or pairs i d).0 + length (get_or pairs i d).1 + size_of (drop (suc i) pairs)
@@ -122,8 +123,8 @@ whole_entry text rest key value s e =
     (text, refl, (s.fields, subst (λ l. Spells IsField l s.fields) whole s.spelled, s.key_is, s.value_is))
 
 -- a message, one more item at a time
-pub walk_more : (text rest behind : List ℕ) (found after : Found) (item : Item) → Walks text rest found → Starts IsItem rest item behind → IsText item → ((raw : Raw) → Sees found raw → Sees after (put raw item)) → Walks text behind after
-walk_more text rest behind found after item w s t p = record {
+pub walk_more : (text rest behind : List ℕ) (partial after : PartialObject) (item : Item) → Walks text rest partial → Starts IsItem rest item behind → IsText item → ((raw : Raw) → Sees partial raw → Sees after (merged raw item)) → Walks text behind after
+walk_more text rest behind partial after item w s t p = record {
   front = w.front ++ s.0;
   items = w.items ++ item ∷ [];
   parts = w.parts ∙ ap (λ l. w.front ++ l) s.2 ∙ sym (append_assoc w.front s.0 behind);
@@ -131,11 +132,11 @@ walk_more text rest behind found after item w s t p = record {
   sees = subst (Sees after) (sym (raw_more w.items item)) (p (raw_of w.items) w.sees);
 }
 
-pub walk_begun : (text : List ℕ) (found : Found) → Sees found (raw_of []) → Walks text text found
-walk_begun text found s = record { front = []; items = []; parts = refl; message = (refl, tt); sees = s }
+pub walk_begun : (text : List ℕ) (partial : PartialObject) → Sees partial (raw_of []) → Walks text text partial
+walk_begun text partial s = record { front = []; items = []; parts = refl; message = (refl, tt); sees = s }
 
-pub walk_broken : (Breach : List ℕ → Type 0) (text rest : List ℕ) (found : Found) (at : ℕ) → Walks text rest found → at ≡ length text - length rest → Breach rest → BreaksAt Breach text at
-walk_broken Breach text rest found at w e b = record {
+pub walk_broken : (Breach : List ℕ → Type 0) (text rest : List ℕ) (partial : PartialObject) (at : ℕ) → Walks text rest partial → at ≡ length text - length rest → Breach rest → BreaksAt Breach text at
+walk_broken Breach text rest partial at w e b = record {
   front = w.front;
   rest = rest;
   items = w.items;
@@ -157,7 +158,7 @@ judged text items m (Err (NotUtf8 at)) j = absurd j
 judged text items m (Err NoMemory) j = tt
 
 -- and the whole
-pub walk_ended : (text rest : List ℕ) (found : Found) (result : Result EncryptedObject ObjectNo) → Walks text rest found → rest ≡ [] → ((raw : Raw) → Sees found raw → Judges raw result) → Reads text result
-walk_ended text rest found result w e j =
+pub walk_ended : (text rest : List ℕ) (partial : PartialObject) (result : Result EncryptedObject ObjectNo) → Walks text rest partial → rest ≡ [] → ((raw : Raw) → Sees partial raw → Judges raw result) → Reads text result
+walk_ended text rest partial result w e j =
     let whole : w.front ≡ text = sym (w.parts ∙ ap (λ l. w.front ++ l) e ∙ append-nil w.front) in
     judged text w.items (subst (λ l. IsMessage l w.items) whole w.message) result (j (raw_of w.items) w.sees)

@@ -17,7 +17,8 @@ use Rattle.kr_base.specs.Rules.{IsName}
 use Rattle.kr_envelope.specs.declared.prefix.Kind.{Kind}
 use Rattle.kr_envelope.specs.declared.prefix.Kind.TheVariants.{Aescbc, Aesgcm, Kms}
 use Rattle.kr_envelope.specs.declared.prefix.Tagged.TheVariants.{Plain, Known, Strange}
-use Rattle.kr_envelope.specs.Prefixes.{mark, head, prefix, Begins, IsParted, IsSplit, begins, is_marked, has_prefix}
+use Rattle.kr_envelope.specs.inner.Parting.{IsParted}
+use Rattle.kr_envelope.specs.Prefixes.{mark, head, prefix, Begins, IsSplit, begins, is_marked, has_prefix}
 
 -- a name is text, and has no colon
 pub text_of_name : (name : List ℕ) → IsName name → IsUtf8 name

@@ -11,6 +11,7 @@ use Rattle.std.specs.Map.{keys_of}
 use Rattle.std.proofs.lemmas.List.{append-nil, length-append}
 use Rattle.std.proofs.lemmas.List.Elements.{recursion_from_All}
 use Rattle.std.proofs.lemmas.Bool.Decides.{nat_tests}
+use Rattle.kr_base.specs.Limits.{IsShort, AreFew, size_of, is_short, are_few}
 use Rattle.kr_base.specs.Pairs.{Pairs, with_pair, IsSortedByKey}
 use Rattle.kr_envelope.specs.declared.object.SourceKind.{SourceKind}
 use Rattle.kr_envelope.specs.declared.object.SourceKind.TheVariants.{Key, Seed}
@@ -19,9 +20,8 @@ use Rattle.kr_envelope.specs.declared.object.ObjectNo.TheVariants.{Wire, KeyId, 
 use Rattle.kr_envelope.specs.declared.object.EncryptedObject.{EncryptedObject}
 use Rattle.kr_envelope.specs.Wire.{Spells, Starts, IsVarint, varint, Field, IsField}
 use Rattle.kr_envelope.specs.Messages.{last_or, last_bytes, of_bytes, Item, encrypted, key_id, source, annotation, kind, IsItem, IsText, IsMessage, encrypted_in, key_id_in, source_in, annotation_in, kind_in, put_all, Raw, raw_of}
-use Rattle.kr_envelope.specs.Limits.{Reads, is_few, is_limited, size_of, breach_of, number_of, raw_in}
-use Rattle.kr_envelope.specs.Canonical.{shortest, sized, content_field, pair_field, kind_field, canonical, IsWithinLimits, IsReadBack}
-use Rattle.kr_envelope.specs.Reading.{IsKept}
+use Rattle.kr_envelope.specs.Limits.{Reads, breach_of, number_of, raw_in}
+use Rattle.kr_envelope.specs.Canonical.{shortest, sized, content_field, pair_field, kind_field, canonical, IsWritable, IsKept, IsReadBack}
 use Rattle.kr_envelope.proofs.Spellings.{spells_rest, spells_one, spells_none}
 use Rattle.kr_envelope.proofs.Items.{items_code}
 use Rattle.kr_envelope.proofs.Numbers.{shortest_is}
@@ -54,13 +54,13 @@ first_is rest (z ∷ zs) m all item tail s =
     let one = items_code.one rest item z tail m.1 s (m.0, m.2, m.4) in
     subst IsText (sym one.0) all.0
 
-no_breach : (text : List ℕ) (items : List Item) → IsMessage text items → (object : EncryptedObject) → raw_of items ≡ raw_in object → IsWithinLimits object → (others : List Item) → IsMessage text others → (why : ObjectNo) → breach_of (raw_of others) ≡ Some why → ⊥
+no_breach : (text : List ℕ) (items : List Item) → IsMessage text items → (object : EncryptedObject) → raw_of items ≡ raw_in object → IsWritable object → (others : List Item) → IsMessage text others → (why : ObjectNo) → breach_of (raw_of others) ≡ Some why → ⊥
 no_breach text items m object r w others n why j =
     let same : others ≡ items = spells_one IsItem items_code text others items n.0 m.0 in
     let none : breach_of (raw_of others) ≡ None = ap (λ l. breach_of (raw_of l)) same ∙ ap breach_of r ∙ w in
     cc
 
-pub whole_is : (text : List ℕ) (items : List Item) → IsMessage text items → (object : EncryptedObject) → raw_of items ≡ raw_in object → IsWithinLimits object → (answer : Result EncryptedObject ObjectNo) → Reads text answer → (answer ≡ Ok object) ⊎ (answer ≡ Err NoMemory)
+pub whole_is : (text : List ℕ) (items : List Item) → IsMessage text items → (object : EncryptedObject) → raw_of items ≡ raw_in object → IsWritable object → (answer : Result EncryptedObject ObjectNo) → Reads text answer → (answer ≡ Ok object) ⊎ (answer ≡ Err NoMemory)
 whole_is text items m object r w (Ok found) (others, n, j) =
     let same : items ≡ others = spells_one IsItem items_code text items others m.0 n.0 in
     inl (ap Ok (same_object found object (sym j.1 ∙ ap raw_of (sym same) ∙ r)))
@@ -130,7 +130,7 @@ last_value [] (v ∷ vs) = refl
 last_value (k ∷ ks) [] = refl
 last_value (k ∷ ks) (v ∷ vs) = refl
 
-content_length : (n : ℕ) (content : List ℕ) → length content < 2 ^ 64 → length (content_field n content) ≤ 11 + length content
+pub content_length : (n : ℕ) (content : List ℕ) → length content < 2 ^ 64 → length (content_field n content) ≤ 11 + length content
 content_length n [] h = omega arith
 content_length n (byte ∷ tail) h =
     let size = shortest_is (length (byte ∷ tail)) h in
@@ -250,7 +250,7 @@ both false b e = cc
 at_most : (a b : ℕ) → nat_le a b ≡ true → a ≤ b
 at_most a b e = grind (arith, nat_tests)
 
-limits : (o : EncryptedObject) → IsWithinLimits o → (1 ≤ length o.encrypted) × ((1 ≤ length o.key_id) × (length o.key_id ≤ 1024)) × ((1 ≤ length o.source) × (length o.source ≤ 1024)) × (size_of o.annotations ≤ 32768)
+pub limits : (o : EncryptedObject) → IsWritable o → (1 ≤ length o.encrypted) × IsShort o.key_id × IsShort o.source × AreFew o.annotations
 limits o w =
     let data_ok = guarded _ _ NoData w in
     let key_ok = guarded _ _ KeyId data_ok.1 in
@@ -258,7 +258,7 @@ limits o w =
     let few_ok = guarded _ _ Annotations source_ok.1 in
     let key_limits = both _ _ key_ok.0 in
     let source_limits = both _ _ source_ok.0 in
-    (at_most _ _ data_ok.0, (at_most _ _ key_limits.0, at_most _ _ key_limits.1), (at_most _ _ source_limits.0, at_most _ _ source_limits.1), at_most _ _ (both _ _ few_ok.0).1)
+    (at_most _ _ data_ok.0, (at_most _ _ key_limits.0, at_most _ _ key_limits.1), (at_most _ _ source_limits.0, at_most _ _ source_limits.1), (at_most _ _ (both _ _ few_ok.0).0, at_most _ _ (both _ _ few_ok.0).1))
 
 pair_texts : (pairs : Pairs) (n : SourceKind) → AllByRecursion (λ pair. IsUtf8 pair.0) pairs → AllByRecursion IsText (map pair_item pairs ++ kind_items n)
 pair_texts [] Key all = tt
@@ -266,7 +266,7 @@ pair_texts [] Seed all = (tt, tt)
 pair_texts (pair ∷ pairs) n all = (all.0, pair_texts pairs n all.1)
 
 -- the canonical form is a message of these items
-message_is : (o : EncryptedObject) → IsWithinLimits o → length o.encrypted < 2 ^ 64 → IsUtf8 o.key_id → All (λ pair. IsUtf8 pair.0) o.annotations → IsMessage (canonical o) (items_of o)
+message_is : (o : EncryptedObject) → IsWritable o → length o.encrypted < 2 ^ 64 → IsUtf8 o.key_id → All (λ pair. IsUtf8 pair.0) o.annotations → IsMessage (canonical o) (items_of o)
 message_is o w f u all =
     let l = limits o w in
     let pairs : List ℕ = flat_map pair_field o.annotations ++ kind_field o.kind in (
@@ -282,7 +282,7 @@ message_is o w f u all =
             content_field 3 o.source,
             pairs,
             (of_bytes 3 o.source, content_is 3 o.source (omega arith) (omega arith) l.2.0 (omega (arith, l.2.1)), refl),
-            spells_append IsItem (flat_map pair_field o.annotations) (map pair_item o.annotations) (kind_field o.kind) (kind_items o.kind) (pairs_spelled o.annotations l.3) (kind_spelled o.kind),
+            spells_append IsItem (flat_map pair_field o.annotations) (map pair_item o.annotations) (kind_field o.kind) (kind_items o.kind) (pairs_spelled o.annotations l.3.1) (kind_spelled o.kind),
             refl,
           ),
           refl,
@@ -293,16 +293,16 @@ message_is o w f u all =
     )
 
 -- and so it is read back
-pub read_back : (text : List ℕ) (o : EncryptedObject) → text ≡ canonical o → IsWithinLimits o → IsKept o → IsReadBack text o
+pub read_back : (text : List ℕ) (o : EncryptedObject) → text ≡ canonical o → IsWritable o → IsKept o → IsReadBack text o
 read_back text o e w k =
     let message : IsMessage text (items_of o) = subst (λ l. IsMessage l (items_of o)) (sym e) (message_is o w k.fits k.key_id k.keys) in
     let raw : raw_of (items_of o) ≡ raw_in o = raw_is o k.sorted in
     ((items_of o, message, (ap breach_of raw ∙ w, raw)), whole_is text (items_of o) message o raw w)
 
-kept_limit : (content : List ℕ) → 1 ≤ length content → length content ≤ 1024 → is_limited content ≡ true
+kept_limit : (content : List ℕ) → 1 ≤ length content → length content ≤ 1024 → is_short content ≡ true
 kept_limit content l h = grind (arith, nat_tests)
 
-kept_few : (pairs : Pairs) → length pairs ≤ 256 → size_of pairs ≤ 32768 → is_few pairs ≡ true
+kept_few : (pairs : Pairs) → length pairs ≤ 256 → size_of pairs ≤ 32768 → are_few pairs ≡ true
 kept_few pairs l h = grind (arith, nat_tests)
 
 kept_data : (content : List ℕ) → 1 ≤ length content → nat_le 1 (length content) ≡ true
@@ -313,8 +313,7 @@ kept_kind Key = refl
 kept_kind Seed = refl
 
 -- what a caller knows of the parts of an object that it writes
-pub within_limits : (o : EncryptedObject) → 1 ≤ length o.encrypted → (1 ≤ length o.key_id) × (length o.key_id ≤ 1024) → (1 ≤ length o.source) × (length o.source ≤ 1024)
-    → (length o.annotations ≤ 256) × (size_of o.annotations ≤ 32768) → IsWithinLimits o
+pub within_limits : (o : EncryptedObject) → 1 ≤ length o.encrypted → IsShort o.key_id → IsShort o.source → AreFew o.annotations → IsWritable o
 within_limits o d k s a =
     pass NoData (kept_data o.encrypted d) (pass KeyId (kept_limit o.key_id k.0 k.1) (pass Source (kept_limit o.source s.0 s.1) (pass Annotations (kept_few o.annotations a.0 a.1) (kept_kind o.kind))))
   where

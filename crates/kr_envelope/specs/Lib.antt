@@ -3,5 +3,4 @@ pub mod Wire
 pub mod Messages
 pub mod Limits
 pub mod Canonical
-pub mod Taking
-pub mod Reading
+pub mod inner

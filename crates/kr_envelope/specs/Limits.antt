@@ -1,6 +1,6 @@
 -- The limits of an encrypted object, and what its bytes are read as.
-use Rattle.std.specs.Prelude.{◌≡◌, ◌≢◌, ◌⊎◌, ℕ, ◌+◌, ◌&&◌, nat_le, Bool, if◌then◌else◌, List, [], ◌∷◌, ◌++◌, length, ⊤, Option, None, Some, Result, Ok, Err}
-use Rattle.kr_base.specs.Pairs.{Pairs}
+use Rattle.std.specs.Prelude.{◌≡◌, ◌≢◌, ◌⊎◌, ℕ, nat_le, if◌then◌else◌, List, [], ◌++◌, length, ⊤, Option, None, Some, Result, Ok, Err}
+use Rattle.kr_base.specs.Limits.{is_short, are_few}
 use Rattle.kr_envelope.specs.declared.object.SourceKind.{SourceKind}
 use Rattle.kr_envelope.specs.declared.object.SourceKind.TheVariants.{Key, Seed}
 use Rattle.kr_envelope.specs.declared.object.ObjectNo.{ObjectNo}
@@ -9,23 +9,12 @@ use Rattle.kr_envelope.specs.declared.object.EncryptedObject.{EncryptedObject}
 use Rattle.kr_envelope.specs.Wire.{Starts}
 use Rattle.kr_envelope.specs.Messages.{Item, IsItem, IsText, IsMessage, Raw, raw_of}
 
-abbrev pub is_limited : List ℕ → Bool
-is_limited content = nat_le 1 (length content) && nat_le (length content) 1024
-
--- the bytes of keys and values
-abbrev pub size_of : Pairs → ℕ
-size_of [] = 0
-size_of (pair ∷ pairs) = length pair.0 + length pair.1 + size_of pairs
-
-abbrev pub is_few : Pairs → Bool
-is_few pairs = nat_le (length pairs) 256 && nat_le (size_of pairs) 32768
-
 -- the first limit that is passed: data, key id, source, annotations, source type
 abbrev pub breach_of : Raw → Option ObjectNo
 breach_of raw = if nat_le 1 (length raw.encrypted)
-    then (if is_limited raw.key_id
-    then (if is_limited raw.source
-    then (if is_few raw.annotations
+    then (if is_short raw.key_id
+    then (if is_short raw.source
+    then (if are_few raw.annotations
     then (if nat_le raw.kind 1 then None else Some SourceType)
     else Some Annotations)
     else Some Source)
@@ -37,7 +26,13 @@ number_of Key = 0
 number_of Seed = 1
 
 abbrev pub raw_in : EncryptedObject → Raw
-raw_in object = record { encrypted = object.encrypted; key_id = object.key_id; source = object.source; annotations = object.annotations; kind = number_of object.kind }
+raw_in object = record {
+  encrypted = object.encrypted;
+  key_id = object.key_id;
+  source = object.source;
+  annotations = object.annotations;
+  kind = number_of object.kind;
+}
 
 abbrev pub Judges : Raw → Result EncryptedObject ObjectNo → Type 0
 Judges raw (Ok object) = (breach_of raw ≡ None) × (raw ≡ raw_in object)
@@ -68,15 +63,20 @@ pub record BreaksAt (Breach : List ℕ → Type 0) (text : List ℕ) (at : ℕ) 
   pub place : at ≡ length front
   pub breach : Breach rest
 
--- what bytes are read as: the object of their items within its limits, or the first breach; want of memory may take its place
+-- the bytes are a message, whose object is judged so
+abbrev pub ReadsJudged : List ℕ → Result EncryptedObject ObjectNo → Type 0
+ReadsJudged text answer = (items : List Item) × IsMessage text items × Judges (raw_of items) answer
+
+-- what bytes are read as: the object of their items within its limits, or the first breach; want of
+-- memory may take its place
 abbrev pub Reads : List ℕ → Result EncryptedObject ObjectNo → Type 0
-Reads text (Ok object) = (items : List Item) × IsMessage text items × Judges (raw_of items) (Ok object)
+Reads text (Ok object) = ReadsJudged text (Ok object)
 Reads text (Err (Wire at)) = BreaksAt IsNoItem text at
-Reads text (Err KeyId) = (items : List Item) × IsMessage text items × Judges (raw_of items) (Err KeyId)
-Reads text (Err Source) = (items : List Item) × IsMessage text items × Judges (raw_of items) (Err Source)
-Reads text (Err Annotations) = (items : List Item) × IsMessage text items × Judges (raw_of items) (Err Annotations)
-Reads text (Err SourceType) = (items : List Item) × IsMessage text items × Judges (raw_of items) (Err SourceType)
-Reads text (Err NoData) = (items : List Item) × IsMessage text items × Judges (raw_of items) (Err NoData)
+Reads text (Err KeyId) = ReadsJudged text (Err KeyId)
+Reads text (Err Source) = ReadsJudged text (Err Source)
+Reads text (Err Annotations) = ReadsJudged text (Err Annotations)
+Reads text (Err SourceType) = ReadsJudged text (Err SourceType)
+Reads text (Err NoData) = ReadsJudged text (Err NoData)
 Reads text (Err (NotUtf8 at)) = BreaksAt IsNoText text at
 Reads text (Err NoMemory) = ⊤
 
@@ -86,4 +86,12 @@ AreOne a b = (a ≡ Err NoMemory) ⊎ (b ≡ Err NoMemory) ⊎ (a ≡ b)
 
 -- bytes are read as one thing
 abbrev pub ReadsOneThing : Type 0
-ReadsOneThing = (text : List ℕ) (a b : Result EncryptedObject ObjectNo) → Reads text a → Reads text b → AreOne a b
+ReadsOneThing =
+    (text : List ℕ) (a b : Result EncryptedObject ObjectNo)
+    → Reads text a → Reads text b → AreOne a b
+
+-- and there is always an object, or a first breach that isn't want of memory
+abbrev pub HaveReadings : Type 0
+HaveReadings =
+    (text : List ℕ)
+    → (answer : Result EncryptedObject ObjectNo) × Reads text answer × (answer ≢ Err NoMemory)

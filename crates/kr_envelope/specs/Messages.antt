@@ -1,4 +1,5 @@
--- The message EncryptedObject of a KMS plugin's value, after KEP-3299: what its fields say, and the object of the fields.
+-- The message EncryptedObject of a KMS plugin's value, after KEP-3299: what its fields say, and the
+-- object of the fields.
 use Rattle.std.specs.Prelude.{◌≡◌, ℕ, ◌%◌, ◌^◌, ◌==◌, ◌&&◌, nat_le, Bool, false, if◌then◌else◌, List, [], ◌∷◌, ⊤, Option, None, Some}
 use Rattle.std.specs.List.{filter_map, AllByRecursion}
 use Rattle.std.specs.Str.{IsUtf8}
@@ -46,13 +47,18 @@ is_own_payload n (fixed32 content) = false
 abbrev pub is_own : Field → Bool
 is_own field = is_own_payload field.number field.payload
 
--- an annotation is a message of its own, whose last key and last value count; the number of an enum is taken modulo 2 ^ 32
+-- an annotation is a message of its own, whose last key and last value count; the number of an enum
+-- is taken modulo 2 ^ 32
 abbrev pub Means : Field → Item → Type 0
 Means field (encrypted content) = field ≡ of_bytes 1 content
 Means field (key_id content) = field ≡ of_bytes 2 content
 Means field (source content) = field ≡ of_bytes 3 content
-Means field (annotation key value) = (text : List ℕ) × (field ≡ of_bytes 4 text) × ((fields : List Field) × Spells IsField text fields × (key ≡ last_bytes 1 fields) × (value ≡ last_bytes 2 fields))
-Means field (kind n) = (m : ℕ) × (field ≡ record { number = 5; payload = varint m }) × (n ≡ m % 2 ^ 32)
+Means field (annotation key value) =
+    (text : List ℕ) × (field ≡ of_bytes 4 text)
+    × ((fields : List Field) × Spells IsField text fields
+    × (key ≡ last_bytes 1 fields) × (value ≡ last_bytes 2 fields))
+Means field (kind n) =
+    (m : ℕ) × (field ≡ record { number = 5; payload = varint m }) × (n ≡ m % 2 ^ 32)
 Means field other = is_own field ≡ false
 
 -- the spelling of a field that says this
@@ -127,7 +133,8 @@ pub record Raw : Type 0 where
   pub annotations : Pairs
   pub kind : ℕ
 
--- the object of the items: the last of each, and the last annotation of each key; what is missing is empty or 0
+-- the object of the items: the last of each, and the last annotation of each key; what is missing
+-- is empty or 0
 abbrev pub raw_of : List Item → Raw
 raw_of items = record {
   encrypted = last_or [] (filter_map encrypted_in items);

@@ -1,7 +1,6 @@
--- The prefixes of stored values, after Kubernetes, 'Encrypting Confidential Data at Rest': the kind of provider that
--- wrote a value, and its name.
-use Rattle.std.specs.Prelude.{◌≡◌, ℕ, Bool, List, [], ◌∷◌, ◌++◌, length, take, codes, Option, None, Some}
-use denote.Ref.{Bor}
+-- The prefixes of stored values, after Kubernetes, 'Encrypting Confidential Data at Rest': the kind
+-- of provider that wrote a value, and its name.
+use Rattle.std.specs.Prelude.{◌≡◌, ℕ, Bool, List, [], ◌∷◌, ◌++◌, length, take, codes}
 use Rattle.std.specs.Str.{bytes_eq}
 use Rattle.kr_base.specs.Rules.{IsName}
 use Rattle.kr_envelope.specs.declared.prefix.Kind.{Kind}
@@ -26,22 +25,23 @@ prefix kind name = head kind ++ (name ++ 0x3A ∷ [])
 abbrev pub Begins : List ℕ → List ℕ → Type 0
 Begins start bytes = (rest : List ℕ) × (bytes ≡ start ++ rest)
 
--- plain where the bytes don't begin with the mark, known where they are a prefix and a body, else strange
+-- plain where the bytes don't begin with the mark, known where they are a prefix and a body, else
+-- strange
 abbrev pub IsSplit : List ℕ → Tagged → Type 0
 IsSplit bytes (Plain content) = (Begins mark bytes → ⊥) × (content.now ≡ bytes)
 IsSplit bytes (Known kind name body) = IsName name.now × (bytes ≡ prefix kind name.now ++ body.now)
-IsSplit bytes Strange = Begins mark bytes × ((kind : Kind) (name : List ℕ) → IsName name → Begins (prefix kind name) bytes → ⊥)
+IsSplit bytes Strange =
+    Begins mark bytes
+    × ((kind : Kind) (name : List ℕ) → IsName name → Begins (prefix kind name) bytes → ⊥)
 
 -- no other prefix than the one that was found is one that the bytes begin with
 abbrev pub IsOnlyOne : List ℕ → Tagged → Type 0
 IsOnlyOne bytes (Plain content) = Unit {0}
-IsOnlyOne bytes (Known kind name body) = (other_kind : Kind) (other : List ℕ) → IsName other → Begins (prefix other_kind other) bytes → (kind ≡ other_kind) × (name.now ≡ other)
+IsOnlyOne bytes (Known kind name body) =
+    (other_kind : Kind) (other : List ℕ)
+    → IsName other → Begins (prefix other_kind other) bytes
+    → (kind ≡ other_kind) × (name.now ≡ other)
 IsOnlyOne bytes Strange = Unit {0}
-
--- the name and the body of a value with a prefix of this kind
-abbrev pub IsParted : Kind → List ℕ → Option (Bor (List ℕ) × Bor (List ℕ)) → Type 0
-IsParted kind bytes None = (name : List ℕ) → IsName name → Begins (prefix kind name) bytes → ⊥
-IsParted kind bytes (Some parts) = IsName parts.0.now × (bytes ≡ prefix kind parts.0.now ++ parts.1.now)
 
 -- the same as tests that compute, for definitions by cases
 

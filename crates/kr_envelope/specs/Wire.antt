@@ -4,7 +4,9 @@ use Rattle.std.specs.Prelude.{◌≡◌, ℕ, ◌+◌, ◌*◌, ◌%◌, ◌^◌
 -- bytes are spelled, one after the other, as these values are, each of them once
 abbrev pub Spells : {T : Type 0} → (List ℕ → T → Type 0) → List ℕ → List T → Type 0
 Spells Spelling bytes [] = bytes ≡ []
-Spells Spelling bytes (x ∷ xs) = (front : List ℕ) × (rest : List ℕ) × Spelling front x × Spells Spelling rest xs × (bytes ≡ front ++ rest)
+Spells Spelling bytes (x ∷ xs) =
+    (front : List ℕ) × (rest : List ℕ)
+    × Spelling front x × Spells Spelling rest xs × (bytes ≡ front ++ rest)
 
 -- bytes begin with a spelling of the value, and go on with the rest
 abbrev pub Starts : {T : Type 0} → (List ℕ → T → Type 0) → List ℕ → T → List ℕ → Type 0
@@ -21,7 +23,8 @@ abbrev pub number : List ℕ → ℕ
 number [] = 0
 number (byte ∷ bytes) = byte % 128 + 128 * number bytes
 
--- a number below 2 ^ 64 in at most ten groups, of which the tenth is so at most 1; there may be more groups than it needs
+-- a number below 2 ^ 64 in at most ten groups, of which the tenth is so at most 1; there may be
+-- more groups than it needs
 pub record IsVarint (bytes : List ℕ) (n : ℕ) : Type 0 where
   pub groups : AreGroups bytes
   pub short : length bytes ≤ 10
@@ -45,7 +48,8 @@ wire_type (fixed32 content) = 5
 abbrev pub IsPayload : List ℕ → Payload → Type 0
 IsPayload spelling (varint n) = IsVarint spelling n
 IsPayload spelling (fixed64 content) = (spelling ≡ content) × (length content ≡ 8)
-IsPayload spelling (bytes content) = (size : List ℕ) × IsVarint size (length content) × (spelling ≡ size ++ content)
+IsPayload spelling (bytes content) =
+    (size : List ℕ) × IsVarint size (length content) × (spelling ≡ size ++ content)
 IsPayload spelling (fixed32 content) = (spelling ≡ content) × (length content ≡ 4)
 
 -- a payload under a number

@@ -2,7 +2,7 @@
 ghost use Rattle.std.specs.Prelude.{◌≡◌, ◌≤◌, ◌<◌, ◌+◌, ◌^◌, ◌++◌, length, OnOk};
 ghost use Rattle.std.specs.List.{flat_map, All};
 ghost use Rattle.std.specs.Str.{IsUtf8};
-ghost use Rattle.kr_envelope.specs.Limits.{size_of};
+ghost use Rattle.kr_base.specs.Limits.{size_of, annotations_size_limit};
 ghost use Rattle.kr_envelope.specs.Canonical.{shortest, content_field, pair_field, kind_field};
 
 use crate::object::SourceKind;
@@ -40,7 +40,8 @@ fn groups_of(n: usize) -> usize
 /// Writes a field of bytes, if there are any.
 pub fn push_content(out: &mut Vec<u8>, number: u8, content: &[u8]) -> Result<(), AllocError>
     requires { number < 16 }
-    ensures written { OnOk result (out.new.items ≡ out.old.items ++ content_field number content.now) }
+    ensures written { OnOk result
+        (out.new.items ≡ out.old.items ++ content_field number content.now) }
     ensures fits { length content.now < 2 ^ 64 }
 {
     if content.is_empty() {
@@ -54,7 +55,7 @@ pub fn push_content(out: &mut Vec<u8>, number: u8, content: &[u8]) -> Result<(),
 
 /// How many bytes a field of few bytes takes.
 fn content_size(content: &[u8]) -> usize
-    requires { length content.now ≤ 32768 }
+    requires { length content.now ≤ annotations_size_limit }
     ensures exact { result ≡ length (content_field 1 content.now) }
     ensures other { result ≡ length (content_field 2 content.now) }
     ensures small { result ≤ 32772 }
@@ -67,8 +68,8 @@ fn content_size(content: &[u8]) -> usize
 
 /// Writes an annotation.
 fn push_pair(out: &mut Vec<u8>, key: &[u8], value: &[u8]) -> Result<(), AllocError>
-    requires key { length key.now ≤ 32768 }
-    requires value { length value.now ≤ 32768 }
+    requires key { length key.now ≤ annotations_size_limit }
+    requires value { length value.now ≤ annotations_size_limit }
     ensures { OnOk result (out.new.items ≡ out.old.items ++ pair_field (key.now, value.now)) }
 {
     out.push(0x22)?;
@@ -80,7 +81,7 @@ fn push_pair(out: &mut Vec<u8>, key: &[u8], value: &[u8]) -> Result<(), AllocErr
 
 /// Writes annotations in their order.
 pub fn push_pairs(out: &mut Vec<u8>, pairs: &[(Text, Bytes)]) -> Result<(), AllocError>
-    requires { size_of pairs.now ≤ 32768 }
+    requires { size_of pairs.now ≤ annotations_size_limit }
     ensures written { OnOk result (out.new.items ≡ out.old.items ++ flat_map pair_field pairs.now) }
     // A text is UTF-8, which its type keeps and its bytes alone don't show.
     ensures texts { OnOk result (All (λ pair. IsUtf8 pair.0) pairs.now) }

@@ -2,8 +2,8 @@
 ghost use Rattle.std.specs.Prelude.{◌≡◌, Result};
 ghost use Rattle.kr_envelope.specs.Wire.{bytes};
 ghost use Rattle.kr_envelope.specs.Messages.{bytes_at, of_bytes};
-ghost use Rattle.kr_envelope.specs.Taking.{field_of};
-ghost use Rattle.kr_envelope.specs.Reading.{Says, TakesItem, later};
+ghost use Rattle.kr_envelope.specs.inner.Taking.{field_of};
+ghost use Rattle.kr_envelope.specs.inner.Reading.{Says, TakesItem, later};
 
 use crate::wire::{Field, Payload, take_field};
 use std::str::from_utf8;

@@ -1,17 +1,15 @@
-//! What a stored value says of itself: the prefix with the kind and name of the provider that wrote it, and the
-//! object behind a KMS plugin's prefix.
+//! What a stored value says of itself: the prefix with the kind and name of the provider that wrote
+//! it, and the object behind a KMS plugin's prefix.
 #![tactic(auto)]
 
 mod canonical;
-mod found;
 mod item;
 mod laws;
 mod object;
+mod partial;
 mod prefix;
-#[cfg(test)]
-mod tests;
 mod wire;
 
-pub use laws::one_reading;
+pub use laws::{canonical_length, one_reading, round_trip};
 pub use object::{EncryptedObject, ObjectNo, SourceKind};
-pub use prefix::{Kind, Tagged, prefix_of, split};
+pub use prefix::{Kind, MARK, Tagged, prefix_of, push_prefix, split};

@@ -1,12 +1,11 @@
 //! The encrypted object of a KMS plugin's value.
 ghost use Rattle.std.specs.Prelude.{◌≡◌, IfOk, OnOk};
 ghost use Rattle.kr_envelope.specs.Limits.{Reads};
-ghost use Rattle.kr_envelope.specs.Reading.{IsKept};
-ghost use Rattle.kr_envelope.specs.Canonical.{IsWithinLimits, IsReadBack, canonical};
+ghost use Rattle.kr_envelope.specs.Canonical.{IsWritable, IsReadBack, IsKept, canonical};
 
 use crate::canonical::{push_content, push_kind, push_pairs};
-use crate::found::Found;
 use crate::item::{ItemNo, take_item};
+use crate::partial::PartialObject;
 use kr_base::{Annotations, Bytes, NoMemory, Text};
 use std::alloc::{AllocError, Global};
 
@@ -49,19 +48,21 @@ pub enum ObjectNo {
     SourceType,
     /// There are no sealed data.
     NoData,
-    /// The field that begins at this byte is a key id, or an annotation with a key, that isn't UTF-8.
+    /// The field that begins at this byte is a key id that isn't UTF-8, or an annotation whose key
+    /// isn't.
     NotUtf8 { at: u64 },
     /// There was no memory for the object.
     NoMemory,
 }
 
 impl EncryptedObject {
-    /// The object of the fields that the bytes spell, or the first breach: one of the wire format or of UTF-8, by its
-    /// place, and then of the limits, in the order data, key id, source, annotations, source type.
+    /// The object of the fields that the bytes spell, or the first breach: one of the wire format
+    /// or of UTF-8, by its place, and then of the limits, in the order data, key id, source,
+    /// annotations, source type.
     pub fn read(alloc: Global, bytes: &[u8]) -> Result<EncryptedObject, ObjectNo>
         ensures { Reads bytes.now result }
     {
-        let mut found = Found::new(alloc);
+        let mut partial = PartialObject::new(alloc);
         let mut rest = bytes;
         while !rest.is_empty() {
             let at = (bytes.len() - rest.len()) as u64;
@@ -70,18 +71,18 @@ impl EncryptedObject {
                 Err(ItemNo::Wire) => return Err(ObjectNo::Wire { at }),
                 Err(ItemNo::NotUtf8) => return Err(ObjectNo::NotUtf8 { at }),
             };
-            match found.put(alloc, item) {
+            match partial.merge(alloc, item) {
                 Ok(()) => {}
                 Err(_) => return Err(ObjectNo::NoMemory),
             }
             rest = behind;
         }
-        found.judge(alloc)
+        partial.finish(alloc)
     }
 
     /// The object's bytes, in their one form. They are read back as the object.
     pub fn write(&self, alloc: Global) -> Result<Bytes, NoMemory>
-        requires { IsWithinLimits self.now }
+        requires { IsWritable self.now }
         ensures canonical { IfOk result (λ bytes. bytes ≡ canonical self.now) }
         ensures again { IfOk result (λ bytes. IsReadBack bytes self.now) }
     {
@@ -92,7 +93,7 @@ impl EncryptedObject {
     }
 
     fn written(&self, alloc: Global) -> Result<Vec<u8>, AllocError>
-        requires { IsWithinLimits self.now }
+        requires { IsWritable self.now }
         ensures canonical { IfOk result (λ bytes. bytes.items ≡ canonical self.now) }
         ensures kept { OnOk result (IsKept self.now) }
     {

@@ -1,13 +1,15 @@
-ghost use Rattle.std.specs.Prelude.{◌≡◌, ◌≤◌, [], ◌∷◌, ◌++◌, ◌==◌, length, IfOk, position};
+//! The prefixes of stored values, written, and told apart.
+ghost use Rattle.std.specs.Prelude.{◌≡◌, ◌++◌, ◌==◌, IfOk, OnOk, position};
 ghost use Rattle.kr_base.specs.Rules.{IsName};
-ghost use Rattle.kr_envelope.specs.Prefixes.{head, prefix, IsSplit, IsOnlyOne, IsParted};
+ghost use Rattle.kr_envelope.specs.Prefixes.{head, prefix, IsSplit, IsOnlyOne};
+ghost use Rattle.kr_envelope.specs.inner.Parting.{IsParted};
 
 use kr_base::{Bytes, NoMemory, name_ok};
 use std::alloc::{AllocError, Global};
 use std::str::from_utf8;
 
 /// What every prefix begins with.
-const MARK: &[u8] = b"k8s:enc:";
+pub const MARK: &[u8] = b"k8s:enc:";
 
 /// The kinds of provider that write a prefix. Identity writes none.
 #[derive(Clone, Copy, Debug, PartialEq, Eq)]
@@ -22,7 +24,7 @@ pub enum Kind {
 
 impl Kind {
     /// What the kind's prefixes have before the name.
-    fn head(&self) -> &'static [u8]
+    pub fn head(&self) -> &'static [u8]
         ensures { result.now ≡ head self.now }
     {
         match self {
@@ -53,26 +55,34 @@ pub fn prefix_of(alloc: Global, kind: Kind, name: &str) -> Result<Bytes, NoMemor
     requires { IsName name.now }
     ensures { IfOk result (λ bytes. bytes ≡ prefix kind name.now) }
 {
-    match joined(alloc, kind.head(), name.as_bytes()) {
+    match prefix_in(alloc, kind, name) {
         Ok(bytes) => Ok(Bytes::from_vec(bytes)),
         Err(_) => Err(NoMemory),
     }
 }
 
-/// The head and the name with a colon behind it.
-fn joined(alloc: Global, head: &[u8], name: &[u8]) -> Result<Vec<u8>, AllocError>
-    requires head { length head.now ≤ 18 }
-    requires name { length name.now ≤ 253 }
-    ensures { IfOk result (λ bytes. bytes.items ≡ head.now ++ (name.now ++ 0x3A ∷ [])) }
+fn prefix_in(alloc: Global, kind: Kind, name: &str) -> Result<Vec<u8>, AllocError>
+    requires { IsName name.now }
+    ensures { IfOk result (λ bytes. bytes.items ≡ prefix kind name.now) }
 {
-    let mut bytes = Vec::with_capacity(alloc, head.len() + name.len() + 1)?;
-    bytes.extend_from_slice(head)?;
-    bytes.extend_from_slice(name)?;
-    bytes.push(b':')?;
+    let mut bytes = Vec::with_capacity(alloc, kind.head().len() + name.len() + 1)?;
+    push_prefix(&mut bytes, kind, name)?;
     Ok(bytes)
 }
 
-/// What a stored value says of itself, by its first bytes. At most one prefix is the one that it begins with.
+/// Appends the prefix that the provider of this kind and name writes.
+#[tactic(auto, unfolding(crate::specs::Prefixes::prefix))]
+pub fn push_prefix(out: &mut Vec<u8>, kind: Kind, name: &str) -> Result<(), AllocError>
+    ensures { OnOk result (out.new.items ≡ out.old.items ++ prefix kind name.now) }
+{
+    out.extend_from_slice(kind.head())?;
+    out.extend_from_slice(name.as_bytes())?;
+    out.push(b':')?;
+    Ok(())
+}
+
+/// What a stored value says of itself, by its first bytes. At most one prefix is the one that it
+/// begins with.
 pub fn split<'a>(bytes: &'a [u8]) -> Tagged<'a>
     ensures split { IsSplit bytes.now result }
     ensures only { IsOnlyOne bytes.now result }

@@ -1,7 +1,7 @@
 //! The wire format of protocol buffers: taking varints and fields from the front of bytes.
 ghost use Rattle.std.specs.Prelude.{◌≡◌, ◌≤◌, ◌<◌, ◌^◌, ℕ, length, nat_lt, take, position, MatchOption};
 ghost use Rattle.kr_envelope.specs.Wire.{number};
-ghost use Rattle.kr_envelope.specs.Taking.{TakesVarint, TakesPayload, TakesField};
+ghost use Rattle.kr_envelope.specs.inner.Taking.{TakesVarint, TakesPayload, TakesField};
 
 /// What a field holds, by its wire type.
 #[derive(Clone, Copy, Debug)]
@@ -104,7 +104,8 @@ fn last_group(bytes: &[u8]) -> Option<usize>
 
 /// The number of the groups, where it is below 2^64.
 fn value_of(groups: &[u8]) -> Option<u64>
-    ensures { MatchOption result (2 ^ 64 ≤ number groups.now) (λ value. (value ≡ number groups.now) × (value < 2 ^ 64)) }
+    ensures { MatchOption result (2 ^ 64 ≤ number groups.now)
+        (λ value. (value ≡ number groups.now) × (value < 2 ^ 64)) }
 {
     let mut at = groups.len();
     let mut value: u64 = 0;

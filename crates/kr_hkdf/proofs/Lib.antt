@@ -1,2 +1,3 @@
+-- Lemmas.
 pub mod Blocks
 pub mod Pads

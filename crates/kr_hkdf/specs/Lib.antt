@@ -1,3 +1,4 @@
+-- The definitions.
 pub mod Hmac
 pub mod Hkdf
-pub mod KeyedHasher
+pub mod inner

@@ -4,13 +4,11 @@
 ghost use Rattle.std.specs.Prelude.{◌≡◌, ℕ, ◌≤◌, List, [], ◌∷◌, ◌++◌, length};
 ghost use Rattle.kr_hkdf.specs.Hkdf.{hkdf_expand};
 ghost use Rattle.kr_hkdf.specs.Hmac.{hmac};
-ghost use Rattle.kr_hkdf.specs.KeyedHasher.{Holds};
+ghost use Rattle.kr_hkdf.specs.inner.KeyedHasher.{Holds};
 
-use keyed::KeyedHasher;
+mod keyed_hash;
 
-mod keyed;
-#[cfg(test)]
-mod tests;
+use keyed_hash::KeyedHasher;
 
 /// The length of a SHA-256 digest in bytes: HashLen of RFC 5869.
 const HASH_LENGTH: usize = 32;

@@ -3,7 +3,8 @@ use Rattle.std.proofs.Common.{◌≡◌, ℕ, List, [], ◌∷◌, ◌≤◌, bi
 use Rattle.std.specs.Int.Bits.{xor_assoc, xor_self, xor_zero_r}
 use Rattle.std.proofs.lemmas.List.{length-map}
 use Rattle.kr_kms.specs.Calls.{key_in, Wraps}
-use Rattle.kr_kms.specs.Limits.{IsShort, IsWithinLimits}
+use Rattle.kr_base.specs.Limits.{IsShort}
+use Rattle.kr_kms.specs.Limits.{IsWithinLimits}
 use Rattle.kr_kms.specs.Table.{Table, masked, mask_of, salted, wrapped_by, table_truth, link_of, after_call}
 use Rattle.kr_kms.specs.declared.plugin.Wrapped.{Wrapped}
 

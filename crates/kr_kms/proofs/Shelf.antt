@@ -5,7 +5,7 @@ use Rattle.std.specs.List.{remove}
 use Rattle.std.specs.Option.{option_map, option_map_or}
 use Rattle.std.proofs.lemmas.List.Sums.{sum_by-remove, sum_by-append}
 use Rattle.std.proofs.lemmas.Bool.Decides.{Decides-eqb}
-use Rattle.kr_base.specs.Played.{Given}
+use Rattle.kr_base.specs.InMemory.{InputState}
 use Rattle.kr_kms.specs.MemWorld.{dice_of, told_by}
 use Rattle.kr_kms.specs.Outside.{at_seat, HandsOut}
 
@@ -15,7 +15,7 @@ count-remove out at seat other h e =
     ap (λ s. count_by (λ s. s == other) (remove out at) + at_seat s 1 other) (sym e) ∙ sum_by-remove (λ s. cond (s == other) 1 0) out at 0 h
 
 -- the first at another seat stays where one is taken away
-pub dice_of-remove : (dice : List (ℕ × Given)) (at seat other : ℕ) → at < length dice → ((d : ℕ × Given) → (get_or dice at d).0 ≡ seat) → other ≢ seat → dice_of (remove dice at) other ≡ dice_of dice other
+pub dice_of-remove : (dice : List (ℕ × InputState)) (at seat other : ℕ) → at < length dice → ((d : ℕ × InputState) → (get_or dice at d).0 ≡ seat) → other ≢ seat → dice_of (remove dice at) other ≡ dice_of dice other
 dice_of-remove [] at seat other h e n = absurd (omega arith)
 dice_of-remove (x ∷ dice) zero seat other h e n = sym (by (x.0 == other) (λ t. n (sym ((Decides-eqb x.0 other).0 t) ∙ e x)))
   where
@@ -25,7 +25,7 @@ dice_of-remove (x ∷ dice) zero seat other h e n = sym (by (x.0 == other) (λ t
 dice_of-remove (x ∷ dice) (suc at) seat other h e n = ap (λ r. cond (x.0 == other) (Some x.1) r) (dice_of-remove dice at seat other (omega arith) e n)
 
 -- the first random source of the seat goes out
-pub handed_out : (files : List (List ℕ × List ℕ)) (dice after : List (ℕ × Given)) (out more : List ℕ) (faults at seat : ℕ) (given : Given) → at < length dice → ((d : ℕ × Given) → (get_or dice at d).0 ≡ seat)
+pub handed_out : (files : List (List ℕ × List ℕ)) (dice after : List (ℕ × InputState)) (out more : List ℕ) (faults at seat : ℕ) (given : InputState) → at < length dice → ((d : ℕ × InputState) → (get_or dice at d).0 ≡ seat)
     → dice_of dice seat ≡ Some given → after ≡ remove dice at → more ≡ out ++ seat ∷ [] → HandsOut (told_by files dice out faults) (told_by files after more faults) seat (Some given.bytes) given.calls.faults
 handed_out files dice after out more faults at seat given h e found gone longer = record {
   left_is = ap (option_map (λ d. d.bytes)) (sym found);

@@ -3,7 +3,8 @@ use Rattle.std.specs.Prelude.{◌≡◌, ℕ, ◌<◌, ◌≤◌, ◌==◌, ◌&
 use Rattle.std.specs.Option.{option_map, option_map_or}
 use Rattle.std.specs.Str.{bytes_eq}
 use Rattle.std.specs.Map.{lookup, remove_entry}
-use Rattle.kr_base.specs.Played.{Given, next_number}
+use Rattle.kr_base.specs.InMemory.{InputState}
+use Rattle.kr_base.specs.Numbering.{next_number}
 use Rattle.kr_kms.specs.Outside.{Outside}
 use Rattle.kr_kms.specs.declared.world.FileNo.{FileNo}
 use Rattle.kr_kms.specs.declared.world.FileNo.TheVariants.{Absent, TooLong, Failed, NoMemory}
@@ -13,21 +14,23 @@ abbrev pub file_of : List (List ℕ × List ℕ) → List ℕ → Option (List �
 file_of files name = lookup (bytes_eq name) files
 
 -- the first random source of the seat
-abbrev pub dice_of : List (ℕ × Given) → ℕ → Option Given
+abbrev pub dice_of : List (ℕ × InputState) → ℕ → Option InputState
 dice_of dice seat = lookup (λ other. other == seat) dice
 
 -- the random sources without the first of the seat
-abbrev pub without : List (ℕ × Given) → ℕ → List (ℕ × Given)
+abbrev pub without : List (ℕ × InputState) → ℕ → List (ℕ × InputState)
 without dice seat = remove_entry (λ other. other == seat) dice
 
 -- the first link of the seat whose plugin has the name
 abbrev pub link_of : {L : Type 0} → (L → List ℕ) → List (ℕ × L) → ℕ → List ℕ → Option L
 link_of name_of links seat plugin = option_map (λ link. link.1) (find (λ link. (link.0 == seat) && bytes_eq (name_of link.1) plugin) links)
 
-abbrev pub told_by : List (List ℕ × List ℕ) → List (ℕ × Given) → List ℕ → ℕ → Outside
+-- no file of it fails
+abbrev pub told_by : List (List ℕ × List ℕ) → List (ℕ × InputState) → List ℕ → ℕ → Outside
 told_by files dice out faults = record {
   file = λ name. Some (file_of files name);
-  file_faults = faults;
+  load_faults = 0;
+  open_faults = faults;
   dice = λ seat. option_map (λ d. d.bytes) (dice_of dice seat);
   dice_faults = λ seat. option_map_or (λ d. d.calls.faults) (dice_of dice seat) 0;
   out = λ seat. count_by (λ other. other == seat) out;
@@ -43,7 +46,7 @@ GivesFile file limit (Err NoMemory) = (bytes : List ℕ) × (length bytes ≤ li
 
 -- the random source is given where there is one, as far as there is memory for it; where there is none, that counts as
 -- a fault
-abbrev pub GivesDice : Option Given → ℕ → Result Given FileNo → ℕ → Type 0
+abbrev pub GivesDice : Option InputState → ℕ → Result InputState FileNo → ℕ → Type 0
 GivesDice first faults (Ok dice) after = (first ≡ Some dice) × (after ≡ faults)
 GivesDice first faults (Err Absent) after = ⊥
 GivesDice first faults (Err TooLong) after = ⊥

@@ -1,5 +1,5 @@
 -- What a world tells of its files and of the random sources of its seats, and what it has handed out.
-use Rattle.std.specs.Prelude.{◌≡◌, ◌≢◌, ℕ, ◌+◌, ◌<◌, ◌≤◌, ◌==◌, List, length, Option, None, Some, Result, Ok, Err, ⊤, if◌then◌else◌}
+use Rattle.std.specs.Prelude.{◌≡◌, ◌≢◌, ℕ, ◌+◌, ◌-◌, ◌^◌, ◌<◌, ◌≤◌, ◌==◌, min, List, length, Option, None, Some, Result, Ok, Err, ⊤, if◌then◌else◌}
 use Rattle.kr_base.specs.Faults.{Rose}
 use Rattle.kr_base.specs.Told.{Agrees}
 use Rattle.kr_kms.specs.declared.world.FileNo.{FileNo}
@@ -8,12 +8,18 @@ use Rattle.kr_kms.specs.declared.world.FileNo.TheVariants.{Absent, TooLong, Fail
 pub record Outside : Type 0 where
   -- a file by its name: none where the world doesn't tell; else absent, or its bytes
   pub file : List ℕ → Option (Option (List ℕ))
-  pub file_faults : ℕ
+  -- a count of faults for each kind of call: loads of files, and askings for a random source
+  pub load_faults : ℕ
+  pub open_faults : ℕ
   -- by the number of a seat: what its random source will give, where that is told, and its count of faults
   pub dice : ℕ → Option (List ℕ)
   pub dice_faults : ℕ → ℕ
   -- how many random sources of a seat are handed out
   pub out : ℕ → ℕ
+
+-- the faults of all its files, up to the greatest number
+abbrev pub file_faults : Outside → ℕ
+file_faults world = min (world.load_faults + world.open_faults) (2 ^ 64 - 1)
 
 -- nothing is handed out or given back
 pub record KeepsDice (old new : Outside) : Type 0 where
@@ -21,17 +27,18 @@ pub record KeepsDice (old new : Outside) : Type 0 where
   pub faults : (seat : ℕ) → new.dice_faults seat ≡ old.dice_faults seat
   pub out : (seat : ℕ) → new.out seat ≡ old.out seat
 
--- the files are as they were, and their count of faults didn't fall
+-- the files are as they were, and no count of theirs fell
 pub record KeepsFiles (old new : Outside) : Type 0 where
   pub file : (name : List ℕ) → new.file name ≡ old.file name
-  pub later : old.file_faults ≤ new.file_faults
+  pub loads : old.load_faults ≤ new.load_faults
+  pub opens : old.open_faults ≤ new.open_faults
 
 -- a file within the limit was given, or why not
 abbrev pub Loads : Outside → Outside → List ℕ → ℕ → Result (List ℕ) FileNo → Type 0
 Loads old new name limit (Ok bytes) = Agrees (old.file name) (Some bytes) × (length bytes ≤ limit)
 Loads old new name limit (Err Absent) = Agrees (old.file name) None
 Loads old new name limit (Err TooLong) = (bytes : List ℕ) × (limit < length bytes) × Agrees (old.file name) (Some bytes)
-Loads old new name limit (Err Failed) = Rose old.file_faults new.file_faults
+Loads old new name limit (Err Failed) = Rose old.load_faults new.load_faults
 Loads old new name limit (Err NoMemory) = ⊤
 
 -- n at the seat, 0 at each other

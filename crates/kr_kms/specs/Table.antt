@@ -4,7 +4,8 @@ use Rattle.std.specs.Option.{unwrap_or}
 use Rattle.std.specs.Str.{bytes_eq}
 use Rattle.std.specs.Map.{lookup}
 use Rattle.kr_base.specs.Pairs.{Pairs}
-use Rattle.kr_base.specs.Played.{Calls, next_number}
+use Rattle.kr_base.specs.InMemory.{Calls}
+use Rattle.kr_base.specs.Numbering.{next_number}
 use Rattle.kr_kms.specs.Calls.{Link}
 use Rattle.kr_kms.specs.Truth.{Truth}
 use Rattle.kr_kms.specs.declared.plugin.Status.{Status}

@@ -6,8 +6,6 @@ mod mem_world;
 mod plugin;
 mod seeds;
 mod table_plugin;
-#[cfg(test)]
-mod tests;
 mod world;
 
 pub use mem_world::MemWorld;

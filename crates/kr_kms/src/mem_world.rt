@@ -2,7 +2,7 @@ ghost use Rattle.std.specs.Prelude.{◌≡◌, ℕ, ◌∷◌, [], ◌<◌, ◌+
 ghost use Rattle.std.specs.Option.{option_copied};
 ghost use Rattle.std.specs.List.{remove};
 ghost use Rattle.kr_base.specs.Faults.{Rose};
-ghost use Rattle.kr_base.specs.Played.{Given};
+ghost use Rattle.kr_base.specs.InMemory.{InputState};
 ghost use Rattle.kr_kms.specs.Outside.{at_seat, Loads, KeepsFiles, KeepsDice, HandsOut, TakesBack};
 ghost use Rattle.kr_kms.specs.MemWorld.{file_of, dice_of, link_of, without, told_by, GivesFile, GivesDice};
 
@@ -157,7 +157,7 @@ fn find_file<'a>(files: &'a [(Text, Bytes)], name: &str) -> Option<&'a [u8]>
 
 /// Where the first random source of the seat stands.
 fn place_of(dice: &[(u32, MemDice)], seat: u32) -> Option<usize>
-    ensures { MatchOption result (dice_of dice.now seat ≡ None) (λ at. (at < length dice.now) × ((d : ℕ × Given) → (slice_index_or dice.now at d).0 ≡ seat) × ((d : ℕ × Given) → dice_of dice.now seat ≡ Some (slice_index_or dice.now at d).1) × (without dice.now seat ≡ remove dice.now at)) }
+    ensures { MatchOption result (dice_of dice.now seat ≡ None) (λ at. (at < length dice.now) × ((d : ℕ × InputState) → (slice_index_or dice.now at d).0 ≡ seat) × ((d : ℕ × InputState) → dice_of dice.now seat ≡ Some (slice_index_or dice.now at d).1) × (without dice.now seat ≡ remove dice.now at)) }
 {
     for at in 0..dice.len() {
         if dice[at].0 == seat {

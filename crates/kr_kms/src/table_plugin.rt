@@ -3,19 +3,16 @@ ghost use Rattle.std.specs.Prelude.{◌≡◌, ◌⊎◌, ◌↔◌, ◌%◌, �
 ghost use Rattle.std.specs.Bool.{OnTrue};
 ghost use Rattle.kr_base.specs.Faults.{Rose};
 ghost use Rattle.kr_kms.specs.Calls.{Says, Wraps, Unwraps};
-ghost use Rattle.kr_kms.specs.Limits.{IsShort, IsWithinLimits};
+ghost use Rattle.kr_kms.specs.Limits.{IsWithinLimits};
 ghost use Rattle.kr_kms.specs.Table.{IsListed, after_call, after_fault, Answers, salt_in, mask_of, masked, salted, wrapped_by, status_of, table_truth, link_of};
 
 use crate::plugin::{Kms, KmsNo, Status, Wrapped};
-use kr_base::{Annotations, Bytes, List, NoMemory, Text};
+use kr_base::{Annotations, Bytes, CallLog, List, NoMemory, Text, is_short};
 use std::alloc::Global;
 use std::marker::Model;
 
 /// The annotation that has the salt as its value.
 const SALT_KEY: &str = "test.kmsrest/salt";
-
-/// How many bytes a key id or a wrapped source has at most.
-const SHORT: usize = 1024;
 
 /// A plugin in memory. It masks bytes by the sum of its key id and its salt of one byte. Its calls fail by their
 /// numbers, the first being 1, and a wrap also where its answer would pass a limit.
@@ -26,9 +23,7 @@ pub struct TablePlugin {
     salt: u8,
     version: Text,
     healthz: Text,
-    fails: List<u64>,
-    made: u64,
-    faults: u64,
+    calls: CallLog,
 }
 
 impl Model for TablePlugin {
@@ -36,7 +31,7 @@ impl Model for TablePlugin {
 
     ghost Value = { Table };
 
-    ghost view = { λ plugin. record { name = plugin.name; key_id = plugin.key_id; salt = plugin.salt; version = plugin.version; healthz = plugin.healthz; calls = record { fails = plugin.fails.0; made = plugin.made; faults = plugin.faults } } };
+    ghost view = { λ plugin. record { name = plugin.name; key_id = plugin.key_id; salt = plugin.salt; version = plugin.version; healthz = plugin.healthz; calls = plugin.calls } };
 }
 
 impl TablePlugin {
@@ -57,9 +52,7 @@ impl TablePlugin {
             salt,
             version,
             healthz,
-            fails,
-            made: 0,
-            faults: 0,
+            calls: CallLog::new(fails),
         }
     }
 
@@ -77,12 +70,7 @@ impl TablePlugin {
         ensures later { self.old.calls.faults ≤ self.new.calls.faults }
         ensures rose { OnTrue result (Rose self.old.calls.faults self.new.calls.faults) }
     {
-        self.made = self.made.saturating_add(1);
-        let failed = self.fails.as_slice().contains(&self.made) || !served;
-        if failed {
-            self.faults = self.faults.saturating_add(1);
-        }
-        failed
+        self.calls.fails(!served)
     }
 }
 
@@ -96,7 +84,7 @@ impl Kms for TablePlugin {
     }
 
     fn faults(&self) -> u64 {
-        self.faults
+        self.calls.faults()
     }
 
     fn status(&mut self, alloc: Global) -> Result<Status, KmsNo>
@@ -159,13 +147,6 @@ impl Kms for TablePlugin {
             Err(NoMemory) => Err(KmsNo::NoMemory),
         }
     }
-}
-
-/// Whether a key id or a wrapped source of this many bytes is within the limits.
-fn is_short(bytes: &[u8]) -> bool
-    ensures { IsTrue result ↔ IsShort bytes.now }
-{
-    !bytes.is_empty() && bytes.len() <= SHORT
 }
 
 /// Whether what the plugin makes of the plain bytes is within the limits.

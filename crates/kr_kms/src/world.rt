@@ -1,7 +1,7 @@
 //! The world that a command runs in: its files, and the random source of each seat.
 ghost use Rattle.std.specs.Prelude.{◌≡◌, ◌<◌, ◌⊎◌, IfOk, IfErr, OnErr, IsErrOf};
 ghost use Rattle.kr_base.specs.Faults.{Rose};
-ghost use Rattle.kr_kms.specs.Outside.{Outside, Loads, KeepsFiles, KeepsDice, HandsOut, TakesBack};
+ghost use Rattle.kr_kms.specs.Outside.{Outside, file_faults, Loads, KeepsFiles, KeepsDice, HandsOut, TakesBack};
 
 use crate::plugin::Kms;
 use kr_base::{Bytes, Dice};
@@ -31,9 +31,9 @@ pub trait World {
 
     ghost told: { Self → Outside };
 
-    /// How often the files failed so far, up to the greatest number.
+    /// How often the files failed so far, in calls of every kind, up to the greatest number.
     fn faults(&self) -> u64
-        ensures { result ≡ (told self.now).file_faults };
+        ensures { result ≡ file_faults (told self.now) };
 
     /// A whole file of at most `limit` bytes.
     fn load(&mut self, alloc: Global, name: &str, limit: u64) -> Result<Bytes, FileNo>
@@ -46,7 +46,7 @@ pub trait World {
         ensures ok { IfOk result (λ dice. HandsOut (told self.old) (told self.new) seat (Self.Rand.left dice) (Self.Rand.count dice)) }
         ensures err { OnErr result (KeepsDice (told self.old) (told self.new)) }
         ensures refusals { IfErr result (λ why. (why ≡ FileNo.Failed) ⊎ (why ≡ FileNo.NoMemory)) }
-        ensures failed { IsErrOf result FileNo.Failed → Rose (told self.old).file_faults (told self.new).file_faults }
+        ensures failed { IsErrOf result FileNo.Failed → Rose (told self.old).open_faults (told self.new).open_faults }
         ensures files { KeepsFiles (told self.old) (told self.new) };
 
     /// Takes a random source of the seat back. It needs no memory.

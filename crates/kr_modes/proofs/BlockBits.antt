@@ -85,7 +85,7 @@ low_byte x j lt =
     let split : x / 256 * 2 ^ 8 + x % 256 ≡ x = omega arith in
     sym (bit_at_cat_low (x / 256) 8 (x % 256) j lt) ∙ ap (λ (y : ℕ). bit_at y j) split
 
-pow_of_bytes : (i : ℕ) → 256 ^ i ≡ 2 ^ (8 * i)
+pub pow_of_bytes : (i : ℕ) → 256 ^ i ≡ 2 ^ (8 * i)
 pow_of_bytes zero = refl
 pow_of_bytes (suc i) =
     let e : 8 * i + 8 ≡ 8 * suc i = omega arith in

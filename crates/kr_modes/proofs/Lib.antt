@@ -1,9 +1,11 @@
+-- Lemmas.
 pub mod Xors
 pub mod FirstBlocks
 pub mod Paddings
 pub mod Unpaddings
 pub mod Chains
 pub mod Remainders
+pub mod Groups
 pub mod Hashes
 pub mod Opening
 pub mod Streams

@@ -5,87 +5,27 @@ use Rattle.std.specs.Int.{bit_at}
 use Rattle.std.specs.Int.Bits.{xor_self, xor_zero_l, xor_zero_r}
 use Rattle.std.proofs.lemmas.Nat.{xor_block, shl_below}
 use Rattle.std.proofs.lemmas.Nat.Bits.{bit_at_xor, bit_at-lt, bit_at_above, bit_at-suc}
-use Rattle.kr_aes.specs.Field.{polynomial_product}
-use Rattle.kr_aes.proofs.Linear.{below_two, one_times, xor_interchange, zero_times}
-use Rattle.kr_modes.specs.Ghash.{modulus, product, remainder}
-
--- ---- sums and multiples
-
--- the sum of two bits, times a polynomial
-bit_times : (x y m : ℕ) → x < 2 → y < 2 → (x + y) % 2 * m ≡ bit_xor (x * m) (y * m)
-bit_times x y m hx hy = elim (below_two x hx) [
-  | inl ex ↦ elim (below_two y hy) [
-    | inl ey ↦ rw (ex, ey, zero_times m) refl
-    | inr ey ↦ rw (ex, ey, zero_times m, one_times m) (sym (xor_zero_l m))
-  ]
-  | inr ex ↦ elim (below_two y hy) [
-    | inl ey ↦ rw (ex, ey, zero_times m, one_times m) (sym (xor_zero_r m))
-    | inr ey ↦ rw (ex, ey, zero_times m, one_times m) (sym (xor_self m))
-  ]
-]
-
--- a sum times a power of x, and a bit times a sum
-xor_shl : (b c k : ℕ) → bit_xor b c * 2 ^ k ≡ bit_xor (b * 2 ^ k) (c * 2 ^ k)
-xor_shl b c k = omega (arith, xor_block k b c 0 0 (pow_pos k) (pow_pos k), ap (λ (x : ℕ). bit_xor x (c * 2 ^ k + 0)) (add_nothing (b * 2 ^ k)), ap (bit_xor (b * 2 ^ k)) (add_nothing (c * 2 ^ k)))
-  where
-    add_nothing : (x : ℕ) → x + 0 ≡ x
-    add_nothing x = omega arith
-
-times_xor : (x m n : ℕ) → x < 2 → x * bit_xor m n ≡ bit_xor (x * m) (x * n)
-times_xor x m n h = elim (below_two x h) [
-  | inl e ↦ rw (e, zero_times (bit_xor m n), zero_times m, zero_times n) refl
-  | inr e ↦ rw (e, one_times (bit_xor m n), one_times m, one_times n) refl
-]
-
-remainder-xor : (n p q : ℕ) → remainder n (bit_xor p q) ≡ bit_xor (remainder n p) (remainder n q)
-unfolding remainder
-remainder-xor zero p q = refl
-remainder-xor (suc i) p q =
-    let m : ℕ = modulus * 2 ^ i in
-    let bits : bit_at (bit_xor p q) (i + 128) * m ≡ bit_xor (bit_at p (i + 128) * m) (bit_at q (i + 128) * m) =
-    ap (λ (x : ℕ). x * m) (bit_at_xor p q (i + 128)) ∙ bit_times (bit_at p (i + 128)) (bit_at q (i + 128)) m (bit_at-lt p (i + 128)) (bit_at-lt q (i + 128)) in
-    ap (λ (x : ℕ). remainder i (bit_xor (bit_xor p q) x)) bits
-    ∙ ap (remainder i) (xor_interchange p q (bit_at p (i + 128) * m) (bit_at q (i + 128) * m))
-    ∙ remainder-xor i (bit_xor p (bit_at p (i + 128) * m)) (bit_xor q (bit_at q (i + 128) * m))
+use Rattle.kr_aes.specs.Field.{polynomial_product, remainder}
+use Rattle.kr_aes.proofs.Linear.{below_two, one_times, polynomial_product-xor, polynomial_product_of_xor, remainder-xor, xor_shl, zero_times}
+use Rattle.kr_modes.specs.Ghash.{modulus, product}
+use Rattle.kr_modes.specs.inner.Tables.{power}
 
 -- ---- the product is linear
-
-polynomial_product-xor : (n a b c : ℕ) → polynomial_product n a (bit_xor b c) ≡ bit_xor (polynomial_product n a b) (polynomial_product n a c)
-unfolding polynomial_product
-polynomial_product-xor zero a b c = refl
-polynomial_product-xor (suc i) a b c =
-    let bit : ℕ = bit_at a i in
-    let last : bit * (bit_xor b c * 2 ^ i) ≡ bit_xor (bit * (b * 2 ^ i)) (bit * (c * 2 ^ i)) =
-    ap (λ (x : ℕ). bit * x) (xor_shl b c i) ∙ times_xor bit (b * 2 ^ i) (c * 2 ^ i) (bit_at-lt a i) in
-    ap (bit_xor (polynomial_product i a (bit_xor b c))) last
-    ∙ ap (λ (x : ℕ). bit_xor x (bit_xor (bit * (b * 2 ^ i)) (bit * (c * 2 ^ i)))) (polynomial_product-xor i a b c)
-    ∙ xor_interchange (polynomial_product i a b) (polynomial_product i a c) (bit * (b * 2 ^ i)) (bit * (c * 2 ^ i))
-
-polynomial_product_of_xor : (n a b c : ℕ) → polynomial_product n (bit_xor a b) c ≡ bit_xor (polynomial_product n a c) (polynomial_product n b c)
-unfolding polynomial_product
-polynomial_product_of_xor zero a b c = refl
-polynomial_product_of_xor (suc i) a b c =
-    let m : ℕ = c * 2 ^ i in
-    let last : bit_at (bit_xor a b) i * m ≡ bit_xor (bit_at a i * m) (bit_at b i * m) =
-    ap (λ (x : ℕ). x * m) (bit_at_xor a b i) ∙ bit_times (bit_at a i) (bit_at b i) m (bit_at-lt a i) (bit_at-lt b i) in
-    ap (bit_xor (polynomial_product i (bit_xor a b) c)) last
-    ∙ ap (λ (x : ℕ). bit_xor x (bit_xor (bit_at a i * m) (bit_at b i * m))) (polynomial_product_of_xor i a b c)
-    ∙ xor_interchange (polynomial_product i a c) (polynomial_product i b c) (bit_at a i * m) (bit_at b i * m)
 
 pub product-xor : (a b c : ℕ) → product a (bit_xor b c) ≡ bit_xor (product a b) (product a c)
 unfolding product
 product-xor a b c =
-    ap (remainder 127) (polynomial_product-xor 128 a b c) ∙ remainder-xor 127 (polynomial_product 128 a b) (polynomial_product 128 a c)
+    ap (remainder modulus 128 127) (polynomial_product-xor 128 a b c) ∙ remainder-xor modulus 128 127 (polynomial_product 128 a b) (polynomial_product 128 a c)
 
 pub product_of_xor : (a b c : ℕ) → product (bit_xor a b) c ≡ bit_xor (product a c) (product b c)
 unfolding product
 product_of_xor a b c =
-    ap (remainder 127) (polynomial_product_of_xor 128 a b c) ∙ remainder-xor 127 (polynomial_product 128 a c) (polynomial_product 128 b c)
+    ap (remainder modulus 128 127) (polynomial_product_of_xor 128 a b c) ∙ remainder-xor modulus 128 127 (polynomial_product 128 a c) (polynomial_product 128 b c)
 
 -- ---- x times a polynomial
 
 -- the remainder of x times a polynomial is found from its own
-remainder-double : (n p : ℕ) → remainder (suc n) (p * 2) ≡ remainder 1 (remainder n p * 2)
+remainder-double : (n p : ℕ) → remainder modulus 128 (suc n) (p * 2) ≡ remainder modulus 128 1 (remainder modulus 128 n p * 2)
 unfolding remainder
 remainder-double zero p = refl
 remainder-double (suc n) p =
@@ -96,15 +36,15 @@ remainder-double (suc n) p =
     let moved : bit_at (p * 2) (suc n + 128) ≡ bit = ap (bit_at (p * 2)) place ∙ bit_at-suc (p * 2) (n + 128) ∙ ap (λ (x : ℕ). bit_at x (n + 128)) half in
     let term : bit_at (p * 2) (suc n + 128) * (modulus * 2 ^ suc n) ≡ bit * (modulus * 2 ^ n) * 2 =
     ap (λ (x : ℕ). x * (modulus * 2 ^ suc n)) moved ∙ ap (λ (x : ℕ). bit * (modulus * x)) (pow-suc 2 n) ∙ regroup bit modulus (2 ^ n) in
-    ap (λ (x : ℕ). remainder (suc n) (bit_xor (p * 2) x)) term
-    ∙ ap (remainder (suc n)) (sym (xor_shl p (bit * (modulus * 2 ^ n)) 1))
+    ap (λ (x : ℕ). remainder modulus 128 (suc n) (bit_xor (p * 2) x)) term
+    ∙ ap (remainder modulus 128 (suc n)) (sym (xor_shl p (bit * (modulus * 2 ^ n)) 1))
     ∙ remainder-double n q
   where
     regroup : (x m t : ℕ) → x * (m * (t * 2)) ≡ x * (m * t) * 2
     regroup x m t = omega arith
 
 -- a polynomial of degree below 128 + i is reduced from x^(i + 127) down
-remainder-more : (k i p : ℕ) → p < 2 ^ (128 + i) → remainder (i + k) p ≡ remainder i p
+remainder-more : (k i p : ℕ) → p < 2 ^ (128 + i) → remainder modulus 128 (i + k) p ≡ remainder modulus 128 i p
 unfolding remainder
 remainder-more zero i p h =
     let e : i + 0 ≡ i = omega arith in
@@ -113,27 +53,23 @@ remainder-more (suc k) i p h =
     let e : i + suc k ≡ suc (i + k) = omega arith in
     let none : bit_at p (i + k + 128) ≡ 0 = bit_at_above p (128 + i) (i + k + 128) h (omega arith) in
     let kept : bit_xor p (bit_at p (i + k + 128) * (modulus * 2 ^ (i + k))) ≡ p = rw (none, zero_times (modulus * 2 ^ (i + k))) (xor_zero_r p) in
-    rw e (ap (remainder (i + k)) kept ∙ remainder-more k i p h)
-
--- x to the power i, times a polynomial
-unfoldable pub power : ℕ → ℕ → ℕ
-power i b = remainder i (b * 2 ^ i)
+    rw e (ap (remainder modulus 128 (i + k)) kept ∙ remainder-more k i p h)
 
 pub power_none : (b : ℕ) → b ≡ power 0 b
 unfolding power remainder
 power_none b = omega arith
 
-pub power_next : (i b : ℕ) → remainder 1 (power i b * 2) ≡ power (i + 1) b
+pub power_next : (i b : ℕ) → remainder modulus 128 1 (power i b * 2) ≡ power (i + 1) b
 unfolding power
 power_next i b =
     let shift : b * 2 ^ i * 2 ≡ b * 2 ^ suc i = regroup b (2 ^ i) ∙ ap (λ (x : ℕ). b * x) (sym (pow-suc 2 i)) in
-    rw add-one (sym (remainder-double i (b * 2 ^ i)) ∙ ap (remainder (suc i)) shift)
+    rw add-one (sym (remainder-double i (b * 2 ^ i)) ∙ ap (remainder modulus 128 (suc i)) shift)
   where
     regroup : (x t : ℕ) → x * t * 2 ≡ x * (t * 2)
     regroup x t = omega arith
 
 -- the code's shift, and the modulus taken away where a bit came out
-pub remainder-shifted : (p : ℕ) → p < 2 ^ 128 → bit_xor (p * 2 % 2 ^ 128) (p / 2 ^ 127 * 135) ≡ remainder 1 (p * 2)
+pub remainder-shifted : (p : ℕ) → p < 2 ^ 128 → bit_xor (p * 2 % 2 ^ 128) (p / 2 ^ 127 * 135) ≡ remainder modulus 128 1 (p * 2)
 unfolding remainder
 remainder-shifted p h = elim (below_two (p / 2 ^ 127) (omega arith)) [
   | inl low ↦
@@ -152,9 +88,9 @@ remainder-shifted p h = elim (below_two (p / 2 ^ 127) (omega arith)) [
 -- ---- the terms below x^i of the product
 
 unfoldable pub partial_product : ℕ → ℕ → ℕ → ℕ
-partial_product i a b = remainder 127 (polynomial_product i a b)
+partial_product i a b = remainder modulus 128 127 (polynomial_product i a b)
 
-remainder-power : (i b : ℕ) → i < 128 → b < 2 ^ 128 → remainder 127 (b * 2 ^ i) ≡ power i b
+remainder-power : (i b : ℕ) → i < 128 → b < 2 ^ 128 → remainder modulus 128 127 (b * 2 ^ i) ≡ power i b
 unfolding power
 remainder-power i b lt fits =
     let k : i + (127 - i) ≡ 127 = omega arith in
@@ -167,7 +103,7 @@ partial_product_none a b = refl
 pub partial_product_next : (i a b : ℕ) → i < 128 → b < 2 ^ 128 → bit_at a i ≡ 1 → bit_xor (partial_product i a b) (power i b) ≡ partial_product (i + 1) a b
 unfolding partial_product polynomial_product
 partial_product_next i a b lt fits e =
-    rw (add-one, e, one_times (b * 2 ^ i), remainder-xor 127 (polynomial_product i a b) (b * 2 ^ i), remainder-power i b lt fits) refl
+    rw (add-one, e, one_times (b * 2 ^ i), remainder-xor modulus 128 127 (polynomial_product i a b) (b * 2 ^ i), remainder-power i b lt fits) refl
 
 pub partial_product_same : (i a b : ℕ) → bit_at a i ≡ 0 → partial_product i a b ≡ partial_product (i + 1) a b
 unfolding partial_product polynomial_product

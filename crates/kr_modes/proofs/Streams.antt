@@ -1,5 +1,5 @@
 -- The key stream, block by block.
-use Rattle.std.proofs.Common.{◌≡◌, ℕ, zero, suc, ◌+◌, ◌*◌, ◌-◌, ◌≤◌, List, [], ◌∷◌, ◌++◌, length, take, drop, replicate, min, refl, sym, ap, ◌∙◌, arith, add-one, rules}
+use Rattle.std.proofs.Common.{◌≡◌, ℕ, zero, suc, ◌+◌, ◌*◌, ◌-◌, ◌/◌, ◌%◌, ◌<◌, ◌≤◌, List, [], ◌∷◌, ◌++◌, length, take, drop, replicate, min, refl, sym, ap, ◌∙◌, arith, add-one, rules}
 use Rattle.std.proofs.lemmas.List.{append-nil, drop_all, drop_at, length-append, length-drop, length-take, map-id, places, take_all, take_at, take_min}
 use Rattle.std.proofs.lemmas.List.Concat.{flat_map-append}
 use Rattle.std.proofs.lemmas.List.FromFn.{map-range_with_len_more}
@@ -99,6 +99,19 @@ pub gctr_all : (encipher : List ℕ → List ℕ) (nonce bytes out : List ℕ) (
 unfolding gctr
 gctr_all encipher nonce bytes out i e same before =
     sym (take_all (16 * i) out (omega arith)) ∙ before ∙ ap (λ (n : ℕ). xor bytes (key_stream encipher nonce n)) e
+
+-- the last block is written, which is no whole one
+pub gctr_end : (encipher : List ℕ → List ℕ) (nonce bytes out block ys : List ℕ) (i k : ℕ) → GivesBlocks encipher
+    → i ≡ length bytes / 16 → (length bytes % 16 ≡ 0 → ⊥) → length out ≡ length bytes → k ≡ length out - 16 * i
+    → block ≡ xor (filled bytes i 0) (encipher (counter_block nonce (i + 1))) → ys ≡ take (length bytes % 16) block
+    → take (16 * i) out ≡ xor bytes (key_stream encipher nonce i) → put_mid (16 * i) k out ys ≡ gctr encipher nonce bytes
+gctr_end encipher nonce bytes out block ys i k gives at some same size is cut before =
+    let most : length bytes % 16 < 16 = omega arith in
+    let left : length bytes % 16 ≡ length out - 16 * i = omega arith in
+    let step = gctr_more encipher nonce bytes out block ys i (length out) gives (omega arith) same (omega arith) is
+    (cut ∙ ap (λ (n : ℕ). take n block) left) before in
+    ap (λ (n : ℕ). put_mid (16 * i) n out ys) size
+    ∙ gctr_all encipher nonce bytes (put_mid (16 * i) (length out - 16 * i) out ys) (i + 1) (omega arith) (step.0 ∙ same) step.1
 
 -- a write over all that follows xs
 pub put_end : (xs zs ys : List ℕ) (a k : ℕ) → length xs ≡ a → length zs ≤ k → put_mid a k (xs ++ zs) ys ≡ xs ++ ys

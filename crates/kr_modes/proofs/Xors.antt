@@ -2,6 +2,7 @@
 use Rattle.std.proofs.Common.{◌≡◌, ℕ, zero, suc, ◌<◌, ◌≤◌, List, [], ◌∷◌, ◌++◌, length, take, drop, slice_index, bit_xor, min, refl, sym, ap, ◌∙◌, arith}
 use Rattle.std.proofs.lemmas.List.{ext_get_or, take_all}
 use Rattle.std.specs.Int.Bits.{xor_self, xor_zero_l, xor_zero_r}
+use Rattle.std.proofs.lemmas.Nat.{xor_comm}
 use lib.Bits.{xor_assoc}
 use Rattle.kr_modes.specs.Blocks.{xor}
 
@@ -23,6 +24,13 @@ pub xor_of_bytes : (zs xs ys : List ℕ) (n : ℕ) → length zs ≡ n → lengt
 xor_of_bytes zs xs ys n lz lx ly each =
     ext_get_or 0 zs (xor xs ys) (omega (arith, length-xor xs ys))
     (λ k h. each k (omega arith) ∙ sym (slice_index-xor xs ys k (omega arith) (omega arith)))
+
+pub xor-comm : (xs ys : List ℕ) → xor xs ys ≡ xor ys xs
+unfolding xor
+xor-comm [] [] = refl
+xor-comm [] (y ∷ ys) = refl
+xor-comm (x ∷ xs) [] = refl
+xor-comm (x ∷ xs) (y ∷ ys) = λ i. xor_comm x y i ∷ xor-comm xs ys i
 
 pub xor_nothing : (xs : List ℕ) → xor xs [] ≡ []
 unfolding xor

@@ -3,7 +3,7 @@
 use Rattle.std.specs.Prelude.{◌≡◌, ℕ, zero, suc, ◌+◌, ◌-◌, ◌*◌, ◌/◌, ◌%◌, ◌^◌, ◌<◌, List, [], ◌∷◌, bit_xor, slice_index}
 use Rattle.std.specs.Int.{w128, bit_at, from_be_bytes, reverse_bits, to_be_bytes}
 use Rattle.kr_aes.specs.Cipher.{IsBlock}
-use Rattle.kr_aes.specs.Field.{polynomial_product}
+use Rattle.kr_aes.specs.Field.{polynomial_product, remainder}
 use Rattle.kr_modes.specs.Blocks.{blocks}
 
 -- the leftmost bit of the first byte is the coefficient of x^0 (6.3)
@@ -18,15 +18,9 @@ block_of p = to_be_bytes w128 (reverse_bits w128 p)
 abbrev pub modulus : ℕ
 modulus = 2 ^ 128 + 0x87
 
--- the remainder of a polynomial of degree below n + 128 by the modulus: from the highest term down,
--- an x^(i + 128) in it is taken away by the modulus times x^i
-unfoldable pub remainder : ℕ → ℕ → ℕ
-remainder zero p = p
-remainder (suc i) p = remainder i (bit_xor p (bit_at p (i + 128) * (modulus * 2 ^ i)))
-
 -- the product of two blocks (6.3)
 unfoldable pub product : ℕ → ℕ → ℕ
-product a b = remainder 127 (polynomial_product 128 a b)
+product a b = remainder modulus 128 127 (polynomial_product 128 a b)
 
 -- each block is added to the value y, and the sum is multiplied by h, from the first block on (6.4)
 unfoldable pub ghash_blocks : ℕ → ℕ → List (List ℕ) → ℕ

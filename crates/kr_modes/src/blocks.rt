@@ -1,6 +1,6 @@
-// Blocks of 16 bytes, taken from slices.
+//! Blocks of 16 bytes, taken from slices.
 
-ghost use Rattle.std.specs.Prelude.{◌≡◌, ◌≤◌, ◌-◌, ◌*◌, ◌++◌, length, replicate};
+ghost use Rattle.std.specs.Prelude.{◌≡◌, ◌≤◌, ◌+◌, ◌-◌, ◌*◌, ◌++◌, length, replicate};
 ghost use Rattle.std.specs.Fork.{slice_chunk};
 ghost use Rattle.kr_modes.specs.Blocks.{xor};
 
@@ -8,12 +8,25 @@ ghost use Rattle.kr_modes.specs.Blocks.{xor};
 pub(crate) const BLOCK: usize = 16;
 
 /// Puts the exclusive or of both in the place of `block`.
+#[inline(always)]
 pub(crate) fn add(block: &mut [u8; BLOCK], other: &[u8; BLOCK])
     ensures { block.new ≡ xor block.old other.now }
 {
     for (i, byte) in block.iter_mut().enumerate() {
         *byte ^= other[i];
     }
+}
+
+/// Block `index` of the bytes, which have it whole.
+#[inline(always)]
+pub(crate) fn whole_block(bytes: &[u8], index: usize) -> [u8; BLOCK]
+    requires { 16 * index + 16 ≤ length bytes.now }
+    ensures { result ≡ slice_chunk bytes.now 16 index }
+{
+    let start = BLOCK * index;
+    let mut block = [0; BLOCK];
+    block.copy_from_slice(&bytes[start..start + BLOCK]);
+    block
 }
 
 /// Block `index` of the bytes, with `fill` behind it where they end before it does.

@@ -1,4 +1,4 @@
-// Laws of the definitions, for a reader and for callers' proofs. The functions do nothing.
+//! Laws of the definitions, for a reader and for callers' proofs. The functions do nothing.
 
 ghost use Rattle.kr_modes.specs.Cbc.{CbcOpensSealed};
 ghost use Rattle.kr_modes.specs.Gcm.{GcmOpensSealed, OpensOnlyUnderOneTag};

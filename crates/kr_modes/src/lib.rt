@@ -3,15 +3,13 @@
 #![tactic(auto)]
 
 mod blocks;
-mod chaining;
-mod counting;
-mod hashing;
+mod cbc;
+mod gcm;
+mod ghash;
 pub mod laws;
-#[cfg(test)]
-mod tests;
 
-pub use chaining::{cbc_length, cbc_seal, cbc_unseal};
-pub use counting::{gcm_seal, gcm_unseal};
+pub use cbc::{cbc_length, cbc_seal, cbc_unseal};
+pub use gcm::{gcm_seal, gcm_unseal};
 
 /// Why a sealed value isn't opened.
 #[derive(Clone, Copy, PartialEq, Eq, Debug)]

@@ -3,9 +3,11 @@ mod Bodies
 mod Booleans
 mod Filled
 mod LinkNames
-mod Lists
+pub mod Lists
 mod Places
 pub mod Rivals
 pub mod SealedReads
 pub mod Sealings
 pub mod Tags
+pub mod SealedSizes
+pub mod OneReading

@@ -12,8 +12,9 @@ use Rattle.kr_config.specs.Kept.{Row, apart, keeps, keeps_row, keeps_patterns, k
 use Rattle.kr_config.specs.Lists.{first_list, list_of}
 use Rattle.kr_config.specs.Patterns.{matches}
 use Rattle.kr_config.specs.Providers.{is_kms, is_provider, rivals}
+use Rattle.kr_kms.specs.Seeds.{IsSeedRow}
 use Rattle.kr_kms.specs.declared.seeds.SeedRow.{SeedRow}
-use Rattle.kr_provider.specs.Publication.{IsPublished, IsSeedRow, ListsNoPlugin, names_plugin, plugin_of, plugins_in}
+use Rattle.kr_provider.specs.Publication.{IsPublished, ListsNoPlugin, names_plugin, plugin_of, plugins_in}
 use Rattle.kr_provider.proofs.Booleans.{and_left, and_right, or_left, or_right}
 
 some_of : (n : ℕ) → nat_le 1 n ≡ true → 1 ≤ n

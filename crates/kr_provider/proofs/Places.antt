@@ -13,7 +13,7 @@ use Rattle.kr_kms.specs.declared.seeds.SeedRow.{SeedRow}
 use Rattle.kr_provider.specs.Envelopes.{Envelope}
 use Rattle.kr_provider.specs.Publication.{ListsNoPlugin}
 use Rattle.kr_provider.specs.Readers.{body_by, is_reader, reader_in, reader_place}
-use Rattle.kr_provider.specs.Reading.{Reading, refused, Gives, Unseals, is_rotated, is_stale, read_by, read_with, reads_by}
+use Rattle.kr_provider.specs.Reading.{Reading, no_provider, Gives, Unseals, is_rotated, is_stale, provider_reading, reader_reading, value_reading}
 use Rattle.kr_provider.specs.declared.refusal.UnsealNo.{UnsealNo}
 use Rattle.kr_provider.specs.declared.refusal.UnsealNo.TheVariants.{Refused, PluginFailed, NoMemory}
 use Rattle.kr_provider.proofs.Booleans.{or_left}
@@ -49,15 +49,15 @@ reader_found list bytes place who e is =
 pub reader_reads : (list : List Who) (bytes : List ℕ) (place : ℕ) (who : Who) → reader_place list bytes ≡ Some place → who ≡ get_or list place who → is_reader bytes who ≡ true
 reader_reads list bytes place who e is = ap (is_reader bytes) is ∙ (position-Some (is_reader bytes) list place who e).1
 
-pub read_found : (envelope : Envelope) (list : List Who) (path bytes body : List ℕ) (place : ℕ) (who : Who) → reader_place list bytes ≡ Some place → who ≡ get_or list place who → body ≡ body_by who bytes → reads_by envelope list path bytes ≡ read_by envelope who path body
-read_found envelope list path bytes body place who e is b = ap (λ o. read_with envelope o path bytes) (reader_found list bytes place who e is) ∙ ap (read_by envelope who path) (sym b)
+pub read_found : (envelope : Envelope) (list : List Who) (path bytes body : List ℕ) (place : ℕ) (who : Who) → reader_place list bytes ≡ Some place → who ≡ get_or list place who → body ≡ body_by who bytes → value_reading envelope list path bytes ≡ provider_reading envelope who path body
+read_found envelope list path bytes body place who e is b = ap (λ o. reader_reading envelope o path bytes) (reader_found list bytes place who e is) ∙ ap (provider_reading envelope who path) (sym b)
 
-pub none_reads : (envelope : Envelope) (list : List Who) (path bytes : List ℕ) → reader_place list bytes ≡ None → reads_by envelope list path bytes ≡ refused 12
-none_reads envelope list path bytes e = ap (λ o. read_with envelope o path bytes) (no_place (is_reader bytes) list e)
+pub none_reads : (envelope : Envelope) (list : List Who) (path bytes : List ℕ) → reader_place list bytes ≡ None → value_reading envelope list path bytes ≡ no_provider
+none_reads envelope list path bytes e = ap (λ o. reader_reading envelope o path bytes) (no_place (is_reader bytes) list e)
 
 -- a refusal of the body is one of the value
-pub refuses : (envelope : Envelope) (seeds : List SeedRow) (list : List Who) (path bytes : List ℕ) (reading : Reading) (why : UnsealNo) → reads_by envelope list path bytes ≡ reading → Gives reading (Err why) → Unseals envelope seeds list path bytes (Err why)
-refuses envelope seeds list path bytes reading (Refused n) e g = e ∙ g
+pub refuses : (envelope : Envelope) (seeds : List SeedRow) (list : List Who) (path bytes : List ℕ) (reading : Reading) (why : UnsealNo) → value_reading envelope list path bytes ≡ reading → Gives reading (Err why) → Unseals envelope seeds list path bytes (Err why)
+refuses envelope seeds list path bytes reading (Refused refusal) e g = e ∙ g
 refuses envelope seeds list path bytes reading (PluginFailed name) e g = g
 refuses envelope seeds list path bytes reading NoMemory e g = tt
 

@@ -17,10 +17,10 @@ use Rattle.kr_config.specs.Providers.{is_provider, is_secret, rivals}
 use Rattle.kr_provider.specs.Readers.{is_reader, reader_in}
 use Rattle.kr_provider.proofs.Booleans.{and_left, and_right}
 
-name_of : (name : List ℕ) → is_name name ≡ true → IsName name
+pub name_of : (name : List ℕ) → is_name name ≡ true → IsName name
 name_of name t = (rules.name name).0 t
 
-key_name : (name secret : List ℕ) → (is_name name && is_secret secret) ≡ true → IsName name
+pub key_name : (name secret : List ℕ) → (is_name name && is_secret secret) ≡ true → IsName name
 key_name name secret t = name_of name (and_left (is_name name) (is_secret secret) t)
 
 one : (k l : Kind) (n m bytes : List ℕ) → IsName n → IsName m → begins (prefix k n) bytes ≡ true → begins (prefix l m) bytes ≡ true → (k ≡ l) × (n ≡ m)

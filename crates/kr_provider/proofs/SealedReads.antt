@@ -22,7 +22,7 @@ use Rattle.kr_provider.specs.Envelopes.{Envelope, gcm_body, object_of, seed_body
 use Rattle.kr_provider.specs.Laws.{IsSealedEnvelope, SealedReads}
 use Rattle.kr_provider.specs.Publication.{seed_of}
 use Rattle.kr_provider.specs.Readers.{body_by, is_reader}
-use Rattle.kr_provider.specs.Reading.{data_of, gcm_reading, object_reading, read_by, read_with, reading_of, seed_length, seed_reading, source_reading}
+use Rattle.kr_provider.specs.Reading.{data_of, gcm_reading, object_reading, provider_reading, reader_reading, body_reading, seed_length, seed_reading, source_reading}
 use Rattle.kr_provider.specs.Sealing.{IsBytes, draw_size, sealed_by, value_by}
 use Rattle.kr_provider.proofs.Rivals.{one_reader}
 
@@ -49,9 +49,9 @@ rest n xs ys e = subst (λ k. drop k (xs ++ ys) ≡ ys) e (drop-append_seam xs y
 gcm_reads : (key path plain nonce : List ℕ) → length nonce ≡ 12 → gcm_reading key path (gcm_body key path plain nonce) ≡ data_of plain
 gcm_reads key path plain nonce size =
     let sealed = gcm (cipher_under key) nonce path plain in
-    ap (λ n. reading_of (gcm_opened (cipher_under key) n path (drop 12 (nonce ++ sealed)))) (front 12 nonce sealed size)
-    ∙ ap (λ body. reading_of (gcm_opened (cipher_under key) nonce path body)) (rest 12 nonce sealed size)
-    ∙ ap reading_of (gcm_opened-gcm (padded_schedule key) (rounds_under key) nonce path plain)
+    ap (λ n. body_reading (gcm_opened (cipher_under key) n path (drop 12 (nonce ++ sealed)))) (front 12 nonce sealed size)
+    ∙ ap (λ body. body_reading (gcm_opened (cipher_under key) nonce path body)) (rest 12 nonce sealed size)
+    ∙ ap body_reading (gcm_opened-gcm (padded_schedule key) (rounds_under key) nonce path plain)
 
 seed_reads : (seed path plain drawn : List ℕ) → length seed ≡ 32 → length drawn ≡ 44 → seed_reading seed path (seed_body seed path plain drawn) ≡ data_of plain
 seed_reads seed path plain drawn long size =
@@ -79,7 +79,7 @@ is_read seeds (Kms name) path plain drawn value e = by_row (seed_of name seeds) 
     by_row None e = absurd (cc)
     by_row (Some row) e = begun kind.Kms name _ value e
 
-own_reading : (seeds : List SeedRow) (who : Who) (path plain drawn value : List ℕ) (envelope : Envelope) → IsBytes (draw_size who) drawn → All (λ byte. byte < 256) plain → value_by seeds who path plain drawn ≡ Some value → IsSealedEnvelope seeds who path plain drawn envelope → read_by envelope who path (body_by who value) ≡ data_of plain
+own_reading : (seeds : List SeedRow) (who : Who) (path plain drawn value : List ℕ) (envelope : Envelope) → IsBytes (draw_size who) drawn → All (λ byte. byte < 256) plain → value_by seeds who path plain drawn ≡ Some value → IsSealedEnvelope seeds who path plain drawn envelope → provider_reading envelope who path (body_by who value) ≡ data_of plain
 own_reading seeds Identity path plain drawn value envelope b h e s = bare (is_marked plain) e
   where
     bare : (b : Bool) → (if b then None else Some plain) ≡ Some value → data_of value ≡ data_of plain
@@ -87,8 +87,8 @@ own_reading seeds Identity path plain drawn value envelope b h e s = bare (is_ma
     bare false e = cc
 own_reading seeds (Aescbc name secret) path plain drawn value envelope b h e s =
     let block : IsBlock drawn = record { size = b.0; bytes = b.1 } in
-    ap (λ body. reading_of (cbc_opened (inverse_under secret) body)) (behind kind.Aescbc name _ value e)
-    ∙ ap reading_of (cbc_opened-cbc (padded_schedule secret) (rounds_under secret) drawn plain block h)
+    ap (λ body. body_reading (cbc_opened (inverse_under secret) body)) (behind kind.Aescbc name _ value e)
+    ∙ ap body_reading (cbc_opened-cbc (padded_schedule secret) (rounds_under secret) drawn plain block h)
 own_reading seeds (Aesgcm name secret) path plain drawn value envelope b h e s =
     ap (gcm_reading secret path) (behind kind.Aesgcm name _ value e) ∙ gcm_reads secret path plain drawn b.0
 own_reading seeds (Kms name) path plain drawn value envelope b h e s =
@@ -98,5 +98,5 @@ own_reading seeds (Kms name) path plain drawn value envelope b h e s =
 pub sealed_reads : SealedReads
 sealed_reads seeds list who path plain drawn value envelope k c b h e s =
     let v = value_is seeds who path plain drawn value e in
-    ap (λ o. read_with envelope o path value) (one_reader value list who k (is_read seeds who path plain drawn value v) c)
+    ap (λ o. reader_reading envelope o path value) (one_reader value list who k (is_read seeds who path plain drawn value v) c)
     ∙ own_reading seeds who path plain drawn value envelope b h v s

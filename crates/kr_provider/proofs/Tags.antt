@@ -9,7 +9,7 @@ use Rattle.kr_config.specs.declared.who.Who.TheVariants.{Aesgcm}
 use Rattle.kr_provider.specs.Ciphers.{cipher_under}
 use Rattle.kr_provider.specs.Laws.{IsData, ReadsUnderItsTag}
 use Rattle.kr_provider.specs.Readers.{body_by}
-use Rattle.kr_provider.specs.Reading.{Reading, gcm_reading, read_with, reading_of}
+use Rattle.kr_provider.specs.Reading.{Reading, gcm_reading, reader_reading, body_reading}
 
 not_short : (n : ℕ) → nat_lt (n - 12) 16 ≡ false → 28 ≤ n
 not_short n e = grind (arith, nat_tests)
@@ -18,7 +18,7 @@ long : (n : ℕ) → 28 ≤ n → nat_lt (n - 12) 16 ≡ false
 long n h = grind (arith, nat_tests)
 
 by_cases : (b c : Bool) (plain : List ℕ) (P Q : Type 0) → (b ≡ false → P) → (P → b ≡ false) → (c ≡ true → Q) → (Q → c ≡ true)
-    → IsData (reading_of (if b then Err Short else ok_or (if c then Some plain else None) BadTag)) ↔ (P × Q)
+    → IsData (body_reading (if b then Err Short else ok_or (if c then Some plain else None) BadTag)) ↔ (P × Q)
 by_cases true c plain P Q f g h k = (λ t. absurd t, λ both. let e = g both.0 in absurd (cc))
 by_cases false true plain P Q f g h k = (λ t. (f refl, h refl), λ both. tt)
 by_cases false false plain P Q f g h k = (λ t. absurd t, λ both. let e = k both.1 in absurd (cc))
@@ -41,4 +41,4 @@ under_its_tag envelope list name secret path bytes r =
     let sealed = drop 12 body in
     let size = length sealed - 16 in
     let P : Reading → Type 0 = λ reading. IsData reading ↔ ((28 ≤ length body) × (drop size sealed ≡ gcm_tag (cipher_under secret) (take 12 body) path (take size sealed))) in
-    subst P (sym (ap (λ o. read_with envelope o path bytes) r)) (under_tag secret path body)
+    subst P (sym (ap (λ o. reader_reading envelope o path bytes) r)) (under_tag secret path body)

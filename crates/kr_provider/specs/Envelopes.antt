@@ -53,13 +53,25 @@ abbrev pub source_by : Opens → (name : List ℕ) → Result EncryptedObject Ob
 source_by opens name (Ok object) = opens (seed_key name object)
 source_by opens name (Err why) = None
 
--- the envelope of a value, by its reader: what its body spells, and what the source opens to
+-- what the body of a plugin's value spells
+abbrev pub IsObjectOf : (name bytes : List ℕ) → Result EncryptedObject ObjectNo → Type 0
+IsObjectOf name bytes object = Reads (body_by (Kms name) bytes) object × (object ≢ Err NoMemory)
+
+-- the object of a value, by its reader; only a plugin's has one
+abbrev pub HasObject : Option Who → (bytes : List ℕ) → Result EncryptedObject ObjectNo → Type 0
+HasObject None bytes object = ⊤
+HasObject (Some Identity) bytes object = ⊤
+HasObject (Some (Aescbc name secret)) bytes object = ⊤
+HasObject (Some (Aesgcm name secret)) bytes object = ⊤
+HasObject (Some (Kms name)) bytes object = IsObjectOf name bytes object
+
+-- the envelope of a value, by its reader: its object, and what the source opens to
 abbrev pub HasEnvelope : Opens → Option Who → (bytes : List ℕ) → Envelope → Type 0
 HasEnvelope opens None bytes envelope = ⊤
 HasEnvelope opens (Some Identity) bytes envelope = ⊤
 HasEnvelope opens (Some (Aescbc name secret)) bytes envelope = ⊤
 HasEnvelope opens (Some (Aesgcm name secret)) bytes envelope = ⊤
-HasEnvelope opens (Some (Kms name)) bytes envelope = Reads (body_by (Kms name) bytes) envelope.object × (envelope.object ≢ Err NoMemory) × (envelope.source ≡ source_by opens name envelope.object)
+HasEnvelope opens (Some (Kms name)) bytes envelope = IsObjectOf name bytes envelope.object × (envelope.source ≡ source_by opens name envelope.object)
 
 abbrev pub IsEnvelopeOf : Opens → List Who → (bytes : List ℕ) → Envelope → Type 0
 IsEnvelopeOf opens list bytes envelope = HasEnvelope opens (reader_in list bytes) bytes envelope

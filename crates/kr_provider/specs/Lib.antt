@@ -6,4 +6,5 @@ pub mod Names
 pub mod Publication
 pub mod Readers
 pub mod Reading
+pub mod Refusals
 pub mod Sealing

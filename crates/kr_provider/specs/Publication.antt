@@ -11,7 +11,7 @@ use Rattle.kr_config.specs.Kept.{Row, keeps}
 use Rattle.kr_config.specs.Lists.{list_of}
 use Rattle.kr_config.specs.Providers.{is_kms, is_provider}
 use Rattle.kr_kms.specs.declared.seeds.SeedRow.{SeedRow}
-use Rattle.kr_kms.specs.Limits.{IsShort, AreFew}
+use Rattle.kr_kms.specs.Seeds.{IsSeedRow}
 use Rattle.kr_provider.specs.Readers.{writer_of}
 
 -- the entries of the settings, and the seeds
@@ -32,13 +32,6 @@ plugins_in rows = flat_map (λ row. flat_map plugin_of row.providers) rows
 -- whether they name any
 abbrev pub names_plugin : List Row → Bool
 names_plugin rows = list_any (λ row. list_any is_kms row.providers) rows
-
--- a seed has 32 bytes; its source, key id and annotations are within the limits
-pub record IsSeedRow (row : SeedRow) : Type 0 where
-  pub seed : length row.seed ≡ 32
-  pub key_id : IsShort row.key_id
-  pub source : IsShort row.source
-  pub annotations : AreFew row.annotations
 
 -- the settings keep their rules, and there is one seed for each plugin that they name, by the bytes of the name
 pub record IsPublished (p : Publication) : Type 0 where

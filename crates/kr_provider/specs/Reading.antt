@@ -16,54 +16,56 @@ use Rattle.kr_config.specs.declared.who.Who.TheVariants.{Identity, Aescbc, Aesgc
 use Rattle.kr_kms.specs.declared.seeds.SeedRow.{SeedRow}
 use Rattle.kr_kms.specs.Truth.{Opens}
 use Rattle.kr_provider.specs.Ciphers.{cipher_under, inverse_under}
-use Rattle.kr_provider.specs.Envelopes.{Envelope, IsEnvelopeOf, value_key}
+use Rattle.kr_provider.specs.Envelopes.{Envelope, HasObject, IsEnvelopeOf, value_key}
 use Rattle.kr_provider.specs.Publication.{seed_of}
 use Rattle.kr_provider.specs.Readers.{reader_in, is_reader, writer_of, body_by}
 use Rattle.kr_provider.specs.declared.refusal.Opened.{Opened}
 use Rattle.kr_provider.specs.declared.refusal.UnsealNo.{UnsealNo}
+use Rattle.kr_provider.specs.declared.refusal.ValueNo.{ValueNo}
+use Rattle.kr_provider.specs.declared.refusal.ValueNo.TheVariants as value
 use Rattle.kr_provider.specs.declared.refusal.UnsealNo.TheVariants.{Refused, PluginFailed, NoMemory}
 
 pub data Reading : Type 0 where
   data_of : List ℕ → Reading
-  refused : ℕ → Reading
+  refused : ValueNo → Reading
   unopened : Reading
 
--- ---- the refusals by their numbers
+-- ---- refusals
 
 -- those of a body
 abbrev pub body_refusal : ModeNo → Reading
-body_refusal Short = refused 1
-body_refusal BadBlock = refused 2
-body_refusal BadPadding = refused 3
-body_refusal BadTag = refused 4
+body_refusal Short = refused value.Short
+body_refusal BadBlock = refused value.BadBlock
+body_refusal BadPadding = refused value.BadPadding
+body_refusal BadTag = refused value.BadTag
 
 -- those of an encrypted object; want of memory tells nothing of it
 abbrev pub object_refusal : ObjectNo → Reading
-object_refusal (object.Wire at) = refused 5
-object_refusal object.KeyId = refused 6
-object_refusal object.Source = refused 7
-object_refusal object.Annotations = refused 8
-object_refusal object.SourceType = refused 9
-object_refusal object.NoData = refused 10
-object_refusal (object.NotUtf8 at) = refused 11
+object_refusal (object.Wire at) = refused value.Wire
+object_refusal object.KeyId = refused value.KeyId
+object_refusal object.Source = refused value.Source
+object_refusal object.Annotations = refused value.Annotations
+object_refusal object.SourceType = refused value.SourceType
+object_refusal object.NoData = refused value.NoData
+object_refusal (object.NotUtf8 at) = refused value.NotUtf8
 object_refusal object.NoMemory = unopened
 
 abbrev pub no_provider : Reading
-no_provider = refused 12
+no_provider = refused value.NoProvider
 
 -- the unwrapped source hasn't 32 bytes
 abbrev pub seed_length : Reading
-seed_length = refused 15
+seed_length = refused value.SeedLength
 
 -- ---- the bodies
 
-abbrev pub reading_of : Result (List ℕ) ModeNo → Reading
-reading_of (Ok plain) = data_of plain
-reading_of (Err why) = body_refusal why
+abbrev pub body_reading : Result (List ℕ) ModeNo → Reading
+body_reading (Ok plain) = data_of plain
+body_reading (Err why) = body_refusal why
 
 -- a nonce of 12 bytes, then ciphertext and tag with the path as associated data
 abbrev pub gcm_reading : (key path body : List ℕ) → Reading
-gcm_reading key path body = reading_of (gcm_opened (cipher_under key) (take 12 body) path (drop 12 body))
+gcm_reading key path body = body_reading (gcm_opened (cipher_under key) (take 12 body) path (drop 12 body))
 
 -- the info of 32 bytes, then the body under the key that it makes of the seed
 abbrev pub seed_reading : (seed path encrypted : List ℕ) → Reading
@@ -86,23 +88,27 @@ object_reading (Err why) source path = object_refusal why
 -- ---- values
 
 -- by one provider; the envelope of a plugin's value is handed in
-abbrev pub read_by : Envelope → Who → (path body : List ℕ) → Reading
-read_by envelope Identity path body = data_of body
-read_by envelope (Aescbc name secret) path body = reading_of (cbc_opened (inverse_under secret) body)
-read_by envelope (Aesgcm name secret) path body = gcm_reading secret path body
-read_by envelope (Kms name) path body = object_reading envelope.object envelope.source path
+abbrev pub provider_reading : Envelope → Who → (path body : List ℕ) → Reading
+provider_reading envelope Identity path body = data_of body
+provider_reading envelope (Aescbc name secret) path body = body_reading (cbc_opened (inverse_under secret) body)
+provider_reading envelope (Aesgcm name secret) path body = gcm_reading secret path body
+provider_reading envelope (Kms name) path body = object_reading envelope.object envelope.source path
 
-abbrev pub read_with : Envelope → Option Who → (path bytes : List ℕ) → Reading
-read_with envelope None path bytes = no_provider
-read_with envelope (Some who) path bytes = read_by envelope who path (body_by who bytes)
+abbrev pub reader_reading : Envelope → Option Who → (path bytes : List ℕ) → Reading
+reader_reading envelope None path bytes = no_provider
+reader_reading envelope (Some who) path bytes = provider_reading envelope who path (body_by who bytes)
 
 -- by the reader of the list
-abbrev pub reads_by : Envelope → List Who → (path bytes : List ℕ) → Reading
-reads_by envelope list path bytes = read_with envelope (reader_in list bytes) path bytes
+abbrev pub value_reading : Envelope → List Who → (path bytes : List ℕ) → Reading
+value_reading envelope list path bytes = reader_reading envelope (reader_in list bytes) path bytes
 
 -- a value reads so, by what wrapped sources open to
-abbrev pub ReadsAs : Opens → List Who → (path bytes : List ℕ) → Reading → Type 0
-ReadsAs opens list path bytes reading = (envelope : Envelope) × IsEnvelopeOf opens list bytes envelope × (reads_by envelope list path bytes ≡ reading)
+abbrev pub HasReading : Opens → List Who → (path bytes : List ℕ) → Reading → Type 0
+HasReading opens list path bytes reading = (envelope : Envelope) × IsEnvelopeOf opens list bytes envelope × (value_reading envelope list path bytes ≡ reading)
+
+-- a value reads so with some unwrapped source, whatever that is
+abbrev pub HasSomeReading : List Who → (path bytes : List ℕ) → Reading → Type 0
+HasSomeReading list path bytes reading = (envelope : Envelope) × HasObject (reader_in list bytes) bytes envelope.object × (value_reading envelope list path bytes ≡ reading)
 
 -- ---- staleness: another provider than the writer read the value, or it is a plugin whose key id isn't the published one
 
@@ -123,14 +129,14 @@ is_stale envelope seeds list bytes = not (is_reader bytes (writer_of list)) || i
 -- ---- calls: each answer comes exactly where it is the reading, but for want of memory
 
 abbrev pub Unseals : Envelope → List SeedRow → List Who → (path bytes : List ℕ) → Result Opened UnsealNo → Type 0
-Unseals envelope seeds list path bytes (Ok opened) = (reads_by envelope list path bytes ≡ data_of opened.plain) × (opened.stale ≡ is_stale envelope seeds list bytes)
-Unseals envelope seeds list path bytes (Err (Refused n)) = reads_by envelope list path bytes ≡ refused n
+Unseals envelope seeds list path bytes (Ok opened) = (value_reading envelope list path bytes ≡ data_of opened.plain) × (opened.stale ≡ is_stale envelope seeds list bytes)
+Unseals envelope seeds list path bytes (Err (Refused why)) = value_reading envelope list path bytes ≡ refused why
 Unseals envelope seeds list path bytes (Err (PluginFailed name)) = ⊥
 Unseals envelope seeds list path bytes (Err NoMemory) = ⊤
 
 -- the same of the data alone
 abbrev pub Gives : Reading → Result (List ℕ) UnsealNo → Type 0
 Gives reading (Ok plain) = reading ≡ data_of plain
-Gives reading (Err (Refused n)) = reading ≡ refused n
+Gives reading (Err (Refused why)) = reading ≡ refused why
 Gives reading (Err (PluginFailed name)) = ⊥
 Gives reading (Err NoMemory) = ⊤

@@ -1,28 +1,25 @@
 //! The bench of one worker: it seals and unseals by the configuration that it adopted last.
 ghost use Rattle.std.specs.Prelude.{◌≡◌, ◌≤◌, List, length, Some, None, true, false, IsOk, IsSome, IfOk, IfErr, IfSome};
+ghost use Rattle.kr_base.specs.Limits.{path_limit, value_limit};
 ghost use Rattle.kr_config.specs.Providers.{is_provider, is_kms};
 ghost use Rattle.kr_kms.specs.declared.seeds.SeedRow.{SeedRow};
 ghost use Rattle.kr_provider.specs.Envelopes.{Envelope};
 ghost use Rattle.kr_provider.specs.Publication.{list_at, writer_at, names_plugin, ListsNoPlugin};
 ghost use Rattle.kr_provider.specs.Readers.{writer_of};
 ghost use Rattle.kr_provider.specs.Reading.{Unseals};
-ghost use Rattle.kr_provider.specs.Sealing.{Seals};
+ghost use Rattle.kr_provider.specs.Sealing.{Seals, IsSealing};
 
 use crate::links::Links;
 use crate::published::Published;
 use crate::readers::{body_of, reader_of};
-use crate::refusal::{Opened, PagesFull, SealNo, UnsealNo};
+use crate::refusal::{Opened, PagesFull, SealNo, UnsealNo, ValueNo};
 use crate::sealing::seal_by;
-use crate::shared::Shared;
 use crate::unsealing::unseal_by;
-use kr_base::{Bytes, Dice, NoMemory};
+use kr_base::{Bytes, Dice, NoMemory, Shared};
 use kr_config::Who;
 use kr_kms::Kms;
 use std::alloc::Global;
 use std::marker::Model;
-
-/// The number of the refusal where no provider reads.
-const NO_PROVIDER: u8 = 12;
 
 /// Links, a random source and the configuration that was adopted last. It can't be dropped: `close` gives the links and
 /// the random source back.
@@ -83,8 +80,10 @@ impl<L: Kms, D: Dice> Bench<L, D> {
         plain: &[u8],
     ) -> Result<Bytes, SealNo>
         requires adopted { IsSome self.old.published }
-        requires path { length path.now ≤ 1024 }
+        requires path { length path.now ≤ path_limit }
         ensures sealed { IfSome self.old.published (λ p. Seals D.left D.count p.seeds (writer_at p resource.now) path.now plain.now self.old.dice self.new.dice result) }
+        ensures sealing { IfSome self.old.published (λ p. IfOk result (λ value. IsSealing p resource.now path.now plain.now value)) }
+        ensures size { IfOk result (λ value. length value ≤ value_limit) }
         ensures later { D.count self.old.dice ≤ D.count self.new.dice }
         ensures kept { self.new ≡ record self.old { dice = self.new.dice } }
     {
@@ -101,8 +100,8 @@ impl<L: Kms, D: Dice> Bench<L, D> {
         )
     }
 
-    /// What the stored value of the resource at the path, which may be empty, holds. The first of these refusals that
-    /// applies is the answer: 12 where no provider of the list reads it, then those of its body.
+    /// What the stored value of the resource at the path, which may be empty, holds. The first refusal that applies is
+    /// the answer: `NoProvider` where no provider of the list reads it, then those of its body.
     pub fn unseal(
         &mut self,
         alloc: Global,
@@ -111,8 +110,8 @@ impl<L: Kms, D: Dice> Bench<L, D> {
         bytes: &[u8],
     ) -> Result<Opened, UnsealNo>
         requires adopted { IsSome self.old.published }
-        requires path { length path.now ≤ 1024 }
-        requires fits { length bytes.now ≤ 2162688 }
+        requires path { length path.now ≤ path_limit }
+        requires fits { length bytes.now ≤ value_limit }
         ensures opened { IfSome self.old.published (λ p. (envelope : Envelope) → Unseals envelope p.seeds (list_at p resource.now) path.now bytes.now result) }
         ensures kept { self.new ≡ self.old }
     {
@@ -153,8 +152,10 @@ fn seal_for<D: Dice>(
     dice: &mut D,
 ) -> Result<Bytes, SealNo>
     requires no_plugin { names_plugin published.now.rows ≡ false }
-    requires path { length path.now ≤ 1024 }
+    requires path { length path.now ≤ path_limit }
     ensures sealed { Seals D.left D.count published.now.seeds (writer_at published.now resource.now) path.now plain.now dice.old dice.new result }
+    ensures sealing { IfOk result (λ value. IsSealing published.now resource.now path.now plain.now value) }
+    ensures size { IfOk result (λ value. length value ≤ value_limit) }
     ensures later { D.count dice.old ≤ D.count dice.new }
 {
     let writer = writer_of(list_for(published, resource));
@@ -179,8 +180,8 @@ fn unseal_for(
     bytes: &[u8],
 ) -> Result<Opened, UnsealNo>
     requires no_plugin { names_plugin published.now.rows ≡ false }
-    requires path { length path.now ≤ 1024 }
-    requires fits { length bytes.now ≤ 2162688 }
+    requires path { length path.now ≤ path_limit }
+    requires fits { length bytes.now ≤ value_limit }
     ensures { (envelope : Envelope) → Unseals envelope published.now.seeds (list_at published.now resource.now) path.now bytes.now result }
 {
     unseal_in(alloc, list_for(published, resource), path, bytes)
@@ -189,12 +190,12 @@ fn unseal_for(
 /// What the value holds by a list of providers.
 fn unseal_in(alloc: Global, list: &[Who], path: &str, bytes: &[u8]) -> Result<Opened, UnsealNo>
     requires list { ListsNoPlugin list.now }
-    requires path { length path.now ≤ 1024 }
-    requires fits { length bytes.now ≤ 2162688 }
+    requires path { length path.now ≤ path_limit }
+    requires fits { length bytes.now ≤ value_limit }
     ensures { (envelope : Envelope) (seeds : List SeedRow) → Unseals envelope seeds list.now path.now bytes.now result }
 {
     let Some(place) = reader_of(list, bytes) else {
-        return Err(UnsealNo::Refused(NO_PROVIDER));
+        return Err(UnsealNo::Refused(ValueNo::NoProvider));
     };
     let reader = &list[place];
     let Some(body) = body_of(reader, bytes) else {

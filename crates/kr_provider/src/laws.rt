@@ -1,6 +1,5 @@
-// Laws of the definitions, for a reader and for callers' proofs. The functions do nothing.
-
-ghost use Rattle.kr_provider.specs.Laws.{SealedReads, SealingReads, ReadsUnderItsTag};
+//! Laws of the definitions, for a reader and for callers' proofs. The functions do nothing.
+ghost use Rattle.kr_provider.specs.Laws.{SealedReads, SealingReads, SealingIsSized, HasOneReading, ReadsWithoutPlugin, ReadsSomehow, ReadsUnderItsTag};
 
 /// What a provider sealed reads as the data that were sealed.
 pub fn data_of_sealed()
@@ -10,6 +9,26 @@ pub fn data_of_sealed()
 /// What a published configuration sealed reads as the data that were sealed, and as nothing else.
 pub fn data_of_sealing()
     ensures { SealingReads }
+{}
+
+/// How long a sealed value is, and that it isn't too long to be unsealed.
+pub fn size_of_sealing()
+    ensures { SealingIsSized }
+{}
+
+/// A value has one reading alone.
+pub fn one_reading()
+    ensures { HasOneReading }
+{}
+
+/// Where a list names no plugin, its values are read whatever plugins' sources open to.
+pub fn reading_without_plugin()
+    ensures { ReadsWithoutPlugin }
+{}
+
+/// What a value reads as by the truth of plugins, it reads as with some unwrapped source.
+pub fn some_reading()
+    ensures { ReadsSomehow }
 {}
 
 /// A value of aesgcm is data at the paths of its tag alone.

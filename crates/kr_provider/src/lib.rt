@@ -9,14 +9,11 @@ mod published;
 mod readers;
 mod refusal;
 mod sealing;
-mod shared;
-#[cfg(test)]
-mod tests;
 mod unsealing;
 
 pub use bench::Bench;
+pub use kr_base::Shared;
 pub use links::Links;
 pub use published::{Published, names_plugin, publish};
 pub use readers::reader_of;
-pub use refusal::{Opened, PagesFull, PublishNo, SealNo, UnsealNo};
-pub use shared::Shared;
+pub use refusal::{Opened, PagesFull, PublishNo, SealNo, UnsealNo, ValueNo};

@@ -7,8 +7,7 @@ ghost use Rattle.kr_provider.specs.Publication.{names_plugin};
 
 use crate::links::Links;
 use crate::refusal::PublishNo;
-use crate::shared::Shared;
-use kr_base::{Dice, List};
+use kr_base::{Dice, List, Shared};
 use kr_config::{Entry, Settings, Who};
 use kr_kms::{Kms, SeedRow};
 use std::alloc::Global;

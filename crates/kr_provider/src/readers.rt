@@ -2,9 +2,9 @@
 ghost use Rattle.std.specs.Prelude.{◌≡◌, ◌≢◌, ℕ, ◌++◌, List, true, false, not, drop, length, MatchOption, IfSome, Some, None};
 ghost use Rattle.kr_provider.specs.Readers.{is_reader, body_by, reader_place, reader_in};
 
-use crate::prefixes::{MARK, behind_prefix};
+use crate::prefixes::behind_prefix;
 use kr_config::Who;
-use kr_envelope::Kind;
+use kr_envelope::{Kind, MARK};
 
 /// The place of the provider whose prefix the bytes begin with, or of identity where they don't begin `k8s:enc:`; none
 /// where the list holds no such provider.

@@ -1,3 +1,7 @@
+//! Why data aren't sealed, values aren't read, and settings aren't published or adopted.
+ghost use Rattle.std.specs.Prelude.{◌≡◌};
+ghost use Rattle.kr_provider.specs.Refusals.{number_of, name_of};
+
 use kr_base::{Bytes, Text};
 use kr_kms::Field;
 
@@ -22,12 +26,94 @@ pub struct Opened {
     pub stale: bool,
 }
 
+/// A refusal of data or of a value, which has a number and a name.
+#[derive(Clone, Copy, Debug, PartialEq, Eq)]
+pub enum ValueNo {
+    /// The body is too short.
+    Short,
+    /// The body isn't of whole blocks.
+    BadBlock,
+    /// The last block has no padding.
+    BadPadding,
+    /// The tag is another than that of the data and the path.
+    BadTag,
+    /// The encrypted object is no message.
+    Wire,
+    /// The object's key id passes a limit.
+    KeyId,
+    /// The object's wrapped source passes a limit.
+    Source,
+    /// The object's annotations pass a limit.
+    Annotations,
+    /// The object's source is of a type that isn't read.
+    SourceType,
+    /// The object has no data.
+    NoData,
+    /// A key id or an annotation's key isn't UTF-8.
+    NotUtf8,
+    /// No provider of the list reads the value.
+    NoProvider,
+    /// Identity would write data that begin as a prefix does.
+    LooksEncrypted,
+    /// The data have too many bytes to be sealed.
+    TooLarge,
+    /// The unwrapped source hasn't the length of a seed.
+    SeedLength,
+}
+
+impl ValueNo {
+    /// Its number in messages.
+    pub fn number(self) -> u8
+        ensures { result ≡ number_of self }
+    {
+        match self {
+            ValueNo::Short => 1,
+            ValueNo::BadBlock => 2,
+            ValueNo::BadPadding => 3,
+            ValueNo::BadTag => 4,
+            ValueNo::Wire => 5,
+            ValueNo::KeyId => 6,
+            ValueNo::Source => 7,
+            ValueNo::Annotations => 8,
+            ValueNo::SourceType => 9,
+            ValueNo::NoData => 10,
+            ValueNo::NotUtf8 => 11,
+            ValueNo::NoProvider => 12,
+            ValueNo::LooksEncrypted => 13,
+            ValueNo::TooLarge => 14,
+            ValueNo::SeedLength => 15,
+        }
+    }
+
+    /// Its name in messages.
+    pub fn name(self) -> &'static str
+        ensures { result.now ≡ name_of self }
+    {
+        match self {
+            ValueNo::Short => "Short",
+            ValueNo::BadBlock => "BadBlock",
+            ValueNo::BadPadding => "BadPadding",
+            ValueNo::BadTag => "BadTag",
+            ValueNo::Wire => "Wire",
+            ValueNo::KeyId => "KeyId",
+            ValueNo::Source => "Source",
+            ValueNo::Annotations => "Annotations",
+            ValueNo::SourceType => "SourceType",
+            ValueNo::NoData => "NoData",
+            ValueNo::NotUtf8 => "NotUtf8",
+            ValueNo::NoProvider => "NoProvider",
+            ValueNo::LooksEncrypted => "LooksEncrypted",
+            ValueNo::TooLarge => "TooLarge",
+            ValueNo::SeedLength => "SeedLength",
+        }
+    }
+}
+
 /// Why a stored value isn't read.
 #[derive(Debug, Drop)]
 pub enum UnsealNo {
-    /// 1 `Short`, 2 `BadBlock`, 3 `BadPadding`, 4 `BadTag`, 5 `Wire`, 6 `KeyId`, 7 `Source`, 8 `Annotations`,
-    /// 9 `SourceType`, 10 `NoData`, 11 `NotUtf8`, 12 `NoProvider` or 15 `SeedLength`.
-    Refused(u8),
+    /// By its prefix, its body or its encrypted object.
+    Refused(ValueNo),
     /// The plugin of this name failed; its link's count of faults tells so.
     PluginFailed { name: Text },
     /// There was no memory for the data.

@@ -3,6 +3,7 @@ ghost use Rattle.std.specs.Prelude.{◌≡◌, ℕ, ◌<◌, ◌≤◌, ◌+◌,
 ghost use Rattle.std.specs.Io.KnownBytes.{Consumes, Keeps};
 ghost use Rattle.kr_aes.specs.KeyExpansion.{IsKeyLength};
 ghost use Rattle.kr_base.specs.Faults.{IsCounted};
+ghost use Rattle.kr_base.specs.Limits.{data_limit, path_limit};
 ghost use Rattle.kr_config.specs.Providers.{is_provider, is_kms};
 ghost use Rattle.kr_envelope.specs.Prefixes.{prefix};
 ghost use Rattle.kr_kms.specs.declared.seeds.SeedRow.{SeedRow};
@@ -12,17 +13,13 @@ ghost use Rattle.kr_provider.specs.Ciphers.{cipher_under};
 ghost use Rattle.kr_provider.specs.Envelopes.{gcm_body};
 ghost use Rattle.kr_provider.specs.Sealing.{Seals, IsBare};
 
-use crate::prefixes::{MARK, heading};
 use crate::refusal::SealNo;
 use kr_aes::expand;
-use kr_base::{Bytes, Dice, Failed, Text};
+use kr_base::{Bytes, DATA_LIMIT, Dice, Failed, Text};
 use kr_config::Who;
-use kr_envelope::Kind;
+use kr_envelope::{Kind, MARK, push_prefix};
 use kr_modes::{cbc_length, cbc_seal, gcm_seal};
 use std::alloc::Global;
-
-/// The most bytes that data may have.
-const MOST: usize = 2_097_152;
 
 /// The bytes of an IV.
 const IV: usize = 16;
@@ -43,11 +40,12 @@ pub(crate) fn seal_by<D: Dice>(
 ) -> Result<Bytes, SealNo>
     requires provider { is_provider who.now ≡ true }
     requires no_plugin { is_kms who.now ≡ false }
-    requires path { length path.now ≤ 1024 }
+    requires path { length path.now ≤ path_limit }
     ensures sealed { (seeds : List SeedRow) → Seals D.left D.count seeds who.now path.now plain.now dice.old dice.new result }
+    ensures plain_is { All (λ byte. byte < 256) plain.now }
     ensures later { D.count dice.old ≤ D.count dice.new }
 {
-    if plain.len() > MOST {
+    if plain.len() as u64 > DATA_LIMIT {
         return Err(SealNo::TooLarge {
             length: plain.len() as u64,
         });
@@ -82,7 +80,7 @@ fn by_aescbc<D: Dice>(
     dice: &mut D,
 ) -> Result<Bytes, SealNo>
     requires key { IsKeyLength (length secret.now) }
-    requires fits { length plain.now ≤ 2097152 }
+    requires fits { length plain.now ≤ data_limit }
     ensures sealed { (seeds : List SeedRow) (path : List ℕ) → Seals D.left D.count seeds (Who.Aescbc name.now secret.now) path plain.now dice.old dice.new result }
     ensures later { D.count dice.old ≤ D.count dice.new }
 {
@@ -110,8 +108,8 @@ fn by_aesgcm<D: Dice>(
     dice: &mut D,
 ) -> Result<Bytes, SealNo>
     requires key { IsKeyLength (length secret.now) }
-    requires fits { length plain.now ≤ 2097152 }
-    requires path { length path.now ≤ 1024 }
+    requires fits { length plain.now ≤ data_limit }
+    requires path { length path.now ≤ path_limit }
     ensures sealed { (seeds : List SeedRow) → Seals D.left D.count seeds (Who.Aesgcm name.now secret.now) path.now plain.now dice.old dice.new result }
     ensures later { D.count dice.old ≤ D.count dice.new }
 {
@@ -138,26 +136,22 @@ fn draw<D: Dice>(dice: &mut D, into: &mut [u8]) -> Result<(), Failed>
 }
 
 /// The prefix of a provider's values and so many zeros behind it; none for want of memory.
-#[tactic(auto, unfolding(kr_envelope::specs::Prefixes::prefix))]
 fn prefixed(alloc: Global, kind: Kind, name: &Text, room: usize) -> Option<Vec<u8>>
     requires { room ≤ 2097184 }
     ensures { IfSome result (λ value. value.items ≡ prefix kind name.now ++ replicate room 0) }
 {
-    let heading = heading(kind);
-    let name = name.as_str().as_bytes();
-    let size = heading.len() + name.len() + 1;
+    let size = kind.head().len() + name.as_str().as_bytes().len() + 1;
     let mut value = Vec::with_capacity(alloc, size + room).ok()?;
-    value.extend_from_slice(heading).ok()?;
-    value.extend_from_slice(name).ok()?;
-    value.push(b':').ok()?;
-    value.resize(size + room, 0).ok()?;
+    push_prefix(&mut value, kind, name.as_str()).ok()?;
+    let start = value.len();
+    value.resize(start + room, 0).ok()?;
     Some(value)
 }
 
 /// Writes the IV and the CBC of the padded data from `start` on.
 fn write_cbc(secret: &Bytes, iv: &[u8; 16], plain: &[u8], value: &mut [u8], start: usize)
     requires key { IsKeyLength (length secret.now) }
-    requires fits { length plain.now ≤ 2097152 }
+    requires fits { length plain.now ≤ data_limit }
     requires size { length value.old ≡ start + (16 + (length plain.now + 16 - length plain.now % 16)) }
     ensures { value.new ≡ take start value.old ++ (iv.now ++ cbc (cipher_under secret.now) iv.now (pad plain.now)) }
 {
@@ -181,8 +175,8 @@ fn write_gcm(
     start: usize,
 )
     requires key { IsKeyLength (length secret.now) }
-    requires fits { length plain.now ≤ 2097152 }
-    requires path { length path.now ≤ 1024 }
+    requires fits { length plain.now ≤ data_limit }
+    requires path { length path.now ≤ path_limit }
     requires size { length value.old ≡ start + (12 + length plain.now + 16) }
     ensures { value.new ≡ take start value.old ++ gcm_body secret.now path.now plain.now nonce.now }
 {

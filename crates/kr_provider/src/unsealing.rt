@@ -1,13 +1,14 @@
 //! What stored values read as.
 ghost use Rattle.std.specs.Prelude.{◌≡◌, ◌≤◌, true, false, length};
 ghost use Rattle.kr_aes.specs.KeyExpansion.{IsKeyLength};
+ghost use Rattle.kr_base.specs.Limits.{path_limit, value_limit};
 ghost use Rattle.kr_config.specs.Providers.{is_provider, is_kms};
 ghost use Rattle.kr_modes.specs.Cbc.{cbc_opened};
 ghost use Rattle.kr_provider.specs.Ciphers.{inverse_under};
 ghost use Rattle.kr_provider.specs.Envelopes.{Envelope};
-ghost use Rattle.kr_provider.specs.Reading.{Gives, body_refusal, data_of, gcm_reading, read_by, reading_of, refused};
+ghost use Rattle.kr_provider.specs.Reading.{Gives, body_refusal, data_of, gcm_reading, provider_reading, body_reading, refused};
 
-use crate::refusal::UnsealNo;
+use crate::refusal::{UnsealNo, ValueNo};
 use kr_aes::expand;
 use kr_base::Bytes;
 use kr_config::Who;
@@ -26,9 +27,9 @@ pub(crate) fn unseal_by(
 ) -> Result<Bytes, UnsealNo>
     requires provider { is_provider who.now ≡ true }
     requires no_plugin { is_kms who.now ≡ false }
-    requires path { length path.now ≤ 1024 }
-    requires fits { length body.now ≤ 2162688 }
-    ensures { (envelope : Envelope) → Gives (read_by envelope who.now path.now body.now) result }
+    requires path { length path.now ≤ path_limit }
+    requires fits { length body.now ≤ value_limit }
+    ensures { (envelope : Envelope) → Gives (provider_reading envelope who.now path.now body.now) result }
 {
     match who {
         Who::Identity => bare(alloc, body),
@@ -49,8 +50,8 @@ fn bare(alloc: Global, body: &[u8]) -> Result<Bytes, UnsealNo>
 
 fn by_aescbc(alloc: Global, secret: &[u8], body: &[u8]) -> Result<Bytes, UnsealNo>
     requires key { IsKeyLength (length secret.now) }
-    requires fits { length body.now ≤ 2162688 }
-    ensures { Gives (reading_of (cbc_opened (inverse_under secret.now) body.now)) result }
+    requires fits { length body.now ≤ value_limit }
+    ensures { Gives (body_reading (cbc_opened (inverse_under secret.now) body.now)) result }
 {
     let mut words = [0u32; 60];
     let Ok(rounds) = expand(secret, &mut words) else {
@@ -64,18 +65,18 @@ fn by_aescbc(alloc: Global, secret: &[u8], body: &[u8]) -> Result<Bytes, UnsealN
             out.truncate(length);
             Ok(Bytes::from_vec(out))
         }
-        Err(why) => Err(UnsealNo::Refused(number_of(why))),
+        Err(why) => Err(UnsealNo::Refused(refusal_of(why))),
     }
 }
 
 fn by_aesgcm(alloc: Global, secret: &[u8], path: &[u8], body: &[u8]) -> Result<Bytes, UnsealNo>
     requires key { IsKeyLength (length secret.now) }
-    requires path { length path.now ≤ 1024 }
-    requires fits { length body.now ≤ 2162688 }
+    requires path { length path.now ≤ path_limit }
+    requires fits { length body.now ≤ value_limit }
     ensures { Gives (gcm_reading secret.now path.now body.now) result }
 {
     if body.len() < NONCE {
-        return Err(UnsealNo::Refused(number_of(ModeNo::Short)));
+        return Err(UnsealNo::Refused(refusal_of(ModeNo::Short)));
     }
     let mut words = [0u32; 60];
     let Ok(rounds) = expand(secret, &mut words) else {
@@ -92,18 +93,18 @@ fn by_aesgcm(alloc: Global, secret: &[u8], path: &[u8], body: &[u8]) -> Result<B
             out.truncate(length);
             Ok(Bytes::from_vec(out))
         }
-        Err(why) => Err(UnsealNo::Refused(number_of(why))),
+        Err(why) => Err(UnsealNo::Refused(refusal_of(why))),
     }
 }
 
-/// The number of a refusal of a body.
-fn number_of(why: ModeNo) -> u8
+/// The refusal of a body.
+fn refusal_of(why: ModeNo) -> ValueNo
     ensures { body_refusal why ≡ refused result }
 {
     match why {
-        ModeNo::Short => 1,
-        ModeNo::BadBlock => 2,
-        ModeNo::BadPadding => 3,
-        ModeNo::BadTag => 4,
+        ModeNo::Short => ValueNo::Short,
+        ModeNo::BadBlock => ValueNo::BadBlock,
+        ModeNo::BadPadding => ValueNo::BadPadding,
+        ModeNo::BadTag => ValueNo::BadTag,
     }
 }

@@ -7,3 +7,5 @@ pub mod Written
 pub mod Shared
 pub mod Above
 pub mod Lookahead
+pub mod OneReading
+pub mod Answered

@@ -3,7 +3,7 @@ use Rattle.std.proofs.Common.{◌≡◌, ℕ, ◌+◌, ◌-◌, ◌<◌, ◌≤�
 use Rattle.std.proofs.lemmas.List.{take-append-drop, drop-drop, drop-take, take-take, length-take-le}
 use Rattle.std.specs.Io.KnownBytes.{Consumes}
 use Rattle.kr_base.specs.Tapes.{ReadsAt}
-use Rattle.kr_store.specs.Reading.{Takes}
+use Rattle.kr_store.specs.inner.Reading.{Takes}
 use Rattle.kr_store.proofs.Steps.{rest_of, seen}
 
 -- the next bytes were taken

@@ -10,14 +10,17 @@ use Rattle.std.proofs.lemmas.Str.{IsUtf8-from_ascii}
 use Rattle.kr_base.specs.Rules.{IsPath, IsResource, IsLabelByte, is_path, is_resource}
 use Rattle.kr_base.proofs.RuleTests.{path as kr_path, resource as kr_resource}
 use Rattle.kr_base.proofs.Labels.{Parted, labels_parted}
-use Rattle.kr_store.specs.Breaches.{Read, behind, part, number_16, number_32, number_64, sized_part, value_part, path_part, resource_part, kind_part, kind_by, revision_part, head_part, put_part, line_part}
-use Rattle.kr_store.specs.Rows.{longest_value, Change, Put, Delete, Line, MayChange, IsEntry, line_of}
-use Rattle.std.specs.Arc.{arc_value}
-use Rattle.kr_store.specs.declared.entry.Entry.{Entry}
-use Rattle.kr_store.specs.declared.entry.Entry.TheVariants as entry
-use Rattle.kr_store.specs.Reading.{head_bytes, put_bytes, entry_bytes}
-use Rattle.kr_store.specs.declared.reader.Kind.{Kind}
-use Rattle.kr_store.specs.declared.reader.Kind.TheVariants as kind
+use Rattle.kr_store.specs.Breaches.{Read, behind, part, number_16, number_32, number_64, sized_part, value_part, path_part, resource_part, kind_part, kind_by, revision_part, head_part, put_part, row_part}
+use Rattle.kr_store.specs.declared.rows.Change.{Change}
+use Rattle.kr_store.specs.declared.rows.Change.TheVariants.{Put, Delete}
+use Rattle.kr_store.specs.declared.rows.LogRow.{LogRow}
+use Rattle.kr_store.specs.Rows.{longest_value, MayChange}
+use Rattle.kr_store.specs.inner.KeptRows.{IsKeptRow, log_row_of}
+use Rattle.kr_store.specs.declared.kept_row.KeptRow.{KeptRow}
+use Rattle.kr_store.specs.declared.kept_row.KeptRow.TheVariants as kept
+use Rattle.kr_store.specs.inner.Reading.{head_bytes, put_bytes, kept_bytes}
+use Rattle.kr_store.specs.declared.kept_row.Kind.{Kind}
+use Rattle.kr_store.specs.declared.kept_row.Kind.TheVariants as kind
 use Rattle.kr_store.specs.File.{text_bytes, value_bytes, byte_of, row_bytes}
 use Rattle.kr_store.specs.declared.answers.Cause.TheVariants.{Torn, BadRow, Order}
 
@@ -150,24 +153,24 @@ regroup k kd path more rest =
     ap (λ l. byte_of kd ∷ (l ++ rest)) (sym (append_assoc (to_be_bytes w64 k) (text_bytes path) more))
     ∙ ap (λ l. byte_of kd ∷ l) (append_assoc (to_be_bytes w64 k ++ text_bytes path) more rest)
 
-pub reads_entry : (k : ℕ) (e : Entry) (rest : List ℕ) → k < 2 ^ 64 → IsEntry k e → line_part k (entry_bytes k e ++ rest) ≡ Ok (line_of e, rest)
-reads_entry k (entry.Put row) rest h i =
-    let path = (arc_value row).path in let resource = (arc_value row).resource in let stored = (arc_value row).stored in
-    ap (line_part k) (regroup k kind.Put path (put_bytes (resource, stored)) rest)
-    ∙ behind_read _ _ _ _ (reads_head k kind.Put path (put_bytes (resource, stored) ++ rest) h i.0)
-    ∙ behind_read _ _ _ _ (reads_put resource stored rest i.1 i.2)
-reads_entry k (entry.Delete path) rest h i =
-    ap (line_part k) (regroup k kind.Delete path [] rest)
+pub reads_kept : (k : ℕ) (e : KeptRow) (rest : List ℕ) → k < 2 ^ 64 → IsKeptRow k e → row_part k (kept_bytes k e ++ rest) ≡ Ok (log_row_of e, rest)
+reads_kept k (kept.Put row) rest h i =
+    let path = row.path in let resource = row.resource in let stored = row.stored in
+    ap (row_part k) (regroup k kind.Put path (put_bytes (resource, stored)) rest)
+    ∙ behind_read _ _ _ _ (reads_head k kind.Put path (put_bytes (resource, stored) ++ rest) h i.0.0)
+    ∙ behind_read _ _ _ _ (reads_put resource stored rest i.0.1 i.0.2)
+reads_kept k (kept.Delete path) rest h i =
+    ap (row_part k) (regroup k kind.Delete path [] rest)
     ∙ behind_read _ _ _ _ (reads_head k kind.Delete path rest h i)
 
-pub reads_line : (k : ℕ) (line : Line) (before : List Line) (rest : List ℕ) → k < 2 ^ 64 → IsPath line.path → MayChange before line.path line.change → line_part k (row_bytes k line ++ rest) ≡ Ok (line, rest)
-reads_line k line before rest h p m = by line.change m
+pub reads_row : (k : ℕ) (line : LogRow) (before : List LogRow) (rest : List ℕ) → k < 2 ^ 64 → IsPath line.path → MayChange before line.path line.change → row_part k (row_bytes k line ++ rest) ≡ Ok (line, rest)
+reads_row k line before rest h p m = by line.change m
   where
-    by : (change : Change) → MayChange before line.path change → line_part k (row_bytes k (record { path = line.path; change = change }) ++ rest) ≡ Ok (record { path = line.path; change = change }, rest)
+    by : (change : Change) → MayChange before line.path change → row_part k (row_bytes k (record { path = line.path; change = change }) ++ rest) ≡ Ok (record { path = line.path; change = change }, rest)
     by (Put resource stored) m =
-        ap (line_part k) (regroup k kind.Put line.path (put_bytes (resource, stored)) rest)
+        ap (row_part k) (regroup k kind.Put line.path (put_bytes (resource, stored)) rest)
         ∙ behind_read _ _ _ _ (reads_head k kind.Put line.path (put_bytes (resource, stored) ++ rest) h p)
         ∙ behind_read _ _ _ _ (reads_put resource stored rest m.0 m.1)
     by Delete m =
-        ap (line_part k) (regroup k kind.Delete line.path [] rest)
+        ap (row_part k) (regroup k kind.Delete line.path [] rest)
         ∙ behind_read _ _ _ _ (reads_head k kind.Delete line.path rest h p)

@@ -3,59 +3,60 @@ use Rattle.std.proofs.Common.{◌≡◌, ℕ, ◌+◌, ◌<◌, ◌≤◌, List,
 use Rattle.std.proofs.lemmas.List.{take_all, append-nil, length-replicate}
 use Rattle.std.proofs.Math.Seq.{take-append_seam, drop-append_seam}
 use Rattle.kr_base.specs.Told.{Agrees}
-use Rattle.kr_store.specs.Rows.{Line, MayFollow, AllFollow}
+use Rattle.kr_store.specs.declared.rows.LogRow.{LogRow}
+use Rattle.kr_store.specs.Rows.{MayFollow, AllFollow}
 use Rattle.kr_store.specs.File.{magic, row_bytes, rows_bytes, file_bytes, IsFile}
-use Rattle.kr_store.specs.Breaches.{Read, behind, line_part, next_line, may_change, kept_if, BreaksAt, IsTornMagic, IsBreach}
+use Rattle.kr_store.specs.Breaches.{Read, behind, row_part, next_row, may_change, kept_if, BreaksAt, IsTornMagic, IsBreach}
 use Rattle.kr_store.specs.Stores.{Loads}
-use Rattle.kr_store.specs.Reading.{Ahead, MayBreak, LoadsRows}
+use Rattle.kr_store.specs.inner.Reading.{Ahead, MayBreak, LoadsRows}
 use Rattle.kr_store.specs.declared.answers.Cause.{Cause}
 use Rattle.kr_store.specs.declared.answers.Cause.TheVariants.{Torn, BadRow, Order}
 use Rattle.kr_store.specs.declared.answers.StoreNo.{StoreNo}
 use Rattle.kr_store.specs.declared.answers.StoreNo.TheVariants as no
-use Rattle.kr_store.proofs.Parts.{reads_line}
+use Rattle.kr_store.proofs.Parts.{reads_row}
 use Rattle.kr_store.proofs.Indexes.{change_permitted}
 
-abbrev ok_of : {A : Type 0} → A × List ℕ → Read A
+abbrev pub ok_of : {A : Type 0} → A × List ℕ → Read A
 ok_of x = Ok x
 
-abbrev found_or : {A : Type 0} → A × List ℕ → Read A → A × List ℕ
+abbrev pub found_or : {A : Type 0} → A × List ℕ → Read A → A × List ℕ
 found_or d (Ok x) = x
 found_or d (Err cause) = d
 
-same_found : {A : Type 0} (a b : A) (xs ys : List ℕ) (r : Read A) → r ≡ Ok (a, xs) → r ≡ Ok (b, ys) → (a ≡ b) × (xs ≡ ys)
+pub same_found : {A : Type 0} (a b : A) (xs ys : List ℕ) (r : Read A) → r ≡ Ok (a, xs) → r ≡ Ok (b, ys) → (a ≡ b) × (xs ≡ ys)
 same_found {A} a b xs ys r p q =
     let e : ok_of (a, xs) ≡ ok_of (b, ys) = sym p ∙ q in
     let f : (a, xs) ≡ (b, ys) = ap (found_or (a, xs)) e in
     (ap (λ (x : A × List ℕ). x.0) f, ap (λ (x : A × List ℕ). x.1) f)
 
-row_read : (k : ℕ) (before : List Line) (line : Line) (rest : List ℕ) → k ≡ length before + 1 → MayFollow before line → line_part k (row_bytes k line ++ rest) ≡ Ok (line, rest)
-row_read k before line rest is m = reads_line k line before rest (omega (arith, m.revision)) m.path m.change
+pub row_read : (k : ℕ) (before : List LogRow) (line : LogRow) (rest : List ℕ) → k ≡ length before + 1 → MayFollow before line → row_part k (row_bytes k line ++ rest) ≡ Ok (line, rest)
+row_read k before line rest is m = reads_row k line before rest (omega (arith, m.revision)) m.path m.change
 
-found_next : (k : ℕ) (before : List Line) (line : Line) (rest : List ℕ) → k ≡ length before + 1 → MayFollow before line → next_line before (row_bytes k line ++ rest) ≡ Ok (line, rest)
+pub found_next : (k : ℕ) (before : List LogRow) (line : LogRow) (rest : List ℕ) → k ≡ length before + 1 → MayFollow before line → next_row before (row_bytes k line ++ rest) ≡ Ok (line, rest)
 found_next k before line rest is m =
-    subst (λ n. next_line before (row_bytes n line ++ rest) ≡ Ok (line, rest)) (sym is)
+    subst (λ n. next_row before (row_bytes n line ++ rest) ≡ Ok (line, rest)) (sym is)
     (ap (λ r. behind r (λ line rest. kept_if (may_change before line.path line.change) BadRow line rest)) (row_read (length before + 1) before line rest refl m)
     ∙ ap (λ b. kept_if b BadRow line rest) (change_permitted before line.path line.change m.change))
 
 -- rows that are followed by something that breaks aren't the front of other rows
-clash : (k : ℕ) (before rows others : List Line) (rest : List ℕ) (cause : Cause) → k ≡ length before + 1 → AllFollow before rows → AllFollow before others → (rest ≡ [] → ⊥)
-    → next_line (before ++ rows) rest ≡ Err cause → rows_bytes k others ≡ rows_bytes k rows ++ rest → ⊥
+clash : (k : ℕ) (before rows others : List LogRow) (rest : List ℕ) (cause : Cause) → k ≡ length before + 1 → AllFollow before rows → AllFollow before others → (rest ≡ [] → ⊥)
+    → next_row (before ++ rows) rest ≡ Err cause → rows_bytes k others ≡ rows_bytes k rows ++ rest → ⊥
 clash k before [] [] rest cause is f g n b e = n (sym e)
 clash k before [] (other ∷ others) rest cause is f g n b e =
-    let found : next_line before rest ≡ Ok (other, rows_bytes (k + 1) others) = subst (λ l. next_line before l ≡ Ok (other, rows_bytes (k + 1) others)) e (found_next k before other (rows_bytes (k + 1) others) is g.0) in
-    let none : next_line before rest ≡ Err cause = subst (λ l. next_line l rest ≡ Err cause) (append-nil before) b in
+    let found : next_row before rest ≡ Ok (other, rows_bytes (k + 1) others) = subst (λ l. next_row before l ≡ Ok (other, rows_bytes (k + 1) others)) e (found_next k before other (rows_bytes (k + 1) others) is g.0) in
+    let none : next_row before rest ≡ Err cause = subst (λ l. next_row l rest ≡ Err cause) (append-nil before) b in
     cc
 clash k before (row ∷ rows) [] rest cause is f g n b e = absurd (omega (arith, ap length e, length-append (row_bytes k row ++ rows_bytes (k + 1) rows) rest, length-append (row_bytes k row) (rows_bytes (k + 1) rows)))
 clash k before (row ∷ rows) (other ∷ others) rest cause is f g n b e =
-    let mine : line_part k (row_bytes k row ++ (rows_bytes (k + 1) rows ++ rest)) ≡ Ok (row, rows_bytes (k + 1) rows ++ rest) = row_read k before row (rows_bytes (k + 1) rows ++ rest) is f.0 in
-    let theirs : line_part k (row_bytes k row ++ (rows_bytes (k + 1) rows ++ rest)) ≡ Ok (other, rows_bytes (k + 1) others) =
-    subst (λ l. line_part k l ≡ Ok (other, rows_bytes (k + 1) others)) (e ∙ append_assoc (row_bytes k row) (rows_bytes (k + 1) rows) rest) (row_read k before other (rows_bytes (k + 1) others) is g.0) in
+    let mine : row_part k (row_bytes k row ++ (rows_bytes (k + 1) rows ++ rest)) ≡ Ok (row, rows_bytes (k + 1) rows ++ rest) = row_read k before row (rows_bytes (k + 1) rows ++ rest) is f.0 in
+    let theirs : row_part k (row_bytes k row ++ (rows_bytes (k + 1) rows ++ rest)) ≡ Ok (other, rows_bytes (k + 1) others) =
+    subst (λ l. row_part k l ≡ Ok (other, rows_bytes (k + 1) others)) (e ∙ append_assoc (row_bytes k row) (rows_bytes (k + 1) rows) rest) (row_read k before other (rows_bytes (k + 1) others) is g.0) in
     let same = same_found row other (rows_bytes (k + 1) rows ++ rest) (rows_bytes (k + 1) others) _ mine theirs in
     clash (k + 1) (before ++ row ∷ []) rows others rest cause (omega (arith, length-append before (row ∷ []))) f.1
-    (subst (λ (l : Line). AllFollow (before ++ l ∷ []) others) (sym same.0) g.1) n
-    (subst (λ l. next_line l rest ≡ Err cause) (sym (append_assoc before (row ∷ []) rows)) b) (sym same.1)
+    (subst (λ (l : LogRow). AllFollow (before ++ l ∷ []) others) (sym same.0) g.1) n
+    (subst (λ l. next_row l rest ≡ Err cause) (sym (append_assoc before (row ∷ []) rows)) b) (sym same.1)
 
-breaks_no_file : (bytes : List ℕ) (at : ℕ) (cause : Cause) → BreaksAt bytes at cause → (rows : List Line) → IsFile rows bytes → ⊥
+breaks_no_file : (bytes : List ℕ) (at : ℕ) (cause : Cause) → BreaksAt bytes at cause → (rows : List LogRow) → IsFile rows bytes → ⊥
 breaks_no_file bytes at cause b rows f = elim f.1 [
   | inl none ↦ absurd (omega (arith, ap length (sym b.split ∙ none.1), length-append (file_bytes b.rows) b.rest, length-append magic (rows_bytes 1 b.rows)))
   | inr same ↦
@@ -64,19 +65,19 @@ breaks_no_file bytes at cause b rows f = elim f.1 [
       clash 1 [] b.rows rows b.rest cause refl b.good f.0 b.more b.breaks behind_magic
 ]
 
-torn_no_file : (bytes : List ℕ) → IsTornMagic bytes → (rows : List Line) → IsFile rows bytes → ⊥
+torn_no_file : (bytes : List ℕ) → IsTornMagic bytes → (rows : List LogRow) → IsFile rows bytes → ⊥
 torn_no_file bytes t rows f = elim f.1 [
   | inl none ↦ absurd (omega (arith, t.0, ap length none.1))
   | inr same ↦ absurd (omega (arith, t.1, ap length same, length-append magic (rows_bytes 1 rows)))
 ]
 
-other_no_file : (bytes : List ℕ) → (take (length magic) bytes ≡ take (length bytes) magic → ⊥) → (rows : List Line) → IsFile rows bytes → ⊥
+other_no_file : (bytes : List ℕ) → (take (length magic) bytes ≡ take (length bytes) magic → ⊥) → (rows : List LogRow) → IsFile rows bytes → ⊥
 other_no_file bytes d rows f = elim f.1 [
   | inl none ↦ d (subst (λ b. take (length magic) b ≡ take (length b) magic) (sym none.1) refl)
   | inr same ↦ d (ap (take (length magic)) same ∙ take-append_seam magic (rows_bytes 1 rows) ∙ sym (take_all (length bytes) magic (omega (arith, ap length same, length-append magic (rows_bytes 1 rows)))))
 ]
 
-pub no_file : (bytes : List ℕ) (cause : StoreNo) → IsBreach bytes cause → (rows : List Line) → IsFile rows bytes → ⊥
+pub no_file : (bytes : List ℕ) (cause : StoreNo) → IsBreach bytes cause → (rows : List LogRow) → IsFile rows bytes → ⊥
 no_file bytes no.Magic b rows f = other_no_file bytes b rows f
 no_file bytes (no.Torn at) (inl t) rows f = torn_no_file bytes t.1 rows f
 no_file bytes (no.Torn at) (inr t) rows f = breaks_no_file bytes at Torn t rows f
@@ -87,7 +88,7 @@ no_file bytes no.Failed b rows f = b
 no_file bytes no.NoMemory b rows f = b
 
 refused : (first : Ahead) (limit : ℕ) (cause : StoreNo) → first.end ≤ limit → MayBreak first cause
-    → (bytes : List ℕ) × Agrees first.left bytes × (length bytes ≤ limit) × IsBreach bytes cause × ((rows : List Line) → IsFile rows bytes → ⊥)
+    → (bytes : List ℕ) × Agrees first.left bytes × (length bytes ≤ limit) × IsBreach bytes cause × ((rows : List LogRow) → IsFile rows bytes → ⊥)
 refused first limit cause l b = (b.bytes, b.agrees, omega (arith, b.within), b.breach, no_file b.bytes cause b.breach)
 
 -- what was found in the rows is what loading answers

@@ -9,7 +9,7 @@ use Rattle.std.proofs.KnownBytes.{Consumes-trans, Consumes-nil}
 use Rattle.kr_base.specs.Told.{Agrees}
 use Rattle.kr_base.specs.Tapes.{ReadsAt}
 use Rattle.kr_store.specs.Breaches.{Read, behind, part}
-use Rattle.kr_store.specs.Reading.{Ahead, Moves, Breaks, Takes, Begins, Gives, IsShort, IsNamed, Names, MayBreak}
+use Rattle.kr_store.specs.inner.Reading.{Ahead, Moves, Breaks, Takes, Begins, Gives, IsShort, IsNamed, Names, MayBreak}
 use Rattle.kr_store.specs.File.{magic}
 use Rattle.kr_store.specs.declared.answers.StoreNo.{StoreNo}
 use Rattle.kr_store.specs.declared.answers.StoreNo.TheVariants as no

@@ -2,12 +2,15 @@
 use Rattle.std.specs.Prelude.{◌≡◌, ◌≢◌, ℕ, ◌+◌, ◌<◌, ◌⊎◌, ◌==◌, nat_le, nat_lt, Bool, true, if◌then◌else◌, List, [], ◌++◌, length, take, drop, get_or, is_some, Result, Ok, Err}
 use Rattle.std.specs.Int.{w16, w32, w64, from_be_bytes}
 use Rattle.kr_base.specs.Rules.{is_path, is_resource}
-use Rattle.kr_store.specs.Rows.{Change, Put, Delete, Line, live, AreRows, longest_value}
+use Rattle.kr_store.specs.declared.rows.Change.{Change}
+use Rattle.kr_store.specs.declared.rows.Change.TheVariants.{Put, Delete}
+use Rattle.kr_store.specs.declared.rows.LogRow.{LogRow}
+use Rattle.kr_store.specs.Rows.{live, AreRows, longest_value}
 use Rattle.kr_store.specs.File.{magic, file_bytes}
 use Rattle.kr_store.specs.declared.answers.StoreNo.{StoreNo}
 use Rattle.kr_store.specs.declared.answers.StoreNo.TheVariants as no
-use Rattle.kr_store.specs.declared.reader.Kind.{Kind}
-use Rattle.kr_store.specs.declared.reader.Kind.TheVariants as kind
+use Rattle.kr_store.specs.declared.kept_row.Kind.{Kind}
+use Rattle.kr_store.specs.declared.kept_row.Kind.TheVariants as kind
 use Rattle.kr_store.specs.declared.answers.Cause.{Cause}
 use Rattle.kr_store.specs.declared.answers.Cause.TheVariants.{Torn, BadRow, Order}
 
@@ -75,26 +78,26 @@ abbrev pub head_part : ℕ → List ℕ → Read (Kind × List ℕ)
 head_part k bytes = behind (kind_part bytes) (λ kind rest. behind (revision_part k rest) (λ _ rest. behind (path_part rest) (λ path rest. Ok ((kind, path), rest))))
 
 -- the row with revision k, its parts from left to right
-abbrev pub line_part : ℕ → List ℕ → Read Line
-line_part k bytes = behind (head_part k bytes) (λ head rest. behind (change_part head.0 rest) (λ change rest. Ok (record { path = head.1; change = change }, rest)))
+abbrev pub row_part : ℕ → List ℕ → Read LogRow
+row_part k bytes = behind (head_part k bytes) (λ head rest. behind (change_part head.0 rest) (λ change rest. Ok (record { path = head.1; change = change }, rest)))
 
 -- a delete needs a live row
-abbrev pub may_change : List Line → List ℕ → Change → Bool
+abbrev pub may_change : List LogRow → List ℕ → Change → Bool
 may_change before path (Put resource stored) = true
 may_change before path Delete = is_some (live before path)
 
 -- the row behind those before it
-abbrev pub next_line : List Line → List ℕ → Read Line
-next_line before bytes = behind (line_part (length before + 1) bytes) (λ line rest. kept_if (may_change before line.path line.change) BadRow line rest)
+abbrev pub next_row : List LogRow → List ℕ → Read LogRow
+next_row before bytes = behind (row_part (length before + 1) bytes) (λ row rest. kept_if (may_change before row.path row.change) BadRow row rest)
 
 -- the bytes are a file of some rows, and then what breaks at this place
 pub record BreaksAt (bytes : List ℕ) (at : ℕ) (cause : Cause) : Type 0 where
-  pub rows : List Line
+  pub rows : List LogRow
   pub rest : List ℕ
   pub good : AreRows rows
   pub split : bytes ≡ file_bytes rows ++ rest
   pub more : rest ≢ []
-  pub breaks : next_line rows rest ≡ Err cause
+  pub breaks : next_row rows rest ≡ Err cause
   pub place : at ≡ length (file_bytes rows)
 
 -- the bytes are not empty and end inside the magic

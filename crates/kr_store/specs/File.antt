@@ -2,9 +2,12 @@
 -- highest byte first.
 use Rattle.std.specs.Prelude.{◌≡◌, ℕ, ◌+◌, ◌⊎◌, Bool, if◌then◌else◌, List, [], ◌∷◌, ◌++◌, length, codes}
 use Rattle.std.specs.Int.{w16, w32, w64, to_be_bytes}
-use Rattle.kr_store.specs.declared.reader.Kind.{Kind}
-use Rattle.kr_store.specs.declared.reader.Kind.TheVariants as kind
-use Rattle.kr_store.specs.Rows.{Change, Put, Delete, Line, AreRows}
+use Rattle.kr_store.specs.declared.kept_row.Kind.{Kind}
+use Rattle.kr_store.specs.declared.kept_row.Kind.TheVariants as kind
+use Rattle.kr_store.specs.declared.rows.Change.{Change}
+use Rattle.kr_store.specs.declared.rows.Change.TheVariants.{Put, Delete}
+use Rattle.kr_store.specs.declared.rows.LogRow.{LogRow}
+use Rattle.kr_store.specs.Rows.{AreRows}
 
 abbrev pub magic : List ℕ
 magic = codes "KRSTORE1"
@@ -30,22 +33,22 @@ change_bytes (Put resource stored) = text_bytes resource ++ value_bytes stored
 change_bytes Delete = []
 
 -- a row: its kind, its revision and its path; behind those of a put the resource and the value
-abbrev pub row_bytes : ℕ → Line → List ℕ
-row_bytes k line = byte_of (kind_of line.change) ∷ (to_be_bytes w64 k ++ (text_bytes line.path ++ change_bytes line.change))
+abbrev pub row_bytes : ℕ → LogRow → List ℕ
+row_bytes k row = byte_of (kind_of row.change) ∷ (to_be_bytes w64 k ++ (text_bytes row.path ++ change_bytes row.change))
 
 -- rows of which the first has revision k
-abbrev pub rows_bytes : ℕ → List Line → List ℕ
+abbrev pub rows_bytes : ℕ → List LogRow → List ℕ
 rows_bytes k [] = []
-rows_bytes k (line ∷ rows) = row_bytes k line ++ rows_bytes (k + 1) rows
+rows_bytes k (row ∷ rows) = row_bytes k row ++ rows_bytes (k + 1) rows
 
 -- what is written before a row: the magic, where the file is empty
 abbrev pub lead : Bool → List ℕ
 lead empty = if empty then magic else []
 
 -- the magic and the rows
-abbrev pub file_bytes : List Line → List ℕ
+abbrev pub file_bytes : List LogRow → List ℕ
 file_bytes rows = magic ++ rows_bytes 1 rows
 
 -- the bytes are a file of the rows
-abbrev pub IsFile : List Line → List ℕ → Type 0
+abbrev pub IsFile : List LogRow → List ℕ → Type 0
 IsFile rows bytes = AreRows rows × (((rows ≡ []) × (bytes ≡ [])) ⊎ (bytes ≡ file_bytes rows))

@@ -2,7 +2,5 @@ pub mod Rows
 pub mod File
 pub mod Breaches
 pub mod Stores
-pub mod Reading
-pub mod Index
-pub mod Log
-pub mod Writing
+pub mod inner
+pub mod Laws

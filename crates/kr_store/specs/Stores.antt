@@ -4,15 +4,19 @@ use Rattle.std.specs.declared.cmp.Ordering.TheVariants.{Less}
 use Rattle.std.specs.Ordering.{nat_cmp}
 use Rattle.std.specs.Cmp.Lexicographic.{slice_cmp}
 use Rattle.kr_base.specs.Told.{Agrees}
-use Rattle.kr_store.specs.Rows.{Put, Delete, Line, latest, live, revision_of, lines_of, AllEntries}
+use Rattle.kr_store.specs.declared.rows.Change.TheVariants.{Put, Delete}
+use Rattle.kr_store.specs.declared.rows.LogRow.{LogRow}
+use Rattle.kr_store.specs.Rows.{latest, live, revision_of}
+use Rattle.kr_store.specs.inner.KeptRows.{log_rows_of, AreKeptRows}
 use Rattle.kr_base.specs.Faults.{Rose}
-use Rattle.kr_store.specs.Log.{Tail}
-use Rattle.kr_store.specs.Index.{IsIndexOf}
+use Rattle.kr_store.specs.inner.Log.{Tail}
+use Rattle.kr_store.specs.inner.Index.{IsIndexOf}
 use Rattle.kr_store.specs.declared.index.Index.{Index}
-use Rattle.kr_store.specs.declared.entry.Entry.{Entry}
+use Rattle.kr_store.specs.declared.kept_row.KeptRow.{KeptRow}
+use Rattle.kr_store.specs.Rows.{put_of, delete_of}
 use Rattle.kr_store.specs.File.{file_bytes, IsFile}
 use Rattle.kr_store.specs.Breaches.{IsBreach}
-use Rattle.kr_store.specs.declared.row.Row.{Row}
+use Rattle.kr_store.specs.declared.rows.Row.{Row}
 use Rattle.kr_store.specs.declared.answers.StoreNo.{StoreNo}
 use Rattle.kr_store.specs.declared.answers.StoreNo.TheVariants as no
 use Rattle.kr_store.specs.declared.answers.PutNo.{PutNo}
@@ -21,7 +25,7 @@ use Rattle.kr_store.specs.declared.answers.PutNo.TheVariants as refused
 -- its rows and the most bytes that its file may have; what its tape tells, how often that failed, and whether a write
 -- has failed since the last one that was done
 pub record Kept : Type 0 where
-  pub rows : List Line
+  pub rows : List LogRow
   pub limit : ℕ
   pub told : Option (List ℕ)
   pub count : ℕ
@@ -38,56 +42,50 @@ Loads told limit (Ok store) = (bytes : List ℕ) × Agrees told bytes × (length
 Loads told limit (Err (no.Failed, tape)) = ⊤
 Loads told limit (Err (no.NoMemory, tape)) = ⊤
 Loads told limit (Err (no.TooLong, tape)) = (bytes : List ℕ) × Agrees told bytes × (limit < length bytes)
-Loads told limit (Err (cause, tape)) = (bytes : List ℕ) × Agrees told bytes × (length bytes ≤ limit) × IsBreach bytes cause × ((rows : List Line) → IsFile rows bytes → ⊥)
+Loads told limit (Err (cause, tape)) = (bytes : List ℕ) × Agrees told bytes × (length bytes ≤ limit) × IsBreach bytes cause × ((rows : List LogRow) → IsFile rows bytes → ⊥)
 
--- what a store's fields keep: its entries and their index, and the file, with which the tape begins
-pub record IsStore (rows : List Entry) (index : Index) (limit : ℕ) (log : Tail) : Type 0 where
-  pub entries : AllEntries 1 rows
-  pub indexed : IsIndexOf (lines_of rows) index
+-- what a store's fields keep: its rows and their index, and the file, with which the tape begins
+pub record IsStore (rows : List KeptRow) (index : Index) (limit : ℕ) (log : Tail) : Type 0 where
+  pub kept_rows : AreKeptRows 1 rows
+  pub indexed : IsIndexOf (log_rows_of rows) index
   pub file : List ℕ
-  pub is : IsFile (lines_of rows) file
+  pub is : IsFile (log_rows_of rows) file
   pub end : log.end ≡ length file
   pub within : length file ≤ limit
   pub small : limit < 2 ^ 63
   pub told : IfSome log.told (λ held. (rest : List ℕ) × (held ≡ file ++ rest) × (log.torn ≡ false → rest ≡ []))
 
-abbrev pub kept_of : List Entry → ℕ → Tail → Kept
-kept_of rows limit log = record { rows = lines_of rows; limit = limit; told = log.told; count = log.count; torn = log.torn }
+abbrev pub kept_of : List KeptRow → ℕ → Tail → Kept
+kept_of rows limit log = record { rows = log_rows_of rows; limit = limit; told = log.told; count = log.count; torn = log.torn }
 
 -- the row was written, with this revision
-pub record Wrote (old new : Kept) (line : Line) (revision : ℕ) : Type 0 where
+pub record Wrote (old new : Kept) (row : LogRow) (revision : ℕ) : Type 0 where
   pub revision_is : revision ≡ length old.rows + 1
-  pub rows : new.rows ≡ old.rows ++ line ∷ []
+  pub rows : new.rows ≡ old.rows ++ row ∷ []
   pub limit : new.limit ≡ old.limit
   pub within : length (file_bytes new.rows) ≤ old.limit
   pub whole : new.torn ≡ false
   pub later : old.count ≤ new.count
 
 -- the tape failed; the rows are as before
-pub record Fails (old new : Kept) (line : Line) : Type 0 where
+pub record Fails (old new : Kept) (row : LogRow) : Type 0 where
   pub rows : new.rows ≡ old.rows
   pub limit : new.limit ≡ old.limit
-  pub within : length (file_bytes (old.rows ++ line ∷ [])) ≤ old.limit
+  pub within : length (file_bytes (old.rows ++ row ∷ [])) ≤ old.limit
   pub torn : new.torn ≡ true
   pub rose : Rose old.count new.count
   pub later : old.count ≤ new.count
 
 -- why a row wasn't written
-abbrev pub Refused : Kept → Kept → Line → PutNo → Type 0
-Refused old new line refused.Failed = Fails old new line
-Refused old new line (refused.Full needed) = (new ≡ old) × (needed ≡ length (file_bytes (old.rows ++ line ∷ []))) × (old.limit < needed)
-Refused old new line (refused.Changed revision) = ⊥
-Refused old new line refused.NoMemory = new ≡ old
+abbrev pub Refused : Kept → Kept → LogRow → PutNo → Type 0
+Refused old new row refused.Failed = Fails old new row
+Refused old new row (refused.Full needed) = (new ≡ old) × (needed ≡ length (file_bytes (old.rows ++ row ∷ []))) × (old.limit < needed)
+Refused old new row (refused.Changed revision) = ⊥
+Refused old new row refused.NoMemory = new ≡ old
 
-abbrev pub Puts : Kept → Kept → Line → Result ℕ PutNo → Type 0
-Puts old new line (Ok revision) = Wrote old new line revision
-Puts old new line (Err cause) = Refused old new line cause
-
-abbrev pub delete_of : List ℕ → Line
-delete_of path = record { path = path; change = Delete }
-
-abbrev pub put_of : List ℕ → List ℕ → List ℕ → Line
-put_of path resource stored = record { path = path; change = Put resource stored }
+abbrev pub Puts : Kept → Kept → LogRow → Result ℕ PutNo → Type 0
+Puts old new row (Ok revision) = Wrote old new row revision
+Puts old new row (Err cause) = Refused old new row cause
 
 -- a live row was deleted, or there is none; a refusal but want of memory comes only where there is one
 abbrev pub Deletes : Kept → Kept → List ℕ → Result (Option ℕ) PutNo → Type 0
@@ -99,7 +97,7 @@ Deletes old new path (Err (refused.Full needed)) = IsSome (live old.rows path) �
 Deletes old new path (Err (refused.Changed revision)) = ⊥
 
 -- the path's last row is a put with this revision
-pub record IsLatestPut (rows : List Line) (path : List ℕ) (revision : ℕ) (row : Row) : Type 0 where
+pub record IsLatestPut (rows : List LogRow) (path : List ℕ) (revision : ℕ) (row : Row) : Type 0 where
   pub is : live rows path ≡ Some row
   pub revision_is : row.revision ≡ revision
 
@@ -112,7 +110,7 @@ Replaces old new path revision stored (Err (refused.Full needed)) = (row : Row) 
 Replaces old new path revision stored (Err (refused.Changed to)) = (to ≡ revision_of (latest old.rows path)) × (new ≡ old) × ((row : Row) → IsLatestPut old.rows path revision row → ⊥)
 
 -- the live row with the least path above this one
-abbrev pub IsNext : List Line → List ℕ → Option Row → Type 0
+abbrev pub IsNext : List LogRow → List ℕ → Option Row → Type 0
 IsNext rows path None = (q : List ℕ) → IsSome (live rows q) → slice_cmp nat_cmp path q ≢ Less
 IsNext rows path (Some row) = (slice_cmp nat_cmp path row.path ≡ Less) × (live rows row.path ≡ Some row)
     × ((q : List ℕ) → IsSome (live rows q) → slice_cmp nat_cmp path q ≡ Less → slice_cmp nat_cmp q row.path ≢ Less)

@@ -1,3 +1,4 @@
+//! Why a tape is refused, and why a row is not written.
 /// Why a tape wasn't loaded; the place is that of the first byte of the row that breaks the form.
 #[derive(Clone, Copy, Debug, PartialEq, Eq)]
 pub enum StoreNo {

@@ -1,7 +1,8 @@
+//! The index of the last rows of the paths.
 ghost use Rattle.std.specs.Prelude.{◌≡◌, IfOk};
 ghost use Rattle.std.specs.String.{string_bytes};
 
-use crate::entry::Entry;
+use crate::kept_row::KeptRow;
 use kr_base::NoMemory;
 use std::alloc::Global;
 use std::collections::BTreeMap;
@@ -19,8 +20,8 @@ pub(crate) struct Index {
 impl Index {
     ghost use Rattle.std.specs.Prelude.{◌≡◌, [], ◌∷◌, ◌++◌, IfOk, OnOk, OnErr, IfSome, IsSome, Some, None};
     ghost use Rattle.std.specs.String.{string_bytes};
-    ghost use Rattle.kr_store.specs.Rows.{line_of};
-    ghost use Rattle.kr_store.specs.Index.{IsIndexOf, Adds, Same, SetsLive, SetsGone, IsNextIn, allows, live_at, gone_at};
+    ghost use Rattle.kr_store.specs.inner.KeptRows.{log_row_of};
+    ghost use Rattle.kr_store.specs.inner.Index.{IsIndexOf, Adds, Same, SetsLive, SetsGone, IsNextIn, allows, live_at, gone_at};
 
     /// The index of no rows.
     pub fn new(alloc: Global) -> Index
@@ -57,13 +58,13 @@ impl Index {
         Some(*found.1)
     }
 
-    /// Whether an entry may stand behind the rows.
-    pub fn allows(&self, entry: &Entry) -> bool
-        ensures { result ≡ allows self.now entry.now }
+    /// Whether the row may stand behind the indexed ones.
+    pub fn allows(&self, row: &KeptRow) -> bool
+        ensures { result ≡ allows self.now row.now }
     {
-        match entry {
-            Entry::Put(_) => true,
-            Entry::Delete(path) => self.live(path.as_str()).is_some(),
+        match row {
+            KeptRow::Put(_) => true,
+            KeptRow::Delete(path) => self.live(path.as_str()).is_some(),
         }
     }
 
@@ -98,15 +99,15 @@ impl Index {
     }
 
     /// Notes a row that was read.
-    pub fn note(&mut self, alloc: Global, entry: &Entry, revision: u64) -> Result<(), NoMemory>
-        ensures { OnOk result (Adds self.old self.new revision (line_of entry.now)) }
+    pub fn note(&mut self, alloc: Global, row: &KeptRow, revision: u64) -> Result<(), NoMemory>
+        ensures { OnOk result (Adds self.old self.new revision (log_row_of row.now)) }
     {
-        match entry {
-            Entry::Put(row) => {
-                let key = key_of(alloc, row.path.as_str())?;
+        match row {
+            KeptRow::Put(row) => {
+                let key = key_of(alloc, row.get().path.as_str())?;
                 self.set_live(key, revision)
             }
-            Entry::Delete(path) => {
+            KeptRow::Delete(path) => {
                 let key = key_of(alloc, path.as_str())?;
                 self.set_gone(key, revision)?;
                 self.unset_live(path.as_str());

@@ -3,18 +3,18 @@
 
 mod answers;
 mod encode;
-mod entry;
 mod index;
+mod kept_row;
+mod laws;
 mod limits;
 mod load;
 mod log;
 mod reader;
-mod row;
+mod rows;
 mod store;
-#[cfg(test)]
-mod tests;
 mod write;
 
 pub use answers::{PutNo, StoreNo};
-pub use row::Row;
+pub use laws::{one_breach, one_file, some_answer};
+pub use rows::{Change, LogRow, Row};
 pub use store::Store;

@@ -1,10 +1,11 @@
+//! Loading the rows of a file.
 ghost use Rattle.std.specs.Prelude.{◌≡◌, ◌<◌, IsErrOf};
 ghost use Rattle.kr_base.specs.Faults.{Rose};
-ghost use Rattle.kr_store.specs.Reading.{Moves, LoadsRows, placed};
+ghost use Rattle.kr_store.specs.inner.Reading.{Moves, LoadsRows, placed};
 
 use crate::answers::{Cause, Stop, StoreNo};
-use crate::entry::Entry;
 use crate::index::Index;
+use crate::kept_row::KeptRow;
 use crate::reader::Reader;
 use kr_base::{List, Tape};
 use std::alloc::Global;
@@ -13,7 +14,7 @@ use std::alloc::Global;
 pub(crate) fn load_rows<T: Tape>(
     alloc: Global,
     reader: &mut Reader<T>,
-) -> Result<(List<Entry>, Index), StoreNo>
+) -> Result<(List<KeptRow>, Index), StoreNo>
     requires { reader.old.place ≡ 0 }
     ensures moves { Moves reader.old reader.new }
     ensures failed { IsErrOf result StoreNo.Failed → Rose reader.old.count reader.new.count }
@@ -31,18 +32,18 @@ pub(crate) fn load_rows<T: Tape>(
     while !reader.is_at_end() {
         let at = reader.place();
         let revision = rows.as_slice().len() as u64 + 1;
-        let entry = match reader.entry(alloc, revision) {
-            Ok(entry) => entry,
+        let row = match reader.row(alloc, revision) {
+            Ok(row) => row,
             Err(stop) => return Err(no_at(stop, at)),
         };
-        if !index.allows(&entry) {
+        if !index.allows(&row) {
             return Err(StoreNo::BadRow { at });
         }
-        match index.note(alloc, &entry, revision) {
+        match index.note(alloc, &row, revision) {
             Ok(()) => {}
             Err(_) => return Err(StoreNo::NoMemory),
         }
-        match rows.push(entry) {
+        match rows.push(row) {
             Ok(()) => {}
             Err(_) => return Err(StoreNo::NoMemory),
         }

@@ -1,6 +1,7 @@
+//! The file on its tape, as rows are appended to it.
 ghost use Rattle.std.specs.Prelude.{◌≡◌, ◌+◌, ◌^◌, ◌<◌, ◌≤◌, false, length, IfSome};
 ghost use Rattle.kr_base.specs.Faults.{IsCounted};
-ghost use Rattle.kr_store.specs.Log.{Extends, Readies};
+ghost use Rattle.kr_store.specs.inner.Log.{Extends, Readies};
 
 use kr_base::{Failed, Tape};
 use std::marker::Model;
@@ -15,7 +16,7 @@ pub(crate) struct Log<T: Tape> {
 
 impl<T: Tape> Model for Log<T> {
     ghost use Rattle.std.specs.Prelude.{◌≡◌, ◌≤◌, false, length, IfSome};
-    ghost use Rattle.kr_store.specs.Log.{Tail};
+    ghost use Rattle.kr_store.specs.inner.Log.{Tail};
 
     ghost Value = { Tail };
 

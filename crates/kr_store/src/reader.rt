@@ -1,28 +1,22 @@
+//! Reading a file from front to back.
 ghost use Rattle.std.specs.Prelude.{◌≡◌, ◌≢◌, ℕ, ◌+◌, ◌^◌, ◌<◌, ◌≤◌, min, get_or, [], ◌∷◌, length, IfSome, IfOk, IfErr, IsErrOf, MatchOption, IsTrue, ◌↔◌, take};
 ghost use Rattle.std.specs.Int.{w16, w32, w64, to_be_bytes};
 ghost use Rattle.kr_base.specs.Faults.{Rose};
 ghost use Rattle.kr_base.specs.Rules.{IsPath, IsResource};
-ghost use Rattle.kr_store.specs.Rows.{longest_value, IsEntry};
+ghost use Rattle.kr_store.specs.Rows.{longest_value};
+ghost use Rattle.kr_store.specs.inner.KeptRows.{IsKeptRow};
 ghost use Rattle.kr_store.specs.File.{magic, text_bytes, value_bytes, byte_of};
-ghost use Rattle.kr_store.specs.Breaches.{part, number_16, number_32, number_64, sized_part, path_part, resource_part, value_part, kind_part, revision_part, head_part, put_part, line_part};
-ghost use Rattle.kr_store.specs.Reading.{Moves, Begins, Fills, IsShort, IsNamed, Names, Gives, items_of, sized_bytes, head_bytes, put_bytes, entry_bytes};
+ghost use Rattle.kr_store.specs.Breaches.{part, number_16, number_32, number_64, sized_part, path_part, resource_part, value_part, kind_part, revision_part, head_part, put_part, row_part};
+ghost use Rattle.kr_store.specs.inner.Reading.{Moves, Begins, Fills, IsShort, IsNamed, Names, Gives, items_of, sized_bytes, head_bytes, put_bytes, kept_bytes};
 
 use crate::answers::{Cause, Stop, StoreNo};
 use crate::encode::MAGIC;
-use crate::entry::Entry;
-use crate::limits::LONGEST_VALUE;
-use crate::row::Row;
-use kr_base::{Bytes, Failed, NoMemory, Tape, Text, path_ok, resource_ok};
+use crate::kept_row::{KeptRow, Kind};
+use crate::limits::{LONGEST_PATH, LONGEST_RESOURCE, LONGEST_VALUE};
+use crate::rows::Row;
+use kr_base::{Bytes, Failed, NoMemory, Shared, Tape, Text, path_ok, resource_ok};
 use std::alloc::Global;
 use std::marker::Model;
-use std::sync::Arc;
-
-/// What a row does, as its first byte says.
-#[derive(Clone, Copy, Debug, PartialEq, Eq)]
-pub(crate) enum Kind {
-    Put,
-    Delete,
-}
 
 // What the type says of each byte.
 fn known(bytes: &[u8])
@@ -89,7 +83,7 @@ pub(crate) struct Reader<T: Tape> {
 impl<T: Tape> Model for Reader<T> {
     ghost use Rattle.std.specs.Prelude.{◌≡◌, ◌+◌, ◌<◌, ◌≤◌, length, take, drop, IfSome};
     ghost use Rattle.std.specs.Option.{option_map};
-    ghost use Rattle.kr_store.specs.Reading.{Ahead};
+    ghost use Rattle.kr_store.specs.inner.Reading.{Ahead};
 
     ghost Value = { Ahead };
 
@@ -357,7 +351,7 @@ impl<T: Tape> Reader<T> {
         ensures read { Gives self.old self.new text_bytes path_part result }
         ensures rule { IfOk result (λ path. IsPath path) }
     {
-        let bytes = match self.sized(alloc, 1024) {
+        let bytes = match self.sized(alloc, LONGEST_PATH) {
             Ok(bytes) => bytes,
             Err(stop) => return Err(stop),
         };
@@ -376,7 +370,7 @@ impl<T: Tape> Reader<T> {
         ensures read { Gives self.old self.new text_bytes resource_part result }
         ensures rule { IfOk result (λ resource. IsResource resource) }
     {
-        let bytes = match self.sized(alloc, 253) {
+        let bytes = match self.sized(alloc, LONGEST_RESOURCE) {
             Ok(bytes) => bytes,
             Err(stop) => return Err(stop),
         };
@@ -460,18 +454,18 @@ impl<T: Tape> Reader<T> {
     }
 
     /// The row with this revision.
-    pub fn entry(&mut self, alloc: Global, revision: u64) -> Result<Entry, Stop>
+    pub fn row(&mut self, alloc: Global, revision: u64) -> Result<KeptRow, Stop>
         ensures moves { Moves self.old self.new }
         ensures failed { IsErrOf result Stop.Failed → Rose self.old.count self.new.count }
-        ensures read { Gives self.old self.new (entry_bytes revision) (line_part revision) result }
-        ensures rule { IfOk result (λ entry. IsEntry revision entry) }
+        ensures read { Gives self.old self.new (kept_bytes revision) (row_part revision) result }
+        ensures rule { IfOk result (λ row. IsKeptRow revision row) }
     {
         let (kind, path) = match self.head(alloc, revision) {
             Ok(head) => head,
             Err(stop) => return Err(stop),
         };
         match kind {
-            Kind::Delete => Ok(Entry::Delete(path)),
+            Kind::Delete => Ok(KeptRow::Delete(path)),
             Kind::Put => {
                 let (resource, stored) = match self.put(alloc) {
                     Ok(put) => put,
@@ -483,8 +477,8 @@ impl<T: Tape> Reader<T> {
                     revision,
                     stored,
                 };
-                match Arc::new(alloc, row) {
-                    Ok(row) => Ok(Entry::Put(row)),
+                match Shared::new(alloc, row) {
+                    Ok(row) => Ok(KeptRow::Put(row)),
                     Err(_) => Err(Stop::NoMemory),
                 }
             }

@@ -1,112 +1,112 @@
+//! A store: its rows, their index, and the file that they are.
 ghost use Rattle.std.specs.Prelude.{◌≡◌, ◌≤◌, ◌^◌, ◌<◌, ◌+◌, ◌++◌, ◌-◌, get_or, false, length, IfOk, IfErr, IfSome, IsSome};
-ghost use Rattle.std.specs.Option.{option_map};
-ghost use Rattle.std.specs.Arc.{arc_value};
 ghost use Rattle.kr_base.specs.Faults.{Rose};
 ghost use Rattle.kr_base.specs.Rules.{IsPath, IsResource};
 ghost use Rattle.std.specs.String.{string_bytes};
-ghost use Rattle.kr_store.specs.declared.entry.Entry.{Entry};
-ghost use Rattle.kr_store.specs.Rows.{longest_value, live, line_of, entry_row, IsEntry};
+ghost use Rattle.kr_store.specs.declared.kept_row.KeptRow.{KeptRow};
+ghost use Rattle.kr_store.specs.Rows.{longest_value, live, put_of, MayChange, IsRow};
+ghost use Rattle.kr_store.specs.inner.KeptRows.{log_row_of, shared_row, IsKeptRow, IsChange};
 ghost use Rattle.kr_store.specs.File.{lead, row_bytes};
-ghost use Rattle.kr_store.specs.Stores.{Loads, Holds, Puts, put_of, delete_of, Deletes, Replaces, IsNext};
+ghost use Rattle.kr_store.specs.Stores.{Loads, Holds, Puts, Deletes, Replaces, IsNext};
 
 use crate::answers::{PutNo, StoreNo};
-use crate::encode::{delete_bytes, delete_length, put_bytes, put_length};
-use crate::entry::Entry;
+use crate::encode::{row_bytes, row_length};
 use crate::index::{Index, key_of};
+use crate::kept_row::KeptRow;
 use crate::load::load_rows;
 use crate::log::Log;
 use crate::reader::Reader;
-use crate::row::Row;
-use crate::write::{WriteNo, write_delete, write_put};
-use kr_base::{Bytes, Failed, List, NoMemory, Tape, Text};
+use crate::rows::{Change, Row};
+use crate::write::{WriteNo, write_row};
+use kr_base::{Bytes, Failed, List, NoMemory, Shared, Tape, Text};
 use std::alloc::Global;
 use std::marker::Model;
-use std::sync::Arc;
 
-// A row, before it is written: its bytes, its path as the index keeps it, and its entry.
+// A row, before it is written: its bytes, its path as the index keeps it, and what is kept of it.
 #[derive(Drop)]
 struct Made {
     bytes: Bytes,
     key: String,
-    entry: Entry,
+    row: KeptRow,
 }
 
-fn row_of_put(
+fn make_row(
     alloc: Global,
     empty: bool,
     revision: u64,
     path: &str,
-    resource: &str,
-    stored: Bytes,
+    change: Change,
 ) -> Result<Made, NoMemory>
     requires path { IsPath path.now }
-    requires resource { IsResource resource.now }
-    requires stored { length stored ≤ longest_value }
-    ensures bytes { IfOk result (λ made. made.bytes ≡ lead empty ++ row_bytes revision (put_of path.now resource.now stored)) }
+    requires change { IsChange change }
+    ensures bytes { IfOk result (λ made. made.bytes
+        ≡ lead empty ++ row_bytes revision (record { path = path.now; change = change })) }
     ensures key { IfOk result (λ made. string_bytes made.key ≡ path.now) }
-    ensures line { IfOk result (λ made. line_of made.entry ≡ put_of path.now resource.now stored) }
-    ensures entry { IfOk result (λ made. IsEntry revision made.entry) }
+    ensures row { IfOk result (λ made. log_row_of made.row
+        ≡ record { path = path.now; change = change }) }
+    ensures rule { IfOk result (λ made. IsKeptRow revision made.row) }
 {
-    let bytes = put_bytes(alloc, empty, revision, path, resource, stored.as_slice())?;
-    let key = key_of(alloc, path)?;
-    let row = Row {
-        path: Text::copy(alloc, path)?,
-        resource: Text::copy(alloc, resource)?,
-        revision,
-        stored,
-    };
-    match Arc::new(alloc, row) {
-        Ok(row) => Ok(Made {
-            bytes: Bytes::from_vec(bytes),
-            key,
-            entry: Entry::Put(row),
-        }),
-        Err(_) => Err(NoMemory),
-    }
-}
-
-fn row_of_delete(alloc: Global, empty: bool, revision: u64, path: &str) -> Result<Made, NoMemory>
-    requires { IsPath path.now }
-    ensures bytes { IfOk result (λ made. made.bytes ≡ lead empty ++ row_bytes revision (delete_of path.now)) }
-    ensures key { IfOk result (λ made. string_bytes made.key ≡ path.now) }
-    ensures line { IfOk result (λ made. line_of made.entry ≡ delete_of path.now) }
-    ensures entry { IfOk result (λ made. IsEntry revision made.entry) }
-{
-    let bytes = delete_bytes(alloc, empty, revision, path)?;
+    let bytes = row_bytes(alloc, empty, revision, path, &change)?;
     let key = key_of(alloc, path)?;
     let path = Text::copy(alloc, path)?;
+    let row = kept_row(alloc, revision, path, change)?;
     Ok(Made {
         bytes: Bytes::from_vec(bytes),
         key,
-        entry: Entry::Delete(path),
+        row,
     })
 }
 
+fn kept_row(alloc: Global, revision: u64, path: Text, change: Change) -> Result<KeptRow, NoMemory>
+    requires path { IsPath path }
+    requires change { IsChange change }
+    ensures row { IfOk result (λ row. log_row_of row ≡ record { path = path; change = change }) }
+    ensures rule { IfOk result (λ row. IsKeptRow revision row) }
+{
+    match change {
+        Change::Put { resource, stored } => {
+            let row = Row {
+                path,
+                resource,
+                revision,
+                stored,
+            };
+            match Shared::new(alloc, row) {
+                Ok(row) => Ok(KeptRow::Put(row)),
+                Err(_) => Err(NoMemory),
+            }
+        }
+        Change::Delete => Ok(KeptRow::Delete(path)),
+    }
+}
+
 // A copy of the resource of the row with this revision, a put.
-fn resource_at(alloc: Global, rows: &[Entry], revision: u64) -> Result<Text, NoMemory>
+fn resource_at(alloc: Global, rows: &[KeptRow], revision: u64) -> Result<Text, NoMemory>
     requires first { 1 ≤ revision }
     requires last { revision ≤ length rows.now }
-    requires put { (d : Entry) → IsSome (entry_row (get_or rows.now (revision - 1) d)) }
-    ensures { IfOk result (λ resource. (d : Entry) → IfSome (entry_row (get_or rows.now (revision - 1) d)) (λ row. row.resource ≡ resource)) }
+    requires put { (d : KeptRow) → IsSome (shared_row (get_or rows.now (revision - 1) d)) }
+    ensures { IfOk result (λ resource. (d : KeptRow)
+        → IfSome (shared_row (get_or rows.now (revision - 1) d)) (λ row. row.resource ≡ resource)) }
 {
     match &rows[revision as usize - 1] {
-        Entry::Put(row) => Text::copy(alloc, row.resource.as_str()),
-        Entry::Delete(_) => unreachable!(),
+        KeptRow::Put(row) => Text::copy(alloc, row.get().resource.as_str()),
+        KeptRow::Delete(_) => unreachable!(),
     }
 }
 
 // Shares the row with this revision, if it is a put.
-fn share(rows: &[Entry], revision: u64) -> Result<Option<Arc<Row>>, NoMemory>
+fn share(rows: &[KeptRow], revision: u64) -> Result<Option<Shared<Row>>, NoMemory>
     requires first { 1 ≤ revision }
     requires last { revision ≤ length rows.now }
-    ensures { IfOk result (λ found. (d : Entry) → option_map arc_value found ≡ entry_row (get_or rows.now (revision - 1) d)) }
+    ensures { IfOk result (λ found. (d : KeptRow)
+        → found ≡ shared_row (get_or rows.now (revision - 1) d)) }
 {
     match &rows[revision as usize - 1] {
-        Entry::Put(row) => match Arc::try_clone(row) {
+        KeptRow::Put(row) => match row.share() {
             Ok(row) => Ok(Some(row)),
-            Err(_) => Err(NoMemory),
+            Err(NoMemory) => Err(NoMemory),
         },
-        Entry::Delete(_) => Ok(None),
+        KeptRow::Delete(_) => Ok(None),
     }
 }
 
@@ -116,7 +116,7 @@ pub struct Store<T: Tape> {
     alloc: Global,
     log: Log<T>,
     limit: u64,
-    rows: List<Entry>,
+    rows: List<KeptRow>,
     index: Index,
 }
 
@@ -169,36 +169,10 @@ impl<T: Tape> Store<T> {
         requires stored { length stored ≤ longest_value }
         ensures { Puts self.old self.new (put_of path.now resource.now stored) result }
     {
-        let at = self.log.end();
-        let empty = at == 0;
-        let needed = at + put_length(empty, path, resource, stored.as_slice());
-        if needed > self.limit {
-            return Err(PutNo::Full { needed });
+        match Text::copy(self.alloc, resource) {
+            Ok(resource) => self.append(path, Change::Put { resource, stored }),
+            Err(NoMemory) => Err(PutNo::NoMemory),
         }
-        match self.rows.reserve(1) {
-            Ok(()) => {}
-            Err(NoMemory) => return Err(PutNo::NoMemory),
-        }
-        let revision = self.rows.as_slice().len() as u64 + 1;
-        let row = match row_of_put(self.alloc, empty, revision, path, resource, stored) {
-            Ok(row) => row,
-            Err(NoMemory) => return Err(PutNo::NoMemory),
-        };
-        let Made { bytes, key, entry } = row;
-        match write_put(
-            &mut self.log,
-            &mut self.index,
-            path,
-            key,
-            revision,
-            bytes.as_slice(),
-        ) {
-            Ok(()) => {}
-            Err(WriteNo::Failed) => return Err(PutNo::Failed),
-            Err(WriteNo::NoMemory) => return Err(PutNo::NoMemory),
-        }
-        self.rows.push_in_room(entry);
-        Ok(revision)
     }
 
     /// Appends a delete where the path has a live row, and answers its revision.
@@ -209,36 +183,10 @@ impl<T: Tape> Store<T> {
         let Some(_live) = self.index.live(path) else {
             return Ok(None);
         };
-        let at = self.log.end();
-        let empty = at == 0;
-        let needed = at + delete_length(empty, path);
-        if needed > self.limit {
-            return Err(PutNo::Full { needed });
+        match self.append(path, Change::Delete) {
+            Ok(revision) => Ok(Some(revision)),
+            Err(why) => Err(why),
         }
-        match self.rows.reserve(1) {
-            Ok(()) => {}
-            Err(NoMemory) => return Err(PutNo::NoMemory),
-        }
-        let revision = self.rows.as_slice().len() as u64 + 1;
-        let row = match row_of_delete(self.alloc, empty, revision, path) {
-            Ok(row) => row,
-            Err(NoMemory) => return Err(PutNo::NoMemory),
-        };
-        let Made { bytes, key, entry } = row;
-        match write_delete(
-            &mut self.log,
-            &mut self.index,
-            path,
-            key,
-            revision,
-            bytes.as_slice(),
-        ) {
-            Ok(()) => {}
-            Err(WriteNo::Failed) => return Err(PutNo::Failed),
-            Err(WriteNo::NoMemory) => return Err(PutNo::NoMemory),
-        }
-        self.rows.push_in_room(entry);
-        Ok(Some(revision))
     }
 
     /// Appends a put for the resource of the path's last row, where that is a put with this revision.
@@ -254,17 +202,57 @@ impl<T: Tape> Store<T> {
         if last != revision {
             return Err(PutNo::Changed { revision: last });
         }
-        let resource = match resource_at(self.alloc, self.rows.as_slice(), last) {
-            Ok(resource) => resource,
+        match resource_at(self.alloc, self.rows.as_slice(), last) {
+            Ok(resource) => self.append(path, Change::Put { resource, stored }),
+            Err(NoMemory) => Err(PutNo::NoMemory),
+        }
+    }
+
+    // Appends a row that may stand behind the others, and answers its revision.
+    fn append(&mut self, path: &str, change: Change) -> Result<u64, PutNo>
+        requires path { IsPath path.now }
+        requires change { MayChange self.old.rows path.now change }
+        ensures { Puts self.old self.new (record { path = path.now; change = change }) result }
+    {
+        let at = self.log.end();
+        let empty = at == 0;
+        let needed = at + row_length(empty, path, &change);
+        if needed > self.limit {
+            return Err(PutNo::Full { needed });
+        }
+        match self.rows.reserve(1) {
+            Ok(()) => {}
+            Err(NoMemory) => return Err(PutNo::NoMemory),
+        }
+        let revision = self.rows.as_slice().len() as u64 + 1;
+        let made = match make_row(self.alloc, empty, revision, path, change) {
+            Ok(made) => made,
             Err(NoMemory) => return Err(PutNo::NoMemory),
         };
-        self.put(path, resource.as_str(), stored)
+        let Made { bytes, key, row } = made;
+        let kind = row.kind();
+        match write_row(
+            &mut self.log,
+            &mut self.index,
+            kind,
+            path,
+            key,
+            revision,
+            bytes.as_slice(),
+        ) {
+            Ok(()) => {}
+            Err(WriteNo::Failed) => return Err(PutNo::Failed),
+            Err(WriteNo::NoMemory) => return Err(PutNo::NoMemory),
+        }
+        self.rows.push_in_room(row);
+        Ok(revision)
     }
 
     /// The path's live row. It is shared, not copied.
-    pub fn get(&self, path: &str) -> Result<Option<Arc<Row>>, NoMemory>
+    pub fn get(&self, path: &str) -> Result<Option<Shared<Row>>, NoMemory>
         requires { IsPath path.now }
-        ensures { IfOk result (λ found. option_map arc_value found ≡ live self.now.rows path.now) }
+        ensures live { IfOk result (λ found. found ≡ live self.now.rows path.now) }
+        ensures rules { IfOk result (λ found. IfSome found IsRow) }
     {
         match self.index.live(path) {
             Some(revision) => share(self.rows.as_slice(), revision),
@@ -273,8 +261,9 @@ impl<T: Tape> Store<T> {
     }
 
     /// The live row with the least path above this one, which may be empty. It is shared, not copied.
-    pub fn next_after(&self, path: &str) -> Result<Option<Arc<Row>>, NoMemory>
-        ensures { IfOk result (λ found. IsNext self.now.rows path.now (option_map arc_value found)) }
+    pub fn next_after(&self, path: &str) -> Result<Option<Shared<Row>>, NoMemory>
+        ensures next { IfOk result (λ found. IsNext self.now.rows path.now found) }
+        ensures rules { IfOk result (λ found. IfSome found IsRow) }
     {
         let key = key_of(self.alloc, path)?;
         match self.index.next_after(&key) {

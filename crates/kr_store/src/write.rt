@@ -1,9 +1,10 @@
-ghost use Rattle.std.specs.Prelude.{◌≡◌, ◌+◌, ◌^◌, ◌<◌, [], length};
+//! Writing one row.
+ghost use Rattle.std.specs.Prelude.{◌≡◌, ◌+◌, ◌^◌, ◌<◌, length};
 ghost use Rattle.std.specs.String.{string_bytes};
-ghost use Rattle.kr_store.specs.Rows.{Put, Delete};
-ghost use Rattle.kr_store.specs.Writing.{Writes};
+ghost use Rattle.kr_store.specs.inner.Writing.{Writes};
 
 use crate::index::Index;
+use crate::kept_row::Kind;
 use crate::log::Log;
 use kr_base::{Failed, NoMemory, Tape};
 
@@ -14,8 +15,28 @@ pub(crate) enum WriteNo {
     NoMemory,
 }
 
-/// Appends the bytes of a put, and notes it. What the index needs is taken before the tape is touched.
-pub(crate) fn write_put<T: Tape>(
+/// Appends the bytes of a row, and notes it. A delete is that of a live row.
+pub(crate) fn write_row<T: Tape>(
+    log: &mut Log<T>,
+    index: &mut Index,
+    kind: Kind,
+    path: &str,
+    key: String,
+    revision: u64,
+    bytes: &[u8],
+) -> Result<(), WriteNo>
+    requires fits { log.old.end + length bytes.now < 2 ^ 64 }
+    requires key { string_bytes key ≡ path.now }
+    ensures { Writes log.old log.new index.old index.new revision path.now kind bytes.now result }
+{
+    match kind {
+        Kind::Put => write_put(log, index, path, key, revision, bytes),
+        Kind::Delete => write_delete(log, index, path, key, revision, bytes),
+    }
+}
+
+// Appends the bytes of a put, and notes it. What the index needs is taken before the tape is touched.
+fn write_put<T: Tape>(
     log: &mut Log<T>,
     index: &mut Index,
     path: &str,
@@ -25,7 +46,7 @@ pub(crate) fn write_put<T: Tape>(
 ) -> Result<(), WriteNo>
     requires fits { log.old.end + length bytes.now < 2 ^ 64 }
     requires key { string_bytes key ≡ path.now }
-    ensures { Writes log.old log.new index.old index.new revision path.now (Put [] []) bytes.now result }
+    ensures { Writes log.old log.new index.old index.new revision path.now Kind.Put bytes.now result }
 {
     if index.live(path).is_some() {
         match log.append(bytes) {
@@ -50,8 +71,8 @@ pub(crate) fn write_put<T: Tape>(
     }
 }
 
-/// Appends the bytes of a delete of a live row, and notes it.
-pub(crate) fn write_delete<T: Tape>(
+// Appends the bytes of a delete of a live row, and notes it.
+fn write_delete<T: Tape>(
     log: &mut Log<T>,
     index: &mut Index,
     path: &str,
@@ -61,7 +82,7 @@ pub(crate) fn write_delete<T: Tape>(
 ) -> Result<(), WriteNo>
     requires fits { log.old.end + length bytes.now < 2 ^ 64 }
     requires key { string_bytes key ≡ path.now }
-    ensures { Writes log.old log.new index.old index.new revision path.now Delete bytes.now result }
+    ensures { Writes log.old log.new index.old index.new revision path.now Kind.Delete bytes.now result }
 {
     match index.set_gone(key, revision) {
         Ok(()) => {}

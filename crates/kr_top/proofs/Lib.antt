@@ -1,12 +1,13 @@
 pub mod Asked
-pub mod CheckSteps
-pub mod ConvertSteps
+pub mod Decided
 pub mod Directions
-pub mod InspectSteps
+pub mod Goes
+pub mod Inspected
 pub mod Listings
+pub mod OnePoint
 pub mod Pieces
 pub mod Printed
 pub mod Readings
-pub mod Steps
+pub mod Settled
 pub mod Works
 pub mod Worlds

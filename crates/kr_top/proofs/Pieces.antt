@@ -9,7 +9,8 @@ use Rattle.std.specs.Prelude.{codes, decimal}
 use Rattle.kr_config.specs.declared.refusal.ConfigNo.{ConfigNo}
 use Rattle.std.specs.Prelude.{if◌then◌else◌}
 use Rattle.std.proofs.lemmas.Bool.Decides.{Decides-eqb}
-use Rattle.kr_top.specs.Message.{joined, object_text, fault_line, counted_text, configuration_line}
+use Rattle.kr_top.specs.inner.Phases.{joined}
+use Rattle.kr_top.specs.Message.{object_text, fault_line, counted_text, configuration_line}
 use Rattle.kr_top.specs.declared.refusal.Object.{Object}
 
 -- the first pieces were written, and how many bytes they are in all is left open

@@ -1,15 +1,21 @@
 -- A world from one step of a command to the next.
-use Rattle.std.proofs.Common.{◌≡◌, ◌≢◌, ℕ, zero, suc, List, [], Option, None, Some, refl, sym, ◌∙◌, subst, arith}
-use Rattle.std.specs.Io.KnownBytes.{Consumes, Keeps}
-use Rattle.std.proofs.KnownBytes.{Consumes-nil}
+use Rattle.std.proofs.Common.{◌≡◌, ◌≢◌, ℕ, zero, suc, ◌≤◌, List, Option, None, Some, refl, sym, ◌∙◌, subst, arith}
+use Rattle.std.specs.Io.KnownBytes.{Keeps}
 use Rattle.kr_kms.specs.Outside.{Outside, KeepsFiles, KeepsDice}
-use Rattle.kr_top.specs.Ran.{Around, IsUntouched}
+use Rattle.kr_top.specs.Ran.{Around, IsUntouched, IsHome, Stays}
 
 pub files_trans : {a b c : Outside} → KeepsFiles a b → KeepsFiles b c → KeepsFiles a c
-files_trans p q = record { file = λ name. q.file name ∙ p.file name; later = omega (arith, p.later, q.later) }
+files_trans p q = record { file = λ name. q.file name ∙ p.file name; loads = omega (arith, p.loads, q.loads); opens = omega (arith, p.opens, q.opens) }
 
 pub dice_trans : {a b c : Outside} → KeepsDice a b → KeepsDice b c → KeepsDice a c
 dice_trans p q = record { dice = λ s. q.dice s ∙ p.dice s; faults = λ s. q.faults s ∙ p.faults s; out = λ s. q.out s ∙ p.out s }
+
+-- a world that nothing was done to
+pub same_files : (world : Outside) → KeepsFiles world world
+same_files world = record { file = λ name. refl; loads = omega arith; opens = omega arith }
+
+pub same_dice : (world : Outside) → KeepsDice world world
+same_dice world = record { dice = λ s. refl; faults = λ s. refl; out = λ s. refl }
 
 pub by_seat : (P : ℕ → Type 0) → P 0 → ((s : ℕ) → s ≢ 0 → P s) → (s : ℕ) → P s
 by_seat P z n zero = z
@@ -19,14 +25,25 @@ pub Keeps-refl : (a : Option (List ℕ)) → Keeps a a
 Keeps-refl None = tt
 Keeps-refl (Some x) = refl
 
-pub kept_nothing : (a b : Option (List ℕ)) → b ≡ a → Consumes a b []
-kept_nothing a b e = subst (λ o. Consumes a o []) (sym e) (Consumes-nil a)
+pub keeps_by : (a b : Option (List ℕ)) → b ≡ a → Keeps a b
+keeps_by a b e = subst (λ o. Keeps a o) (sym e) (Keeps-refl a)
+
+pub dice_kept : {old new : Outside} → KeepsDice old new → (seat : ℕ) → Keeps (old.dice seat) (new.dice seat)
+dice_kept same seat = keeps_by _ _ (same.dice seat)
+
+-- nothing was consumed but of the input
+pub stays : {old : Outside} {new : Around} {rest : Option (List ℕ)} → KeepsDice old new.world → Keeps rest new.input → Stays (record { input = rest; dice = old.dice }) new
+stays same kept = record { input = kept; dice = dice_kept same }
+
+pub home : {old new : Around} → KeepsFiles old.world new.world → KeepsDice old.world new.world → old.input_faults ≤ new.input_faults → old.output_faults ≤ new.output_faults → IsHome old new
+home files same more most = record { files = files; out = same.out; dice = λ s. omega (arith, same.faults s); input = more; output = most }
 
 pub untouched : (around : Around) → IsUntouched around around
 untouched around = record {
   files = λ name. refl;
-  file_faults = refl;
-  dice = record { dice = λ s. refl; faults = λ s. refl; out = λ s. refl };
+  loads = refl;
+  opens = refl;
+  dice = same_dice around.world;
   input = (refl, refl);
   output = (refl, refl);
 }

@@ -4,6 +4,8 @@ use Rattle.kr_words.specs.Grammar.{Means, replicas_of, IsAboveSize, IsWithinSize
 use Rattle.kr_words.specs.Options.{value_of}
 use Rattle.kr_words.specs.declared.command.Verb.{Verb}
 use Rattle.kr_words.specs.declared.command.Verb.TheVariants.{Encrypt, Decrypt, Check, Inspect, Put, Get, Rows, Judge, Rewrite, Fleet, Gen}
+use Rattle.kr_top.specs.declared.refusal.BadWords.{BadWords}
+use Rattle.kr_top.specs.declared.refusal.BadWords.TheVariants.{Usage, Replicas, Size}
 
 pub data Command : Type 0 where
   -- encrypts the input for a resource and a path by a configuration
@@ -17,13 +19,18 @@ pub data Command : Type 0 where
 
 abbrev pub IsOfObject : (config resource path : List ℕ) → List (List ℕ × List ℕ) → Type 0
 IsOfObject config resource path options =
-    (value_of options (codes "config") ≡ Some config) × (value_of options (codes "resource") ≡ Some resource) × (value_of options (codes "path") ≡ Some path)
+    (value_of options (codes "config") ≡ Some config)
+    × (value_of options (codes "resource") ≡ Some resource)
+    × (value_of options (codes "path") ≡ Some path)
 
 -- the verb with its options is this command
 abbrev pub IsOf : Command → Verb → List (List ℕ × List ℕ) → Type 0
 IsOf (encrypt config resource path) verb options = (verb ≡ Encrypt) × IsOfObject config resource path options
 IsOf (decrypt config resource path) verb options = (verb ≡ Decrypt) × IsOfObject config resource path options
-IsOf (check config resource) verb options = (verb ≡ Check) × (value_of options (codes "config") ≡ Some config) × (value_of options (codes "resource") ≡ resource)
+IsOf (check config resource) verb options =
+    (verb ≡ Check)
+    × (value_of options (codes "config") ≡ Some config)
+    × (value_of options (codes "resource") ≡ resource)
 IsOf inspect verb options = verb ≡ Inspect
 
 -- which commands are built
@@ -61,9 +68,8 @@ AskReplicas words = (verb : Verb) × (options : List (List ℕ × List ℕ)) × 
 abbrev pub AskSize : List (List ℕ) → Type 0
 AskSize words = (verb : Verb) × (options : List (List ℕ × List ℕ)) × Means words verb options × (replicas_of options ≤ 16) × IsAboveSize options
 
--- the most bytes that the command takes as its input
-abbrev pub input_limit : Command → ℕ
-input_limit (encrypt config resource path) = 2097152
-input_limit (decrypt config resource path) = 2162688
-input_limit (check config resource) = 0
-input_limit inspect = 2162688
+-- the words stop so before anything is done
+abbrev pub AskBadly : BadWords → List (List ℕ) → Type 0
+AskBadly Usage words = AskNothing words
+AskBadly Replicas words = AskReplicas words
+AskBadly Size words = AskSize words

@@ -1,11 +1,9 @@
 pub mod Check
 pub mod Command
+pub mod Commands
 pub mod Configuration
-pub mod Decrypt
-pub mod Encrypt
 pub mod Inspect
 pub mod Message
-pub mod Phases
 pub mod Ran
 pub mod Steps
-pub mod Trace
+pub mod inner

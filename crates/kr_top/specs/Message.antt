@@ -1,32 +1,43 @@
 -- What a command says at its end: its status, and its line on the errors sink.
-use Rattle.std.specs.Prelude.{ℕ, ◌==◌, List, [], ◌∷◌, ◌++◌, codes, decimal, Result, Ok, Err, if◌then◌else◌}
-use Rattle.std.specs.Borrow.{Bor}
+use Rattle.std.specs.Prelude.{ℕ, ◌==◌, List, [], ◌++◌, codes, decimal, Result, Ok, Err, if◌then◌else◌}
 use Rattle.kr_config.specs.declared.refusal.ConfigNo.{ConfigNo}
+use Rattle.kr_provider.specs.Refusals.{number_of, name_of}
 use Rattle.kr_top.specs.declared.refusal.Object.{Object}
 use Rattle.kr_top.specs.declared.refusal.Object.TheVariants.{Input, Output, Files, Dice}
 use Rattle.kr_top.specs.declared.refusal.Refusal.{Refusal}
-use Rattle.kr_top.specs.declared.refusal.Refusal.TheVariants.{Usage, Replicas, Size, Absent, LongConfiguration, Configuration, NotServed, LongData, LongValue, Value, Placed}
+use Rattle.kr_top.specs.declared.refusal.Refusal.TheVariants.{Absent, LongConfiguration, Configuration, NotServed, LongData, LongValue, Value, Placed}
+use Rattle.kr_top.specs.declared.refusal.BadWords.{BadWords}
+use Rattle.kr_top.specs.declared.refusal.BadWords.TheVariants.{Usage, Replicas, Size}
 use Rattle.kr_top.specs.declared.refusal.Stop.{Stop}
-use Rattle.kr_top.specs.declared.refusal.Stop.TheVariants.{Refused, Fault, NoMemory}
+use Rattle.kr_top.specs.declared.refusal.Stop.TheVariants.{Words, Refused, Fault, NoMemory}
 use Rattle.kr_top.specs.declared.refusal.Done.{Done}
 use Rattle.kr_top.specs.declared.refusal.Done.TheVariants.{Silent, Fresh, Stale}
 
+abbrev pub status_of_words : BadWords → ℕ
+status_of_words Usage = 2
+status_of_words Replicas = 6
+status_of_words Size = 6
+
+-- a value may be written with a status of its own
+abbrev pub status_of_done : Done → ℕ
+status_of_done Silent = 0
+status_of_done Fresh = 0
+status_of_done Stale = 0
+
 -- code 39 of a configuration is a limit
 abbrev pub status_of_refusal : Refusal → ℕ
-status_of_refusal Usage = 2
-status_of_refusal Replicas = 6
-status_of_refusal Size = 6
 status_of_refusal (Absent name) = 3
 status_of_refusal LongConfiguration = 6
 status_of_refusal (Configuration why) = if why.code == 39 then 6 else 3
 status_of_refusal NotServed = 3
 status_of_refusal LongData = 6
 status_of_refusal LongValue = 6
-status_of_refusal (Value number) = 1
-status_of_refusal (Placed number at) = 1
+status_of_refusal (Value why) = 1
+status_of_refusal (Placed why at) = 1
 
 abbrev pub status_of : Result Done Stop → ℕ
-status_of (Ok done) = 0
+status_of (Ok done) = status_of_done done
+status_of (Err (Words why)) = status_of_words why
 status_of (Err (Refused why)) = status_of_refusal why
 status_of (Err (Fault object count)) = 4
 status_of (Err NoMemory) = 5
@@ -40,25 +51,21 @@ configuration_line why = if why.code == 39
     then codes "kmsrest: limit " ++ (counted_text why.first ++ (codes " " ++ (decimal why.second ++ codes "\n")))
     else codes "kmsrest: text " ++ (decimal why.code ++ (codes " " ++ (decimal why.first ++ (codes " " ++ (decimal why.second ++ codes "\n")))))
 
--- the names of the refusals of a value
-abbrev pub value_text : ℕ → List ℕ
-value_text number = if number == 1 then codes "Short" else if number == 2 then codes "BadBlock" else if number == 3 then codes "BadPadding" else if number == 4 then codes "BadTag"
-    else if number == 5 then codes "Wire" else if number == 6 then codes "KeyId" else if number == 7 then codes "Source" else if number == 8 then codes "Annotations"
-    else if number == 9 then codes "SourceType" else if number == 10 then codes "NoData" else if number == 11 then codes "NotUtf8" else if number == 12 then codes "NoProvider"
-    else if number == 13 then codes "LooksEncrypted" else if number == 14 then codes "TooLarge" else codes "SeedLength"
+abbrev pub words_line : BadWords → List ℕ
+words_line Usage = codes "kmsrest: usage: kmsrest COMMAND OPTIONS\n"
+words_line Replicas = codes "kmsrest: limit replicas 16\n"
+words_line Size = codes "kmsrest: limit size 10000\n"
 
 abbrev pub refusal_line : Refusal → List ℕ
-refusal_line Usage = codes "kmsrest: usage: kmsrest COMMAND OPTIONS\n"
-refusal_line Replicas = codes "kmsrest: limit replicas 16\n"
-refusal_line Size = codes "kmsrest: limit size 10000\n"
 refusal_line (Absent name) = codes "kmsrest: text 40 " ++ (name ++ codes "\n")
 refusal_line LongConfiguration = codes "kmsrest: limit config 1048576\n"
 refusal_line (Configuration why) = configuration_line why
 refusal_line NotServed = codes "kmsrest: text 50 0 0\n"
 refusal_line LongData = codes "kmsrest: limit data 2097152\n"
 refusal_line LongValue = codes "kmsrest: limit value 2162688\n"
-refusal_line (Value number) = codes "kmsrest: refused " ++ (decimal number ++ (codes " " ++ (value_text number ++ codes "\n")))
-refusal_line (Placed number at) = codes "kmsrest: refused " ++ (decimal number ++ (codes " " ++ (value_text number ++ (codes " " ++ (decimal at ++ codes "\n")))))
+refusal_line (Value why) = codes "kmsrest: refused " ++ (decimal (number_of why) ++ (codes " " ++ (name_of why ++ codes "\n")))
+refusal_line (Placed why at) =
+    codes "kmsrest: refused " ++ (decimal (number_of why) ++ (codes " " ++ (name_of why ++ (codes " " ++ (decimal at ++ codes "\n")))))
 
 abbrev pub object_text : Object → List ℕ
 object_text Input = codes "input"
@@ -69,11 +76,6 @@ object_text (Dice seat) = codes "dice " ++ decimal seat
 abbrev pub fault_line : Object → ℕ → List ℕ
 fault_line object count = codes "kmsrest: fault " ++ (object_text object ++ (codes " " ++ (decimal count ++ codes "\n")))
 
--- pieces of text, one behind another
-abbrev pub joined : List (Bor (List ℕ)) → List ℕ
-joined [] = []
-joined (piece ∷ pieces) = piece.now ++ joined pieces
-
 -- decrypt says whether the value is one that the resource's writer would write today
 abbrev pub done_line : Done → List ℕ
 done_line Silent = []
@@ -82,6 +84,7 @@ done_line Stale = codes "stale\n"
 
 abbrev pub line_of : Result Done Stop → List ℕ
 line_of (Ok done) = done_line done
+line_of (Err (Words why)) = words_line why
 line_of (Err (Refused why)) = refusal_line why
 line_of (Err (Fault object count)) = fault_line object count
 line_of (Err NoMemory) = codes "kmsrest: memory\n"

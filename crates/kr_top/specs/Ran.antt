@@ -1,24 +1,18 @@
 -- What a call of `run` did: one relation for all commands.
-use Rattle.std.specs.Prelude.{◌≡◌, ℕ, ◌≤◌, ◌⊎◌, Bool, true, false, List, Option, Result, Ok, Err, ⊤}
-use Rattle.std.specs.Io.KnownBytes.{Keeps, Appends, Consumes}
+use Rattle.std.specs.Prelude.{◌≡◌, ℕ, ◌≤◌, ◌⊎◌, List, Option, None, Some, IsSome, Result, Ok, Err, ⊤}
+use Rattle.std.specs.Io.KnownBytes.{Keeps, Appends}
 use Rattle.kr_base.specs.Faults.{Rose}
 use Rattle.kr_base.specs.Streams.{AppendsFront}
-use Rattle.kr_kms.specs.Outside.{Outside, KeepsFiles, KeepsDice}
-use Rattle.kr_top.specs.Command.{Command, encrypt, decrypt, check, inspect, Asks, AskNothing, AskReplicas, AskSize, input_limit}
-use Rattle.kr_top.specs.Trace.{Sight, Outcome, awaits, refuses, gives, strays, object_at, SawFiles, SawInput, input_of, drawn_of}
-use Rattle.kr_config.specs.Kept.{Row}
-use Rattle.kr_top.specs.Steps.{IsRead, from_file}
-use Rattle.kr_top.specs.Encrypt.{sealing}
-use Rattle.kr_top.specs.Decrypt.{unsealing}
-use Rattle.kr_top.specs.Check.{check_outcome}
-use Rattle.kr_top.specs.Inspect.{InspectComes}
-use Rattle.kr_top.specs.Message.{status_of, status_of_refusal, line_of, done_line}
+use Rattle.kr_kms.specs.Outside.{Outside, KeepsFiles, KeepsDice, file_faults}
+use Rattle.kr_top.specs.Command.{Command, Asks, AskNothing, AskReplicas, AskSize, AskBadly}
+use Rattle.kr_top.specs.Commands.{steps}
+use Rattle.kr_top.specs.Message.{status_of, status_of_done, status_of_refusal, line_of, done_line}
+use Rattle.kr_top.specs.Steps.{Steps, Call, loading, reading, opening, drawing, writing, object_of, Point, awaits, refuses, gives, Left, Goes}
 use Rattle.kr_top.specs.declared.refusal.Object.{Object}
 use Rattle.kr_top.specs.declared.refusal.Object.TheVariants.{Input, Output, Files, Dice}
 use Rattle.kr_top.specs.declared.refusal.Refusal.{Refusal}
-use Rattle.kr_top.specs.declared.refusal.Refusal.TheVariants.{Usage, Replicas, Size, Absent, LongConfiguration, Configuration, NotServed, LongData, LongValue, Value, Placed}
 use Rattle.kr_top.specs.declared.refusal.Stop.{Stop}
-use Rattle.kr_top.specs.declared.refusal.Stop.TheVariants.{Refused, Fault, NoMemory}
+use Rattle.kr_top.specs.declared.refusal.Stop.TheVariants.{Words, Refused, Fault, NoMemory}
 use Rattle.kr_top.specs.declared.refusal.Done.{Done}
 
 -- what is around a command: the world, the input and the output, each with what it tells and its count of faults
@@ -29,6 +23,15 @@ pub record Around : Type 0 where
   pub output : Option (List ℕ)
   pub output_faults : ℕ
 
+abbrev pub around : Outside → Option (List ℕ) → ℕ → Option (List ℕ) → ℕ → Around
+around world input input_faults output output_faults = record {
+  world = world;
+  input = input;
+  input_faults = input_faults;
+  output = output;
+  output_faults = output_faults;
+}
+
 -- a sink before and after a call, each with its count of faults
 pub record Sunk : Type 0 where
   pub old : Option (List ℕ)
@@ -36,46 +39,58 @@ pub record Sunk : Type 0 where
   pub old_faults : ℕ
   pub new_faults : ℕ
 
--- what the steps of a command make of what it saw
-abbrev pub ComesTo : Command → List Sight → Outcome → Type 0
-ComesTo (encrypt config resource path) trace outcome = (read : Result (List Row) Refusal) × IsRead config trace read × (from_file 2097152 LongData (sealing resource path) read config trace ≡ outcome)
-ComesTo (decrypt config resource path) trace outcome = (read : Result (List Row) Refusal) × IsRead config trace read × (from_file 2162688 LongValue (unsealing resource path) read config trace ≡ outcome)
-ComesTo (check config resource) trace outcome = (read : Result (List Row) Refusal) × IsRead config trace read × (check_outcome read config resource trace ≡ outcome)
-ComesTo inspect trace outcome = InspectComes trace outcome
+abbrev pub sunk : (old new : Option (List ℕ)) (old_faults new_faults : ℕ) → Sunk
+sunk old new old_faults new_faults = record { old = old; new = new; old_faults = old_faults; new_faults = new_faults }
 
+-- ---- faults
+
+-- the faults of a kind of call
+abbrev pub faults_at : Call → Around → ℕ
+faults_at loading around = around.world.load_faults
+faults_at reading around = around.input_faults
+faults_at opening around = around.world.open_faults
+faults_at (drawing seat) around = around.world.dice_faults seat
+faults_at writing around = around.output_faults
+
+-- the faults of an object
 abbrev pub count_at : Object → Around → ℕ
 count_at Input around = around.input_faults
 count_at Output around = around.output_faults
-count_at Files around = around.world.file_faults
+count_at Files around = file_faults around.world
 count_at (Dice seat) around = around.world.dice_faults seat
 
--- the count of the object rose to this
-abbrev pub IsFault : Object → ℕ → Around → Around → Type 0
-IsFault object count old new = Rose (count_at object old) (count_at object new) × (count ≡ count_at object new)
+-- the call failed: its count rose, and the object's count is this
+abbrev pub IsFault : Call → Object → ℕ → Around → Around → Type 0
+IsFault call object count old new =
+    (object ≡ object_of call) × Rose (faults_at call old) (faults_at call new) × (count ≡ count_at (object_of call) new)
 
--- it was cut short by a fault or by want of memory
-abbrev pub is_cut : Result Done Stop → Bool
-is_cut (Ok done) = false
-is_cut (Err (Refused why)) = false
-is_cut (Err (Fault object count)) = true
-is_cut (Err NoMemory) = true
+-- ---- what a command did
 
--- how a command ends by the outcome of what it saw: a fault stands only at the step that comes next, so in place of no
--- refusal, or at the output; want of memory alone is free
-abbrev pub Ends : Outcome → Around → Around → Result Done Stop → Type 0
-Ends (gives value done) old new (Ok d) = (d ≡ done) × Appends old.output new.output value
-Ends (gives value done) old new (Err (Refused why)) = ⊥
-Ends (gives value done) old new (Err (Fault object count)) = (object ≡ Output) × IsFault object count old new × AppendsFront old.output new.output value
-Ends (gives value done) old new (Err NoMemory) = Keeps old.output new.output
-Ends (refuses why) old new (Ok d) = ⊥
+-- how a command ends at a point: a fault stands only for the call that comes next; want of memory alone is free
+abbrev pub Ends : Point → Around → Around → Result Done Stop → Type 0
+Ends (awaits call) old new (Err (Fault object count)) =
+    IsFault call object count old new × Keeps old.output new.output
 Ends (refuses why) old new (Err (Refused r)) = (r ≡ why) × Keeps old.output new.output
-Ends (refuses why) old new (Err (Fault object count)) = ⊥
-Ends (refuses why) old new (Err NoMemory) = Keeps old.output new.output
-Ends (awaits step) old new (Ok d) = ⊥
-Ends (awaits step) old new (Err (Refused why)) = ⊥
-Ends (awaits step) old new (Err (Fault object count)) = (object ≡ object_at step) × IsFault object count old new × Keeps old.output new.output
-Ends (awaits step) old new (Err NoMemory) = Keeps old.output new.output
-Ends strays old new result = ⊥
+Ends (gives value done) old new (Ok d) = (d ≡ done) × Appends old.output new.output value
+Ends (gives value done) old new (Err (Fault object count)) =
+    IsFault writing object count old new × AppendsFront old.output new.output value
+Ends point old new (Err NoMemory) = Keeps old.output new.output
+Ends point old new result = ⊥
+
+-- nothing was consumed but by the steps
+pub record Stays (left : Left) (new : Around) : Type 0 where
+  pub input : Keeps left.input new.input
+  pub dice : (seat : ℕ) → Keeps (left.dice seat) (new.world.dice seat)
+
+abbrev pub left_of : Around → Left
+left_of around = record { input = around.input; dice = around.world.dice }
+
+abbrev pub EndsAt : Around → Around → Result Done Stop → Point → Left → Type 0
+EndsAt old new result point left = Stays left new × Ends point old new result
+
+-- from here the steps went to a point, and there it ended so
+pub record Ended (old new : Around) (result : Result Done Stop) (next : Steps) (left : Left) : Type 0 where
+  pub goes : Goes old.world.file (EndsAt old new result) next left
 
 -- the files are the same, all that was handed out is back, and no count fell
 pub record IsHome (old new : Around) : Type 0 where
@@ -85,42 +100,26 @@ pub record IsHome (old new : Around) : Type 0 where
   pub input : old.input_faults ≤ new.input_faults
   pub output : old.output_faults ≤ new.output_faults
 
--- a command saw something of the outside, step by step, and ended so
 pub record Did (command : Command) (old new : Around) (result : Result Done Stop) : Type 0 where
-  pub trace : List Sight
-  pub files : SawFiles old.world trace
-  pub input : SawInput (input_limit command) old.input new.input (input_of trace) (is_cut result)
-  pub dice : (seat : ℕ) → Consumes (old.world.dice seat) (new.world.dice seat) (drawn_of seat trace)
-  pub outcome : Outcome
-  pub comes : ComesTo command trace outcome
-  pub ends : Ends outcome old new result
+  pub ended : Ended old new result (steps command) (left_of old)
   pub home : IsHome old new
+
+-- ---- what a call did
 
 -- nothing around was touched
 pub record IsUntouched (old new : Around) : Type 0 where
   pub files : (name : List ℕ) → new.world.file name ≡ old.world.file name
-  pub file_faults : new.world.file_faults ≡ old.world.file_faults
+  pub loads : new.world.load_faults ≡ old.world.load_faults
+  pub opens : new.world.open_faults ≡ old.world.open_faults
   pub dice : KeepsDice old.world new.world
   pub input : (new.input ≡ old.input) × (new.input_faults ≡ old.input_faults)
   pub output : (new.output ≡ old.output) × (new.output_faults ≡ old.output_faults)
 
--- the words mean no command, or one that isn't built, or one that passes a limit of the command line; or there was no
--- memory for them
+-- the words stop the call before a step, or there was no memory for them
 abbrev pub Stops : List (List ℕ) → Result Done Stop → Type 0
-Stops words (Ok done) = ⊥
-Stops words (Err (Refused Usage)) = AskNothing words
-Stops words (Err (Refused Replicas)) = AskReplicas words
-Stops words (Err (Refused Size)) = AskSize words
-Stops words (Err (Refused (Absent name))) = ⊥
-Stops words (Err (Refused LongConfiguration)) = ⊥
-Stops words (Err (Refused (Configuration why))) = ⊥
-Stops words (Err (Refused NotServed)) = ⊥
-Stops words (Err (Refused LongData)) = ⊥
-Stops words (Err (Refused LongValue)) = ⊥
-Stops words (Err (Refused (Value number))) = ⊥
-Stops words (Err (Refused (Placed number at))) = ⊥
-Stops words (Err (Fault object count)) = ⊥
+Stops words (Err (Words why)) = AskBadly why words
 Stops words (Err NoMemory) = ⊤
+Stops words result = ⊥
 
 -- the words ask for a command and it ended so; or they stop it before anything was touched
 abbrev pub Answers : List (List ℕ) → Around → Around → Result Done Stop → Type 0
@@ -147,22 +146,33 @@ pub record Ran (words : List (List ℕ)) (old new : Around) (errors : Sunk) (sta
 abbrev pub IsUsage : List (List ℕ) → Sunk → ℕ → Type 0
 IsUsage words errors status =
     (status ≡ 2 → AskNothing words)
-    × (AskNothing words → (status ≡ 2) ⊎ (status ≡ 5) ⊎ ((status ≡ 6) × (AskReplicas words ⊎ AskSize words)) ⊎ ((status ≡ 4) × Rose errors.old_faults errors.new_faults))
+    × (AskNothing words →
+    (status ≡ 2)
+    ⊎ (status ≡ 5)
+    ⊎ ((status ≡ 6) × (AskReplicas words ⊎ AskSize words))
+    ⊎ ((status ≡ 4) × Rose errors.old_faults errors.new_faults))
 
--- status 4 comes only where the count of an object rose
-abbrev pub IsCaused : Around → Around → Sunk → ℕ → Type 0
-IsCaused old new errors status =
-    status ≡ 4 → ((object : Object) × Rose (count_at object old) (count_at object new)) ⊎ Rose errors.old_faults errors.new_faults
-
--- the command saw something by which its steps come to this outcome
-pub record Comes (words : List (List ℕ)) (old new : Around) (outcome : Outcome) : Type 0 where
+-- the words ask for a command whose steps come to this point
+pub record Comes (words : List (List ℕ)) (old new : Around) (point : Point) : Type 0 where
   pub command : Command
   pub asks : Asks words command
-  pub trace : List Sight
-  pub files : SawFiles old.world trace
-  pub input : SawInput (input_limit command) old.input new.input (input_of trace) false
-  pub dice : (seat : ℕ) → Consumes (old.world.dice seat) (new.world.dice seat) (drawn_of seat trace)
-  pub comes : ComesTo command trace outcome
+  pub goes : Goes old.world.file (λ at left. (at ≡ point) × Stays left new) (steps command) (left_of old)
+
+-- the steps come to this call and nothing was written; or to a value, of which a prefix was written
+abbrev pub IsCut : List (List ℕ) → Around → Around → Call → Type 0
+IsCut words old new call =
+    (Comes words old new (awaits call) × Keeps old.output new.output)
+    ⊎ ((call ≡ writing) × (value : List ℕ) × (done : Done) × Comes words old new (gives value done)
+    × AppendsFront old.output new.output value)
+
+-- status 4 comes only where the command was cut at a call that failed, so that its count and its object's rose, or where
+-- the line couldn't be written
+abbrev pub IsCaused : List (List ℕ) → Around → Around → Sunk → ℕ → Type 0
+IsCaused words old new errors status =
+    status ≡ 4
+    → ((call : Call) × IsCut words old new call × Rose (faults_at call old) (faults_at call new)
+    × Rose (count_at (object_of call) old) (count_at (object_of call) new))
+    ⊎ Rose errors.old_faults errors.new_faults
 
 -- status 1, 3 or 6 comes only where a step refuses so, or, status 6, where the words pass a limit; nothing was written then
 abbrev pub IsRefused : List (List ℕ) → Around → Around → ℕ → Type 0
@@ -171,7 +181,31 @@ IsRefused words old new status =
     → ((why : Refusal) × Comes words old new (refuses why) × (status_of_refusal why ≡ status) × Keeps old.output new.output)
     ⊎ ((status ≡ 6) × (AskReplicas words ⊎ AskSize words) × IsUntouched old new)
 
+-- the files and the input are told
+pub record IsTelling (old : Around) : Type 0 where
+  pub files : (name : List ℕ) → IsSome (old.world.file name)
+  pub input : IsSome old.input
+
+-- the steps of a command over the told files and input, and some drawn bytes, come to this point
+abbrev pub WouldCome : Command → Around → Point → Type 0
+WouldCome command old point = Goes old.world.file (λ at left. at ≡ point) (steps command) (left_of old)
+
+-- the status at the last step of a command
+abbrev pub status_at : Point → Option ℕ
+status_at (refuses why) = Some (status_of_refusal why)
+status_at (gives value done) = Some (status_of_done done)
+status_at point = None
+
+-- where the files and the input are told, the last step that the command comes to decides the status; only a fault, 4, and
+-- want of memory, 5, stand in its place. So 1, 3 and 6 come exactly where that step refuses so
+abbrev pub IsDecided : List (List ℕ) → Around → ℕ → Type 0
+IsDecided words old status =
+    (command : Command) (point : Point) (decided : ℕ) → Asks words command → IsTelling old → WouldCome command old point
+    → status_at point ≡ Some decided → (status ≡ decided) ⊎ (status ≡ 4) ⊎ (status ≡ 5)
+
 -- status 0 comes only where the steps give a value, and then just that was written, and its line
 abbrev pub IsDone : List (List ℕ) → Around → Around → Sunk → ℕ → Type 0
 IsDone words old new errors status =
-    status ≡ 0 → (value : List ℕ) × (done : Done) × Comes words old new (gives value done) × Appends old.output new.output value × Appends errors.old errors.new (done_line done)
+    status ≡ 0
+    → (value : List ℕ) × (done : Done) × Comes words old new (gives value done)
+    × Appends old.output new.output value × Appends errors.old errors.new (done_line done)

@@ -1,51 +1,79 @@
--- The steps that commands on one object have in common: configuration, input, random source.
-use Rattle.std.specs.Prelude.{ℕ, zero, suc, List, [], ◌∷◌, length, nat_lt, Result, Ok, Err, if◌then◌else◌, ⊤}
-use Rattle.std.specs.Str.{bytes_eq}
-use Rattle.kr_config.specs.Kept.{Row}
-use Rattle.kr_provider.specs.Publication.{names_plugin}
-use Rattle.kr_top.specs.Configuration.{IsConfiguration}
-use Rattle.kr_top.specs.Trace.{Sight, loaded, taken, opened, drawn, load_file, take_input, open_dice, Outcome, awaits, refuses, strays, at_last}
+-- What a command asks of the outside, step by step, and how it goes on by what it saw.
+use Rattle.std.specs.Prelude.{◌≡◌, ℕ, ◌+◌, ◌≤◌, ◌==◌, ◌⊎◌, List, length, Option, if◌then◌else◌}
+use Rattle.std.specs.Io.KnownBytes.{Consumes, IsAtEnd}
+use Rattle.kr_base.specs.Told.{Agrees}
+use Rattle.kr_top.specs.declared.refusal.Object.{Object}
+use Rattle.kr_top.specs.declared.refusal.Object.TheVariants.{Input, Output, Files, Dice}
 use Rattle.kr_top.specs.declared.refusal.Refusal.{Refusal}
-use Rattle.kr_top.specs.declared.refusal.Refusal.TheVariants.{NotServed}
+use Rattle.kr_top.specs.declared.refusal.Done.{Done}
 
--- a configuration that names a plugin isn't served
-abbrev pub served : Result (List Row) Refusal → Result (List Row) Refusal
-served (Ok rows) = if names_plugin rows then Err NotServed else Ok rows
-served (Err why) = Err why
+pub data Steps : Type 1 where
+  -- a file by its name: absent, or its bytes
+  load : List ℕ → (Option (List ℕ) → Steps) → Steps
+  -- the whole input of at most so many bytes; more are refused so
+  take_input : ℕ → Refusal → (List ℕ → Steps) → Steps
+  -- the random source of a seat
+  borrow_dice : ℕ → Steps → Steps
+  -- so many bytes of the random source of a seat
+  draw : (seat size : ℕ) → (List ℕ → Steps) → Steps
+  -- nothing is asked: a thing of which this holds
+  find : (A : Type 0) → (A → Type 0) → (A → Steps) → Steps
+  refuse : Refusal → Steps
+  -- the output, and what is said beside it
+  give : List ℕ → Done → Steps
 
--- what the file is read as that a command saw first
-abbrev pub IsRead : List ℕ → List Sight → Result (List Row) Refusal → Type 0
-IsRead config [] read = ⊤
-IsRead config (loaded name file ∷ rest) read = IsConfiguration config file read
-IsRead config (taken bytes ∷ rest) read = ⊤
-IsRead config (opened seat ∷ rest) read = ⊤
-IsRead config (drawn seat bytes ∷ rest) read = ⊤
+-- the kinds of calls on the outside, each with a count of faults
+pub data Call : Type 0 where
+  loading : Call
+  reading : Call
+  opening : Call
+  drawing : (seat : ℕ) → Call
+  writing : Call
 
--- an input of more than the limit is refused so; what comes after the random source is handed in
-module _ (limit : ℕ) (long : Refusal) (after : List Row → List ℕ → List Sight → Outcome) where
-  abbrev pub from_dice : List Row → List ℕ → List Sight → Outcome
-  from_dice rows bytes [] = awaits (open_dice 0)
-  from_dice rows bytes (loaded name file ∷ rest) = strays
-  from_dice rows bytes (taken other ∷ rest) = strays
-  from_dice rows bytes (opened zero ∷ rest) = after rows bytes rest
-  from_dice rows bytes (opened (suc seat) ∷ rest) = strays
-  from_dice rows bytes (drawn seat other ∷ rest) = strays
+-- the object that a call is made on
+abbrev pub object_of : Call → Object
+object_of loading = Files
+object_of reading = Input
+object_of opening = Files
+object_of (drawing seat) = Dice seat
+object_of writing = Output
 
-  abbrev pub from_input : List Row → List Sight → Outcome
-  from_input rows [] = awaits take_input
-  from_input rows (loaded name file ∷ rest) = strays
-  from_input rows (taken bytes ∷ rest) = if nat_lt limit (length bytes) then at_last rest (refuses long) else from_dice rows bytes rest
-  from_input rows (opened seat ∷ rest) = strays
-  from_input rows (drawn seat other ∷ rest) = strays
+-- where steps may end: at a call that comes next, between two of them, or at their last
+pub data Point : Type 0 where
+  awaits : Call → Point
+  amid : Point
+  refuses : Refusal → Point
+  gives : List ℕ → Done → Point
 
-  abbrev pub by_rows : Result (List Row) Refusal → List Sight → Outcome
-  by_rows (Ok rows) rest = from_input rows rest
-  by_rows (Err why) rest = at_last rest (refuses why)
+-- what the steps so far left of the input and of the random source of each seat, where these are told
+pub record Left : Type 0 where
+  pub input : Option (List ℕ)
+  pub dice : ℕ → Option (List ℕ)
 
-  -- the file is read as this
-  abbrev pub from_file : Result (List Row) Refusal → List ℕ → List Sight → Outcome
-  from_file read config [] = awaits (load_file config)
-  from_file read config (loaded name file ∷ rest) = if bytes_eq name config then by_rows (served read) rest else strays
-  from_file read config (taken bytes ∷ rest) = strays
-  from_file read config (opened seat ∷ rest) = strays
-  from_file read config (drawn seat bytes ∷ rest) = strays
+abbrev pub with_input : Option (List ℕ) → Left → Left
+with_input rest left = record left { input = rest }
+
+abbrev pub with_dice : ℕ → Option (List ℕ) → Left → Left
+with_dice seat rest left = record left { dice = λ other. if seat == other then rest else left.dice other }
+
+-- the steps went over the files of a world to some point, where this holds of what is left; `file` is a file by its name,
+-- where the world tells it
+module _ (file : List ℕ → Option (Option (List ℕ))) (At : Point → Left → Type 0) where
+  abbrev pub Goes : Steps → Left → Type 0
+  Goes (load name next) left =
+      At (awaits loading) left
+      ⊎ ((bytes : Option (List ℕ)) × Agrees (file name) bytes × Goes (next bytes) left)
+  Goes (take_input limit long next) left =
+      (bytes : List ℕ) × (rest : Option (List ℕ)) × Consumes left.input rest bytes × (
+      ((length bytes ≤ limit) × At (awaits reading) (with_input rest left))
+      ⊎ ((length bytes ≡ limit + 1) × At (refuses long) (with_input rest left))
+      ⊎ ((length bytes ≤ limit) × IsAtEnd rest × Goes (next bytes) (with_input rest left))
+      )
+  Goes (borrow_dice seat next) left = At (awaits opening) left ⊎ Goes next left
+  Goes (draw seat size next) left =
+      At (awaits (drawing seat)) left
+      ⊎ ((bytes : List ℕ) × (rest : Option (List ℕ)) × Consumes (left.dice seat) rest bytes × (length bytes ≡ size)
+      × Goes (next bytes) (with_dice seat rest left))
+  Goes (find A P next) left = At amid left ⊎ ((a : A) × P a × Goes (next a) left)
+  Goes (refuse why) left = At (refuses why) left
+  Goes (give value done) left = At (gives value done) left

@@ -1,16 +1,17 @@
+//! The call that does a command.
 ghost use Rattle.std.specs.Prelude.{◌≡◌, ◌⊎◌, ◌≤◌, length};
 ghost use Rattle.std.specs.Option.{option_copied};
 ghost use Rattle.kr_words.specs.Grammar.{texts};
 ghost use Rattle.kr_words.specs.Options.{value_of};
 ghost use Rattle.kr_words.specs.Rules.{IsCommand};
 ghost use Rattle.kr_top.specs.Command.{Command, check, IsOf, IsOfObject};
-ghost use Rattle.kr_top.specs.Ran.{Around, Sunk, Ran, Answers, IsUsage, IsCaused, IsRefused, IsDone};
+ghost use Rattle.kr_top.specs.Ran.{around, sunk, Ran, Answers, IsUsage, IsCaused, IsRefused, IsDecided, IsDone};
 
 use crate::check::{CheckWords, check};
 use crate::convert::{Direction, ObjectWords, convert};
 use crate::inspect::inspect;
 use crate::message::tell;
-use crate::refusal::{Done, Refusal, Stop};
+use crate::refusal::{BadWords, Done, Stop};
 use kr_base::{Sink, Source};
 use kr_kms::World;
 use kr_words::{Verb, WordsNo, one_meaning, read_words};
@@ -28,28 +29,31 @@ pub fn run<W: World, I: Source, O: Sink, E: Sink>(
     errors: &mut E,
 ) -> u8
     ensures ran { Ran (texts words.now)
-        (record { world = W.told world.old; input = I.left input.old; input_faults = I.count input.old; output = O.held output.old; output_faults = O.count output.old })
-        (record { world = W.told world.new; input = I.left input.new; input_faults = I.count input.new; output = O.held output.new; output_faults = O.count output.new })
-        (record { old = E.held errors.old; new = E.held errors.new; old_faults = E.count errors.old; new_faults = E.count errors.new })
+        (around (W.told world.old) (I.left input.old) (I.count input.old) (O.held output.old) (O.count output.old))
+        (around (W.told world.new) (I.left input.new) (I.count input.new) (O.held output.new) (O.count output.new))
+        (sunk (E.held errors.old) (E.held errors.new) (E.count errors.old) (E.count errors.new))
         result }
 
     // What follows from that, for readers.
     ensures usage { IsUsage (texts words.now)
-        (record { old = E.held errors.old; new = E.held errors.new; old_faults = E.count errors.old; new_faults = E.count errors.new })
+        (sunk (E.held errors.old) (E.held errors.new) (E.count errors.old) (E.count errors.new))
         result }
-    ensures caused { IsCaused
-        (record { world = W.told world.old; input = I.left input.old; input_faults = I.count input.old; output = O.held output.old; output_faults = O.count output.old })
-        (record { world = W.told world.new; input = I.left input.new; input_faults = I.count input.new; output = O.held output.new; output_faults = O.count output.new })
-        (record { old = E.held errors.old; new = E.held errors.new; old_faults = E.count errors.old; new_faults = E.count errors.new })
+    ensures caused { IsCaused (texts words.now)
+        (around (W.told world.old) (I.left input.old) (I.count input.old) (O.held output.old) (O.count output.old))
+        (around (W.told world.new) (I.left input.new) (I.count input.new) (O.held output.new) (O.count output.new))
+        (sunk (E.held errors.old) (E.held errors.new) (E.count errors.old) (E.count errors.new))
         result }
     ensures refused { IsRefused (texts words.now)
-        (record { world = W.told world.old; input = I.left input.old; input_faults = I.count input.old; output = O.held output.old; output_faults = O.count output.old })
-        (record { world = W.told world.new; input = I.left input.new; input_faults = I.count input.new; output = O.held output.new; output_faults = O.count output.new })
+        (around (W.told world.old) (I.left input.old) (I.count input.old) (O.held output.old) (O.count output.old))
+        (around (W.told world.new) (I.left input.new) (I.count input.new) (O.held output.new) (O.count output.new))
+        result }
+    ensures decided { IsDecided (texts words.now)
+        (around (W.told world.old) (I.left input.old) (I.count input.old) (O.held output.old) (O.count output.old))
         result }
     ensures done { IsDone (texts words.now)
-        (record { world = W.told world.old; input = I.left input.old; input_faults = I.count input.old; output = O.held output.old; output_faults = O.count output.old })
-        (record { world = W.told world.new; input = I.left input.new; input_faults = I.count input.new; output = O.held output.new; output_faults = O.count output.new })
-        (record { old = E.held errors.old; new = E.held errors.new; old_faults = E.count errors.old; new_faults = E.count errors.new })
+        (around (W.told world.old) (I.left input.old) (I.count input.old) (O.held output.old) (O.count output.old))
+        (around (W.told world.new) (I.left input.new) (I.count input.new) (O.held output.new) (O.count output.new))
+        (sunk (E.held errors.old) (E.held errors.new) (E.count errors.old) (E.count errors.new))
         result }
 {
     let answer = answer(alloc, words, world, input, output);
@@ -65,15 +69,15 @@ fn answer<W: World, I: Source, O: Sink>(
     output: &mut O,
 ) -> Result<Done, Stop>
     ensures { Answers (texts words.now)
-        (record { world = W.told world.old; input = I.left input.old; input_faults = I.count input.old; output = O.held output.old; output_faults = O.count output.old })
-        (record { world = W.told world.new; input = I.left input.new; input_faults = I.count input.new; output = O.held output.new; output_faults = O.count output.new })
+        (around (W.told world.old) (I.left input.old) (I.count input.old) (O.held output.old) (O.count output.old))
+        (around (W.told world.new) (I.left input.new) (I.count input.new) (O.held output.new) (O.count output.new))
         result }
 {
     let command = match read_words(alloc, words) {
         Ok(command) => command,
-        Err(WordsNo::Usage) => return Err(Stop::Refused(Refusal::Usage)),
-        Err(WordsNo::Replicas) => return Err(Stop::Refused(Refusal::Replicas)),
-        Err(WordsNo::Size) => return Err(Stop::Refused(Refusal::Size)),
+        Err(WordsNo::Usage) => return Err(Stop::Words(BadWords::Usage)),
+        Err(WordsNo::Replicas) => return Err(Stop::Words(BadWords::Replicas)),
+        Err(WordsNo::Size) => return Err(Stop::Words(BadWords::Size)),
         Err(WordsNo::NoMemory) => return Err(Stop::NoMemory),
     };
     match command.verb {
@@ -95,7 +99,7 @@ fn answer<W: World, I: Source, O: Sink>(
         ),
         Verb::Inspect => inspect(alloc, input, output),
         Verb::Check => check(alloc, check_words(&command), world, output),
-        _ => Err(Stop::Refused(Refusal::Usage)),
+        _ => Err(Stop::Words(BadWords::Usage)),
     }
 }
 

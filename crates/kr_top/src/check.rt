@@ -4,7 +4,7 @@ ghost use Rattle.std.specs.Option.{option_copied};
 ghost use Rattle.kr_config.specs.Kept.{rows_of};
 ghost use Rattle.kr_top.specs.Check.{listing};
 ghost use Rattle.kr_top.specs.Command.{check};
-ghost use Rattle.kr_top.specs.Ran.{Around, Did};
+ghost use Rattle.kr_top.specs.Ran.{around, Did};
 
 use crate::listing::{entry_lines, provider_lines};
 use crate::phases::{configure, write_output};
@@ -31,8 +31,8 @@ pub fn check<W: World, O: Sink>(
     output: &mut O,
 ) -> Result<Done, Stop>
     ensures { (input : Option (List ℕ)) (faults : ℕ) → Did (check words.entry.config.now (option_copied words.entry.resource))
-        (record { world = W.told world.old; input = input; input_faults = faults; output = O.held output.old; output_faults = O.count output.old })
-        (record { world = W.told world.new; input = input; input_faults = faults; output = O.held output.new; output_faults = O.count output.new })
+        (around (W.told world.old) input faults (O.held output.old) (O.count output.old))
+        (around (W.told world.new) input faults (O.held output.new) (O.count output.new))
         result }
 {
     let settings = match configure(alloc, world, words.config) {

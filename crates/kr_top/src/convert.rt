@@ -1,8 +1,8 @@
 //! `encrypt` and `decrypt`: configuration, input, random source, seal or unseal, write.
-ghost use Rattle.std.specs.Prelude.{◌≡◌, ◌≤◌, [], length};
-ghost use Rattle.kr_top.specs.Phases.{command_of, long_input};
-ghost use Rattle.kr_top.specs.Command.{input_limit};
-ghost use Rattle.kr_top.specs.Ran.{Around, Did};
+ghost use Rattle.std.specs.Prelude.{◌≡◌, ◌≤◌, length};
+ghost use Rattle.kr_top.specs.Commands.{limit_of, long_input};
+ghost use Rattle.kr_top.specs.inner.Phases.{command_of};
+ghost use Rattle.kr_top.specs.Ran.{around, Did};
 
 use crate::phases::{open_dice, serve, take_input, write_output};
 use crate::refusal::{Done, Refusal, Stop};
@@ -23,7 +23,7 @@ pub enum Direction {
 impl Direction {
     /// The most bytes of the input: of an object's data, or of a stored value.
     fn limit(self) -> u64
-        ensures { result ≡ input_limit (command_of self [] [] []) }
+        ensures { result ≡ limit_of self }
     {
         match self {
             Direction::Encrypt => 2_097_152,
@@ -63,8 +63,8 @@ pub fn convert<W: World, I: Source, O: Sink>(
 ) -> Result<Done, Stop>
     requires path { length words.path.now ≤ 1024 }
     ensures { Did (command_of direction words.entry.config.now words.entry.resource.now words.entry.path.now)
-        (record { world = W.told world.old; input = I.left input.old; input_faults = I.count input.old; output = O.held output.old; output_faults = O.count output.old })
-        (record { world = W.told world.new; input = I.left input.new; input_faults = I.count input.new; output = O.held output.new; output_faults = O.count output.new })
+        (around (W.told world.old) (I.left input.old) (I.count input.old) (O.held output.old) (O.count output.old))
+        (around (W.told world.new) (I.left input.new) (I.count input.new) (O.held output.new) (O.count output.new))
         result }
 {
     let settings = match serve(alloc, world, words.config) {

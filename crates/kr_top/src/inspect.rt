@@ -4,23 +4,20 @@ ghost use Rattle.std.specs.List.{concat};
 ghost use Rattle.kr_kms.specs.Outside.{Outside};
 ghost use Rattle.kr_envelope.specs.Limits.{number_of};
 ghost use Rattle.kr_top.specs.Command.{inspect};
-ghost use Rattle.kr_top.specs.Inspect.{line, numbered, kind_text, tag_line, annotation_line, object_lines, object_refusal};
-ghost use Rattle.kr_top.specs.Phases.{InspectsTo, ShowsTo};
-ghost use Rattle.kr_top.specs.Trace.{refuses};
-ghost use Rattle.kr_top.specs.Ran.{Around, Did};
+ghost use Rattle.kr_top.specs.Inspect.{line, numbered, kind_text, tag_line, annotation_line, object_lines, IsObjectRefusal};
+ghost use Rattle.kr_top.specs.inner.Phases.{InspectsTo, ShowsTo};
+ghost use Rattle.kr_top.specs.Ran.{around, Did};
 
 use crate::phases::{take_input, write_output};
 use crate::refusal::{Done, Refusal, Stop};
 use crate::text::{add, add_number, add_pair, add_printed};
 use kr_base::{Bytes, NoMemory, Sink, Source, Text};
 use kr_envelope::{EncryptedObject, Kind, ObjectNo, SourceKind, Tagged, split};
+use kr_provider::ValueNo;
 use std::alloc::Global;
 
 /// The most bytes of a stored value.
 const VALUE_LIMIT: u64 = 2_162_688;
-
-/// The number of the refusal of a value whose prefix no provider writes.
-const NO_PROVIDER: u8 = 12;
 
 /// Shows on the output what the input, a stored value, says of itself.
 pub fn inspect<I: Source, O: Sink>(
@@ -29,8 +26,8 @@ pub fn inspect<I: Source, O: Sink>(
     output: &mut O,
 ) -> Result<Done, Stop>
     ensures { (world : Outside) → Did inspect
-        (record { world = world; input = I.left input.old; input_faults = I.count input.old; output = O.held output.old; output_faults = O.count output.old })
-        (record { world = world; input = I.left input.new; input_faults = I.count input.new; output = O.held output.new; output_faults = O.count output.new })
+        (around world (I.left input.old) (I.count input.old) (O.held output.old) (O.count output.old))
+        (around world (I.left input.new) (I.count input.new) (O.held output.new) (O.count output.new))
         result }
 {
     let bytes = match take_input(alloc, input, VALUE_LIMIT, Refusal::LongValue) {
@@ -60,7 +57,7 @@ fn inspected(alloc: Global, bytes: &[u8]) -> Result<Bytes, Stop>
             }
         }
         Tagged::Known { kind, name, body } => known_lines(alloc, kind, name, body),
-        Tagged::Strange => Err(Stop::Refused(Refusal::Value(NO_PROVIDER))),
+        Tagged::Strange => Err(Stop::Refused(Refusal::Value(ValueNo::NoProvider))),
     }
 }
 
@@ -93,16 +90,16 @@ fn known_lines(alloc: Global, kind: Kind, name: &str, body: &[u8]) -> Result<Byt
 /// Why bytes are no object.
 fn object_refusal(why: ObjectNo) -> Refusal
     requires { why ≢ ObjectNo.NoMemory }
-    ensures { refuses result ≡ object_refusal why }
+    ensures { IsObjectRefusal why result }
 {
     match why {
-        ObjectNo::Wire { at } => Refusal::Placed(5, at),
-        ObjectNo::KeyId => Refusal::Value(6),
-        ObjectNo::Source => Refusal::Value(7),
-        ObjectNo::Annotations => Refusal::Value(8),
-        ObjectNo::SourceType => Refusal::Value(9),
-        ObjectNo::NoData => Refusal::Value(10),
-        ObjectNo::NotUtf8 { at } => Refusal::Placed(11, at),
+        ObjectNo::Wire { at } => Refusal::Placed(ValueNo::Wire, at),
+        ObjectNo::KeyId => Refusal::Value(ValueNo::KeyId),
+        ObjectNo::Source => Refusal::Value(ValueNo::Source),
+        ObjectNo::Annotations => Refusal::Value(ValueNo::Annotations),
+        ObjectNo::SourceType => Refusal::Value(ValueNo::SourceType),
+        ObjectNo::NoData => Refusal::Value(ValueNo::NoData),
+        ObjectNo::NotUtf8 { at } => Refusal::Placed(ValueNo::NotUtf8, at),
         ObjectNo::NoMemory => unreachable!(),
     }
 }

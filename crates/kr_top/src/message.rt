@@ -1,17 +1,40 @@
+//! What a command says at its end.
 ghost use Rattle.std.specs.Prelude.{◌≡◌, ◌≤◌, ◌++◌, OnOk, OnErr, List, [], ◌∷◌};
 ghost use Rattle.std.specs.Io.KnownBytes.{Appends};
 ghost use Rattle.kr_base.specs.Faults.{IsCounted};
 ghost use Rattle.kr_base.specs.Streams.{AppendsFront};
-ghost use Rattle.kr_top.specs.Message.{status_of, status_of_refusal, refusal_line, value_text, done_line, counted_text, configuration_line, object_text, fault_line, line_of, joined};
-ghost use Rattle.kr_top.specs.Ran.{Tells};
+ghost use Rattle.kr_top.specs.Message.{status_of, status_of_words, status_of_refusal, status_of_done, words_line, refusal_line, done_line, counted_text, configuration_line, object_text, fault_line, line_of};
+ghost use Rattle.kr_top.specs.Ran.{sunk, Tells};
+ghost use Rattle.kr_top.specs.inner.Phases.{joined};
 
-use crate::refusal::{Done, Object, Refusal, Stop};
+use crate::refusal::{BadWords, Done, Object, Refusal, Stop};
 use itoa::Buffer;
 use kr_base::{Failed, Sink, write_all};
 use kr_config::ConfigNo;
+use kr_provider::ValueNo;
 
 /// The number of the limit of a configuration among its codes.
 const LIMIT_PASSED: u8 = 39;
+
+fn status_of_words(why: BadWords) -> u8
+    ensures { result ≡ status_of_words why }
+{
+    match why {
+        BadWords::Usage => 2,
+        BadWords::Replicas => 6,
+        BadWords::Size => 6,
+    }
+}
+
+fn status_of_done(done: Done) -> u8
+    ensures { result ≡ status_of_done done }
+{
+    match done {
+        Done::Silent => 0,
+        Done::Fresh => 0,
+        Done::Stale => 0,
+    }
+}
 
 fn status_of_refusal(why: &Refusal) -> u8
     ensures { result ≡ status_of_refusal why.now }
@@ -19,12 +42,9 @@ fn status_of_refusal(why: &Refusal) -> u8
     match why {
         Refusal::Value(_) => 1,
         Refusal::Placed(_, _) => 1,
-        Refusal::Usage => 2,
         Refusal::Absent(_) => 3,
         Refusal::NotServed => 3,
         Refusal::Configuration(why) => { if why.code == LIMIT_PASSED { 6 } else { 3 } }
-        Refusal::Replicas => 6,
-        Refusal::Size => 6,
         Refusal::LongConfiguration => 6,
         Refusal::LongData => 6,
         Refusal::LongValue => 6,
@@ -36,7 +56,8 @@ fn status_of(answer: &Result<Done, Stop>) -> u8
     ensures { result ≡ status_of answer.now }
 {
     match answer {
-        Ok(_) => 0,
+        Ok(done) => status_of_done(*done),
+        Err(Stop::Words(why)) => status_of_words(*why),
         Err(Stop::Refused(why)) => status_of_refusal(why),
         Err(Stop::Fault(_object, _count)) => 4,
         Err(Stop::NoMemory) => 5,
@@ -46,7 +67,7 @@ fn status_of(answer: &Result<Done, Stop>) -> u8
 /// Writes the line of how a command ended, and answers its status; 4 where the line can't be written. It takes no
 /// memory.
 pub fn tell<E: Sink>(errors: &mut E, answer: &Result<Done, Stop>) -> u8
-    ensures told { Tells (line_of answer.now) (status_of answer.now) (record { old = E.held errors.old; new = E.held errors.new; old_faults = E.count errors.old; new_faults = E.count errors.new }) result }
+    ensures told { Tells (line_of answer.now) (status_of answer.now) (sunk (E.held errors.old) (E.held errors.new) (E.count errors.old) (E.count errors.new)) result }
     ensures later { E.count errors.old ≤ E.count errors.new }
 {
     match write_line(errors, answer) {
@@ -62,6 +83,7 @@ fn write_line<E: Sink>(errors: &mut E, answer: &Result<Done, Stop>) -> Result<()
 {
     match answer {
         Ok(done) => write_all(errors, done_line(*done).as_bytes()),
+        Err(Stop::Words(why)) => write_all(errors, words_line(*why).as_bytes()),
         Err(Stop::Refused(why)) => write_refusal(errors, why),
         Err(Stop::Fault(object, count)) => write_fault(errors, *object, *count),
         Err(Stop::NoMemory) => write_all(errors, b"kmsrest: memory\n"),
@@ -74,17 +96,24 @@ fn write_refusal<E: Sink>(errors: &mut E, why: &Refusal) -> Result<(), Failed>
     ensures cause { IsCounted (E.count errors.old) (E.count errors.new) result }
 {
     match why {
-        Refusal::Usage => write_all(errors, b"kmsrest: usage: kmsrest COMMAND OPTIONS\n"),
-        Refusal::Replicas => write_all(errors, b"kmsrest: limit replicas 16\n"),
-        Refusal::Size => write_all(errors, b"kmsrest: limit size 10000\n"),
         Refusal::Absent(name) => write_each(errors, &["kmsrest: text 40 ", name.as_str(), "\n"]),
         Refusal::LongConfiguration => write_all(errors, b"kmsrest: limit config 1048576\n"),
         Refusal::Configuration(why) => write_configuration(errors, *why),
         Refusal::NotServed => write_all(errors, b"kmsrest: text 50 0 0\n"),
         Refusal::LongData => write_all(errors, b"kmsrest: limit data 2097152\n"),
         Refusal::LongValue => write_all(errors, b"kmsrest: limit value 2162688\n"),
-        Refusal::Value(number) => write_value(errors, *number),
-        Refusal::Placed(number, at) => write_placed(errors, *number, *at),
+        Refusal::Value(why) => write_value(errors, *why),
+        Refusal::Placed(why, at) => write_placed(errors, *why, *at),
+    }
+}
+
+fn words_line(why: BadWords) -> &'static str
+    ensures { result.now ≡ words_line why }
+{
+    match why {
+        BadWords::Usage => "kmsrest: usage: kmsrest COMMAND OPTIONS\n",
+        BadWords::Replicas => "kmsrest: limit replicas 16\n",
+        BadWords::Size => "kmsrest: limit size 10000\n",
     }
 }
 
@@ -99,27 +128,27 @@ fn done_line(done: Done) -> &'static str
 }
 
 /// Writes the line of a refused value.
-fn write_value<E: Sink>(errors: &mut E, number: u8) -> Result<(), Failed>
-    ensures ok { OnOk result (Appends (E.held errors.old) (E.held errors.new) (refusal_line (Refusal.Value number))) }
-    ensures err { OnErr result (AppendsFront (E.held errors.old) (E.held errors.new) (refusal_line (Refusal.Value number))) }
+fn write_value<E: Sink>(errors: &mut E, why: ValueNo) -> Result<(), Failed>
+    ensures ok { OnOk result (Appends (E.held errors.old) (E.held errors.new) (refusal_line (Refusal.Value why))) }
+    ensures err { OnErr result (AppendsFront (E.held errors.old) (E.held errors.new) (refusal_line (Refusal.Value why))) }
     ensures cause { IsCounted (E.count errors.old) (E.count errors.new) result }
 {
     let mut buffer = Buffer::new();
-    let digits = buffer.format(number);
+    let digits = buffer.format(why.number());
     write_each(
         errors,
-        &["kmsrest: refused ", digits, " ", value_text(number), "\n"],
+        &["kmsrest: refused ", digits, " ", why.name(), "\n"],
     )
 }
 
 /// Writes the line of a refused value with its place.
-fn write_placed<E: Sink>(errors: &mut E, number: u8, at: u64) -> Result<(), Failed>
-    ensures ok { OnOk result (Appends (E.held errors.old) (E.held errors.new) (refusal_line (Refusal.Placed number at))) }
-    ensures err { OnErr result (AppendsFront (E.held errors.old) (E.held errors.new) (refusal_line (Refusal.Placed number at))) }
+fn write_placed<E: Sink>(errors: &mut E, why: ValueNo, at: u64) -> Result<(), Failed>
+    ensures ok { OnOk result (Appends (E.held errors.old) (E.held errors.new) (refusal_line (Refusal.Placed why at))) }
+    ensures err { OnErr result (AppendsFront (E.held errors.old) (E.held errors.new) (refusal_line (Refusal.Placed why at))) }
     ensures cause { IsCounted (E.count errors.old) (E.count errors.new) result }
 {
     let mut buffer = Buffer::new();
-    let digits = buffer.format(number);
+    let digits = buffer.format(why.number());
     let mut place_buffer = Buffer::new();
     let place = place_buffer.format(at);
     write_each(
@@ -128,35 +157,12 @@ fn write_placed<E: Sink>(errors: &mut E, number: u8, at: u64) -> Result<(), Fail
             "kmsrest: refused ",
             digits,
             " ",
-            value_text(number),
+            why.name(),
             " ",
             place,
             "\n",
         ],
     )
-}
-
-/// The name of a refusal of a value.
-fn value_text(number: u8) -> &'static str
-    ensures { result.now ≡ value_text number }
-{
-    match number {
-        1 => "Short",
-        2 => "BadBlock",
-        3 => "BadPadding",
-        4 => "BadTag",
-        5 => "Wire",
-        6 => "KeyId",
-        7 => "Source",
-        8 => "Annotations",
-        9 => "SourceType",
-        10 => "NoData",
-        11 => "NotUtf8",
-        12 => "NoProvider",
-        13 => "LooksEncrypted",
-        14 => "TooLarge",
-        _ => "SeedLength",
-    }
 }
 
 /// Writes the line of a configuration's breach.

@@ -4,7 +4,7 @@ ghost use Rattle.std.specs.Option.{option_copied};
 ghost use Rattle.kr_config.specs.Kept.{rows_of};
 ghost use Rattle.kr_provider.specs.Publication.{names_plugin};
 ghost use Rattle.kr_kms.specs.Outside.{KeepsFiles, KeepsDice, HandsOut};
-ghost use Rattle.kr_top.specs.Phases.{Configures, Serves, ReadsRows, TakesInput, NoDice, WritesOutput};
+ghost use Rattle.kr_top.specs.inner.Phases.{Configures, Serves, ReadsRows, TakesInput, NoDice, WritesOutput};
 
 use crate::refusal::{Object, Refusal, Stop};
 use crate::text::printed;

@@ -2,6 +2,7 @@
 
 use kr_base::Text;
 use kr_config::ConfigNo;
+use kr_provider::ValueNo;
 
 /// An object of the outside, as a fault's line names it.
 #[derive(Clone, Copy, Debug, PartialEq, Eq)]
@@ -16,15 +17,20 @@ pub enum Object {
     Dice(u32),
 }
 
-/// Why a command was refused: by its words, or by the first of its steps that refuses what it saw.
+/// Why the words stop before a step.
+#[derive(Clone, Copy, Debug, PartialEq, Eq)]
+pub enum BadWords {
+    /// They mean no command, or one that isn't built.
+    Usage,
+    /// They mean a command with more than 16 replicas.
+    Replicas,
+    /// They mean a command whose size is above 10,000.
+    Size,
+}
+
+/// Why a step of a command refuses what it saw.
 #[derive(Debug, Drop, PartialEq, Eq)]
 pub enum Refusal {
-    /// The words mean no command, or one that isn't built.
-    Usage,
-    /// The words mean a command with more than 16 replicas.
-    Replicas,
-    /// The words mean a command whose size is above 10,000.
-    Size,
     /// There is no file of this name, which stands here as it is printed.
     Absent(Text),
     /// The configuration file has more than 1,048,576 bytes.
@@ -37,16 +43,18 @@ pub enum Refusal {
     LongData,
     /// The input has more bytes than a stored value may have.
     LongValue,
-    /// The data can't be sealed or the value can't be read; its number is that of the refusal, 1 to 15.
-    Value(u8),
+    /// The data can't be sealed or the value can't be read.
+    Value(ValueNo),
     /// The same of a value that is inspected, with the place of the breach in its body.
-    Placed(u8, u64),
+    Placed(ValueNo, u64),
 }
 
 /// Why a command wasn't done.
 #[derive(Debug, Drop, PartialEq, Eq)]
 pub enum Stop {
-    /// It was refused.
+    /// Its words aren't those of a command, or pass a limit.
+    Words(BadWords),
+    /// A step refused.
     Refused(Refusal),
     /// An object failed; its count of faults after that.
     Fault(Object, u64),
@@ -54,7 +62,7 @@ pub enum Stop {
     NoMemory,
 }
 
-/// What a command that is done says beside its output. The status is 0.
+/// What a command that is done says beside its output.
 #[derive(Clone, Copy, Debug, PartialEq, Eq)]
 pub enum Done {
     /// Nothing.

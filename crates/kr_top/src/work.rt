@@ -2,25 +2,21 @@
 ghost use Rattle.std.specs.Prelude.{◌≡◌, ◌≤◌, length, Some, [], false, IsSome, IfSome};
 ghost use Rattle.kr_config.specs.Kept.{rows_of};
 ghost use Rattle.kr_provider.specs.Publication.{names_plugin};
-ghost use Rattle.kr_top.specs.Command.{input_limit};
-ghost use Rattle.kr_top.specs.Decrypt.{freshness};
-ghost use Rattle.kr_top.specs.Phases.{Works, Makes, working, command_of};
+ghost use Rattle.kr_top.specs.Commands.{freshness, working, limit_of};
+ghost use Rattle.kr_top.specs.inner.Phases.{Works, Makes};
 
 use crate::convert::Direction;
 use crate::refusal::{Done, Object, Refusal, Stop};
-use kr_base::{Bytes, Dice};
+use kr_base::{Bytes, Dice, Shared};
 use kr_config::Settings;
 use kr_kms::Kms;
-use kr_provider::{Bench, Links, Opened, SealNo, Shared, UnsealNo, publish};
+use kr_provider::{Bench, Links, Opened, SealNo, UnsealNo, ValueNo, publish};
 use std::alloc::Global;
 
 /// How many keys a bench holds expanded, and how many unwrapped seeds.
 const PAGES: u32 = 64;
 
 const CACHE: u32 = 64;
-
-/// The number of the refusal of data that look encrypted.
-const LOOKS_ENCRYPTED: u8 = 13;
 
 /// What is written, and what is said beside it.
 #[derive(Debug, Drop)]
@@ -52,7 +48,7 @@ pub fn make<L: Kms, D: Dice>(
 ) -> (Result<Made, Stop>, D)
     requires no_plugin { names_plugin (rows_of settings.entries.0) ≡ false }
     requires path { length path.now ≤ 1024 }
-    requires fits { length bytes.now ≤ input_limit (command_of direction [] [] []) }
+    requires fits { length bytes.now ≤ limit_of direction }
     ensures made { Makes (working direction resource.now path.now (rows_of settings.entries.0) bytes.now) (D.left dice) (D.left result.1) (D.count dice) (D.count result.1) result.0 }
     ensures later { D.count dice ≤ D.count result.1 }
 {
@@ -106,7 +102,7 @@ fn work<L: Kms, D: Dice>(
     requires adopted { IsSome bench.old.published }
     requires bare { IfSome bench.old.published (λ p. p.seeds ≡ []) }
     requires path { length path.now ≤ 1024 }
-    requires fits { length bytes.now ≤ input_limit (command_of direction [] [] []) }
+    requires fits { length bytes.now ≤ limit_of direction }
     ensures made { IfSome bench.old.published (λ p. Works (working direction resource.now path.now p.rows bytes.now) (D.left bench.old.dice) (D.left bench.new.dice) (D.count bench.old.dice) (D.count bench.new.dice) result) }
     ensures later { D.count bench.old.dice ≤ D.count bench.new.dice }
     ensures kept { bench.new ≡ record bench.old { dice = bench.new.dice } }
@@ -117,7 +113,9 @@ fn work<L: Kms, D: Dice>(
                 bytes,
                 done: Done::Silent,
             }),
-            Err(SealNo::LooksEncrypted) => Err(WorkNo::Refused(Refusal::Value(LOOKS_ENCRYPTED))),
+            Err(SealNo::LooksEncrypted) => Err(WorkNo::Refused(Refusal::Value(
+                ValueNo::LooksEncrypted,
+            ))),
             Err(SealNo::TooLarge { length: _length }) => unreachable!(),
             Err(SealNo::DiceFailed) => Err(WorkNo::DiceFailed),
             Err(SealNo::NoMemory) => Err(WorkNo::NoMemory),
@@ -127,7 +125,7 @@ fn work<L: Kms, D: Dice>(
                 bytes: plain,
                 done: freshness(stale),
             }),
-            Err(UnsealNo::Refused(number)) => Err(WorkNo::Refused(Refusal::Value(number))),
+            Err(UnsealNo::Refused(why)) => Err(WorkNo::Refused(Refusal::Value(why))),
             Err(UnsealNo::PluginFailed { name: _name }) => unreachable!(),
             Err(UnsealNo::NoMemory) => Err(WorkNo::NoMemory),
         },

@@ -11,9 +11,9 @@ use Rattle.kr_turn.specs.declared.view.Terms.{Terms}
 use Rattle.kr_turn.specs.declared.view.Part.{Part}
 use Rattle.kr_turn.specs.declared.view.View.{View}
 use Rattle.kr_turn.specs.Lines.{of_seat, Stands}
-use Rattle.kr_turn.specs.Rule.{SpeaksFor, IsSeat, Knows, Has, IsOut, Ruled, lefts, gone}
-use Rattle.kr_turn.specs.Steps.{joined, part_of}
-use Rattle.kr_turn.specs.Endings.{Covers, Ending}
+use Rattle.kr_turn.specs.inner.Rule.{SpeaksFor, IsSeat, Knows, Has, IsOut, Ruled, lefts, gone_view}
+use Rattle.kr_turn.specs.inner.Steps.{joined_view, part_of}
+use Rattle.kr_turn.specs.inner.Endings.{Covers, Ending}
 use Rattle.kr_turn.proofs.Orders.{lefts_set, put, put_here, put_else}
 use Rattle.kr_turn.proofs.Stays.{stays, each_set, same_view, slot_set}
 use Rattle.kr_turn.proofs.Keeps.{known}
@@ -29,16 +29,16 @@ module _ {S L G : Type 0} (lines : S → List L) (basis : S → G) (room : S →
   abbrev Rule : St → Type 0
   Rule = Ruled lines basis room seat_of terms
 
-  pub joins : (id : ℕ) (v : View L G) (other : ℕ) (w : View L G) → v.stage ≡ Idle → w.stage ≡ Idle → w.ended ≡ [] → Joins Rule id v other w (joined v w) gone
+  pub joins : (id : ℕ) (v : View L G) (other : ℕ) (w : View L G) → v.stage ≡ Idle → w.stage ≡ Idle → w.ended ≡ [] → Joins Rule id v other w (joined_view v w) gone_view
   joins id v other w v_rests w_rests w_alone s r at apart there =
-      let both : View L G = joined v w in
+      let both : View L G = joined_view v w in
       let at_w : get_elem? s.views other ≡ some w = sym (set_else s.views id other both apart) ∙ there in
       let vs : List (View L G) = set s.views id both in
       let seat : IsSeat seat_of terms r.log r.made r.owner id v = known lines basis room seat_of terms s r id v at Idle v_rests in
       let ending : IsSeat seat_of terms r.log r.made r.owner other w = known lines basis room seat_of terms s r other w at_w Idle w_rests in
       let owner : ℕ → ℕ = put r.owner w.number id in
       let moved : lefts vs + v.left ≡ lefts s.views + (v.left + w.left) = lefts_set s.views id v both at in
-      let spent : lefts (set vs other gone) + w.left ≡ lefts vs + 0 = lefts_set vs other w gone there in
+      let spent : lefts (set vs other gone_view) + w.left ≡ lefts vs + 0 = lefts_set vs other w gone_view there in
       let all_left = r.left_is in
       let K : ℕ → View L G → Type 0 = λ j u. Knows seat_of terms r.log r.made r.owner r.tickets r.holder j u u.stage in
       let K' : ℕ → View L G → Type 0 = λ j u. Knows seat_of terms r.log r.made owner r.tickets r.holder j u u.stage in
@@ -91,8 +91,8 @@ module _ {S L G : Type 0} (lines : S → List L) (basis : S → G) (room : S →
         behind = r.behind;
         few = r.few;
         unmade = r.unmade;
-        slot = slot_set lines basis room terms r.log r.made vs other w gone there w_out r.content (slot_set lines basis room terms r.log r.made s.views id v both at v_out r.content r.slot);
-        each = each_set (λ j u. j ≢ other → K' j u) K' vs other gone (each_set K (λ j u. j ≢ other → K' j u) s.views id both r.each (λ far. mine) others) tt (λ j u far k. k far);
+        slot = slot_set lines basis room terms r.log r.made vs other w gone_view there w_out r.content (slot_set lines basis room terms r.log r.made s.views id v both at v_out r.content r.slot);
+        each = each_set (λ j u. j ≢ other → K' j u) K' vs other gone_view (each_set K (λ j u. j ≢ other → K' j u) s.views id both r.each (λ far. mine) others) tt (λ j u far k. k far);
       }
 
   stands_of : (log : List L) (made : ℕ) (owner : ℕ → ℕ) (index number : ℕ) (seen mine : List L) (y : S) → lines y ≡ log → SpeaksFor seat_of terms log made owner index number seen mine → Stands seat_of (lines y) number seen mine

@@ -15,8 +15,8 @@ use Rattle.kr_turn.specs.declared.view.Terms.{Terms}
 use Rattle.kr_turn.specs.declared.view.Part.{Part}
 use Rattle.kr_turn.specs.declared.view.View.{View}
 use Rattle.kr_turn.specs.Lines.{of_seat}
-use Rattle.kr_turn.specs.Rule.{IsSeat, Knows, Has, IsOut, Ruled, lefts}
-use Rattle.kr_turn.specs.Steps.{SeatState, waiting, holding, served_to, passed_on, carried, drew, looked, passed, IsTurned}
+use Rattle.kr_turn.specs.inner.Rule.{IsSeat, Knows, Has, IsOut, Ruled, lefts}
+use Rattle.kr_turn.specs.inner.Steps.{SeatState, waiting_view, holding_view, served_to, view_after, carried_lines, Draws, Looks, Passes, IsTurned}
 use Rattle.kr_turn.proofs.Orders.{prefix_more, prefix_whole, drop_own, of_seat_own, of_seat_other, lefts_set, in_range, put, put_here, put_else}
 use Rattle.kr_turn.proofs.Stays.{Leaves, stays, each_set, same_view, slot_set}
 
@@ -43,14 +43,14 @@ module _ {S L G : Type 0} (lines : S → List L) (basis : S → G) (room : S →
   same_leaves : (s : St) (r : Rule s) (j : ℕ) → 0 < r.made → Leaves seat_of terms r.log r.log r.made r.made r.owner r.owner r.tickets r.tickets r.holder r.holder j
   same_leaves s r j begun = record { begun = begun; answers = λ number seen mine x. x; makes = λ _. refl; waits = λ ticket h a b. (h, a, b); holds = λ h b. (h, b, refl) }
 
-  pub draws : (slots id : ℕ) (m : SeatState S L G) → m.0.stage ≡ Idle → m.0.ended ≡ [] → 0 < m.0.left → Allows Rule slots id m 0 (λ n. (n + 1) % 2 ^ 64) (drew (step slots 0 1 0 none) m)
+  pub draws : (slots id : ℕ) (m : SeatState S L G) → m.0.stage ≡ Idle → m.0.ended ≡ [] → 0 < m.0.left → Allows Rule slots id m 0 (λ n. (n + 1) % 2 ^ 64) (Draws (step slots 0 1 0 none) m)
   draws slots id m idle none_ended some_left s r _ at _ =
       let v : View L G = m.0 in
       let seat : IsSeat seat_of terms r.log r.made r.owner id v = known s r id v at Idle idle in
       let begun : 0 < r.made = let k = seat.itself.known in omega arith in
       let n : ℕ = slice_index s.words 0 in
       let n_is : n ≡ r.tickets = ap (λ (ws : List ℕ). slice_index ws 0) r.words_are in
-      let w : View L G = waiting v n in
+      let w : View L G = waiting_view v n in
       let moved : lefts (set s.views id w) + v.left ≡ lefts s.views + (v.left - 1) = lefts_set s.views id v w at in
       let part : sum (take r.made terms.budgets) ≤ sum terms.budgets = sum_by-take-le (λ x. x) terms.budgets r.made in
       let all_left = r.left_is in
@@ -94,7 +94,7 @@ module _ {S L G : Type 0} (lines : S → List L) (basis : S → G) (room : S →
   -- the state that the slot has goes to the seat that is served
   serves : (slots : ℕ) (s : St) (r : Rule s) (id : ℕ) (m : SeatState S L G) (ticket : ℕ) → get_elem? s.views id ≡ some m.0 → m.0.stage ≡ Waiting ticket → m.1 ≡ [] → slice_index s.words 1 ≡ ticket
       → (content : Maybe (Option S)) → s.homes ≡ content ∷ [] → Has lines basis room terms r.log r.made s.views content
-      → (w : View L G) × (a : Act (Option S)) × Valid s.homes m.1 a × Rule (stepped s 1 (slice_index s.words 1) id m.1 w a) × looked lines basis room seat_of (step slots 1 0 0 none) m (slice_index s.words 1) (w, carried_after m.1 a)
+      → (w : View L G) × (a : Act (Option S)) × Valid s.homes m.1 a × Rule (stepped s 1 (slice_index s.words 1) id m.1 w a) × Looks lines basis room seat_of (step slots 1 0 0 none) m (slice_index s.words 1) (w, carried_after m.1 a)
   serves slots s r id m ticket at waits bare here (some None) homes has = let begun = (known s r id m.0 at (Waiting ticket) waits).0.itself.known in absurd (omega arith)
   serves slots s r id m ticket at waits bare here none homes has =
       let k = known s r id m.0 at (Waiting ticket) waits in
@@ -111,7 +111,7 @@ module _ {S L G : Type 0} (lines : S → List L) (basis : S → G) (room : S →
       let lines_is : lines y ≡ r.log = has.1 in
       let n_is : slice_index s.words 1 ≡ length r.log = ap (λ (ws : List ℕ). slice_index ws 1) r.words_are in
       let count : length r.log ≡ ticket = sym n_is ∙ here in
-      let w : View L G = holding v (lines y) in
+      let w : View L G = holding_view v (lines y) in
       let moved : lefts (set s.views id w) + v.left ≡ lefts s.views + v.left = lefts_set s.views id v w at in
       let part : sum (take r.made terms.budgets) ≤ sum terms.budgets = sum_by-take-le (λ x. x) terms.budgets r.made in
       let all_left = r.left_is in
@@ -164,12 +164,12 @@ module _ {S L G : Type 0} (lines : S → List L) (basis : S → G) (room : S →
   unchanged : (s : St) (r : Rule s) (id : ℕ) (m : SeatState S L G) → get_elem? s.views id ≡ some m.0 → Rule (stepped s 1 (slice_index s.words 1) id m.1 m.0 keeps)
   unchanged s r id m at = subst (λ (x : List ℕ × List (View L G)). Rule record { words = x.0; homes = s.homes; views = x.1 }) (λ i. (sym (set-get_or s.words 1 0) i, sym (set_again s.views id m.0 at) i)) r
 
-  pub looks : (slots id : ℕ) (m : SeatState S L G) (ticket : ℕ) → m.0.stage ≡ Waiting ticket → m.1 ≡ [] → Allows Rule slots id m 1 (λ n. n) (looked lines basis room seat_of (step slots 1 0 0 none) m)
+  pub looks : (slots id : ℕ) (m : SeatState S L G) (ticket : ℕ) → m.0.stage ≡ Waiting ticket → m.1 ≡ [] → Allows Rule slots id m 1 (λ n. n) (Looks lines basis room seat_of (step slots 1 0 0 none) m)
   looks slots id m ticket waits bare s r _ at _ = dite (ℕ_discrete (slice_index s.words 1) ticket)
       (λ here. serves slots s r id m ticket at waits bare here r.content r.homes_are r.slot)
       (λ elsewhere. (m.0, keeps, tt, unchanged s r id m at, λ t waits_t. let same : t ≡ ticket = cc in ((λ here. absurd (elsewhere (here ∙ same))), λ _. refl)))
 
-  pub passes : (slots id : ℕ) (m : SeatState S L G) (ticket : ℕ) → IsTurned lines basis room seat_of ticket m → Allows Rule slots id m 1 (λ n. ticket + 1) (λ n. passed lines (step slots 1 (ticket + 1) 0 none) m (ticket + 1))
+  pub passes : (slots id : ℕ) (m : SeatState S L G) (ticket : ℕ) → IsTurned lines basis room seat_of ticket m → Allows Rule slots id m 1 (λ n. ticket + 1) (λ n. Passes lines (step slots 1 (ticket + 1) 0 none) m (ticket + 1))
   passes slots id m ticket t s r _ at _ =
       let v : View L G = m.0 in
       let k = known s r id v at (Holding t.log) t.stage_is in
@@ -181,9 +181,9 @@ module _ {S L G : Type 0} (lines : S → List L) (basis : S → G) (room : S →
       let after : List L = r.log ++ x ∷ [] in
       let longer : length after ≡ length r.log + 1 = length-append r.log (x ∷ []) in
       let state_lines : lines t.state ≡ after = t.lines_are ∙ ap (λ (l : List L). l ++ x ∷ []) k.4 in
-      let held : carried lines m.1 ≡ after = ap (carried lines) t.carries ∙ state_lines in
-      let w : View L G = passed_on v (carried lines m.1) in
-      let added : w.mine ≡ v.mine ++ x ∷ [] = ap (λ (l : List L). v.mine ++ l) (ap (λ (z : Stage L). drop (length (served_to z)) (carried lines m.1)) t.stage_is ∙ (ap (λ (l : List L). drop (length l) (carried lines m.1)) k.4 ∙ (ap (drop (length r.log)) held ∙ drop_own r.log x))) in
+      let held : carried_lines lines m.1 ≡ after = ap (carried_lines lines) t.carries ∙ state_lines in
+      let w : View L G = view_after v (carried_lines lines m.1) in
+      let added : w.mine ≡ v.mine ++ x ∷ [] = ap (λ (l : List L). v.mine ++ l) (ap (λ (z : Stage L). drop (length (served_to z)) (carried_lines lines m.1)) t.stage_is ∙ (ap (λ (l : List L). drop (length l) (carried_lines lines m.1)) k.4 ∙ (ap (drop (length r.log)) held ∙ drop_own r.log x))) in
       let whole : of_seat seat_of v.number after ≡ w.mine = of_seat_own seat_of v.number r.log x t.mine ∙ (ap (λ (l : List L). l ++ x ∷ []) seat.itself.whole ∙ sym added) in
       let moved : lefts (set s.views id w) + v.left ≡ lefts s.views + v.left = lefts_set s.views id v w at in
       let all_left = r.left_is in

@@ -11,8 +11,9 @@ use Rattle.kr_turn.specs.declared.view.Stage.TheVariants.{Blank, Filling, Idle, 
 use Rattle.kr_turn.specs.declared.view.Terms.{Terms}
 use Rattle.kr_turn.specs.declared.view.View.{View}
 use Rattle.kr_turn.specs.Lines.{of_seat}
-use Rattle.kr_turn.specs.Rule.{IsSeat, Knows, Has, IsOut, Ruled, lefts, blank, sitting, budget_of}
-use Rattle.kr_turn.specs.Steps.{SeatState, filling, opened, next_of, new_of, emptied, filled}
+use Rattle.kr_turn.specs.inner.Rule.{IsSeat, Knows, Has, IsOut, Ruled, lefts, blank_view, idle_view}
+use Rattle.kr_turn.specs.Keys.{budget_of}
+use Rattle.kr_turn.specs.inner.Steps.{SeatState, filling_view, opening_view, next_of, new_of, Empties, Fills}
 use Rattle.kr_turn.proofs.Orders.{lefts_set, lefts_more, in_range, put, put_here, put_else}
 use Rattle.kr_turn.proofs.Stays.{stays, each_set, same_view, slot_set}
 use Rattle.kr_turn.proofs.Keeps.{known}
@@ -31,11 +32,11 @@ module _ {S L G : Type 0} (lines : S → List L) (basis : S → G) (room : S →
   abbrev Rule : St → Type 0
   Rule = Ruled lines basis room seat_of terms
 
-  begins_each : (j : ℕ) (u : View L G) → get_elem? (blank terms ∷ []) j ≡ some u → Knows seat_of terms [] 0 (λ n. 0) 0 (λ n. 0) j u u.stage
-  begins_each zero u e = subst (λ (z : View L G). Knows seat_of terms [] 0 (λ n. 0) 0 (λ n. 0) 0 z z.stage) (some-injective (blank terms) u e) record { first = refl; none_made = refl; no_line = refl }
+  begins_each : (j : ℕ) (u : View L G) → get_elem? (blank_view terms ∷ []) j ≡ some u → Knows seat_of terms [] 0 (λ n. 0) 0 (λ n. 0) j u u.stage
+  begins_each zero u e = subst (λ (z : View L G). Knows seat_of terms [] 0 (λ n. 0) 0 (λ n. 0) 0 z z.stage) (some-injective (blank_view terms) u e) record { first = refl; none_made = refl; no_line = refl }
   begins_each (suc j) u e = absurd (some-ne-none u (sym e))
 
-  pub begins : sum terms.budgets ≤ terms.room → sum terms.budgets < 18446744073709551616 → Rule (opening (0 ∷ 0 ∷ []) (None ∷ []) (blank terms))
+  pub begins : sum terms.budgets ≤ terms.room → sum terms.budgets < 18446744073709551616 → Rule (opening (0 ∷ 0 ∷ []) (None ∷ []) (blank_view terms))
   begins roomy small = record {
     log = [];
     tickets = 0;
@@ -65,7 +66,7 @@ module _ {S L G : Type 0} (lines : S → List L) (basis : S → G) (room : S →
   out_first s r k u at none_made Gone is out = absurd out
 
   empties_at : (slots : ℕ) (s : St) (r : Rule s) (id : ℕ) (m : SeatState S L G) → get_elem? s.views id ≡ some m.0 → m.0.stage ≡ Blank → m.1 ≡ [] → (content : Maybe (Option S)) → s.homes ≡ content ∷ [] → Has lines basis room terms r.log r.made s.views content
-      → (w : View L G) × (a : Act (Option S)) × Valid s.homes m.1 a × Rule (stepped s 0 (slice_index s.words 0) id m.1 w a) × emptied (step slots 0 0 0 none) m (slice_index s.words 0) (w, carried_after m.1 a)
+      → (w : View L G) × (a : Act (Option S)) × Valid s.homes m.1 a × Rule (stepped s 0 (slice_index s.words 0) id m.1 w a) × Empties (step slots 0 0 0 none) m (slice_index s.words 0) (w, carried_after m.1 a)
   empties_at slots s r id m at is bare (some (Some y)) homes has = let none_made = (known lines basis room seat_of terms s r id m.0 at Blank is).none_made in let some_made = has.0 in absurd (omega arith)
   empties_at slots s r id m at is bare none homes has =
       let k = known lines basis room seat_of terms s r id m.0 at Blank is in
@@ -74,7 +75,7 @@ module _ {S L G : Type 0} (lines : S → List L) (basis : S → G) (room : S →
   empties_at slots s r id m at is bare (some None) homes has =
       let v : View L G = m.0 in
       let k = known lines basis room seat_of terms s r id v at Blank is in
-      let w : View L G = filling v in
+      let w : View L G = filling_view v in
       let moved : lefts (set s.views id w) + v.left ≡ lefts s.views + v.left = lefts_set s.views id v w at in
       let all_left = r.left_is in (
         w,
@@ -102,7 +103,7 @@ module _ {S L G : Type 0} (lines : S → List L) (basis : S → G) (room : S →
         ap (λ (cs : List (ℕ × Option S)). let z : SeatState S L G = (w, (0, None) ∷ cs) in z) bare,
       )
 
-  pub empties : (slots id : ℕ) (m : SeatState S L G) → m.0.stage ≡ Blank → m.1 ≡ [] → Allows Rule slots id m 0 (λ n. n) (emptied (step slots 0 0 0 none) m)
+  pub empties : (slots id : ℕ) (m : SeatState S L G) → m.0.stage ≡ Blank → m.1 ≡ [] → Allows Rule slots id m 0 (λ n. n) (Empties (step slots 0 0 0 none) m)
   empties slots id m is bare s r _ at _ = empties_at slots s r id m at is bare r.content r.homes_are r.slot
 
   -- where there is no seat yet, no other view knows anything
@@ -115,12 +116,12 @@ module _ {S L G : Type 0} (lines : S → List L) (basis : S → G) (room : S →
   none_else log made made' owner owner' tickets holder j v none_made other (Holding served) k = let some_made = k.0.itself.known in absurd (omega arith)
   none_else log made made' owner owner' tickets holder j v none_made other Gone k = tt
 
-  pub fills : (slots id : ℕ) (m : SeatState S L G) (y : S) → m.0 ≡ filling (blank terms) → m.1 ≡ (0, Some y) ∷ [] → lines y ≡ [] → basis y ≡ terms.basis → room y ≡ terms.room → 0 < length terms.budgets
-      → Allows Rule slots id m 0 (λ n. n) (filled (step slots 0 0 0 none) m)
+  pub fills : (slots id : ℕ) (m : SeatState S L G) (y : S) → m.0 ≡ filling_view (blank_view terms) → m.1 ≡ (0, Some y) ∷ [] → lines y ≡ [] → basis y ≡ terms.basis → room y ≡ terms.room → 0 < length terms.budgets
+      → Allows Rule slots id m 0 (λ n. n) (Fills (step slots 0 0 0 none) m)
   fills slots id m y is carries no_lines basis_is room_is some_budget s r _ at _ =
       let v : View L G = m.0 in
       let k = known lines basis room seat_of terms s r id v at Filling (ap (λ (u : View L G). u.stage) is) in
-      let w : View L G = opened v in
+      let w : View L G = opening_view v in
       let none_made : r.made ≡ 0 = k.none_made in
       let moved : lefts (set s.views id w) + v.left ≡ lefts s.views + budget_of v.terms 0 = lefts_set s.views id v w at in
       let none_left : v.left ≡ 0 = ap (λ (u : View L G). u.left) is in
@@ -169,9 +170,9 @@ module _ {S L G : Type 0} (lines : S → List L) (basis : S → G) (room : S →
   slot_split log made made' vs id v w n at rests begun begun' none has = let h = slot_set lines basis room terms log made vs id v w at rests none has in
       (h.0, h.1, at_longer (set vs id w) (n ∷ []) h.0 h.1 h.2, h.3)
 
-  pub splits : (id number left made : ℕ) → made < length terms.budgets → let v : View L G = sitting (Some terms) number [] [] left [] (Some made) in Splits Rule id v (next_of v) (new_of v)
+  pub splits : (id number left made : ℕ) → made < length terms.budgets → let v : View L G = idle_view (Some terms) number [] [] left [] (Some made) in Splits Rule id v (next_of v) (new_of v)
   splits id number left made room_left s r at =
-      let v : View L G = sitting (Some terms) number [] [] left [] (Some made) in
+      let v : View L G = idle_view (Some terms) number [] [] left [] (Some made) in
       let seat : IsSeat seat_of terms r.log r.made r.owner id v = r.each id v at in
       let maker = seat.makes made refl in
       let first : id ≡ 0 = maker.0 in

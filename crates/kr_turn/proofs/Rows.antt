@@ -13,9 +13,9 @@ use Rattle.kr_turn.specs.declared.view.View.{View}
 use Rattle.kr_turn.specs.declared.seat.Place.{Place}
 use Rattle.kr_turn.specs.declared.view.Part.{Part}
 use Rattle.kr_turn.specs.declared.view.Terms.{Terms}
-use Rattle.kr_turn.specs.Rule.{budget_of}
+use Rattle.kr_turn.specs.Keys.{budget_of}
 use Rattle.atomic_table.specs.Table.{Me}
-use Rattle.kr_turn.specs.Endings.{Covers, IsEnd, Gathered, part_in}
+use Rattle.kr_turn.specs.inner.Endings.{Covers, IsEnd, Gathered, part_in}
 use Rattle.kr_turn.specs.Keys.{Home}
 use Rattle.kr_turn.specs.Lines.{Stands}
 use Rattle.kr_turn.specs.Seats.{number_of, seen, mine, left_of, IsSeatOf, IsFresh, AreFresh, AreAll}

@@ -7,7 +7,7 @@ use Rattle.kr_turn.specs.declared.view.Stage.{Stage}
 use Rattle.kr_turn.specs.declared.view.Stage.TheVariants.{Blank, Filling, Idle, Waiting, Holding, Gone}
 use Rattle.kr_turn.specs.declared.view.Terms.{Terms}
 use Rattle.kr_turn.specs.declared.view.View.{View}
-use Rattle.kr_turn.specs.Rule.{SpeaksFor, IsSeat, Knows, Has, IsOut}
+use Rattle.kr_turn.specs.inner.Rule.{SpeaksFor, IsSeat, Knows, Has, IsOut}
 
 module _ {L G : Type 0} (seat_of : L → ℕ) (terms : Terms G) (log log' : List L) (made made' : ℕ) (owner owner' : ℕ → ℕ) (tickets tickets' : ℕ) (holder holder' : ℕ → ℕ) (j : ℕ) where
   -- what others know stays where: there is a seat; whom the view answers for it still does; nobody makes seats there; its ticket is still its; and it isn't served, or nothing of that changes

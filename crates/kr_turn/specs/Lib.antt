@@ -1,7 +1,6 @@
+-- The definitions that contracts name.
 pub mod Lines
-pub mod Rule
-pub mod Steps
 pub mod Tokens
-pub mod Endings
 pub mod Keys
 pub mod Seats
+pub mod inner

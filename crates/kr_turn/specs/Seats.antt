@@ -40,4 +40,5 @@ module _ {S L G : Type 0} where
   -- seats of this turn, and all of them, in any order
   pub record AreAll (home : Home G) (seats : List (Place S L G)) : Type 0 where
     pub its : All (IsSeatOf home) seats
-    pub all : (number : ℕ) → number < length home.terms.budgets → Contains (map number_of seats) number
+    pub all : (number : ℕ) → number < length home.terms.budgets
+        → Contains (map number_of seats) number

@@ -1,7 +1,7 @@
 //! How a lock ends.
 ghost use Rattle.std.specs.Prelude.{◌≡◌, ◌<◌, [], length, map, Some, All};
 ghost use Rattle.kr_turn.specs.declared.view.Stage.TheVariants.{Idle};
-ghost use Rattle.kr_turn.specs.Endings.{Covers, IsEnd, Gathered};
+ghost use Rattle.kr_turn.specs.inner.Endings.{Covers, IsEnd, Gathered};
 ghost use Rattle.kr_turn.specs.Keys.{terms_of};
 ghost use Rattle.kr_turn.specs.Lines.{Stands, of_seat};
 ghost use Rattle.kr_turn.specs.Tokens.{IsSized};
@@ -15,7 +15,7 @@ use atomic_table::Table;
 use kr_base::List;
 use std::alloc::Global;
 
-// Joins all seats to the first.
+/// Joins all seats to the first.
 pub(crate) fn gather<S: Turned>(
     lock: &Lock<S>,
     first: Seat<S>,
@@ -43,7 +43,7 @@ pub(crate) fn gather<S: Turned>(
     token
 }
 
-// Ends the table and gives the state.
+/// Ends the table and gives the state.
 pub(crate) fn take_back<S: Turned>(
     table: Table<Option<S>, View<S::Line, S::Ground>, About<S>, TurnRule, Global>,
     token: Token<S>,
@@ -51,7 +51,8 @@ pub(crate) fn take_back<S: Turned>(
     requires table { (token.table_id ≡ table.shared.table_id) × IsSized table.shared.table_id }
     requires rests { token.me.0.stage ≡ Idle }
     requires all { Covers (terms_of S.basis S.room table.shared.key) token.me.0 }
-    ensures { IsEnd S.lines S.basis S.room S.seat_of (terms_of S.basis S.room table.shared.key) token.me.0 result }
+    ensures { IsEnd S.lines S.basis S.room S.seat_of
+        (terms_of S.basis S.room table.shared.key) token.me.0 result }
 {
     let mut closed = table.close_with(token);
     let state = closed.take(0).unwrap();

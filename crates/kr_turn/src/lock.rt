@@ -3,9 +3,9 @@ ghost use Rattle.std.specs.Prelude.{◌≡◌, ◌+◌, ◌-◌, ◌<◌, ◌^�
 ghost use Rattle.kr_turn.specs.declared.view.Stage.TheVariants.{Idle, Waiting, Holding};
 ghost use Rattle.kr_turn.specs.declared.view.Terms.{Terms};
 ghost use Rattle.kr_turn.specs.Lines.{of_seat, Acted};
-ghost use Rattle.kr_turn.specs.Rule.{budget_of};
-ghost use Rattle.kr_turn.specs.Steps.{waiting, IsServed, IsTurned, carried, passed_on};
-ghost use Rattle.kr_turn.specs.Tokens.{IsSized, resting};
+ghost use Rattle.kr_turn.specs.Keys.{budget_of};
+ghost use Rattle.kr_turn.specs.inner.Steps.{waiting_view, IsServed, IsTurned, carried_lines, view_after};
+ghost use Rattle.kr_turn.specs.Tokens.{IsSized, resting_token};
 
 use crate::rule::{About, Draw, Look, PassOn, TurnRule};
 use crate::turned::Turned;
@@ -18,18 +18,20 @@ pub(crate) type Lock<S: Turned> = Shared<Option<S>, View<S::Line, S::Ground>, Ab
 
 pub(crate) type Token<S: Turned> = atomic_table::Seat<Option<S>, View<S::Line, S::Ground>>;
 
-// Draws a ticket. There is one, since a seat that has a turn left draws fewer than the budgets' sum.
+/// Draws a ticket. There is one, since a seat that has a turn left draws fewer than the budgets'
+/// sum.
 fn draw<S: Turned>(lock: &Lock<S>, token: &mut Token<S>) -> u64
     requires lock { (token.old.table_id ≡ lock.now.table_id) × IsSized lock.now.table_id }
-    requires idle { (token.old.me.0.stage ≡ Idle) × (token.old.me.0.ended ≡ []) × (token.old.me.1 ≡ []) × (0 < token.old.me.0.left) }
+    requires idle { (token.old.me.0.stage ≡ Idle) × (token.old.me.0.ended ≡ [])
+        × (token.old.me.1 ≡ []) × (0 < token.old.me.0.left) }
     ensures lock { (token.new.table_id ≡ token.old.table_id) × (token.new.id ≡ token.old.id) }
-    ensures drew { token.new.me ≡ (waiting token.old.me.0 result, []) }
+    ensures drew { token.new.me ≡ (waiting_view token.old.me.0 result, []) }
     ensures small { result + 1 < 2 ^ 64 }
 {
     lock.fetch_add::<Draw>(token, 0, 1)
 }
 
-// Looks until the ticket is served. Between two looks it gives the processor away.
+/// Looks until the ticket is served. Between two looks it gives the processor away.
 fn wait<S: Turned, R: Wait>(rt: &R, lock: &Lock<S>, token: &mut Token<S>, ticket: u64)
     requires lock { (token.old.table_id ≡ lock.now.table_id) × IsSized lock.now.table_id }
     requires waits { (token.old.me.0.stage ≡ Waiting ticket) × (token.old.me.1 ≡ []) }
@@ -45,13 +47,14 @@ fn wait<S: Turned, R: Wait>(rt: &R, lock: &Lock<S>, token: &mut Token<S>, ticket
     unreachable!()
 }
 
-// Gives the slot back, with the state after the turn, and serves the next ticket.
+/// Gives the slot back, with the state after the turn, and serves the next ticket.
 fn pass_on<S: Turned>(lock: &Lock<S>, token: &mut Token<S>, ticket: u64)
     requires lock { (token.old.table_id ≡ lock.now.table_id) × IsSized lock.now.table_id }
     requires small { ticket + 1 < 2 ^ 64 }
     requires turned { IsTurned S.lines S.basis S.room S.seat_of ticket token.old.me }
     ensures lock { (token.new.table_id ≡ token.old.table_id) × (token.new.id ≡ token.old.id) }
-    ensures passed { token.new.me ≡ (passed_on token.old.me.0 (carried S.lines token.old.me.1), []) }
+    ensures passed { token.new.me
+        ≡ (view_after token.old.me.0 (carried_lines S.lines token.old.me.1), []) }
 {
     lock.store::<PassOn>(token, 1, ticket + 1);
 }
@@ -65,13 +68,15 @@ pub(crate) fn take_turn<S: Turned, R: Wait>(
     event: S::Event,
 ) -> S::Answer
     requires lock { (token.old.table_id ≡ lock.now.table_id) × IsSized lock.now.table_id }
-    requires rests { token.old ≡ resting token.old number token.old.me.0.left }
+    requires rests { token.old ≡ resting_token token.old number token.old.me.0.left }
     requires left { 0 < token.old.me.0.left }
-    requires may { (terms : Terms S.Ground) → token.old.me.0.terms ≡ Some terms → S.may terms.basis number token.old.me.0.mine event }
+    requires may { (terms : Terms S.Ground) → token.old.me.0.terms ≡ Some terms
+        → S.may terms.basis number token.old.me.0.mine event }
     ensures lock { (token.new.table_id ≡ token.old.table_id) × (token.new.id ≡ token.old.id) }
-    ensures rests { token.new ≡ resting token.new number (token.old.me.0.left - 1) }
+    ensures rests { token.new ≡ resting_token token.new number (token.old.me.0.left - 1) }
     ensures terms { token.new.me.0.terms ≡ token.old.me.0.terms }
-    ensures acted { (terms : Terms S.Ground) → token.old.me.0.terms ≡ Some terms → Acted S.seat_of S.law S.tells terms.basis number event result
+    ensures acted { (terms : Terms S.Ground) → token.old.me.0.terms ≡ Some terms
+        → Acted S.seat_of S.law S.tells terms.basis number event result
         token.old.me.0.seen token.old.me.0.mine token.new.me.0.seen token.new.me.0.mine }
 {
     let ticket = draw(lock, token);

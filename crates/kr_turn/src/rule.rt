@@ -5,8 +5,8 @@ use crate::turned::Turned;
 use crate::view::View;
 use atomic_table::{Join, Play, Split, TableRule};
 
-/// What the table is told once. It has the state itself, so that the rule knows its ground and room from the start;
-/// the state is taken out again and put into the slot.
+/// What the table is told once. It has the state itself, so that the rule knows its ground and room
+/// from the start; the state is taken out again and put into the slot.
 pub struct About<S> {
     pub state: S,
     pub budgets: Vec<u64>,
@@ -16,64 +16,64 @@ pub struct About<S> {
 pub struct TurnRule;
 
 impl<S: Turned> TableRule<Option<S>, View<S::Line, S::Ground>, About<S>> for TurnRule {
-    ghost use Rattle.kr_turn.specs.Rule.{Ruled, blank};
+    ghost use Rattle.kr_turn.specs.inner.Rule.{Ruled, blank_view};
     ghost use Rattle.kr_turn.specs.Keys.{terms_of};
 
     ghost holds = { λ key. Ruled S.lines S.basis S.room S.seat_of (terms_of S.basis S.room key) };
 
-    ghost first = { λ key. blank (terms_of S.basis S.room key) };
+    ghost first = { λ key. blank_view (terms_of S.basis S.room key) };
 }
 
 /// The first seat takes the empty slot.
 pub(crate) struct Empty;
 
 impl<S, L, G> Play<Option<S>, View<L, G>> for Empty {
-    ghost use Rattle.kr_turn.specs.Steps.{emptied};
+    ghost use Rattle.kr_turn.specs.inner.Steps.{Empties};
 
-    ghost then = { emptied };
+    ghost then = { Empties };
 }
 
 /// The first seat gives the slot with the state in it, and is the seat of number 0.
 pub(crate) struct Fill;
 
 impl<S, L, G> Play<Option<S>, View<L, G>> for Fill {
-    ghost use Rattle.kr_turn.specs.Steps.{filled};
+    ghost use Rattle.kr_turn.specs.inner.Steps.{Fills};
 
-    ghost then = { filled };
+    ghost then = { Fills };
 }
 
 /// A seat draws a ticket.
 pub(crate) struct Draw;
 
 impl<S, L, G> Play<Option<S>, View<L, G>> for Draw {
-    ghost use Rattle.kr_turn.specs.Steps.{drew};
+    ghost use Rattle.kr_turn.specs.inner.Steps.{Draws};
 
-    ghost then = { drew };
+    ghost then = { Draws };
 }
 
 /// A seat looks which ticket is served, and takes the slot where it is its own.
 pub(crate) struct Look;
 
 impl<S: Turned> Play<Option<S>, View<S::Line, S::Ground>> for Look {
-    ghost use Rattle.kr_turn.specs.Steps.{looked};
+    ghost use Rattle.kr_turn.specs.inner.Steps.{Looks};
 
-    ghost then = { looked S.lines S.basis S.room S.seat_of };
+    ghost then = { Looks S.lines S.basis S.room S.seat_of };
 }
 
 /// The served seat gives the slot back and serves the next ticket.
 pub(crate) struct PassOn;
 
 impl<S: Turned> Play<Option<S>, View<S::Line, S::Ground>> for PassOn {
-    ghost use Rattle.kr_turn.specs.Steps.{passed};
+    ghost use Rattle.kr_turn.specs.inner.Steps.{Passes};
 
-    ghost then = { passed S.lines };
+    ghost then = { Passes S.lines };
 }
 
 /// The seat that makes seats leaves its number to a new one, and goes on with the next number.
 pub(crate) struct Make;
 
 impl<L, G> Split<View<L, G>> for Make {
-    ghost use Rattle.kr_turn.specs.Steps.{next_of, new_of};
+    ghost use Rattle.kr_turn.specs.inner.Steps.{next_of, new_of};
 
     ghost left = { next_of };
 
@@ -84,10 +84,10 @@ impl<L, G> Split<View<L, G>> for Make {
 pub(crate) struct End;
 
 impl<L, G> Join<View<L, G>> for End {
-    ghost use Rattle.kr_turn.specs.Rule.{gone};
-    ghost use Rattle.kr_turn.specs.Steps.{joined};
+    ghost use Rattle.kr_turn.specs.inner.Rule.{gone_view};
+    ghost use Rattle.kr_turn.specs.inner.Steps.{joined_view};
 
-    ghost both = { joined };
+    ghost both = { joined_view };
 
-    ghost spent = { gone };
+    ghost spent = { gone_view };
 }

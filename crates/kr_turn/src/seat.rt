@@ -1,19 +1,19 @@
 //! A seat of a turn.
 ghost use Rattle.std.specs.Prelude.{◌≡◌, ◌+◌, length};
-ghost use Rattle.kr_turn.specs.Rule.{budget_of};
-ghost use Rattle.kr_turn.specs.Tokens.{resting};
+ghost use Rattle.kr_turn.specs.Keys.{budget_of};
+ghost use Rattle.kr_turn.specs.Tokens.{resting_token};
 
 use crate::turned::Turned;
 use crate::view::View;
 
-/// A seat, at the types of the state, the lines and the ground. It may go to another thread. It may be dropped where
-/// a state may; the lock of a dropped seat can't be closed.
+/// A seat, at the types of the state, the lines and the ground. It may go to another thread. It may be
+/// dropped where a state may; the lock of a dropped seat can't be closed.
 #[derive(Drop)]
 pub struct Place<S, L, G> {
     pub(crate) token: atomic_table::Seat<Option<S>, View<L, G>>,
     pub(crate) number: u32,
     pub(crate) left: u64,
-    pub ghost rests: { token ≡ resting token number left },
+    pub ghost rests: { token ≡ resting_token token number left },
     pub ghost counted: { length token.me.0.mine + left ≡ budget_of token.me.0.terms number },
 }
 

@@ -14,8 +14,8 @@ use std::alloc::Global;
 use std::marker::Model;
 use std::sync::Wait;
 
-/// A ticket lock round one state. Contracts see which lock it is, and its terms: the ground of the state's lines,
-/// their room, and the budgets of its seats.
+/// A ticket lock round one state. Contracts see which lock it is, and its terms: the ground of the
+/// state's lines, their room, and the budgets of its seats.
 #[derive(Drop)]
 pub struct Turn<S: Turned> {
     table: Table<Option<S>, View<S::Line, S::Ground>, About<S>, TurnRule, Global>,
@@ -28,17 +28,19 @@ impl<S: Turned> Model for Turn<S> {
 
     ghost Value = { Home S.Ground };
 
-    ghost view = { λ turn. home_of S.basis S.room turn.table.shared.table_id turn.table.shared.key };
+    ghost view = { λ turn.
+        home_of S.basis S.room turn.table.shared.table_id turn.table.shared.key };
 
-    ghost invariant = { λ turn. IsSized turn.table.shared.table_id × (0 < length turn.table.shared.key.budgets.items) };
+    ghost invariant = { λ turn. IsSized turn.table.shared.table_id
+        × (0 < length turn.table.shared.key.budgets.items) };
 }
 
 impl<S: Turned> Turn<S> {
     ghost use Rattle.kr_turn.specs.Lines.{of_seat, Acted, Stands};
     ghost use Rattle.kr_turn.specs.Seats.{IsSeatOf, AreFresh, AreAll, number_of, seen, mine, left_of};
 
-    /// Makes the lock and one seat for each budget: the seat of number `i` may make as many turns as the budget at
-    /// `i`. Where there is no memory the state comes back.
+    /// Makes the lock and one seat for each budget: the seat of number `i` may make as many turns as
+    /// the budget at `i`. Where there is no memory the state comes back.
     pub fn new(
         alloc: Global,
         state: S,
@@ -77,8 +79,9 @@ impl<S: Turned> Turn<S> {
         Ok((Turn { table }, seats))
     }
 
-    /// Makes one turn: draws a ticket, waits until it is served, turns the state and passes on. It may wait for
-    /// others, and takes no memory of its own. A seat whose budget is used up draws nothing, and the event is dropped.
+    /// Makes one turn: draws a ticket, waits until it is served, turns the state and passes on. It may
+    /// wait for others, and takes no memory of its own. A seat whose budget is used up draws nothing,
+    /// and the event is dropped.
     pub fn act<R: Wait>(
         &self,
         rt: &R,
@@ -104,8 +107,8 @@ impl<S: Turned> Turn<S> {
         Ok(answer)
     }
 
-    /// Ends the lock with all its seats, in any order, and gives the state back. It takes no memory. What each seat
-    /// saw begins the state's lines, of which its own are just those of its number.
+    /// Ends the lock with all its seats, in any order, and gives the state back. It takes no memory.
+    /// What each seat saw begins the state's lines, of which its own are just those of its number.
     pub fn close(self, mut seats: List<Seat<S>>) -> S
         requires { AreAll self seats.0 }
         ensures kept { (S.basis result ≡ self.terms.basis) × (S.room result ≡ self.terms.room) }

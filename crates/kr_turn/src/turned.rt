@@ -4,9 +4,10 @@ ghost use Rattle.kr_turn.specs.Lines.{of_seat};
 
 /// A state that turns one event of one seat at a time, and keeps one line of each turn.
 ///
-/// `Line` and `Ground` are for contracts alone: the lock makes no value of them, and looks no further into a line
-/// than to whose it is. Events and answers may cross threads and may be dropped. What `turn` asks of an event may
-/// stand on the ground and on the seat's own lines, which the seat knows; the rest is up to the state's own type.
+/// `Line` and `Ground` are for contracts alone: the lock makes no value of them, and looks no further
+/// into a line than to whose it is. Events and answers may cross threads and may be dropped. What
+/// `turn` asks of an event may stand on the ground and on the seat's own lines, which the seat knows;
+/// the rest is up to the state's own type.
 pub trait Turned {
     type Event: Drop + Send;
 
@@ -29,7 +30,8 @@ pub trait Turned {
     /// The law that the lines keep.
     ghost law: { Self.Ground → List Self.Line → Type 0 };
     /// How the answer and the line of a seat's event stand to the lines before.
-    ghost tells: { Self.Ground → List Self.Line → ℕ → Self.Event → Self.Answer → Self.Line → Type 0 };
+    ghost tells: { Self.Ground → List Self.Line → ℕ
+        → Self.Event → Self.Answer → Self.Line → Type 0 };
 
     /// Makes one turn of a seat: it adds exactly one line, and the line is that seat's.
     fn turn(&mut self, seat: u32, event: Self::Event) -> Self::Answer
@@ -37,7 +39,8 @@ pub trait Turned {
         requires may { may (basis self.old) seat (of_seat seat_of seat (lines self.old)) event }
         ensures kept { (room self.new ≡ room self.old) × (basis self.new ≡ basis self.old) }
         ensures line { (line : Self.Line) × (lines self.new ≡ lines self.old ++ line ∷ [])
-            × (seat_of line ≡ seat) × tells (basis self.old) (lines self.old) seat event result line }
+            × (seat_of line ≡ seat)
+            × tells (basis self.old) (lines self.old) seat event result line }
         ensures law_before { law (basis self.old) (lines self.old) }
         ensures law_after { law (basis self.old) (lines self.new) };
 }

@@ -1,1 +1,3 @@
+-- Lemmas.
 mod Written
+pub mod Counts

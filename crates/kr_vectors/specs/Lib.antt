@@ -1,2 +1,3 @@
+-- The definitions.
 pub mod Answers
 pub mod Words

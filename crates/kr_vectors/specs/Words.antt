@@ -1,10 +1,11 @@
 -- How bytes and outcomes are written.
-use Rattle.std.specs.Prelude.{◌≡◌, ◌≢◌, ℕ, List, [], ◌∷◌, codes, ◌⊎◌, Ok}
-use Rattle.std.specs.List.{join_with_byte}
+use Rattle.std.specs.Prelude.{◌≡◌, ◌≢◌, ◌==◌, ℕ, List, [], ◌∷◌, codes, length, ◌⊎◌, Ok}
+use Rattle.std.specs.List.{slice_split}
 use Rattle.hex.specs.Hex.{IsBytes, decode_of, encode_lower}
 use Rattle.kr_modes.specs.declared.ModeNo.{ModeNo}
 use Rattle.kr_modes.specs.declared.ModeNo.TheVariants.{Short, BadBlock, BadPadding, BadTag}
 use Rattle.kr_vectors.specs.declared.case.Case.{Case}
+use Rattle.kr_vectors.specs.declared.case.Case.TheVariants.{Cipher, Hmac, Hkdf}
 use Rattle.kr_vectors.specs.declared.case.Operation.{Operation}
 use Rattle.kr_vectors.specs.declared.case.Operation.TheVariants.{Encrypt, Decrypt, CbcSeal, CbcUnseal, GcmSeal, GcmUnseal}
 use Rattle.kr_vectors.specs.declared.outcome.Outcome.{Outcome}
@@ -23,24 +24,41 @@ StandFor (word ∷ words) (bytes ∷ rest) = StandsFor word bytes × StandFor wo
 
 -- a name and the words behind the key ask for an operation
 abbrev pub AskFor : List ℕ → List (List ℕ) → Operation → Type 0
-AskFor name words (Encrypt block) = (name ≡ codes "aes") × StandFor words (block ∷ [])
-AskFor name words (Decrypt block) = (name ≡ codes "unaes") × StandFor words (block ∷ [])
-AskFor name words (CbcSeal iv plain) = (name ≡ codes "cbc") × StandFor words (iv ∷ plain.bytes.items ∷ [])
+AskFor name words (Encrypt block) = (name ≡ codes "aes") × (length block ≡ 16) × StandFor words (block ∷ [])
+AskFor name words (Decrypt block) = (name ≡ codes "unaes") × (length block ≡ 16) × StandFor words (block ∷ [])
+AskFor name words (CbcSeal iv plain) =
+    (name ≡ codes "cbc") × (length iv ≡ 16) × StandFor words (iv ∷ plain.bytes.items ∷ [])
 AskFor name words (CbcUnseal body) = (name ≡ codes "uncbc") × StandFor words (body.bytes.items ∷ [])
 AskFor name words (GcmSeal nonce aad plain) =
-    (name ≡ codes "gcm") × StandFor words (nonce ∷ aad.bytes.items ∷ plain.bytes.items ∷ [])
+    (name ≡ codes "gcm") × (length nonce ≡ 12)
+    × StandFor words (nonce ∷ aad.bytes.items ∷ plain.bytes.items ∷ [])
 AskFor name words (GcmUnseal nonce aad body) =
-    (name ≡ codes "ungcm") × StandFor words (nonce ∷ aad.bytes.items ∷ body.bytes.items ∷ [])
+    (name ≡ codes "ungcm") × (length nonce ≡ 12)
+    × StandFor words (nonce ∷ aad.bytes.items ∷ body.bytes.items ∷ [])
+
+-- a name, the key and the words behind it ask for a case
+abbrev pub AskUnderKey : List ℕ → List ℕ → List (List ℕ) → Case → Type 0
+AskUnderKey name key words (Cipher bytes operation) =
+    StandsFor key bytes.bytes.items × AskFor name words operation
+AskUnderKey name key words (Hmac bytes message) =
+    StandsFor key bytes.bytes.items × (name ≡ codes "hmac") × StandFor words (message.bytes.items ∷ [])
+AskUnderKey name key words (Hkdf bytes expansion) =
+    StandsFor key bytes.bytes.items × (name ≡ codes "hkdf") × (length expansion.size ≡ 2)
+    × StandFor words (expansion.info.items ∷ expansion.size ∷ [])
 
 -- the words of a line ask for a case: a name, the key and the others
 abbrev pub WordsAskFor : List (List ℕ) → Case → Type 0
 WordsAskFor [] case = ⊥
 WordsAskFor (name ∷ []) case = ⊥
-WordsAskFor (name ∷ key ∷ words) case = StandsFor key case.key.bytes.items × AskFor name words case.operation
+WordsAskFor (name ∷ key ∷ words) case = AskUnderKey name key words case
 
--- a line asks for a case: words that do have one space between each two
+-- the words of a line: it is cut at each space
+abbrev pub words_of : List ℕ → List (List ℕ)
+words_of line = slice_split (λ byte. byte == 32) line
+
+-- a line asks for a case
 abbrev pub Asks : List ℕ → Case → Type 0
-Asks line case = (words : List (List ℕ)) × (line ≡ join_with_byte 32 words) × WordsAskFor words case
+Asks line case = WordsAskFor (words_of line) case
 
 -- the word for bytes, in lower case
 abbrev pub word_of : List ℕ → List ℕ

@@ -1,7 +1,16 @@
+//! A case: what a line asks.
+
 ghost use Rattle.std.specs.Prelude.{◌≤◌, length};
+ghost use Rattle.std.specs.Int.{w16, from_be_bytes};
 
 /// The most bytes that an operand has.
 pub const MOST: usize = 4_194_304;
+
+/// The most bytes that the info of HKDF-Expand has here.
+pub const MOST_INFO: usize = 1_048_576;
+
+/// The most bytes that HKDF-Expand gives.
+pub const MOST_OUTPUT: usize = 8_160;
 
 /// A string of bytes that isn't longer than the modes take.
 #[derive(Drop)]
@@ -10,7 +19,7 @@ pub struct Operand {
     ghost fits: { length bytes.items ≤ 4194304 },
 }
 
-/// An operation under a key, with its operands.
+/// An operation under a key of AES, with its operands.
 #[derive(Drop)]
 pub enum Operation {
     Encrypt {
@@ -38,9 +47,20 @@ pub enum Operation {
     },
 }
 
+/// What HKDF-Expand is asked for.
+#[derive(Drop)]
+pub struct Expansion {
+    pub info: Vec<u8>,
+    /// How many bytes are wanted, the high byte first.
+    pub size: [u8; 2],
+    ghost info_fits: { length info.items ≤ 1048576 },
+    ghost size_fits: { from_be_bytes w16 size ≤ 8160 },
+}
+
 /// What a line asks. The key may be of any length.
 #[derive(Drop)]
-pub struct Case {
-    pub key: Operand,
-    pub operation: Operation,
+pub enum Case {
+    Cipher { key: Operand, operation: Operation },
+    Hmac { key: Operand, message: Operand },
+    Hkdf { key: Operand, expansion: Expansion },
 }

@@ -1,4 +1,4 @@
-// A law of the definitions, for a reader. The function does nothing.
+//! A law of the definitions, for a reader. The function does nothing.
 
 ghost use Rattle.kr_vectors.specs.Words.{WordStandsForBytes};
 

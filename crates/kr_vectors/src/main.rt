@@ -8,7 +8,7 @@ mod outcome;
 mod reading;
 mod running;
 
-use reading::LineNo;
+use reading::LineError;
 use std::alloc::{AllocError, Global};
 use std::io::{self, BufRead, BufReader, BufWriter, Write};
 
@@ -16,8 +16,8 @@ use std::io::{self, BufRead, BufReader, BufWriter, Write};
 fn answer(alloc: Global, line: &str) -> Result<String, AllocError> {
     match reading::case_of(alloc, line) {
         Ok(case) => running::outcome(alloc, &case)?.text(alloc),
-        Err(LineNo::Form) => format!(in alloc; "line"),
-        Err(LineNo::Memory) => Err(AllocError),
+        Err(LineError::Form) => format!(in alloc; "line"),
+        Err(LineError::Memory) => Err(AllocError),
     }
 }
 

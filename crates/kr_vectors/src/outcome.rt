@@ -1,3 +1,5 @@
+//! What a case comes to, and how it is printed.
+
 ghost use Rattle.std.specs.Prelude.{◌≡◌, IfOk, string_bytes};
 ghost use Rattle.kr_vectors.specs.Words.{name_of, printed};
 

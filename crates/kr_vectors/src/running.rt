@@ -1,28 +1,66 @@
+//! Runs cases.
+
 ghost use Rattle.std.specs.Prelude.{◌≡◌, length, IfOk};
+ghost use Rattle.std.specs.Int.{w16, from_be_bytes};
 ghost use Rattle.kr_aes.specs.Cipher.{cipher};
 ghost use Rattle.kr_aes.specs.InverseCipher.{inverse_cipher};
 ghost use Rattle.kr_aes.specs.KeyExpansion.{IsKeyLength, IsKeyOf, IsSchedule, padded_schedule};
+ghost use Rattle.kr_hkdf.specs.Hkdf.{hkdf_expand};
+ghost use Rattle.kr_hkdf.specs.Hmac.{hmac};
 ghost use Rattle.kr_modes.specs.Cbc.{cbc, cbc_opened};
 ghost use Rattle.kr_modes.specs.Gcm.{gcm, gcm_opened};
 ghost use Rattle.kr_modes.specs.Padding.{pad};
-ghost use Rattle.kr_vectors.specs.Answers.{Tells, answer};
+ghost use Rattle.kr_vectors.specs.Answers.{ComesTo, Tells, answer};
 
-use crate::case::{Case, Operand, Operation};
+use crate::case::{Case, Expansion, Operand, Operation};
 use crate::outcome::Outcome;
 use kr_aes::Rounds;
 use std::alloc::{AllocError, Global};
 
 /// Runs a case.
 pub fn outcome(alloc: Global, case: &Case) -> Result<Outcome, AllocError>
+    ensures { IfOk result (ComesTo case.now) }
+{
+    match case {
+        Case::Cipher { key, operation } => by_cipher(alloc, key, operation),
+        Case::Hmac { key, message } => hmac(alloc, key, message),
+        Case::Hkdf { key, expansion } => hkdf(alloc, key, expansion),
+    }
+}
+
+fn hmac(alloc: Global, key: &Operand, message: &Operand) -> Result<Outcome, AllocError>
+    ensures { IfOk result (λ outcome.
+        Tells outcome (Ok (hmac key.now.bytes.items message.now.bytes.items))) }
+{
+    let code = kr_hkdf::hmac(key.bytes.as_slice(), message.bytes.as_slice());
+    Ok(Outcome::Bytes(code.to_vec(alloc)?))
+}
+
+fn hkdf(alloc: Global, key: &Operand, expansion: &Expansion) -> Result<Outcome, AllocError>
+    ensures { IfOk result (λ outcome. Tells outcome
+        (Ok (hkdf_expand key.now.bytes.items expansion.now.info.items
+        (from_be_bytes w16 expansion.now.size)))) }
+{
+    let size = u16::from_be_bytes(expansion.size) as usize;
+    let mut out = vec![in alloc; 0; size]?;
+    kr_hkdf::expand(
+        key.bytes.as_slice(),
+        expansion.info.as_slice(),
+        out.as_mut_slice(),
+    );
+    Ok(Outcome::Bytes(out))
+}
+
+fn by_cipher(alloc: Global, key: &Operand, operation: &Operation) -> Result<Outcome, AllocError>
     ensures key_length { IfOk result (λ outcome.
-        ¬ IsKeyLength (length case.now.key.bytes.items) → outcome ≡ Outcome.KeyLength) }
+        ¬ IsKeyLength (length key.now.bytes.items) → outcome ≡ Outcome.KeyLength) }
     ensures given { IfOk result (λ outcome. (rounds : Rounds)
-        → IsKeyOf (length case.now.key.bytes.items) rounds
-        → Tells outcome (answer (padded_schedule case.now.key.bytes.items) rounds case.now.operation)) }
+        → IsKeyOf (length key.now.bytes.items) rounds
+        → Tells outcome (answer (padded_schedule key.now.bytes.items) rounds operation.now)) }
 {
     let mut words = [0; 60];
-    match kr_aes::expand(case.key.bytes.as_slice(), &mut words) {
-        Ok(rounds) => under_key(alloc, &words, rounds, &case.operation),
+    match kr_aes::expand(key.bytes.as_slice(), &mut words) {
+        Ok(rounds) => under_key(alloc, &words, rounds, operation),
         Err(_) => Ok(Outcome::KeyLength),
     }
 }

@@ -4,3 +4,5 @@ pub mod Commands
 pub mod Spellings
 pub mod Values
 pub mod Meanings
+pub mod ValuesAt
+pub mod Given

@@ -1,4 +1,4 @@
--- The steps of a loop that returns false at the first element without a fact.
+-- The steps of loops over options: one that returns false at the first element without a fact, one that counts.
 use Rattle.std.proofs.Common.{◌≡◌, ℕ, ◌+◌, ◌<◌, ◌≤◌, List, length, get_or, take, true, false, IsTrue, ◌↔◌, refl, sym, ◌∙◌, subst, All, AllPairs, arith, Bool, MatchBool}
 use Rattle.std.specs.List.{AllWithin, HoldsAt}
 use Rattle.std.proofs.lemmas.Iterator.Search.{true_from_All}

@@ -11,7 +11,7 @@ use Rattle.kr_words.specs.Options.{value_of, count_of}
 use Rattle.kr_words.specs.Numerals.{IsDecimal}
 use Rattle.kr_words.specs.Rules.{IsOption, IsCommand}
 use Rattle.kr_words.specs.Grammar.{Spells, Means, IsAboveSize}
-use Rattle.kr_words.specs.Spelling.{IsPlain, ArePlain, HasNoSmallSize}
+use Rattle.kr_words.specs.inner.Spelling.{IsPlain, ArePlain, HasNoSmall}
 use Rattle.kr_words.proofs.Spellings.{spelled_once}
 use Rattle.kr_words.proofs.Values.{value_rule}
 
@@ -88,10 +88,11 @@ misruled words verb rest options e plain spelled none verb' options' m =
     let same = agree words verb verb' rest options options' e plain spelled m in
     none (subst (λ v. IsCommand v options) (sym same.0) (subst (IsCommand verb') (sym same.1) m.command))
 
-larger : (size : Option (List ℕ)) → IfSome size (λ text. (n : ℕ) × IsDecimal text n × (1 ≤ n)) → IsSomeAnd size (λ text. (n : ℕ) → IsDecimal text n → 10000 < n) → IsSomeAnd size (λ text. (n : ℕ) × IsDecimal text n × (10000 < n))
-larger None rule none = none
-larger (Some text) rule none = (rule.0, rule.1, none rule.0 rule.1)
+larger : (limit : ℕ) (size : Option (List ℕ)) → IfSome size (λ text. (n : ℕ) × IsDecimal text n × (1 ≤ n)) → IsSomeAnd size (λ text. (n : ℕ) → IsDecimal text n → limit < n)
+    → IsSomeAnd size (λ text. (n : ℕ) × IsDecimal text n × (limit < n))
+larger limit None rule none = none
+larger limit (Some text) rule none = (rule.0, rule.1, none rule.0 rule.1)
 
 -- a size is a number, so that one with no small number is one above
-pub above : {verb : Verb} {options : List (List ℕ × List ℕ)} → IsCommand verb options → HasNoSmallSize options → IsAboveSize options
-above {verb} {options} m none = larger (value_of options (text_of Size)) (value_rule Size m) none
+pub above : {verb : Verb} {options : List (List ℕ × List ℕ)} → IsCommand verb options → HasNoSmall options (text_of Size) 10000 → IsAboveSize options
+above {verb} {options} m none = larger 10000 (value_of options (text_of Size)) (value_rule Size m) none

@@ -7,7 +7,7 @@ use Rattle.std.specs.declared.alloc.Global.{Global}
 use Rattle.std.specs.declared.string.String.{String}
 use Rattle.std.specs.String.{string_bytes}
 use Rattle.kr_words.specs.Grammar.{texts, Begins, Spells}
-use Rattle.kr_words.specs.Spelling.{IsPlain, ArePlain, BeginNoOption}
+use Rattle.kr_words.specs.inner.Spelling.{IsPlain, ArePlain, BeginNoOption}
 
 pub plain_bytes : (name : List ℕ) → ((i : ℕ) → i < length name → get_or name i 0 ≢ 61) → IsPlain name
 plain_bytes name h = recursion_from_All (λ byte. byte ≢ 61) name (All-from_get_or (λ byte. byte ≢ 61) name 0 h)

@@ -1,5 +1,5 @@
 -- The grammar of command lines: which words mean a command with its options.
-use Rattle.std.specs.Prelude.{◌≡◌, ℕ, ◌≤◌, ◌<◌, ◌⊎◌, List, [], ◌∷◌, ◌++◌, codes, map, ⊤, IfSome, IsSomeAnd, Result, Ok, Err}
+use Rattle.std.specs.Prelude.{◌≡◌, ℕ, ◌≤◌, ◌<◌, ◌⊎◌, List, [], ◌∷◌, ◌++◌, codes, map, ⊤, Result, Ok, Err}
 use Rattle.std.specs.declared.alloc.Global.{Global}
 use Rattle.std.specs.declared.string.String.{String}
 use Rattle.std.specs.String.{string_bytes}
@@ -8,9 +8,9 @@ use Rattle.kr_words.specs.declared.command.Command.{Command}
 use Rattle.kr_words.specs.declared.command.WordsNo.{WordsNo}
 use Rattle.kr_words.specs.declared.command.WordsNo.TheVariants.{Usage, Replicas, Size, NoMemory}
 use Rattle.kr_words.specs.Names.{word_of}
-use Rattle.kr_words.specs.Options.{count_of, value_of}
-use Rattle.kr_words.specs.Numerals.{IsDecimal}
+use Rattle.kr_words.specs.Options.{count_of}
 use Rattle.kr_words.specs.Rules.{IsCommand}
+use Rattle.kr_words.specs.Arguments.{IsWithin, IsAbove}
 
 -- words are seen as the lists of their bytes
 abbrev pub texts : List (String Global) → List (List ℕ)
@@ -19,12 +19,15 @@ texts words = map string_bytes words
 -- The words begin with the option: `--name` and the next word as its value, or `--name=value` in one word. No name of
 -- an option holds a `=`, so the first `=` parts that word.
 abbrev pub Begins : List (List ℕ) → List ℕ × List ℕ → List (List ℕ) → Type 0
-Begins words option rest = (words ≡ (codes "--" ++ option.0) ∷ (option.1 ∷ rest)) ⊎ (words ≡ (codes "--" ++ option.0 ++ (0x3D ∷ option.1)) ∷ rest)
+Begins words option rest =
+    (words ≡ (codes "--" ++ option.0) ∷ (option.1 ∷ rest))
+    ⊎ (words ≡ (codes "--" ++ option.0 ++ (0x3D ∷ option.1)) ∷ rest)
 
 -- the words spell the options, one behind another, and nothing else
 abbrev pub Spells : List (List ℕ) → List (List ℕ × List ℕ) → Type 0
 Spells words [] = words ≡ []
-Spells words (option ∷ options) = (rest : List (List ℕ)) × Begins words option rest × Spells rest options
+Spells words (option ∷ options) =
+    (rest : List (List ℕ)) × Begins words option rest × Spells rest options
 
 -- the words mean the command with these options: its word, then spellings of options that make the command
 pub record Means (words : List (List ℕ)) (verb : Verb) (options : List (List ℕ × List ℕ)) : Type 0 where
@@ -35,7 +38,9 @@ pub record Means (words : List (List ℕ)) (verb : Verb) (options : List (List �
 
 -- the words of one command line mean at most one command with its options
 abbrev pub MeanOneCommand : Type 0
-MeanOneCommand = (words : List (List ℕ)) (verb verb' : Verb) (options options' : List (List ℕ × List ℕ)) → Means words verb options → Means words verb' options' → (verb ≡ verb') × (options ≡ options')
+MeanOneCommand =
+    (words : List (List ℕ)) (verb verb' : Verb) (options options' : List (List ℕ × List ℕ))
+    → Means words verb options → Means words verb' options' → (verb ≡ verb') × (options ≡ options')
 
 -- how many replicas there are
 abbrev pub replicas_of : List (List ℕ × List ℕ) → ℕ
@@ -43,17 +48,24 @@ replicas_of options = count_of options (codes "replica")
 
 -- there is no size, or it is up to 10,000
 abbrev pub IsWithinSize : List (List ℕ × List ℕ) → Type 0
-IsWithinSize options = IfSome (value_of options (codes "size")) (λ size. (n : ℕ) × IsDecimal size n × (n ≤ 10000))
+IsWithinSize options = IsWithin options (codes "size") 10000
 
 -- there is a size, and it is above 10,000
 abbrev pub IsAboveSize : List (List ℕ × List ℕ) → Type 0
-IsAboveSize options = IsSomeAnd (value_of options (codes "size")) (λ size. (n : ℕ) × IsDecimal size n × (10000 < n))
+IsAboveSize options = IsAbove options (codes "size") 10000
 
 -- What words are read as: the command that they mean, or the first refusal. More than 16 replicas and a size above
 -- 10,000 are refused only where the words mean a command. Want of memory may take any answer's place.
 abbrev pub Reads : List (List ℕ) → Result Command WordsNo → Type 0
-Reads words (Ok command) = Means words command.verb command.options.0 × (replicas_of command.options.0 ≤ 16) × IsWithinSize command.options.0
-Reads words (Err Usage) = (verb : Verb) (options : List (List ℕ × List ℕ)) → Means words verb options → ⊥
-Reads words (Err Replicas) = (verb : Verb) × (options : List (List ℕ × List ℕ)) × Means words verb options × (16 < replicas_of options)
-Reads words (Err Size) = (verb : Verb) × (options : List (List ℕ × List ℕ)) × Means words verb options × (replicas_of options ≤ 16) × IsAboveSize options
+Reads words (Ok command) =
+    Means words command.verb command.options.0 × (replicas_of command.options.0 ≤ 16)
+    × IsWithinSize command.options.0
+Reads words (Err Usage) =
+    (verb : Verb) (options : List (List ℕ × List ℕ)) → Means words verb options → ⊥
+Reads words (Err Replicas) =
+    (verb : Verb) × (options : List (List ℕ × List ℕ)) × Means words verb options
+    × (16 < replicas_of options)
+Reads words (Err Size) =
+    (verb : Verb) × (options : List (List ℕ × List ℕ)) × Means words verb options
+    × (replicas_of options ≤ 16) × IsAboveSize options
 Reads words (Err NoMemory) = ⊤

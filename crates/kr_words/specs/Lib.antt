@@ -2,5 +2,6 @@ pub mod Options
 pub mod Names
 pub mod Numerals
 pub mod Rules
+pub mod Arguments
 pub mod Grammar
-pub mod Spelling
+pub mod inner

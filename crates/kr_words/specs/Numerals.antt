@@ -5,7 +5,9 @@ use Rattle.std.specs.Str.Parse.{digits_value}
 
 -- one digit or more, the first of them no 0 but in `0` itself; of any length
 abbrev pub IsNumeral : List ℕ → Type 0
-IsNumeral text = (1 ≤ length text) × All IsAsciiDigit text × ((slice_index text 0 ≢ 0x30) ⊎ (text ≡ codes "0"))
+IsNumeral text =
+    (1 ≤ length text) × All IsAsciiDigit text
+    × ((slice_index text 0 ≢ 0x30) ⊎ (text ≡ codes "0"))
 
 -- the text is how the number is written in decimal digits
 abbrev pub IsDecimal : List ℕ → ℕ → Type 0

@@ -19,11 +19,13 @@ after_equals text = after_first (λ byte. byte == 0x3D) text
 
 -- `NAME=PROGRAM`: a name by its rule, and a program that isn't empty
 abbrev pub IsPlugin : List ℕ → Type 0
-IsPlugin value = Contains value 0x3D × IsName (before_equals value) × (1 ≤ length (after_equals value))
+IsPlugin value =
+    Contains value 0x3D × IsName (before_equals value) × (1 ≤ length (after_equals value))
 
 -- `N=FILE`: the replica at N, counted from 0, reads the file
 abbrev pub IsReload : ℕ → List ℕ → Type 0
-IsReload replicas value = Contains value 0x3D × (n : ℕ) × IsDecimal (before_equals value) n × (n < replicas)
+IsReload replicas value =
+    Contains value 0x3D × (n : ℕ) × IsDecimal (before_equals value) n × (n < replicas)
 
 -- the path of a value that stands in no store may be empty
 abbrev pub MayHaveEmptyPath : Verb → Type 0
@@ -44,11 +46,15 @@ IsValue verb replicas Size value = (n : ℕ) × IsDecimal value n × (1 ≤ n)
 
 -- an option of the command, with a value that it may have
 abbrev pub IsOption : Verb → ℕ → List ℕ × List ℕ → Type 0
-IsOption verb replicas option = (name : OptionName) × (option.0 ≡ text_of name) × (Contains (required verb) name ⊎ Contains (optional verb) name) × IsValue verb replicas name option.1
+IsOption verb replicas option =
+    (name : OptionName) × (option.0 ≡ text_of name)
+    × (Contains (required verb) name ⊎ Contains (optional verb) name)
+    × IsValue verb replicas name option.1
 
 -- two plugins have two names
 abbrev pub HaveTwoNames : List ℕ × List ℕ → List ℕ × List ℕ → Type 0
-HaveTwoNames a b = a.0 ≡ text_of Plugin → b.0 ≡ text_of Plugin → before_equals a.1 ≢ before_equals b.1
+HaveTwoNames a b =
+    a.0 ≡ text_of Plugin → b.0 ≡ text_of Plugin → before_equals a.1 ≢ before_equals b.1
 
 -- The options make the command: each is one of the command's with a value that it may have, none that it must have is
 -- missing, only plugins and replicas repeat, and no two plugins have one name.

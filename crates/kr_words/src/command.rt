@@ -1,3 +1,4 @@
+//! The commands, a command with its options, and first values.
 ghost use Rattle.std.specs.Prelude.{◌≡◌};
 ghost use Rattle.std.specs.Option.{option_copied};
 ghost use Rattle.kr_words.specs.Options.{value_of, count_of};

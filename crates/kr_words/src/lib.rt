@@ -1,14 +1,14 @@
 //! The command line of kmsrest: which words mean a command with its options, and the reader of them.
 #![tactic(auto)]
 
+mod arguments;
 mod command;
 mod name;
 mod numeral;
 mod read;
 mod rules;
 mod spelling;
-#[cfg(test)]
-mod tests;
 
+pub use arguments::Reload;
 pub use command::{Command, Verb, WordsNo};
 pub use read::{one_meaning, read_words};

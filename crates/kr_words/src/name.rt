@@ -1,3 +1,4 @@
+//! The commands and the names of their options.
 ghost use Rattle.std.specs.Prelude.{◌≡◌, ◌↔◌, ◌⊎◌, ℕ, IsTrue, MatchOption, Contains};
 ghost use Rattle.kr_words.specs.Names.{word_of, text_of, required, optional, IsRepeatable};
 

@@ -1,3 +1,4 @@
+//! Numbers in decimal digits.
 ghost use Rattle.std.specs.Prelude.{◌≡◌, ◌↔◌, ◌^◌, ◌<◌, ◌≤◌, ℕ, IsTrue, MatchOption};
 ghost use Rattle.kr_words.specs.Numerals.{IsNumeral, IsDecimal};
 

@@ -1,5 +1,8 @@
-ghost use Rattle.kr_words.specs.Grammar.{texts, Reads, MeanOneCommand, IsWithinSize};
-ghost use Rattle.kr_words.specs.Spelling.{HasNoSmallSize};
+//! The reader of a command line.
+ghost use Rattle.kr_words.specs.Grammar.{texts, Reads, MeanOneCommand};
+ghost use Rattle.kr_words.specs.Arguments.{IsWithin};
+ghost use Rattle.kr_words.specs.Names.{text_of};
+ghost use Rattle.kr_words.specs.inner.Spelling.{HasNoSmall};
 ghost use Rattle.kr_words.specs.Numerals.{IsDecimal};
 ghost use Rattle.std.specs.Prelude.{ℕ, ◌≤◌, ◌<◌, MatchBool};
 
@@ -39,17 +42,21 @@ pub fn read_words(alloc: Global, words: &[String]) -> Result<Command, WordsNo>
     if count_of(options.as_slice(), OptionName::Replica.text()) > REPLICAS {
         return Err(WordsNo::Replicas);
     }
-    if !is_within_size(options.as_slice()) {
+    if !is_within(options.as_slice(), OptionName::Size, SIZE) {
         return Err(WordsNo::Size);
     }
     Ok(Command { verb, options })
 }
 
-fn is_within_size(options: &[(Text, Text)]) -> bool
-    ensures { MatchBool result (IsWithinSize options.now) (HasNoSmallSize options.now) }
+/// Whether nothing stands at the name, or a number up to the limit. Where it is a number, it is above the limit else,
+/// also one that is too long for its type.
+fn is_within(options: &[(Text, Text)], name: OptionName, limit: u64) -> bool
+    ensures { MatchBool result
+        (IsWithin options.now (text_of name) limit)
+        (HasNoSmall options.now (text_of name) limit) }
 {
-    match first_value(options, OptionName::Size.text()) {
-        Some(size) => is_at_most(size, SIZE),
+    match first_value(options, name.text()) {
+        Some(number) => is_at_most(number, limit),
         None => true,
     }
 }

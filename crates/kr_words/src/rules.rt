@@ -1,3 +1,4 @@
+//! The rules for the options of a command.
 ghost use Rattle.std.specs.Prelude.{◌≡◌, ◌↔◌, ◌⊎◌, ◌≤◌, ◌<◌, ℕ, IsTrue, Contains, All, AllPairs};
 ghost use Rattle.kr_words.specs.Names.{text_of, required, optional, IsRepeatable};
 ghost use Rattle.kr_words.specs.Options.{count_of};
@@ -157,7 +158,7 @@ fn have_two_names(a: &(Text, Text), b: &(Text, Text)) -> bool
 }
 
 /// What stands before the first `=`.
-fn name_of(value: &str) -> &str
+pub(crate) fn name_of(value: &str) -> &str
     ensures { result.now ≡ before_equals value.now }
 {
     match value.split_once('=') {

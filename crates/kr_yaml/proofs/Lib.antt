@@ -1,3 +1,4 @@
+pub mod Allowed
 pub mod Behind
 pub mod Until
 pub mod Quotes
@@ -14,3 +15,4 @@ pub mod Closing
 pub mod Putting
 pub mod Following
 pub mod SomeAnswer
+pub mod AsWritten

@@ -4,8 +4,8 @@ use Rattle.std.specs.Prelude.{if◌then◌else◌, ◌==◌, ◌&&◌, ◌||◌,
 use Rattle.std.specs.Option.{option_map, option_map_or}
 use Rattle.kr_yaml.specs.Bytes.{behind, skip, opens, closes, over}
 use Rattle.kr_yaml.specs.Data.{Data}
-use Rattle.kr_yaml.specs.Lines.{Token, dash, pair, leaf, list_alone, mapping_alone, value_at, keyed, scalar_or_key, content_at, Head, onto, head, tokens_in, tokens_of}
-use Rattle.kr_yaml.specs.Scalars.{data_of, scalar_at}
+use Rattle.kr_yaml.specs.Lines.{Token, dash, pair, leaf, list_alone, mapping_alone, value_at, keyed, key_at, scalar_or_key, content_at, Head, onto, head, tokens_in, tokens_of}
+use Rattle.kr_yaml.specs.Scalars.{data_of, is_merge, scalar_at}
 use Rattle.kr_yaml.specs.declared.scalar.Context.TheVariants.{Line}
 use Rattle.kr_yaml.specs.Forms.{Shape, flat, Form}
 use Rattle.kr_yaml.specs.Open.{Frame, items, members, State, column_of, is_dash_at, is_inside, begun, next, under, put, doubles, run, closed, place}
@@ -88,9 +88,9 @@ at_content c bs =
     (at_or c (λ rest. option_map (leaf c) (mapping_alone rest)) (behind 123 bs) (option_map_or (scalar_or_key c) (scalar_at Line bs) None)
     (λ rest. at_map c (leaf c) (mapping_alone rest) (λ d. refl))
     (at_or c (scalar_or_key c) (scalar_at Line bs) None
-    (λ x. at_if c (closes x.1) (Some (leaf c (data_of x.0))) (option_map_or (λ rest. keyed c x.0.text rest) (behind 58 x.1) None) (at_some c (leaf c (data_of x.0)) refl)
-    (at_or c (λ rest. keyed c x.0.text rest) (behind 58 x.1) None
-    (λ rest. at_if c (opens rest) (option_map (λ value. pair c x.0.text value) (value_at rest)) None (at_map c (λ value. pair c x.0.text value) (value_at rest) (λ v. refl)) (at_none c)) (at_none c)))
+    (λ x. at_if c (closes x.1) (Some (leaf c (data_of x.0))) (option_map_or (λ rest. key_at c x.0 rest) (behind 58 x.1) None) (at_some c (leaf c (data_of x.0)) refl)
+    (at_or c (λ rest. key_at c x.0 rest) (behind 58 x.1) None
+    (λ rest. at_if c (is_merge x.0) None (keyed c x.0.text rest) (at_none c) (at_if c (opens rest) (option_map (λ value. pair c x.0.text value) (value_at rest)) None (at_map c (λ value. pair c x.0.text value) (value_at rest) (λ v. refl)) (at_none c))) (at_none c)))
     (at_none c)))
 
 after_content : (h : Head) (o : Option Token) (ts : List Token) → HeadRises 0 h → At h.column o → option_map (λ t. map dash h.dashes ++ (t ∷ [])) o ≡ Some ts → After 0 ts

@@ -12,8 +12,8 @@ use Rattle.kr_yaml.specs.Puts.{GoesOn, Puts}
 use Rattle.kr_yaml.specs.Adds.{Adds}
 use Rattle.kr_yaml.specs.declared.tree.Tree.{Tree}
 use Rattle.kr_yaml.specs.declared.open.OpenNode.{OpenNode}
-use Rattle.kr_yaml.specs.declared.put_no.PutNo.{PutNo}
-use Rattle.kr_yaml.specs.declared.put_no.PutNo.TheVariants.{Indent, DuplicateKey, Deep, NoMemory}
+use Rattle.kr_yaml.specs.declared.place_error.PlaceError.{PlaceError}
+use Rattle.kr_yaml.specs.declared.place_error.PlaceError.TheVariants.{Indent, DuplicateKey, Deep, NoMemory}
 
 abbrev pub onto : List Frame → Option State → Option State
 onto fs None = None
@@ -105,7 +105,7 @@ next_node t all rest node n o at h e =
     let both = put_next t (frame_views rest) (frame_view node) (frame_views (drop (n + 1) all)) o (ap (place t) (sym seen) ∙ sym at ∙ sym front ∙ sym (frames_length rest)) in
     record { puts = ap (λ fs. put t fs o) seen ∙ both.0; twice = ap (doubles t) seen ∙ both.1; front = front }
 
-pub next_refused : (t : Token) (all rest : List OpenNode) (node : OpenNode) (n : ℕ) (o : Option Data) (tree : Tree) (why : PutNo) → Next t all rest node n o → view tree ≡ closed (frame_views (drop (n + 1) all)) o
+pub next_refused : (t : Token) (all rest : List OpenNode) (node : OpenNode) (n : ℕ) (o : Option Data) (tree : Tree) (why : PlaceError) → Next t all rest node n o → view tree ≡ closed (frame_views (drop (n + 1) all)) o
     → GoesOn (next t (frame_view node) (view tree)) (is_repeated t (frame_view node)) (Err why) → Puts (put t (frame_views all) o) (doubles t (frame_views all)) (Err why)
 next_refused t all rest node n o tree Indent h e g = h.puts ∙ ap (λ d. onto (frame_views rest) (next t (frame_view node) d)) (sym e) ∙ ap (onto (frame_views rest)) g
 next_refused t all rest node n o tree DuplicateKey h e g = ((frame_views rest ++ g.0.0, g.0.1), h.puts ∙ ap (λ d. onto (frame_views rest) (next t (frame_view node) d)) (sym e) ∙ ap (onto (frame_views rest)) g.1, h.twice ∙ g.2)
@@ -128,11 +128,11 @@ closed_or_null (f ∷ fs) o = ap (close f) (closed_or_null fs o)
 equal : (c : ℕ) → (c == c) ≡ true
 equal c = grind arith
 
-pub added : (c : ℕ) (ms : List (List ℕ × Data)) (l k : List ℕ) (v : Option Data) (d : Data) (why : PutNo) → Adds (members c ms l) d k (Err why) → GoesOn (next (pair c k v) (members c ms l) d) (is_repeated (pair c k v) (members c ms l)) (Err why)
+pub added : (c : ℕ) (ms : List (List ℕ × Data)) (l k : List ℕ) (v : Option Data) (d : Data) (why : PlaceError) → Adds (members c ms l) d k (Err why) → GoesOn (next (pair c k v) (members c ms l) d) (is_repeated (pair c k v) (members c ms l)) (Err why)
 added c ms l k v d Indent h = absurd h
 added c ms l k v d DuplicateKey h = ((members c (ms ++ (l, d) ∷ []) k ∷ [], v), ap (λ x. if x then Some (members c (ms ++ (l, d) ∷ []) k ∷ [], v) else None) (equal c), h)
 added c ms l k v d Deep h = absurd h
 added c ms l k v d NoMemory h = tt
 
-pub goes : (t u : Token) (f g : Frame) (d : Data) (why : PutNo) → t ≡ u → f ≡ g → GoesOn (next u g d) (is_repeated u g) (Err why) → GoesOn (next t f d) (is_repeated t f) (Err why)
+pub goes : (t u : Token) (f g : Frame) (d : Data) (why : PlaceError) → t ≡ u → f ≡ g → GoesOn (next u g d) (is_repeated u g) (Err why) → GoesOn (next t f d) (is_repeated t f) (Err why)
 goes t u f g d why e h x = subst (λ t. GoesOn (next t f d) (is_repeated t f) (Err why)) (sym e) (subst (λ f. GoesOn (next u f d) (is_repeated u f) (Err why)) (sym h) x)

@@ -7,10 +7,10 @@ use Rattle.kr_yaml.specs.Forms.{keys}
 use Rattle.kr_yaml.specs.Open.{Frame, items, members}
 use Rattle.kr_yaml.specs.Frames.{mapping_frame}
 use Rattle.kr_yaml.specs.declared.open_mapping.OpenMapping.{OpenMapping}
-use Rattle.kr_yaml.specs.declared.put_no.PutNo.{PutNo}
-use Rattle.kr_yaml.specs.declared.put_no.PutNo.TheVariants.{Indent, DuplicateKey, Deep, NoMemory}
+use Rattle.kr_yaml.specs.declared.place_error.PlaceError.{PlaceError}
+use Rattle.kr_yaml.specs.declared.place_error.PlaceError.TheVariants.{Indent, DuplicateKey, Deep, NoMemory}
 
-abbrev pub Adds : Frame → Data → List ℕ → Result OpenMapping PutNo → Type 0
+abbrev pub Adds : Frame → Data → List ℕ → Result OpenMapping PlaceError → Type 0
 Adds (items c ds) d k result = ⊥
 Adds (members c ms l) d k (Ok m) = (mapping_frame m ≡ members c (ms ++ (l, d) ∷ []) k) × (list_any (λ x. bytes_eq x k) (keys ms ++ l ∷ []) ≡ false)
 Adds (members c ms l) d k (Err Indent) = ⊥

@@ -1,7 +1,9 @@
 pub mod Data
 pub mod Shown
+pub mod Characters
 pub mod Bytes
 pub mod Scalars
+pub mod Written
 pub mod Lines
 pub mod Seen
 pub mod Forms

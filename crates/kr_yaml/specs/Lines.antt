@@ -3,7 +3,7 @@ use Rattle.std.specs.Prelude.{ℕ, zero, suc, ◌+◌, ◌==◌, ◌&&◌, List,
 use Rattle.std.specs.Option.{option_map, option_map_or}
 use Rattle.kr_yaml.specs.Bytes.{behind, skip, opens, closes, over}
 use Rattle.kr_yaml.specs.Data.{Data, list, mapping, items_of, members_of}
-use Rattle.kr_yaml.specs.Scalars.{scalar_at, data_of, with_front}
+use Rattle.kr_yaml.specs.Scalars.{scalar_at, data_of, is_merge, with_front}
 use Rattle.kr_yaml.specs.declared.scalar.Scalar.{Scalar}
 use Rattle.kr_yaml.specs.declared.scalar.Context.TheVariants.{Line, Flow}
 
@@ -59,8 +59,11 @@ value_at bs = if over (skip bs) then Some None else option_map (λ d. Some d) (l
 abbrev pub keyed : ℕ → List ℕ → List ℕ → Option Token
 keyed column key rest = if opens rest then option_map (λ value. pair column key value) (value_at rest) else None
 
+abbrev pub key_at : ℕ → Scalar → List ℕ → Option Token
+key_at column key rest = if is_merge key then None else keyed column key.text rest
+
 abbrev pub scalar_or_key : ℕ → Scalar × List ℕ → Option Token
-scalar_or_key column x = if closes x.1 then Some (leaf column (data_of x.0)) else option_map_or (λ rest. keyed column x.0.text rest) (behind 58 x.1) None
+scalar_or_key column x = if closes x.1 then Some (leaf column (data_of x.0)) else option_map_or (λ rest. key_at column x.0 rest) (behind 58 x.1) None
 
 -- the last token of a line
 unfoldable pub content_at : ℕ → List ℕ → Option Token

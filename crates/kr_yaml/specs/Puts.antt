@@ -7,17 +7,17 @@ use Rattle.kr_yaml.specs.Open.{State}
 use Rattle.kr_yaml.specs.Frames.{frame_view, state_view}
 use Rattle.kr_yaml.specs.declared.tree.Tree.{Tree}
 use Rattle.kr_yaml.specs.declared.open.OpenNode.{OpenNode}
-use Rattle.kr_yaml.specs.declared.put_no.PutNo.{PutNo}
-use Rattle.kr_yaml.specs.declared.put_no.PutNo.TheVariants.{Indent, DuplicateKey, Deep, NoMemory}
+use Rattle.kr_yaml.specs.declared.place_error.PlaceError.{PlaceError}
+use Rattle.kr_yaml.specs.declared.place_error.PlaceError.TheVariants.{Indent, DuplicateKey, Deep, NoMemory}
 
-abbrev pub GoesOn : Option State → Bool → Result (OpenNode × Option Tree) PutNo → Type 0
+abbrev pub GoesOn : Option State → Bool → Result (OpenNode × Option Tree) PlaceError → Type 0
 GoesOn wanted twice (Ok x) = (wanted ≡ Some (frame_view x.0 ∷ [], option_map view x.1)) × (twice ≡ false)
 GoesOn wanted twice (Err Indent) = wanted ≡ None
 GoesOn wanted twice (Err DuplicateKey) = (s : State) × (wanted ≡ Some s) × (twice ≡ true)
 GoesOn wanted twice (Err Deep) = (s : State) × (wanted ≡ Some s) × (16 < length s.0) × (twice ≡ false)
 GoesOn wanted twice (Err NoMemory) = ⊤
 
-abbrev pub Puts : Option State → Bool → Result (Vec OpenNode Global × Option Tree) PutNo → Type 0
+abbrev pub Puts : Option State → Bool → Result (Vec OpenNode Global × Option Tree) PlaceError → Type 0
 Puts wanted twice (Ok x) = (wanted ≡ Some (state_view x.0.items x.1)) × (twice ≡ false) × (length x.0.items ≤ 16)
 Puts wanted twice (Err Indent) = wanted ≡ None
 Puts wanted twice (Err DuplicateKey) = (s : State) × (wanted ≡ Some s) × (twice ≡ true)

@@ -1,7 +1,7 @@
 -- How a scalar is written: plain, in single quotes or in double quotes. Each definition gives the scalar that bytes
 -- begin with, and the bytes behind it.
-use Rattle.std.specs.Prelude.{ℕ, ◌==◌, ◌&&◌, ◌||◌, not, Bool, true, false, List, [], ◌∷◌, ◌++◌, take, drop, codes, Option, None, Some, if◌then◌else◌}
-use Rattle.std.specs.List.{list_any}
+use Rattle.std.specs.Prelude.{ℕ, ◌==◌, ◌&&◌, ◌||◌, not, Bool, true, false, List, [], ◌∷◌, ◌++◌, take, drop, codes, Option, None, Some, if◌then◌else◌, option_and_then}
+use Rattle.std.specs.List.{list_all, list_any}
 use Rattle.std.specs.Option.{option_map_or}
 use Rattle.std.specs.Str.{bytes_eq}
 use Rattle.kr_yaml.specs.Bytes.{behind, trim, has, stops, length_until}
@@ -44,6 +44,10 @@ abbrev mutual
 abbrev pub is_indicator : ℕ → Bool
 is_indicator b = list_any (λ c. c == b) (codes "?:,[]{}#&*!|>'\"%@`")
 
+-- a space or a tab
+abbrev pub is_blank : ℕ → Bool
+is_blank b = b == 32 || b == 9
+
 abbrev pub is_space : List ℕ → Bool
 is_space [] = false
 is_space (b ∷ bs) = b == 32
@@ -79,3 +83,7 @@ is_null s = s.plain && (bytes_eq s.text (codes "null") || bytes_eq s.text (codes
 
 abbrev pub data_of : Scalar → Data
 data_of s = if is_null s then null else word s.text
+
+-- A plain `<<`, whatever blanks stand behind it. As a key it would merge another mapping into its own.
+abbrev pub is_merge : Scalar → Bool
+is_merge s = s.plain && option_map_or (list_all is_blank) (option_and_then (behind 60) (behind 60 s.text)) false

@@ -1,14 +1,14 @@
 //! The tokens of a line.
 ghost use Rattle.std.specs.Prelude.{◌≡◌, IfOk, length, map};
 ghost use Rattle.std.specs.Option.{option_map};
-ghost use Rattle.kr_yaml.specs.Lines.{Token, dash, leaf, pair, scalars, flow_list, flow_mapping, list_alone, mapping_alone, leaf_at, value_at, keyed, content_at, Head, head, dash_behind, tokens_in, tokens_of};
+ghost use Rattle.kr_yaml.specs.Lines.{Token, dash, leaf, pair, scalars, flow_list, flow_mapping, list_alone, mapping_alone, leaf_at, value_at, keyed, key_at, content_at, Head, head, dash_behind, tokens_in, tokens_of};
 ghost use Rattle.kr_yaml.specs.Shown.{view};
 ghost use Rattle.kr_yaml.specs.Seen.{token_view, token_views, lent_trees, lent_tree, list_tokens, IsHead};
 ghost use Rattle.kr_yaml.specs.Gives.{Gives};
 
 use crate::bytes::{behind, closes, opens, over, skip};
-use crate::line_no::LineNo;
-use crate::scalar::{Context, scalar_at, tree_of};
+use crate::line_error::LineError;
+use crate::scalar::{Context, Scalar, is_merge, scalar_at, tree_of};
 use crate::token::LineToken;
 use crate::tree::Tree;
 use kr_base::{List, NoMemory, Text};
@@ -16,7 +16,7 @@ use std::alloc::Global;
 
 /// The scalars of a flow list, and what stands behind its closing bracket.
 #[tactic(auto, using(crate::proofs::Flows::scalars_begin, crate::proofs::Flows::scalars_refused, crate::proofs::Flows::scalars_go_on, crate::proofs::Flows::scalars_end, crate::proofs::Flows::scalars_open, crate::proofs::Flows::scalars_out))]
-fn scalars(alloc: Global, text: &str) -> Result<(List<Tree>, &str), LineNo>
+fn scalars(alloc: Global, text: &str) -> Result<(List<Tree>, &str), LineError>
     ensures { Gives lent_trees (scalars (length text.now) text.now) result }
 {
     let mut trees = List::new(alloc);
@@ -28,23 +28,23 @@ fn scalars(alloc: Global, text: &str) -> Result<(List<Tree>, &str), LineNo>
         };
         match trees.push(tree_of(scalar)) {
             Ok(()) => {}
-            Err(_) => return Err(LineNo::NoMemory),
+            Err(_) => return Err(LineError::NoMemory),
         }
         let after = skip(after);
         match behind(after, ',') {
             Some(more) => rest = more,
             None => match behind(after, ']') {
                 Some(more) => return Ok((trees, more)),
-                None => return Err(LineNo::Form),
+                None => return Err(LineError::Form),
             },
         }
     }
-    Err(LineNo::Form)
+    Err(LineError::Form)
 }
 
 /// The flow list behind its opening bracket, and what stands behind it.
 #[tactic(auto, unfolding(crate::specs::Lines::flow_list))]
-fn flow_list(alloc: Global, text: &str) -> Result<(Tree, &str), LineNo>
+fn flow_list(alloc: Global, text: &str) -> Result<(Tree, &str), LineError>
     ensures { Gives lent_tree (flow_list text.now) result }
 {
     if let Some(rest) = behind(text, ']') {
@@ -56,7 +56,7 @@ fn flow_list(alloc: Global, text: &str) -> Result<(Tree, &str), LineNo>
     }
 }
 
-fn list_alone(alloc: Global, text: &str) -> Result<Tree, LineNo>
+fn list_alone(alloc: Global, text: &str) -> Result<Tree, LineError>
     ensures { Gives view (list_alone text.now) result }
 {
     match flow_list(alloc, text) {
@@ -64,14 +64,14 @@ fn list_alone(alloc: Global, text: &str) -> Result<Tree, LineNo>
             if closes(rest) {
                 Ok(tree)
             } else {
-                Err(LineNo::Form)
+                Err(LineError::Form)
             }
         }
         Err(why) => Err(why),
     }
 }
 
-fn mapping_alone(alloc: Global, text: &str) -> Result<Tree, LineNo>
+fn mapping_alone(alloc: Global, text: &str) -> Result<Tree, LineError>
     ensures { Gives view (mapping_alone text.now) result }
 {
     match behind(text, '}') {
@@ -79,16 +79,16 @@ fn mapping_alone(alloc: Global, text: &str) -> Result<Tree, LineNo>
             if closes(rest) {
                 Ok(Tree::Members(List::new(alloc)))
             } else {
-                Err(LineNo::Form)
+                Err(LineError::Form)
             }
         }
-        None => Err(LineNo::Form),
+        None => Err(LineError::Form),
     }
 }
 
 /// A scalar or a flow value up to the end of the line.
 #[tactic(auto, unfolding(crate::specs::Lines::leaf_at))]
-fn leaf_at(alloc: Global, text: &str) -> Result<Tree, LineNo>
+fn leaf_at(alloc: Global, text: &str) -> Result<Tree, LineError>
     ensures { Gives view (leaf_at text.now) result }
 {
     if let Some(rest) = behind(text, '[') {
@@ -102,7 +102,7 @@ fn leaf_at(alloc: Global, text: &str) -> Result<Tree, LineNo>
             if closes(rest) {
                 Ok(tree_of(scalar))
             } else {
-                Err(LineNo::Form)
+                Err(LineError::Form)
             }
         }
         Err(why) => Err(why),
@@ -111,7 +111,7 @@ fn leaf_at(alloc: Global, text: &str) -> Result<Tree, LineNo>
 
 /// What stands behind the `:` of a key.
 #[tactic(auto, unfolding(crate::specs::Lines::value_at))]
-fn value_at(alloc: Global, text: &str) -> Result<Option<Tree>, LineNo>
+fn value_at(alloc: Global, text: &str) -> Result<Option<Tree>, LineError>
     ensures { Gives (λ value. option_map view value) (value_at text.now) result }
 {
     let text = skip(text);
@@ -124,11 +124,21 @@ fn value_at(alloc: Global, text: &str) -> Result<Option<Tree>, LineNo>
     }
 }
 
-fn keyed(alloc: Global, column: usize, key: Text, rest: &str) -> Result<LineToken, LineNo>
+/// A key and what stands behind its `:`.
+fn key_at(alloc: Global, column: usize, key: Scalar, rest: &str) -> Result<LineToken, LineError>
+    ensures { Gives token_view (key_at column key rest.now) result }
+{
+    if is_merge(&key) {
+        return Err(LineError::Form);
+    }
+    keyed(alloc, column, key.text, rest)
+}
+
+fn keyed(alloc: Global, column: usize, key: Text, rest: &str) -> Result<LineToken, LineError>
     ensures { Gives token_view (keyed column key rest.now) result }
 {
     if !opens(rest.as_bytes()) {
-        return Err(LineNo::Form);
+        return Err(LineError::Form);
     }
     match value_at(alloc, rest) {
         Ok(value) => Ok(LineToken::Pair { column, key, value }),
@@ -138,7 +148,7 @@ fn keyed(alloc: Global, column: usize, key: Text, rest: &str) -> Result<LineToke
 
 /// The last token of a line.
 #[tactic(auto, unfolding(crate::specs::Lines::content_at))]
-fn content_at(alloc: Global, column: usize, text: &str) -> Result<LineToken, LineNo>
+fn content_at(alloc: Global, column: usize, text: &str) -> Result<LineToken, LineError>
     ensures { Gives token_view (content_at column text.now) result }
 {
     if let Some(rest) = behind(text, '[') {
@@ -164,8 +174,8 @@ fn content_at(alloc: Global, column: usize, text: &str) -> Result<LineToken, Lin
         });
     }
     match behind(rest, ':') {
-        Some(rest) => keyed(alloc, column, scalar.text, rest),
-        None => Err(LineNo::Form),
+        Some(rest) => key_at(alloc, column, scalar, rest),
+        None => Err(LineError::Form),
     }
 }
 
@@ -211,15 +221,15 @@ fn head(alloc: Global, text: &str) -> Result<(List<LineToken>, usize, &str), NoM
 
 /// The tokens of a line.
 #[tactic(auto, unfolding(crate::specs::Lines::tokens_of))]
-pub fn tokens_of(alloc: Global, line: &str) -> Result<List<LineToken>, LineNo>
+pub fn tokens_of(alloc: Global, line: &str) -> Result<List<LineToken>, LineError>
     ensures { Gives list_tokens (tokens_of line.now) result }
 {
     if behind(skip(line), '\t').is_some() {
-        return Err(LineNo::Form);
+        return Err(LineError::Form);
     }
     let (mut tokens, column, rest) = match head(alloc, line) {
         Ok(head) => head,
-        Err(_) => return Err(LineNo::NoMemory),
+        Err(_) => return Err(LineError::NoMemory),
     };
     if over(rest.as_bytes()) {
         return Ok(tokens);
@@ -230,6 +240,6 @@ pub fn tokens_of(alloc: Global, line: &str) -> Result<List<LineToken>, LineNo>
     };
     match tokens.push(token) {
         Ok(()) => Ok(tokens),
-        Err(_) => Err(LineNo::NoMemory),
+        Err(_) => Err(LineError::NoMemory),
     }
 }

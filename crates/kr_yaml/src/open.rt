@@ -8,7 +8,7 @@ ghost use Rattle.kr_yaml.specs.Frames.{frame_view, frame_views, state_view};
 ghost use Rattle.kr_yaml.specs.Puts.{GoesOn, Puts};
 
 use crate::open_mapping::OpenMapping;
-use crate::put_no::PutNo;
+use crate::place_error::PlaceError;
 use crate::token::LineToken;
 use crate::tree::Tree;
 use kr_base::{List, NoMemory};

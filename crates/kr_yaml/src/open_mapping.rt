@@ -1,3 +1,4 @@
+//! A mapping that is open.
 ghost use Rattle.std.specs.Prelude.{◌≡◌, ℕ, List, [], ◌∷◌, ◌++◌};
 ghost use Rattle.std.specs.List.{list_any};
 ghost use Rattle.std.specs.Ordering.{nat_cmp};
@@ -7,7 +8,7 @@ ghost use Rattle.std.specs.BTreeSet.{contains};
 ghost use Rattle.kr_yaml.specs.Forms.{keys as keys_of};
 ghost use Rattle.kr_yaml.specs.Shown.{member_views};
 
-use crate::put_no::PutNo;
+use crate::place_error::PlaceError;
 use crate::tree::{Member, Tree};
 use kr_base::{List, NoMemory, Text};
 use std::alloc::Global;
@@ -56,7 +57,7 @@ impl OpenMapping {
     }
 
     /// Closes the last member with its value, and begins one more.
-    pub fn add(self, alloc: Global, value: Tree, key: Text) -> Result<OpenMapping, PutNo>
+    pub fn add(self, alloc: Global, value: Tree, key: Text) -> Result<OpenMapping, PlaceError>
         ensures { Adds (mapping_frame self) (view value) key result }
     {
         let OpenMapping {
@@ -67,16 +68,16 @@ impl OpenMapping {
         } = self;
         let copy = match Text::copy(alloc, key.as_str()) {
             Ok(copy) => copy,
-            Err(_) => return Err(PutNo::NoMemory),
+            Err(_) => return Err(PlaceError::NoMemory),
         };
         match keys.insert(copy) {
             Ok(true) => {}
-            Ok(false) => return Err(PutNo::DuplicateKey),
-            Err(_) => return Err(PutNo::NoMemory),
+            Ok(false) => return Err(PlaceError::DuplicateKey),
+            Err(_) => return Err(PlaceError::NoMemory),
         }
         match done.push(Member { key: last, value }) {
             Ok(()) => {}
-            Err(_) => return Err(PutNo::NoMemory),
+            Err(_) => return Err(PlaceError::NoMemory),
         }
         Ok(OpenMapping {
             column,

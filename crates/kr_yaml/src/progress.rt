@@ -1,3 +1,4 @@
+//! How far a text was read.
 use crate::standing::Standing;
 use crate::yaml_no::YamlNo;
 

@@ -10,7 +10,7 @@ ghost use Rattle.kr_yaml.specs.Puts.{GoesOn, Begins, Puts};
 
 use crate::open::{OpenNode, close, place};
 use crate::open_mapping::OpenMapping;
-use crate::put_no::PutNo;
+use crate::place_error::PlaceError;
 use crate::token::LineToken;
 use crate::tree::Tree;
 use kr_base::{List, NoMemory};
@@ -58,17 +58,17 @@ fn go_on(
     node: OpenNode,
     value: Tree,
     token: LineToken,
-) -> Result<(OpenNode, Option<Tree>), PutNo>
+) -> Result<(OpenNode, Option<Tree>), PlaceError>
     ensures { GoesOn (next (token_view token) (frame_view node) (view value)) (is_repeated (token_view token) (frame_view node)) result }
 {
     match (node, token) {
         (OpenNode::Items { column, mut done }, LineToken::Dash { column: own }) => {
             if own != column {
-                return Err(PutNo::Indent);
+                return Err(PlaceError::Indent);
             }
             match done.push(value) {
                 Ok(()) => Ok((OpenNode::Items { column, done }, None)),
-                Err(_) => Err(PutNo::NoMemory),
+                Err(_) => Err(PlaceError::NoMemory),
             }
         }
         (
@@ -80,14 +80,14 @@ fn go_on(
             },
         ) => {
             if own != mapping.column {
-                return Err(PutNo::Indent);
+                return Err(PlaceError::Indent);
             }
             match mapping.add(alloc, value, key) {
                 Ok(mapping) => Ok((OpenNode::Members(mapping), beside)),
                 Err(why) => Err(why),
             }
         }
-        _ => Err(PutNo::Indent),
+        _ => Err(PlaceError::Indent),
     }
 }
 
@@ -117,28 +117,28 @@ fn put_inside(
     nodes: Vec<OpenNode>,
     value: Option<Tree>,
     token: LineToken,
-) -> Result<(Vec<OpenNode>, Option<Tree>), PutNo>
+) -> Result<(Vec<OpenNode>, Option<Tree>), PlaceError>
     requires few { length nodes.items ≤ 16 }
     requires inside { place (token_view token) (frame_views nodes.items) ≡ length nodes.items }
     ensures { Puts (put (token_view token) (frame_views nodes.items) (option_map view value)) (doubles (token_view token) (frame_views nodes.items)) result }
 {
     let mut nodes = nodes;
     let None = value else {
-        return Err(PutNo::Indent);
+        return Err(PlaceError::Indent);
     };
     let (node, value) = match begin(alloc, token) {
         Ok(begun) => begun,
-        Err(_) => return Err(PutNo::NoMemory),
+        Err(_) => return Err(PlaceError::NoMemory),
     };
     let Some(node) = node else {
         return Ok((nodes, value));
     };
     if nodes.len() >= LEVELS {
-        return Err(PutNo::Deep);
+        return Err(PlaceError::Deep);
     }
     match nodes.push(node) {
         Ok(()) => Ok((nodes, value)),
-        Err(_) => Err(PutNo::NoMemory),
+        Err(_) => Err(PlaceError::NoMemory),
     }
 }
 
@@ -149,7 +149,7 @@ fn put_at(
     at: usize,
     value: Option<Tree>,
     token: LineToken,
-) -> Result<(Vec<OpenNode>, Option<Tree>), PutNo>
+) -> Result<(Vec<OpenNode>, Option<Tree>), PlaceError>
     requires few { length nodes.items ≤ 16 }
     requires inside { at ≡ place (token_view token) (frame_views nodes.items) }
     requires within { at < length nodes.items }
@@ -158,10 +158,10 @@ fn put_at(
     let mut nodes = nodes;
     let tree = match close_from(&mut nodes, at + 1, value) {
         Ok(tree) => tree,
-        Err(_) => return Err(PutNo::NoMemory),
+        Err(_) => return Err(PlaceError::NoMemory),
     };
     let Some(node) = nodes.pop() else {
-        return Err(PutNo::NoMemory);
+        return Err(PlaceError::NoMemory);
     };
     let (node, value) = match go_on(alloc, node, tree, token) {
         Ok(more) => more,
@@ -169,7 +169,7 @@ fn put_at(
     };
     match nodes.push(node) {
         Ok(()) => Ok((nodes, value)),
-        Err(_) => Err(PutNo::NoMemory),
+        Err(_) => Err(PlaceError::NoMemory),
     }
 }
 
@@ -179,7 +179,7 @@ pub fn put(
     nodes: Vec<OpenNode>,
     value: Option<Tree>,
     token: LineToken,
-) -> Result<(Vec<OpenNode>, Option<Tree>), PutNo>
+) -> Result<(Vec<OpenNode>, Option<Tree>), PlaceError>
     requires { length nodes.items ≤ 16 }
     ensures { Puts (put (token_view token) (frame_views nodes.items) (option_map view value)) (doubles (token_view token) (frame_views nodes.items)) result }
 {

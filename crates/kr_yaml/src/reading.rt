@@ -3,17 +3,19 @@ ghost use Rattle.std.specs.Prelude.{◌≡◌, ◌<◌, ◌&&◌, true, IfOk, If
 ghost use Rattle.std.specs.Str.Lines.{lines};
 ghost use Rattle.kr_yaml.specs.Seen.{token_view, token_views, list_tokens};
 ghost use Rattle.kr_yaml.specs.Gives.{Gives};
-ghost use Rattle.kr_yaml.specs.Texts.{marks, line_tokens, is_empty, tokens_from, text_tokens};
+ghost use Rattle.std.specs.Option.{option_map};
+ghost use Rattle.kr_yaml.specs.Texts.{behind_three, marks, begins_blank, goes_on, marks_more, is_foreign, line_tokens, is_empty, tokens_from, text_tokens};
 ghost use Rattle.kr_yaml.specs.Progress.{Moves, Extends, ReadsLines};
 ghost use Rattle.kr_yaml.specs.Reads.{Reads, OnlyTree, NoTree};
 ghost use Rattle.kr_yaml.specs.Shown.{view};
 
 use crate::bytes::{behind, closes, over, skip};
+use crate::characters::are_allowed;
 use crate::line::tokens_of;
-use crate::line_no::LineNo;
+use crate::line_error::LineError;
+use crate::place_error::PlaceError;
 use crate::progress::Progress;
 use crate::put::{close_from, put};
-use crate::put_no::PutNo;
 use crate::standing::Standing;
 use crate::token::LineToken;
 use crate::tree::Tree;
@@ -21,34 +23,78 @@ use crate::yaml_no::YamlNo;
 use kr_base::{List, NoMemory};
 use std::alloc::Global;
 
+/// What stands behind three of this character.
+fn behind_three(mark: char, line: &str) -> Option<&str>
+    requires { mark < 128 }
+    ensures { option_map (λ rest. rest.now) result ≡ behind_three mark line.now }
+{
+    match behind(line, mark) {
+        Some(rest) => match behind(rest, mark) {
+            Some(rest) => behind(rest, mark),
+            None => None,
+        },
+        None => None,
+    }
+}
+
 /// Whether a line is three of this character, and perhaps a comment.
 fn marks(mark: char, line: &str) -> bool
     requires { mark < 128 }
     ensures { result ≡ marks mark line.now }
 {
-    let Some(rest) = behind(line, mark) else {
-        return false;
-    };
-    let Some(rest) = behind(rest, mark) else {
-        return false;
-    };
-    match behind(rest, mark) {
+    match behind_three(mark, line) {
         Some(rest) => closes(rest),
         None => false,
     }
 }
 
-fn line_tokens(alloc: Global, first: bool, line: &str) -> Result<List<LineToken>, LineNo>
+fn begins_blank(bytes: &[u8]) -> bool
+    ensures { result ≡ begins_blank bytes.now }
+{
+    match bytes {
+        [] => false,
+        [byte, ..] => *byte == b' ' || *byte == b'\t',
+    }
+}
+
+fn goes_on(rest: &str) -> bool
+    ensures { result ≡ goes_on rest.now }
+{
+    begins_blank(rest.as_bytes()) && !closes(rest)
+}
+
+/// Whether a line is three of this character, a blank, and more than a comment.
+fn marks_more(mark: char, line: &str) -> bool
+    requires { mark < 128 }
+    ensures { result ≡ marks_more mark line.now }
+{
+    match behind_three(mark, line) {
+        Some(rest) => goes_on(rest),
+        None => false,
+    }
+}
+
+/// Whether a line holds what a reader of YAML might take for the end of the line or of the document.
+fn is_foreign(line: &str) -> bool
+    ensures { result ≡ is_foreign line.now }
+{
+    !are_allowed(line) || marks_more('-', line) || marks_more('.', line)
+}
+
+fn line_tokens(alloc: Global, first: bool, line: &str) -> Result<List<LineToken>, LineError>
     ensures { Gives list_tokens (line_tokens first line.now) result }
 {
+    if is_foreign(line) {
+        return Err(LineError::Form);
+    }
     if marks('-', line) {
         if first {
             return Ok(List::new(alloc));
         }
-        return Err(LineNo::Form);
+        return Err(LineError::Form);
     }
     if marks('.', line) && !first {
-        return Err(LineNo::Form);
+        return Err(LineError::Form);
     }
     tokens_of(alloc, line)
 }
@@ -81,10 +127,10 @@ fn step(
     let Standing { nodes, value } = standing;
     match put(alloc, nodes, value, token) {
         Ok((nodes, value)) => Ok(Progress::Going(Standing { nodes, value })),
-        Err(PutNo::Indent) => Ok(Progress::Broken(YamlNo::Indent { line })),
-        Err(PutNo::DuplicateKey) => Ok(Progress::Broken(YamlNo::DuplicateKey { line })),
-        Err(PutNo::Deep) => Ok(Progress::Broken(YamlNo::Deep { line })),
-        Err(PutNo::NoMemory) => Err(NoMemory),
+        Err(PlaceError::Indent) => Ok(Progress::Broken(YamlNo::Indent { line })),
+        Err(PlaceError::DuplicateKey) => Ok(Progress::Broken(YamlNo::DuplicateKey { line })),
+        Err(PlaceError::Deep) => Ok(Progress::Broken(YamlNo::Deep { line })),
+        Err(PlaceError::NoMemory) => Err(NoMemory),
     }
 }
 
@@ -122,8 +168,8 @@ fn read_lines(alloc: Global, text: &str) -> Result<Progress, YamlNo>
     'each: for line in text.lines() {
         let tokens = match line_tokens(alloc, first, line) {
             Ok(tokens) => tokens,
-            Err(LineNo::Form) => return Err(YamlNo::Outside { line: number }),
-            Err(LineNo::NoMemory) => return Err(YamlNo::NoMemory),
+            Err(LineError::Form) => return Err(YamlNo::Outside { line: number }),
+            Err(LineError::NoMemory) => return Err(YamlNo::NoMemory),
         };
         progress = match steps(alloc, progress, number, tokens) {
             Ok(progress) => progress,

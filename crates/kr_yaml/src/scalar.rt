@@ -1,11 +1,12 @@
 //! Scalars: plain, in single quotes and in double quotes.
 ghost use Rattle.std.specs.Prelude.{◌≡◌, ◌<◌, IfSome};
-ghost use Rattle.kr_yaml.specs.Scalars.{single, double, escape, is_indicator, is_plain, is_space, is_null, plain_text, plain_scalar, plain_at, scalar_at, data_of, quoted};
+ghost use Rattle.std.specs.List.{list_all};
+ghost use Rattle.kr_yaml.specs.Scalars.{is_blank, is_merge, single, double, escape, is_indicator, is_plain, is_space, is_null, plain_text, plain_scalar, plain_at, scalar_at, data_of, quoted};
 ghost use Rattle.kr_yaml.specs.Shown.{view};
 ghost use Rattle.kr_yaml.specs.Gives.{Gives, lent};
 
 use crate::bytes::{Stop, ascii_first, behind, cut_before, has, trim};
-use crate::line_no::LineNo;
+use crate::line_error::LineError;
 use crate::tree::Tree;
 use kr_base::Text;
 use std::alloc::Global;
@@ -30,7 +31,7 @@ pub enum Context {
 
 /// The text behind an opening single quote up to the closing one, and what stands behind that.
 #[tactic(auto, using(crate::proofs::Quotes::single_refused, crate::proofs::Quotes::single_ended, crate::proofs::Quotes::single_goes_on, crate::proofs::Quotes::behind_less))]
-fn single(alloc: Global, text: &str) -> Result<(Text, &str), LineNo>
+fn single(alloc: Global, text: &str) -> Result<(Text, &str), LineError>
     ensures { Gives lent (single text.now) result }
 {
     let mut word = String::new(alloc);
@@ -39,17 +40,17 @@ fn single(alloc: Global, text: &str) -> Result<(Text, &str), LineNo>
         let (piece, after) = cut_before(Stop::SingleQuote, rest);
         match word.push_str(piece) {
             Ok(()) => {}
-            Err(_) => return Err(LineNo::NoMemory),
+            Err(_) => return Err(LineError::NoMemory),
         }
         let Some(more) = behind(after, '\'') else {
-            return Err(LineNo::Form);
+            return Err(LineError::Form);
         };
         let Some(more) = behind(more, '\'') else {
             return Ok((Text::from_string(word), more));
         };
         match word.push('\'') {
             Ok(()) => {}
-            Err(_) => return Err(LineNo::NoMemory),
+            Err(_) => return Err(LineError::NoMemory),
         }
         rest = more;
     }
@@ -72,7 +73,7 @@ fn escape(byte: u8) -> Option<char>
 
 /// The text behind an opening double quote up to the closing one, and what stands behind that.
 #[tactic(auto, using(crate::proofs::Quotes::double_refused, crate::proofs::Quotes::double_ended, crate::proofs::Quotes::double_cut, crate::proofs::Quotes::double_unknown, crate::proofs::Quotes::double_goes_on, crate::proofs::Quotes::behind_less, crate::proofs::Quotes::first_less))]
-fn double(alloc: Global, text: &str) -> Result<(Text, &str), LineNo>
+fn double(alloc: Global, text: &str) -> Result<(Text, &str), LineError>
     ensures { Gives lent (double text.now) result }
 {
     let mut word = String::new(alloc);
@@ -81,23 +82,23 @@ fn double(alloc: Global, text: &str) -> Result<(Text, &str), LineNo>
         let (piece, after) = cut_before(Stop::DoubleQuote, rest);
         match word.push_str(piece) {
             Ok(()) => {}
-            Err(_) => return Err(LineNo::NoMemory),
+            Err(_) => return Err(LineError::NoMemory),
         }
         if let Some(more) = behind(after, '"') {
             return Ok((Text::from_string(word), more));
         }
         let Some(more) = behind(after, '\\') else {
-            return Err(LineNo::Form);
+            return Err(LineError::Form);
         };
         let Some((byte, more)) = ascii_first(more) else {
-            return Err(LineNo::Form);
+            return Err(LineError::Form);
         };
         let Some(meant) = escape(byte) else {
-            return Err(LineNo::Form);
+            return Err(LineError::Form);
         };
         match word.push(meant) {
             Ok(()) => {}
-            Err(_) => return Err(LineNo::NoMemory),
+            Err(_) => return Err(LineError::NoMemory),
         }
         rest = more;
     }
@@ -131,15 +132,19 @@ fn is_plain(text: &str) -> bool
     }
 }
 
-fn plain_scalar<'a>(alloc: Global, text: &str, rest: &'a str) -> Result<(Scalar, &'a str), LineNo>
+fn plain_scalar<'a>(
+    alloc: Global,
+    text: &str,
+    rest: &'a str,
+) -> Result<(Scalar, &'a str), LineError>
     ensures { Gives lent (plain_scalar text.now rest.now) result }
 {
     if !is_plain(text) {
-        return Err(LineNo::Form);
+        return Err(LineError::Form);
     }
     match Text::copy(alloc, text) {
         Ok(text) => Ok((Scalar { text, plain: true }, rest)),
-        Err(_) => Err(LineNo::NoMemory),
+        Err(_) => Err(LineError::NoMemory),
     }
 }
 
@@ -153,7 +158,7 @@ fn plain_text<'a>(front: &'a str, rest: &str) -> &'a str
 }
 
 #[tactic(auto, unfolding(crate::specs::Scalars::plain_at))]
-fn plain_at(alloc: Global, context: Context, text: &str) -> Result<(Scalar, &str), LineNo>
+fn plain_at(alloc: Global, context: Context, text: &str) -> Result<(Scalar, &str), LineError>
     ensures { Gives lent (plain_at context text.now) result }
 {
     match context {
@@ -164,7 +169,7 @@ fn plain_at(alloc: Global, context: Context, text: &str) -> Result<(Scalar, &str
         Context::Flow => {
             let (front, rest) = cut_before(Stop::FlowSign, text);
             if has(Stop::Comment, front.as_bytes()) {
-                return Err(LineNo::Form);
+                return Err(LineError::Form);
             }
             plain_scalar(alloc, trim(front), rest)
         }
@@ -173,7 +178,7 @@ fn plain_at(alloc: Global, context: Context, text: &str) -> Result<(Scalar, &str
 
 /// The scalar that the text begins with, and what stands behind it.
 #[tactic(auto, unfolding(crate::specs::Scalars::scalar_at))]
-pub fn scalar_at(alloc: Global, context: Context, text: &str) -> Result<(Scalar, &str), LineNo>
+pub fn scalar_at(alloc: Global, context: Context, text: &str) -> Result<(Scalar, &str), LineError>
     ensures { Gives lent (scalar_at context text.now) result }
 {
     if let Some(rest) = behind(text, '\'') {
@@ -195,6 +200,29 @@ fn is_null(scalar: &Scalar) -> bool
     ensures { result ≡ is_null scalar.now }
 {
     scalar.plain && (scalar.text.as_str() == "null" || scalar.text.as_str() == "~")
+}
+
+/// Whether each byte is a space or a tab.
+fn are_blank(bytes: &[u8]) -> bool
+    ensures { result ≡ list_all is_blank bytes.now }
+{
+    bytes.iter().all(|byte| *byte == b' ' || *byte == b'\t')
+}
+
+/// Whether the scalar is a plain `<<`, whatever blanks stand behind it.
+pub fn is_merge(scalar: &Scalar) -> bool
+    ensures { result ≡ is_merge scalar.now }
+{
+    if !scalar.plain {
+        return false;
+    }
+    match behind(scalar.text.as_str(), '<') {
+        Some(rest) => match behind(rest, '<') {
+            Some(rest) => are_blank(rest.as_bytes()),
+            None => false,
+        },
+        None => false,
+    }
 }
 
 /// What a scalar says.

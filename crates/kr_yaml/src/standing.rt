@@ -1,3 +1,4 @@
+//! What stands so far.
 ghost use Rattle.std.specs.Prelude.{◌≤◌, length};
 
 use crate::open::OpenNode;

@@ -1,3 +1,4 @@
+//! The tokens of the code.
 use crate::tree::Tree;
 use kr_base::Text;
 

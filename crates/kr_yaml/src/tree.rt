@@ -1,3 +1,4 @@
+//! Trees.
 use kr_base::{List, Text};
 
 /// What a text of the profile says.

@@ -1,3 +1,4 @@
+//! Why a text wasn't read.
 /// Why a text wasn't read. A line's number counts from 1.
 #[derive(Clone, Copy, Debug, PartialEq, Eq)]
 pub enum YamlNo {

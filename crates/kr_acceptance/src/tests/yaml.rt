@@ -89,20 +89,6 @@ fn shows_the_example(rt: HostRuntime) -> Result<(), Fail> {
             "entry 0: secrets,configmaps: aescbc:key1,aescbc:key2,identity\nentry 1: *.apps: aesgcm:key1,identity\nentry 2: *.*: identity\n"
         )?
     );
-    assert!(rt;
-        shows(
-            alloc,
-            "check|--config|c.json|--resource|deployments.apps",
-            "aesgcm:key1\nidentity\n"
-        )?
-    );
-    assert!(rt;
-        shows(
-            alloc,
-            "check|--config|c.json|--resource|events.events.k8s.io",
-            "identity\n"
-        )?
-    );
     Ok(())
 }
 
@@ -111,15 +97,6 @@ fn refuses_by_line_and_kind(rt: HostRuntime) -> Result<(), Fail> {
     let alloc = rt.alloc();
     assert!(rt; refuses(alloc, "kind: a\nkind: b", "kmsrest: text 21 2 3\n")?);
     assert!(rt; refuses_with(alloc, "\t", "kmsrest: text 21 3 1\n")?);
-    assert!(rt; refuses_with(alloc, "kind: a\n  b: c\n", "kmsrest: text 21 4 2\n")?);
-    assert!(rt; refuses_with(alloc, "apiVersion: v1\n", "kmsrest: text 21 4 3\n")?);
-    assert!(rt;
-        refuses_with(
-            alloc,
-            "a:\n - - - - - - - - - - - - - - - -\n",
-            "kmsrest: text 21 4 4\n"
-        )?
-    );
     Ok(())
 }
 

@@ -11,9 +11,9 @@ loop-value-preserved c =
     let p = c.loop-value.patterns + length c.as_slice.result.now in
     let k = c.loop-value.keys + c.keys_in-keys.result in
     let m = c.loop-value.plugins + c.plugins_in-plugins.result in
-    subst (λ l. Reading values (c.loop-value.value-index + 1) c.saturating_add-e.result l p k m) (sym c.in-Ok-push.ensures.ok)
-    (subst (λ n. Reading values (c.loop-value.value-index + 1) n (c.loop-value.entries.0 ++ entry ∷ []) p k m) (sym c.saturating_add-e.ensures)
-    (reading_more values c.loop-value.value-index c.loop-value.e c.loop-value.entries.0 c.loop-value.patterns c.loop-value.keys c.loop-value.plugins c.value-item.result entry p k m
+    subst (λ l. Reading values (c.loop-value.value-index + 1) c.saturating_add-number.result l p k m) (sym c.in-Ok-push.ensures.ok)
+    (subst (λ n. Reading values (c.loop-value.value-index + 1) n (c.loop-value.entries.0 ++ entry ∷ []) p k m) (sym c.saturating_add-number.ensures)
+    (reading_more values c.loop-value.value-index c.loop-value.number c.loop-value.entries.0 c.loop-value.patterns c.loop-value.keys c.loop-value.plugins c.value-item.result entry p k m
     c.loop-value.invariant c.loop-value-test.true c.value-item.is c.in-Ok.ensures
     (ap (λ l. c.loop-value.patterns + length l) c.as_slice.ensures)
     (ap (λ n. c.loop-value.keys + n) (c.keys_in-keys.ensures ∙ ap (count_by is_key) c.as_slice-in-loop-value.ensures))

@@ -1,4 +1,4 @@
-use Rattle.kr_envelope.specs.Taking.{field_of}
+use Rattle.kr_envelope.specs.inner.Taking.{field_of}
 use Rattle.kr_envelope.specs.Messages.{annotation}
 use Rattle.kr_envelope.proofs.Items.{is_nothing, is_something}
 use Rattle.kr_envelope.proofs.Objects.{entry_begun, entry_more, no_entry, whole_entry}

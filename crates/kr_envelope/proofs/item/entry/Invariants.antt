@@ -1,5 +1,5 @@
 use Rattle.std.proofs.Common.{length}
-use Rattle.kr_envelope.specs.Reading.{SeesEntry}
+use Rattle.kr_envelope.specs.inner.Reading.{SeesEntry}
 use Rattle.kr_envelope.proofs.item.entry.Given as goal
 
 abbrev pub invariant-loop-rest : goal.invariant-loop-rest

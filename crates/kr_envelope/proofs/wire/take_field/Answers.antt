@@ -1,5 +1,5 @@
 use Rattle.std.proofs.Common.{refl, arith, inl, inr}
-use Rattle.kr_envelope.specs.Taking.{payload_of}
+use Rattle.kr_envelope.specs.inner.Taking.{payload_of}
 use Rattle.kr_envelope.proofs.Fields.{no_key, bad_number, no_payload, with_payload}
 use Rattle.kr_envelope.proofs.wire.take_field.Goals as goal
 

@@ -1,4 +1,5 @@
 use Rattle.kr_top.proofs.Readings.{usage, caused, refusal, done}
+use Rattle.kr_top.proofs.Decided.{decided}
 use Rattle.kr_top.proofs.call.run.Goals as goal
 
 pub returns-clause-usage : goal.returns-clause-usage
@@ -12,3 +13,6 @@ returns-clause-refused g c = refusal _ _ _ _ c.answer-answer.result _ c.answer-a
 
 pub returns-clause-done : goal.returns-clause-done
 returns-clause-done g c = done _ _ _ _ c.answer-answer.result _ c.answer-answer.ensures c.tell.ensures.told
+
+pub returns-clause-decided : goal.returns-clause-decided
+returns-clause-decided g c = decided _ _ _ _ c.answer-answer.result _ c.answer-answer.ensures c.tell.ensures.told

@@ -1,18 +1,33 @@
-use Rattle.std.proofs.Common.{Ok, Err, subst}
-use Rattle.kr_top.specs.Phases.{InspectsTo, WritesOutput}
-use Rattle.kr_top.proofs.InspectSteps.{not_taken, not_shown, written, not_written}
+use Rattle.std.proofs.Common.{refl, arith}
+use Rattle.kr_top.proofs.Goes.{took, not_taken, gives_it, gives_up}
+use Rattle.kr_top.proofs.Inspected.{shows, shows_none}
+use Rattle.kr_top.proofs.Worlds.{Keeps-refl, dice_kept, same_files, same_dice, stays, home}
 use Rattle.kr_top.proofs.inspect.inspect.Goals as goal
 
 pub returns-in-Err : goal.returns-in-Err
-returns-in-Err g c world = not_taken world _ _ _ _ c.in-Err.ensures.later _ _ c.in-Err.stop c.in-Err.ensures.taken
+returns-in-Err g c world = record {
+  ended = not_taken c.in-Err.stop _ _ refl refl c.in-Err.ensures.taken (dice_kept (same_dice world)) (Keeps-refl _);
+  home = home (same_files world) (same_dice world) c.in-Err.ensures.later (omega arith);
+}
 
 pub returns-in-Err-inspected : goal.returns-in-Err-inspected
-returns-in-Err-inspected g c world = not_shown world _ _ _ _ c.in-Ok.ensures.later c.in-Ok.bytes c.in-Ok.ensures.taken _ _ c.in-Err-inspected.stop (subst (λ b. InspectsTo b (Err c.in-Err-inspected.stop)) c.as_slice.ensures c.in-Err-inspected.ensures)
+returns-in-Err-inspected g c world = record {
+  ended = took (g.I.Source.left c.take_input.new.input) c.in-Ok.bytes _ refl c.in-Ok.ensures.taken
+      (shows_none _ c.in-Err-inspected.stop c.as_slice.ensures c.in-Err-inspected.ensures (stays (same_dice world) (Keeps-refl _)) (Keeps-refl _));
+  home = home (same_files world) (same_dice world) c.in-Ok.ensures.later (omega arith);
+}
 
 pub returns-in-Ok-write_output : goal.returns-in-Ok-write_output
-returns-in-Ok-write_output g c world = written world _ _ _ _ c.in-Ok.ensures.later c.in-Ok.bytes c.in-Ok.ensures.taken c.in-Ok-inspected.text _ _ _ _ (subst (λ b. InspectsTo b (Ok c.in-Ok-inspected.text)) c.as_slice.ensures c.in-Ok-inspected.ensures)
-    (subst (λ l. WritesOutput l (g.O.Sink.held c.args.output.now) (g.O.Sink.held c.write_output.new.output) (g.O.Sink.count c.args.output.now) (g.O.Sink.count c.write_output.new.output) (Ok _)) c.as_slice-2.ensures c.in-Ok-write_output.ensures.written) c.in-Ok-write_output.ensures.later
+returns-in-Ok-write_output g c world = record {
+  ended = took (g.I.Source.left c.take_input.new.input) c.in-Ok.bytes _ refl c.in-Ok.ensures.taken
+      (shows _ c.in-Ok-inspected.text c.as_slice.ensures c.in-Ok-inspected.ensures (gives_it _ c.as_slice-2.ensures (stays (same_dice world) (Keeps-refl _)) c.in-Ok-write_output.ensures.written));
+  home = home (same_files world) (same_dice world) c.in-Ok.ensures.later c.in-Ok-write_output.ensures.later;
+}
 
 pub returns : goal.returns
-returns g c world = not_written world _ _ _ _ c.in-Ok.ensures.later c.in-Ok.bytes c.in-Ok.ensures.taken c.in-Ok-inspected.text _ _ _ _ c.in-Err-write_output.stop (subst (λ b. InspectsTo b (Ok c.in-Ok-inspected.text)) c.as_slice.ensures c.in-Ok-inspected.ensures)
-    (subst (λ l. WritesOutput l (g.O.Sink.held c.args.output.now) (g.O.Sink.held c.write_output.new.output) (g.O.Sink.count c.args.output.now) (g.O.Sink.count c.write_output.new.output) (Err c.in-Err-write_output.stop)) c.as_slice-2.ensures c.in-Err-write_output.ensures.written) c.in-Err-write_output.ensures.later
+returns g c world = record {
+  ended = took (g.I.Source.left c.take_input.new.input) c.in-Ok.bytes _ refl c.in-Ok.ensures.taken
+      (shows _ c.in-Ok-inspected.text c.as_slice.ensures c.in-Ok-inspected.ensures
+      (gives_up _ c.in-Err-write_output.stop c.as_slice-2.ensures (stays (same_dice world) (Keeps-refl _)) c.in-Err-write_output.ensures.written));
+  home = home (same_files world) (same_dice world) c.in-Ok.ensures.later c.in-Err-write_output.ensures.later;
+}

@@ -4,29 +4,11 @@ use Rattle.kr_base.specs.Streams.{AppendsFront}
 use Rattle.kr_top.specs.Message.{refusal_line}
 use Rattle.kr_top.proofs.message.write_refusal.Goals as goal
 
-pub returns-in-Usage-clause-ok : goal.returns-in-Usage-clause-ok
-returns-in-Usage-clause-ok g c = subst (λ w. OnOk c.write_all.result (Appends (g.E.Sink.held c.args.errors.now) (g.E.Sink.held c.write_all.new.sink) (refusal_line w))) (sym c.in-Usage.is) c.write_all.ensures.ok
-
-pub returns-in-Usage-clause-err : goal.returns-in-Usage-clause-err
-returns-in-Usage-clause-err g c = subst (λ w. OnErr c.write_all.result (AppendsFront (g.E.Sink.held c.args.errors.now) (g.E.Sink.held c.write_all.new.sink) (refusal_line w))) (sym c.in-Usage.is) c.write_all.ensures.err
-
-pub returns-in-Replicas-clause-ok : goal.returns-in-Replicas-clause-ok
-returns-in-Replicas-clause-ok g c = subst (λ w. OnOk c.write_all-in-Replicas.result (Appends (g.E.Sink.held c.args.errors.now) (g.E.Sink.held c.write_all-in-Replicas.new.sink) (refusal_line w))) (sym c.in-Replicas.is) c.write_all-in-Replicas.ensures.ok
-
-pub returns-in-Replicas-clause-err : goal.returns-in-Replicas-clause-err
-returns-in-Replicas-clause-err g c = subst (λ w. OnErr c.write_all-in-Replicas.result (AppendsFront (g.E.Sink.held c.args.errors.now) (g.E.Sink.held c.write_all-in-Replicas.new.sink) (refusal_line w))) (sym c.in-Replicas.is) c.write_all-in-Replicas.ensures.err
-
-pub returns-in-Size-clause-ok : goal.returns-in-Size-clause-ok
-returns-in-Size-clause-ok g c = subst (λ w. OnOk c.write_all-in-Size.result (Appends (g.E.Sink.held c.args.errors.now) (g.E.Sink.held c.write_all-in-Size.new.sink) (refusal_line w))) (sym c.in-Size.is) c.write_all-in-Size.ensures.ok
-
-pub returns-in-Size-clause-err : goal.returns-in-Size-clause-err
-returns-in-Size-clause-err g c = subst (λ w. OnErr c.write_all-in-Size.result (AppendsFront (g.E.Sink.held c.args.errors.now) (g.E.Sink.held c.write_all-in-Size.new.sink) (refusal_line w))) (sym c.in-Size.is) c.write_all-in-Size.ensures.err
-
 pub returns-in-LongConfiguration-clause-ok : goal.returns-in-LongConfiguration-clause-ok
-returns-in-LongConfiguration-clause-ok g c = subst (λ w. OnOk c.write_all-in-LongConfiguration.result (Appends (g.E.Sink.held c.args.errors.now) (g.E.Sink.held c.write_all-in-LongConfiguration.new.sink) (refusal_line w))) (sym c.in-LongConfiguration.is) c.write_all-in-LongConfiguration.ensures.ok
+returns-in-LongConfiguration-clause-ok g c = subst (λ w. OnOk c.write_all.result (Appends (g.E.Sink.held c.args.errors.now) (g.E.Sink.held c.write_all.new.sink) (refusal_line w))) (sym c.in-LongConfiguration.is) c.write_all.ensures.ok
 
 pub returns-in-LongConfiguration-clause-err : goal.returns-in-LongConfiguration-clause-err
-returns-in-LongConfiguration-clause-err g c = subst (λ w. OnErr c.write_all-in-LongConfiguration.result (AppendsFront (g.E.Sink.held c.args.errors.now) (g.E.Sink.held c.write_all-in-LongConfiguration.new.sink) (refusal_line w))) (sym c.in-LongConfiguration.is) c.write_all-in-LongConfiguration.ensures.err
+returns-in-LongConfiguration-clause-err g c = subst (λ w. OnErr c.write_all.result (AppendsFront (g.E.Sink.held c.args.errors.now) (g.E.Sink.held c.write_all.new.sink) (refusal_line w))) (sym c.in-LongConfiguration.is) c.write_all.ensures.err
 
 pub returns-in-NotServed-clause-ok : goal.returns-in-NotServed-clause-ok
 returns-in-NotServed-clause-ok g c = subst (λ w. OnOk c.write_all-in-NotServed.result (Appends (g.E.Sink.held c.args.errors.now) (g.E.Sink.held c.write_all-in-NotServed.new.sink) (refusal_line w))) (sym c.in-NotServed.is) c.write_all-in-NotServed.ensures.ok

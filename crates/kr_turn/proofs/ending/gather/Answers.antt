@@ -1,6 +1,6 @@
 use Rattle.std.proofs.Common.{rules, arith, ◌≡◌, [], ◌∷◌, ◌++◌, length, map, All, refl, ap, sym, ◌∙◌, subst, append-nil, append_assoc, length-append}
 use mathlib.Core.List.{map-append}
-use Rattle.kr_turn.specs.Endings.{part_in}
+use Rattle.kr_turn.specs.inner.Endings.{part_in}
 use Rattle.kr_turn.proofs.Ends.{joins}
 use Rattle.kr_turn.proofs.Rows.{All-front, All-last}
 use Rattle.kr_turn.proofs.ending.gather.Goals as goal

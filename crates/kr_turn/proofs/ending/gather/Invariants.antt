@@ -1,5 +1,5 @@
 use Rattle.std.proofs.Common.{◌≡◌, length, All}
-use Rattle.kr_turn.specs.Endings.{Gathered}
+use Rattle.kr_turn.specs.inner.Endings.{Gathered}
 use Rattle.kr_turn.proofs.ending.gather.Given as goal
 
 abbrev pub invariant-loop-seat : goal.invariant-loop-seat

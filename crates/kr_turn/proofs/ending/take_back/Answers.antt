@@ -1,7 +1,7 @@
 use Rattle.std.proofs.Common.{rules, ◌≡◌, sym, ◌∙◌, subst, Option, Some}
 use mathlib.Core.Option.{some-injective}
 use Rattle.std.specs.Prelude.{IsSome}
-use Rattle.kr_turn.specs.Endings.{IsEnd}
+use Rattle.kr_turn.specs.inner.Endings.{IsEnd}
 use Rattle.kr_turn.specs.Keys.{terms_of}
 use Rattle.kr_turn.proofs.Acts.{some_same}
 use Rattle.kr_turn.proofs.Ends.{ends}

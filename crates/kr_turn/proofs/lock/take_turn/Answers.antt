@@ -1,7 +1,7 @@
 use Rattle.std.proofs.Common.{rules, ◌-◌, ◌∷◌, ap, sym, ◌∙◌, subst, Some}
 use Rattle.atomic_table.specs.Table.{rest}
 use Rattle.kr_turn.specs.declared.view.View.{View}
-use Rattle.kr_turn.specs.Steps.{SeatState, waiting, IsServed}
+use Rattle.kr_turn.specs.inner.Steps.{SeatState, waiting_view, IsServed}
 use Rattle.kr_turn.proofs.Acts.{one_in_hand, has_in_hand, some_same, rests_by, turned_held, acted}
 use Rattle.kr_turn.proofs.lock.take_turn.Goals as goal
 
@@ -22,7 +22,7 @@ pass_on-requires-clause-turned g c κs within =
 
 pub returns-clause-rests : goal.returns-clause-rests
 returns-clause-rests g c =
-    let view_is = ap (λ m. m.0) c.exchange-taken.ensures.3 ∙ (ap (λ m. m.0) c.exchange.ensures.3 ∙ (ap (λ m. m.0) c.wait.ensures.served.now ∙ ap (λ m. Rattle.kr_turn.specs.Steps.holding m.0 (g.S.Turned.lines c.wait.ensures.served.state)) c.draw-ticket.ensures.drew)) in
+    let view_is = ap (λ m. m.0) c.exchange-taken.ensures.3 ∙ (ap (λ m. m.0) c.exchange.ensures.3 ∙ (ap (λ m. m.0) c.wait.ensures.served.now ∙ ap (λ m. Rattle.kr_turn.specs.inner.Steps.holding_view m.0 (g.S.Turned.lines c.wait.ensures.served.state)) c.draw-ticket.ensures.drew)) in
     let passed = c.pass_on.ensures.passed in
     rests_by c.pass_on.new.token c.args.number (c.args.token.now.me.0.left - 1) (ap (λ m. m.0.stage) passed) (ap (λ m. m.0.number) passed ∙ (ap (λ w. w.number) view_is ∙ ap (λ t. t.me.0.number) c.requires.rests))
     (ap (λ m. m.0.left) passed ∙ ap (λ w. w.left) view_is) (ap (λ m. m.0.ended) passed ∙ (ap (λ w. w.ended) view_is ∙ ap (λ t. t.me.0.ended) c.requires.rests)) (ap (λ m. m.1) passed)

@@ -2,9 +2,10 @@ use Rattle.std.proofs.Common.{rules, arith, ◌≡◌, ℕ, ◌+◌, ◌-◌, []
 use Rattle.atomic_table.specs.Table.{Splits}
 use Rattle.kr_turn.specs.declared.view.View.{View}
 use Rattle.kr_turn.specs.Keys.{terms_of, home_of}
-use Rattle.kr_turn.specs.Rule.{Ruled, budget_of}
+use Rattle.kr_turn.specs.inner.Rule.{Ruled}
+use Rattle.kr_turn.specs.Keys.{budget_of}
 use Rattle.kr_turn.specs.Seats.{AreFresh}
-use Rattle.kr_turn.specs.Steps.{SeatState, next_of, new_of}
+use Rattle.kr_turn.specs.inner.Steps.{SeatState, next_of, new_of}
 use Rattle.kr_turn.proofs.Acts.{rests_by}
 use Rattle.kr_turn.proofs.Makes.{splits}
 use Rattle.kr_turn.proofs.Rows.{none_fresh, more_fresh, fresh_by}

@@ -1,7 +1,7 @@
 use Rattle.std.proofs.Common.{◌≡◌, ◌+◌, ◌≤◌, [], length, Some}
 use Rattle.kr_turn.specs.Keys.{terms_of, home_of}
 use Rattle.kr_turn.specs.Seats.{AreFresh}
-use Rattle.kr_turn.specs.Steps.{maker}
+use Rattle.kr_turn.specs.inner.Steps.{maker}
 use Rattle.kr_turn.proofs.opening.make_seats.Given as goal
 
 abbrev pub invariant-loop-number : goal.invariant-loop-number

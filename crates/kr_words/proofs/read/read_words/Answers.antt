@@ -1,9 +1,10 @@
 use Rattle.std.proofs.Common.{◌≡◌, ◌∷◌, ap, ◌∙◌, sym, subst, arith}
 use Rattle.kr_words.specs.Grammar.{texts, replicas_of}
-use Rattle.kr_words.specs.Names.{word_of}
+use Rattle.kr_words.specs.declared.name.OptionName.TheVariants.{Size}
+use Rattle.kr_words.specs.Names.{word_of, text_of}
 use Rattle.kr_words.specs.Options.{count_of}
 use Rattle.kr_words.specs.Rules.{IsCommand}
-use Rattle.kr_words.specs.Spelling.{HasNoSmallSize}
+use Rattle.kr_words.specs.inner.Spelling.{HasNoSmall}
 use Rattle.kr_words.proofs.Meanings.{unspelled, misruled, above}
 use Rattle.kr_words.proofs.read.read_words.Goals as goal
 
@@ -21,8 +22,8 @@ returns-then-not-is_command c =
     misruled (texts c.args.words.now) verb (texts c.in-Some.rest.now) c.in-Ok.options.0 front c.in-Ok.ensures.0 c.in-Ok.ensures.1
     (λ m. let is = c.is_command.ensures.1 (subst (IsCommand verb) (sym c.as_slice.ensures) m) in let not = c.if-not-is_command.true in cc)
 
-pub returns-then-not-is_within_size : goal.returns-then-not-is_within_size
-returns-then-not-is_within_size c =
+pub returns-then-not-is_within : goal.returns-then-not-is_within
+returns-then-not-is_within c =
     let verb = c.in-Some-verb_of.verb in
     let options = c.in-Ok.options.0 in
     let f = ap texts c.in-Some.ensures.cases.0 in
@@ -31,4 +32,4 @@ returns-then-not-is_within_size c =
     let front : texts c.args.words.now ≡ word_of verb ∷ texts c.in-Some.rest.now = cc in
     let is : IsCommand verb options = subst (IsCommand verb) c.as_slice.ensures (c.is_command.ensures.0 c.if-not-is_command.false) in
     let counted : c.count_of.result ≡ replicas_of options = c.count_of.ensures ∙ ap (λ o. count_of o c.text.result.now) c.as_slice-2.ensures ∙ ap (count_of options) c.text.ensures in
-    (verb, options, record { rest = texts c.in-Some.rest.now; word = front; spelled = c.in-Ok.ensures.1; command = is }, omega (arith, counted), above is (subst HasNoSmallSize c.as_slice-3.ensures c.if-not-is_within_size.ensures))
+    (verb, options, record { rest = texts c.in-Some.rest.now; word = front; spelled = c.in-Ok.ensures.1; command = is }, omega (arith, counted), above is (subst (λ o. HasNoSmall o (text_of Size) 10000) c.as_slice-3.ensures c.if-not-is_within.ensures))

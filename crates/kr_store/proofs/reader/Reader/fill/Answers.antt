@@ -1,5 +1,5 @@
 use Rattle.std.proofs.Common.{length, ◌+◌, subst, sym, ◌∙◌}
-use Rattle.kr_store.specs.Reading.{Ahead, Breaks}
+use Rattle.kr_store.specs.inner.Reading.{Ahead, Breaks}
 use Rattle.kr_store.specs.Breaches.{part}
 use Rattle.kr_store.specs.declared.answers.Cause.TheVariants.{Torn}
 use Rattle.kr_store.proofs.Steps.{Filling, torn, filling_more, over, rest_length, short_behind}

@@ -2,8 +2,8 @@ use Rattle.std.proofs.Common.{ℕ, List, Ok}
 use Rattle.std.specs.Int.{w64, to_be_bytes}
 use Rattle.kr_store.specs.Breaches.{Read, behind, kind_part, revision_part, path_part}
 use Rattle.kr_store.specs.File.{text_bytes}
-use Rattle.kr_store.specs.Reading.{head_bytes}
-use Rattle.kr_store.specs.declared.reader.Kind.{Kind}
+use Rattle.kr_store.specs.inner.Reading.{head_bytes}
+use Rattle.kr_store.specs.declared.kept_row.Kind.{Kind}
 use Rattle.kr_store.proofs.Parts.{reads_kind, reads_revision}
 use Rattle.kr_store.proofs.Steps.{stops_behind, stops_first}
 use Rattle.kr_store.proofs.reader.Reader.head.Goals as goal

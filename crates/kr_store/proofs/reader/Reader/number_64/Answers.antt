@@ -1,6 +1,6 @@
 use Rattle.std.proofs.Common.{sym, subst}
 use Rattle.std.proofs.lemmas.Nat.{be_bytes_8}
-use Rattle.kr_store.specs.Reading.{Takes}
+use Rattle.kr_store.specs.inner.Reading.{Takes}
 use Rattle.kr_store.proofs.reader.Reader.number_64.Goals as goal
 
 pub returns-in-Ok-clause-read : goal.returns-in-Ok-clause-read

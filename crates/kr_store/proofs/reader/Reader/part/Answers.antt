@@ -1,5 +1,5 @@
 use Rattle.std.proofs.Common.{subst}
-use Rattle.kr_store.specs.Reading.{Ahead, Breaks}
+use Rattle.kr_store.specs.inner.Reading.{Ahead, Breaks}
 use Rattle.kr_store.specs.Breaches.{part}
 use Rattle.kr_store.specs.declared.answers.Cause.TheVariants.{Torn}
 use Rattle.kr_store.proofs.Steps.{torn}

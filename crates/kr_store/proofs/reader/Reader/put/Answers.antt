@@ -1,8 +1,9 @@
 use Rattle.std.proofs.Common.{ℕ, List, Ok}
 use Rattle.kr_store.specs.Breaches.{Read, behind, resource_part, value_part}
-use Rattle.kr_store.specs.Rows.{Change, Put}
+use Rattle.kr_store.specs.declared.rows.Change.{Change}
+use Rattle.kr_store.specs.declared.rows.Change.TheVariants.{Put}
 use Rattle.kr_store.specs.File.{value_bytes}
-use Rattle.kr_store.specs.Reading.{put_bytes}
+use Rattle.kr_store.specs.inner.Reading.{put_bytes}
 use Rattle.kr_store.proofs.Parts.{reads_resource}
 use Rattle.kr_store.proofs.Steps.{stops_behind, stops_first}
 use Rattle.kr_store.proofs.reader.Reader.put.Goals as goal

@@ -1,6 +1,6 @@
 use Rattle.std.proofs.Common.{if◌then◌else◌, Err, nat_le, subst, sym}
 use Rattle.kr_store.specs.Breaches.{number_16, part}
-use Rattle.kr_store.specs.Reading.{Gives, items_of, sized_bytes}
+use Rattle.kr_store.specs.inner.Reading.{Gives, items_of, sized_bytes}
 use Rattle.kr_store.specs.declared.answers.Cause.TheVariants.{BadRow}
 use Rattle.kr_store.proofs.Parts.{bad_size, reads_16, at_most}
 use Rattle.kr_store.proofs.Steps.{breaks_here, stops_behind}

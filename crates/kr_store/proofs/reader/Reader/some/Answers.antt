@@ -1,6 +1,6 @@
 use Rattle.std.proofs.Common.{◌+◌, ◌<◌, ◌≤◌, length, take, refl, ◌∙◌, subst, arith}
 use Rattle.std.proofs.lemmas.List.{take_at}
-use Rattle.kr_store.specs.Reading.{Ahead, Takes}
+use Rattle.kr_store.specs.inner.Reading.{Ahead, Takes}
 use Rattle.kr_store.proofs.Steps.{seen}
 use Rattle.kr_store.proofs.Lookahead.{takes_next, reads_front, hands_on, hands_first}
 use Rattle.kr_store.proofs.reader.Reader.some.Goals as goal

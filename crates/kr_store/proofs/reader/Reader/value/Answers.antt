@@ -2,7 +2,7 @@ use Rattle.std.proofs.Common.{if◌then◌else◌, Err, nat_le, subst, sym}
 use Rattle.kr_store.specs.Breaches.{number_32, part}
 use Rattle.kr_store.specs.Rows.{longest_value}
 use Rattle.kr_store.specs.File.{value_bytes}
-use Rattle.kr_store.specs.Reading.{Gives, items_of}
+use Rattle.kr_store.specs.inner.Reading.{Gives, items_of}
 use Rattle.kr_store.specs.declared.answers.Cause.TheVariants.{BadRow}
 use Rattle.kr_store.proofs.Parts.{bad_value, reads_32, at_most}
 use Rattle.kr_store.proofs.Steps.{breaks_here, stops_behind}

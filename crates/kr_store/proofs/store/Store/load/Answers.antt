@@ -1,5 +1,5 @@
 use Rattle.std.proofs.Common.{Err, subst, ap, ◌∙◌, arith}
-use Rattle.kr_store.specs.Reading.{Ahead}
+use Rattle.kr_store.specs.inner.Reading.{Ahead}
 use Rattle.kr_store.specs.Stores.{Loads}
 use Rattle.kr_store.proofs.Refusals.{load_refused, too_long}
 use Rattle.kr_store.proofs.store.Store.load.Goals as goal

@@ -1,6 +1,6 @@
 use Rattle.std.proofs.Common.{arith, ◌≡◌, ◌+◌, ◌-◌, [], ◌∷◌, length, length-append, ap, ◌∙◌}
-use Rattle.kr_turn.specs.Rule.{budget_of}
-use Rattle.kr_turn.specs.Tokens.{resting}
+use Rattle.kr_turn.specs.Keys.{budget_of}
+use Rattle.kr_turn.specs.Tokens.{resting_token}
 use Rattle.kr_turn.proofs.turn.Turn.act.Goals as goal
 
 pub invariant_of-seat : goal.invariant_of-seat
@@ -14,6 +14,6 @@ invariant_of-seat g c =
     let long : length after.me.0.mine ≡ length was.token.me.0.mine + 1 = ap length acted.mine_is ∙ length-append was.token.me.0.mine (acted.line ∷ []) in
     let budget : budget_of after.me.0.terms was.number ≡ budget_of was.token.me.0.terms was.number = ap (λ terms. budget_of terms was.number) c.take_turn-answer.ensures.terms in
     record {
-      rests = c.take_turn-answer.ensures.rests ∙ ap (λ n. resting after was.number (n - 1)) left;
+      rests = c.take_turn-answer.ensures.rests ∙ ap (λ n. resting_token after was.number (n - 1)) left;
       counted = omega arith;
     }

@@ -1,5 +1,0 @@
-use Rattle.kr_base.proofs.Wholes.{Took}
-use Rattle.kr_base.proofs.whole.read_all.Given as goal
-
-abbrev pub invariant-loop : goal.invariant-loop
-invariant-loop g l = Took (g.S.Source.left l.initial.source) (g.S.Source.left l.source) l.taken.items l.counter l.limit (g.S.Source.count l.initial.source) (g.S.Source.count l.source)

@@ -1,3 +1,0 @@
-mod lists;
-mod outside;
-mod texts;

@@ -1,0 +1,70 @@
+//! Reading and writing whole contents.
+ghost use Rattle.std.specs.Prelude.{◌≡◌, ◌≤◌, ◌+◌, min, IsErrOf, OnOk, OnErr};
+ghost use Rattle.std.specs.Io.KnownBytes.{Appends};
+ghost use Rattle.kr_base.specs.Faults.{Rose, IsCounted};
+ghost use Rattle.kr_base.specs.Streams.{ReadsWhole, AppendsFront};
+
+use crate::bytes::Bytes;
+use crate::errors::{Failed, ReadNo};
+use crate::traits::{Sink, Source};
+use std::alloc::Global;
+
+/// How many bytes one read asks for at most.
+const PIECE: usize = 8192;
+
+/// How many bytes the next read asks for: one more than may come, so that a source above the limit
+/// shows itself.
+fn next_ask(rest: u64) -> usize
+    ensures { result ≡ min (rest + 1) PIECE }
+{
+    if rest < PIECE as u64 {
+        rest as usize + 1
+    } else {
+        PIECE
+    }
+}
+
+/// Reads a source to its end. After a refusal the bytes that were taken are gone from it.
+pub fn read_all<S: Source>(alloc: Global, source: &mut S, limit: u64) -> Result<Bytes, ReadNo>
+    ensures whole { ReadsWhole (S.left source.old) (S.left source.new) limit result }
+    ensures later { S.count source.old ≤ S.count source.new }
+    ensures failed { IsErrOf result ReadNo.Failed → Rose (S.count source.old) (S.count source.new) }
+{
+    let mut taken = Vec::new(alloc);
+    let mut piece = [0u8; PIECE];
+    for _ in 0..u64::MAX {
+        let rest = limit - taken.len() as u64;
+        let ask = next_ask(rest);
+        let n = match source.read(&mut piece[..ask]) {
+            Ok(n) => n,
+            Err(Failed) => return Err(ReadNo::Failed),
+        };
+        if n == 0 {
+            return Ok(Bytes::from_vec(taken));
+        }
+        if n as u64 > rest {
+            return Err(ReadNo::TooLong);
+        }
+        match taken.extend_from_slice(&piece[..n]) {
+            Ok(()) => {}
+            Err(_) => return Err(ReadNo::NoMemory),
+        }
+    }
+    unreachable!()
+}
+
+/// Writes all the bytes. After a fault the sink has taken a prefix of them.
+pub fn write_all<S: Sink>(sink: &mut S, bytes: &[u8]) -> Result<(), Failed>
+    ensures ok { OnOk result (Appends (S.held sink.old) (S.held sink.new) bytes.now) }
+    ensures err { OnErr result (AppendsFront (S.held sink.old) (S.held sink.new) bytes.now) }
+    ensures cause { IsCounted (S.count sink.old) (S.count sink.new) result }
+{
+    let mut written = 0;
+    while written < bytes.len() {
+        match sink.write(&bytes[written..]) {
+            Ok(n) => written += n,
+            Err(Failed) => return Err(Failed),
+        }
+    }
+    Ok(())
+}

@@ -1,0 +1,74 @@
+//! One call of `run`, and the world that it is made in.
+use kr_base::{List, NoMemory};
+use std::alloc::{AllocError, Global};
+
+/// Why a line adds nothing to a case.
+pub enum Wrong {
+    Form,
+    Memory,
+}
+
+impl From<AllocError> for Wrong {
+    fn from(_error: AllocError) -> Wrong {
+        Wrong::Memory
+    }
+}
+
+/// An object of the outside whose calls may fail.
+#[derive(Clone, Copy, PartialEq, Eq)]
+pub enum Object {
+    Input,
+    Output,
+    Errors,
+    Files,
+    Dice(u32),
+}
+
+/// A call: its words, the named files, the input, and the random bytes of seats.
+#[derive(Drop)]
+pub struct Case {
+    pub name: String,
+    pub words: Vec<String>,
+    pub files: Vec<(String, Vec<u8>)>,
+    pub input: Vec<u8>,
+    pub dice: Vec<(u32, Vec<u8>)>,
+    /// Which calls fail, by their numbers from 1.
+    pub fails: Vec<(Object, u64)>,
+    /// How many bytes the output has room for.
+    pub room: usize,
+    /// How many bytes one call of input, output and errors carries at most.
+    pub step: usize,
+}
+
+/// The room of an output, where a case names none.
+const ROOM: usize = 4_194_304;
+
+impl Case {
+    /// A call without words, files, input and random bytes, in which nothing fails.
+    pub fn new(alloc: Global, name: &str) -> Result<Case, AllocError> {
+        Ok(Case {
+            name: String::from_str(alloc, name)?,
+            words: Vec::new(alloc),
+            files: Vec::new(alloc),
+            input: Vec::new(alloc),
+            dice: Vec::new(alloc),
+            fails: Vec::new(alloc),
+            room: ROOM,
+            step: 1,
+        })
+    }
+
+    /// The numbers of the object's calls that fail.
+    pub fn fails_of(&self, alloc: Global, object: Object) -> Result<List<u64>, NoMemory> {
+        let mut numbers = List::new(alloc);
+        for (other, number) in &self.fails {
+            if *other == object {
+                match numbers.push(*number) {
+                    Ok(()) => {}
+                    Err(_) => return Err(NoMemory),
+                }
+            }
+        }
+        Ok(numbers)
+    }
+}

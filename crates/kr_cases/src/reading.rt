@@ -1,0 +1,128 @@
+//! The lines of a case: a key, and behind a space what it says.
+use crate::case::{Case, Object, Wrong};
+use crate::spelling::{add_bytes, bytes_of};
+use std::alloc::{AllocError, Global};
+
+/// Adds what the line says to the case. A line that is empty or begins with `#` says nothing.
+pub fn add(alloc: Global, current: &mut Option<Case>, line: &str) -> Result<(), Wrong> {
+    if line.is_empty() || line.starts_with('#') {
+        return Ok(());
+    }
+    let Some(case) = current else {
+        return Err(Wrong::Form);
+    };
+    let (key, rest) = match line.split_once(' ') {
+        Some(parts) => parts,
+        None => (line, ""),
+    };
+    match key {
+        "words" => add_words(alloc, case, rest),
+        "file" => add_file(alloc, case, rest),
+        "|" => add_line(alloc, case, rest),
+        "input" => add_bytes(alloc, &mut case.input, rest),
+        "dice" => add_dice(alloc, case, rest),
+        "fails" => add_fails(case, rest),
+        "room" => {
+            case.room = size_of(rest)?;
+            Ok(())
+        }
+        "step" => {
+            case.step = size_of(rest)?;
+            Ok(())
+        }
+        _ => Err(Wrong::Form),
+    }
+}
+
+fn text_of(alloc: Global, spelled: &str) -> Result<String, Wrong> {
+    match String::from_utf8(bytes_of(alloc, spelled)?) {
+        Ok(text) => Ok(text),
+        Err(_) => Err(Wrong::Form),
+    }
+}
+
+/// A number of bytes, at most 2^32 - 1.
+fn size_of(text: &str) -> Result<usize, Wrong> {
+    match text.parse::<u32>() {
+        Ok(size) => Ok(size as usize),
+        Err(_) => Err(Wrong::Form),
+    }
+}
+
+/// The words of the call, parted by single spaces.
+fn add_words(alloc: Global, case: &mut Case, rest: &str) -> Result<(), Wrong> {
+    for word in rest.split(' ') {
+        let word = text_of(alloc, word)?;
+        case.words.push(word).map_err(AllocError::from)?;
+    }
+    Ok(())
+}
+
+/// A file's name and content.
+fn add_file(alloc: Global, case: &mut Case, rest: &str) -> Result<(), Wrong> {
+    let (name, content) = match rest.split_once(' ') {
+        Some(parts) => parts,
+        None => (rest, ""),
+    };
+    let file = (text_of(alloc, name)?, bytes_of(alloc, content)?);
+    case.files.push(file).map_err(AllocError::from)?;
+    Ok(())
+}
+
+/// One more line of the file named last.
+fn add_line(alloc: Global, case: &mut Case, rest: &str) -> Result<(), Wrong> {
+    let Some((_name, content)) = case.files.last_mut() else {
+        return Err(Wrong::Form);
+    };
+    add_bytes(alloc, content, rest)?;
+    content.push(b'\n').map_err(AllocError::from)?;
+    Ok(())
+}
+
+/// A seat's number, and the random bytes that it has.
+fn add_dice(alloc: Global, case: &mut Case, rest: &str) -> Result<(), Wrong> {
+    let (seat, content) = match rest.split_once(' ') {
+        Some(parts) => parts,
+        None => (rest, ""),
+    };
+    let Ok(seat) = seat.parse::<u32>() else {
+        return Err(Wrong::Form);
+    };
+    let content = bytes_of(alloc, content)?;
+    case.dice.push((seat, content)).map_err(AllocError::from)?;
+    Ok(())
+}
+
+/// An object, and the numbers of its calls that fail.
+fn add_fails(case: &mut Case, rest: &str) -> Result<(), Wrong> {
+    let Some((name, numbers)) = rest.split_once(' ') else {
+        return Err(Wrong::Form);
+    };
+    let object = object_of(name)?;
+    for number in numbers.split(' ') {
+        let Ok(number) = number.parse::<u64>() else {
+            return Err(Wrong::Form);
+        };
+        case.fails.push((object, number)).map_err(AllocError::from)?;
+    }
+    Ok(())
+}
+
+/// `input`, `output`, `errors`, `files`, or `dice:SEAT`.
+fn object_of(name: &str) -> Result<Object, Wrong> {
+    match name {
+        "input" => Ok(Object::Input),
+        "output" => Ok(Object::Output),
+        "errors" => Ok(Object::Errors),
+        "files" => Ok(Object::Files),
+        _ => {
+            let Some(seat) = name.strip_prefix("dice:") else {
+                return Err(Wrong::Form);
+            };
+            match seat.parse::<u32>() {
+                Ok(seat) => Ok(Object::Dice(seat)),
+                Err(_) => Err(Wrong::Form),
+            }
+        }
+    }
+}

@@ -1,0 +1,95 @@
+//! The world in memory, of which calls fail by their numbers too.
+ghost use Rattle.std.specs.Prelude.{None};
+
+use kr_base::{Bytes, List, MemDice};
+use kr_kms::{FileNo, MemWorld, TablePlugin, World};
+use std::alloc::Global;
+
+/// Which calls fail, by their numbers, the first being 1.
+#[derive(Drop)]
+struct Numbering {
+    fails: List<u64>,
+    made: u64,
+}
+
+impl Numbering {
+    /// Counts one more call, and answers whether it fails.
+    fn next_fails(&mut self) -> bool {
+        self.made = self.made.saturating_add(1);
+        self.fails.as_slice().contains(&self.made)
+    }
+}
+
+/// A world in memory whose calls for a file or a random source fail by their numbers, which go on over both.
+#[derive(Drop)]
+pub struct FailingWorld {
+    inner: MemWorld<TablePlugin>,
+    calls: Numbering,
+    load_faults: u64,
+    open_faults: u64,
+}
+
+impl FailingWorld {
+    pub fn new(inner: MemWorld<TablePlugin>, fails: List<u64>) -> FailingWorld {
+        FailingWorld {
+            inner,
+            calls: Numbering { fails, made: 0 },
+            load_faults: 0,
+            open_faults: 0,
+        }
+    }
+
+    /// Lends the random source of the seat, if it is there.
+    pub fn dice_of(&self, seat: u32) -> Option<&MemDice> {
+        self.inner.dice_of(seat)
+    }
+}
+
+impl World for FailingWorld {
+    type Rand = MemDice;
+
+    type Link = TablePlugin;
+
+    // It tells nothing of its files, since a load may fail.
+    ghost told = { λ world. record { file = λ name. None; load_faults = world.load_faults; open_faults = world.open_faults; dice = λ seat. (⟦<MemWorld<TablePlugin> as World>⟧.told world.inner).dice seat; dice_faults = λ seat. (⟦<MemWorld<TablePlugin> as World>⟧.told world.inner).dice_faults seat; out = λ seat. (⟦<MemWorld<TablePlugin> as World>⟧.told world.inner).out seat } };
+
+    fn faults(&self) -> u64 {
+        self.load_faults.saturating_add(self.open_faults)
+    }
+
+    fn load(&mut self, alloc: Global, name: &str, limit: u64) -> Result<Bytes, FileNo> {
+        if self.calls.next_fails() {
+            self.load_faults = self.load_faults.saturating_add(1);
+            return Err(FileNo::Failed);
+        }
+        match self.inner.load(alloc, name, limit) {
+            Ok(bytes) => Ok(bytes),
+            Err(FileNo::Absent) => Err(FileNo::Absent),
+            Err(FileNo::TooLong) => Err(FileNo::TooLong),
+            Err(FileNo::NoMemory) => Err(FileNo::NoMemory),
+            Err(FileNo::Failed) => {
+                self.load_faults = self.load_faults.saturating_add(1);
+                Err(FileNo::Failed)
+            }
+        }
+    }
+
+    fn dice(&mut self, alloc: Global, seat: u32) -> Result<MemDice, FileNo> {
+        if self.calls.next_fails() {
+            self.open_faults = self.open_faults.saturating_add(1);
+            return Err(FileNo::Failed);
+        }
+        match self.inner.dice(alloc, seat) {
+            Ok(dice) => Ok(dice),
+            Err(FileNo::NoMemory) => Err(FileNo::NoMemory),
+            Err(_) => {
+                self.open_faults = self.open_faults.saturating_add(1);
+                Err(FileNo::Failed)
+            }
+        }
+    }
+
+    fn back_dice(&mut self, seat: u32, dice: MemDice) {
+        self.inner.back_dice(seat, dice);
+    }
+}

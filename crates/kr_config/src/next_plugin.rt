@@ -1,0 +1,85 @@
+//! The names of plugins in their order, without memory.
+ghost use Rattle.std.specs.Prelude.{◌≡◌, [], ◌∷◌};
+ghost use Rattle.std.specs.Option.{option_map};
+ghost use Rattle.std.specs.Ordering.{is_lt};
+ghost use Rattle.kr_config.specs.Providers.{plugin_of, plugins_among};
+ghost use Rattle.kr_config.specs.Kept.{plugins_in, rows_of};
+ghost use Rattle.kr_config.specs.Nexts.{earlier, name_cmp, IsNextName};
+
+use crate::settings::Entry;
+use crate::who::Who;
+use kr_base::Text;
+use std::cmp::Ordering;
+
+fn is_before(name: &str, other: &str) -> bool
+    ensures { result ≡ is_lt (name_cmp name.now other.now) }
+{
+    match name.cmp(other) {
+        Ordering::Less => true,
+        _ => false,
+    }
+}
+
+/// The first of two: what comes next in one list of names and what comes next in another.
+fn first_of<'a>(one: Option<&'a Text>, other: Option<&'a Text>) -> Option<&'a Text>
+    ensures { option_map (λ name. name.now) result
+        ≡ earlier name_cmp (option_map (λ name. name.now) one.entry) (option_map (λ name. name.now) other.entry) }
+{
+    match (one, other) {
+        (Some(name), Some(rival)) => {
+            if is_before(rival.as_str(), name.as_str()) {
+                Some(rival)
+            } else {
+                Some(name)
+            }
+        }
+        (Some(name), None) => Some(name),
+        (None, other) => other,
+    }
+}
+
+/// The name, if it comes after this one.
+fn if_after<'a>(name: &'a Text, after: &str) -> Option<&'a Text>
+    ensures { IsNextName (name.now ∷ []) after.now (option_map (λ name. name.now) result) }
+{
+    if is_before(after, name.as_str()) {
+        Some(name)
+    } else {
+        None
+    }
+}
+
+#[tactic(auto, using(crate::proofs::Nexts::no_name))]
+fn next_of<'a>(who: &'a Who, after: &str) -> Option<&'a Text>
+    ensures { IsNextName (plugin_of who.now) after.now (option_map (λ name. name.now) result) }
+{
+    match who {
+        Who::Kms(name) => if_after(name, after),
+        Who::Identity => None,
+        Who::Aescbc(_, _) => None,
+        Who::Aesgcm(_, _) => None,
+    }
+}
+
+#[tactic(auto, using(crate::proofs::NextLoops::names_begin, crate::proofs::NextLoops::names_more, crate::proofs::NextLoops::names_end))]
+fn next_among<'a>(providers: &'a [Who], after: &str) -> Option<&'a Text>
+    ensures { IsNextName (plugins_among providers.now) after.now (option_map (λ name. name.now) result) }
+{
+    let mut next = None;
+    for who in providers {
+        next = first_of(next, next_of(who, after));
+    }
+    next
+}
+
+/// The least name of a plugin after this one.
+#[tactic(auto, using(crate::proofs::NextLoops::entries_begin, crate::proofs::NextLoops::entries_more, crate::proofs::NextLoops::entries_end))]
+pub fn next_in<'a>(entries: &'a [Entry], after: &str) -> Option<&'a Text>
+    ensures { IsNextName (plugins_in (rows_of entries.now)) after.now (option_map (λ name. name.now) result) }
+{
+    let mut next = None;
+    for entry in entries {
+        next = first_of(next, next_among(entry.providers.as_slice(), after));
+    }
+    next
+}

@@ -1,0 +1,85 @@
+-- What the reader's calls answer on the way.
+use Rattle.std.specs.Prelude.{◌≡◌, ℕ, ◌<◌, Bool, true, false, List, ◌++◌, length, Option, None, Some, Result, Ok, Err}
+use denote.Ref.{Bor}
+use Rattle.kr_base.specs.Limits.{annotations_limit}
+use Rattle.kr_base.specs.Pairs.{Pairs, with_pair}
+use Rattle.kr_envelope.specs.declared.item.Item.{Item}
+use Rattle.kr_envelope.specs.declared.item.Item.TheVariants as lent
+use Rattle.kr_envelope.specs.declared.item.ItemNo.{ItemNo}
+use Rattle.kr_envelope.specs.declared.item.ItemNo.TheVariants as no
+use Rattle.kr_envelope.specs.declared.partial.PartialObject.{PartialObject}
+use Rattle.kr_envelope.specs.Wire.{Starts, Spells, Field, IsField}
+use Rattle.kr_envelope.specs.Messages as message
+use Rattle.kr_envelope.specs.Messages.{Means, IsItem, IsText, IsMessage, Raw, raw_of, last_bytes}
+
+-- what a lent item holds
+abbrev pub item_of : Item → message.Item
+item_of (lent.Encrypted content) = message.encrypted content.now
+item_of (lent.KeyId text) = message.key_id text.now
+item_of (lent.Source content) = message.source content.now
+item_of (lent.Annotation key value) = message.annotation key.now value.now
+item_of (lent.Kind n) = message.kind n
+item_of lent.Other = message.other
+
+-- what a field says, or why it says nothing
+abbrev pub Says : Field → Result Item ItemNo → Type 0
+Says field (Ok item) = Means field (item_of item) × IsText (item_of item)
+Says field (Err no.Wire) = (item : message.Item) → Means field item → ⊥
+Says field (Err no.NotUtf8) = (item : message.Item) × Means field item × (IsText item → ⊥)
+
+-- the item at the front and the rest, or why there is none
+abbrev pub TakesItem : List ℕ → Result (Item × Bor (List ℕ)) ItemNo → Type 0
+TakesItem text (Ok taken) =
+    Starts IsItem text (item_of taken.0) taken.1.now × IsText (item_of taken.0)
+TakesItem text (Err no.Wire) =
+    (item : message.Item) (tail : List ℕ) → Starts IsItem text item tail → ⊥
+TakesItem text (Err no.NotUtf8) =
+    (item : message.Item) × (tail : List ℕ) × Starts IsItem text item tail × (IsText item → ⊥)
+
+-- a later value, where there is one
+abbrev pub later : {T : Type 0} → T → Option T → T
+later before None = before
+later before (Some x) = x
+
+-- the object with one more annotation
+abbrev pub with_annotation : Raw → List ℕ → List ℕ → Raw
+with_annotation raw key value = record raw { annotations = with_pair raw.annotations key value }
+
+-- the object with one more item
+abbrev pub merged : Raw → message.Item → Raw
+merged raw (message.encrypted content) = record raw { encrypted = content }
+merged raw (message.key_id content) = record raw { key_id = content }
+merged raw (message.source content) = record raw { source = content }
+merged raw (message.annotation key value) = with_annotation raw key value
+merged raw (message.kind n) = record raw { kind = n }
+merged raw message.other = raw
+
+-- the annotations are kept until there are too many, which they stay
+abbrev pub Keeps : Bool → Pairs → Pairs → Type 0
+Keeps false kept pairs = kept ≡ pairs
+Keeps true kept pairs = annotations_limit < length pairs
+
+-- what was merged is the object so far
+pub record Sees (partial : PartialObject) (raw : Raw) : Type 0 where
+  pub encrypted : partial.encrypted.now ≡ raw.encrypted
+  pub key_id : partial.key_id.now ≡ raw.key_id
+  pub source : partial.source.now ≡ raw.source
+  pub kind : partial.kind ≡ raw.kind
+  pub annotations : Keeps partial.crowded partial.annotations raw.annotations
+
+-- the fields of an entry so far
+pub record SeesEntry (text rest key value : List ℕ) : Type 0 where
+  pub front : List ℕ
+  pub fields : List Field
+  pub parts : text ≡ front ++ rest
+  pub spelled : Spells IsField front fields
+  pub key_is : key ≡ last_bytes 1 fields
+  pub value_is : value ≡ last_bytes 2 fields
+
+-- the object of the items so far
+pub record Walks (text rest : List ℕ) (partial : PartialObject) : Type 0 where
+  pub front : List ℕ
+  pub items : List message.Item
+  pub parts : text ≡ front ++ rest
+  pub message : IsMessage front items
+  pub sees : Sees partial (raw_of items)

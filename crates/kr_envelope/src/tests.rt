@@ -1,3 +1,0 @@
-mod limits;
-mod objects;
-mod prefixes;

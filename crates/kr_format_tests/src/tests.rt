@@ -1,0 +1,4 @@
+//! A file for each tested crate.
+mod envelope;
+mod kms;
+mod store;

@@ -1,0 +1,2 @@
+-- Definitions that serve contracts inside this crate alone: no public clause names them.
+pub mod KeyedHasher

@@ -1,3 +1,0 @@
-mod plugins;
-mod silent_link;
-mod worlds;

@@ -1,7 +1,0 @@
-use Rattle.std.proofs.Common.{rules}
-use Rattle.kr_modes.specs.Ghash.{block_of}
-use Rattle.kr_modes.proofs.hashing.block_of.Goals as goal
-
-pub returns : goal.returns
-unfolding block_of
-returns c = search rules

@@ -1,0 +1,6 @@
+-- Definitions that serve inner contracts alone.
+pub mod KeptRows
+pub mod Reading
+pub mod Index
+pub mod Log
+pub mod Writing

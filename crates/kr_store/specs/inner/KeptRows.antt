@@ -1,0 +1,38 @@
+-- What a store keeps of its rows.
+use Rattle.std.specs.Prelude.{◌≡◌, ℕ, ◌+◌, ◌≤◌, length, List, [], ◌∷◌, map, Option, None, Some, ⊤}
+use Rattle.kr_base.specs.Rules.{IsPath, IsResource}
+use Rattle.kr_store.specs.Rows.{IsRow, longest_value}
+use Rattle.kr_store.specs.declared.rows.Row.{Row}
+use Rattle.kr_store.specs.declared.rows.Change.{Change}
+use Rattle.kr_store.specs.declared.rows.Change.TheVariants.{Put, Delete}
+use Rattle.kr_store.specs.declared.rows.LogRow.{LogRow}
+use Rattle.kr_store.specs.declared.kept_row.KeptRow.{KeptRow}
+use Rattle.kr_store.specs.declared.kept_row.KeptRow.TheVariants as kept
+
+-- the row of the file that is kept so
+abbrev pub log_row_of : KeptRow → LogRow
+log_row_of (kept.Put row) = record { path = row.path; change = Put row.resource row.stored }
+log_row_of (kept.Delete path) = record { path = path; change = Delete }
+
+-- the row that is shared
+abbrev pub shared_row : KeptRow → Option Row
+shared_row (kept.Put row) = Some row
+shared_row (kept.Delete path) = None
+
+-- a put keeps the rules of its parts
+abbrev pub IsChange : Change → Type 0
+IsChange (Put resource stored) = IsResource resource × (length stored ≤ longest_value)
+IsChange Delete = ⊤
+
+-- the rules of what is kept of the row with revision k
+abbrev pub IsKeptRow : ℕ → KeptRow → Type 0
+IsKeptRow k (kept.Put row) = IsRow row × (row.revision ≡ k)
+IsKeptRow k (kept.Delete path) = IsPath path
+
+-- rows of which the first has revision k
+abbrev pub AreKeptRows : ℕ → List KeptRow → Type 0
+AreKeptRows k [] = ⊤
+AreKeptRows k (row ∷ rows) = IsKeptRow k row × AreKeptRows (k + 1) rows
+
+abbrev pub log_rows_of : List KeptRow → List LogRow
+log_rows_of rows = map log_row_of rows

@@ -1,0 +1,4 @@
+-- What inner contracts alone name.
+pub mod Rule
+pub mod Steps
+pub mod Endings

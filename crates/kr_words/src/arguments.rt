@@ -1,0 +1,178 @@
+//! What the options of a command give beyond first values: programs, replicas, a reload, numbers.
+ghost use Rattle.std.specs.Prelude.{◌≡◌, ◌^◌, ◌<◌, ◌≤◌, ℕ, List, MatchOption, IsSome, IsSomeAnd, Contains, codes, slice_get};
+ghost use Rattle.std.specs.Option.{option_copied};
+ghost use Rattle.kr_words.specs.Options.{values_of, count_of};
+ghost use Rattle.kr_words.specs.Arguments.{is_plugin, program_of, IsNumberAt, IsReloadOf, IsReloadAt};
+ghost use Rattle.kr_words.specs.Rules.{before_equals, after_equals, IsCommand};
+ghost use Rattle.kr_words.specs.Grammar.{replicas_of, IsWithinSize};
+ghost use Rattle.kr_words.specs.declared.command.Verb.{Verb};
+
+use crate::command::{Command, count_of, first_value};
+use crate::name::OptionName;
+use crate::numeral::number_of;
+use crate::rules::name_of;
+use kr_base::Text;
+
+/// A reload of one replica.
+#[derive(Clone, Copy, Debug)]
+pub struct Reload<'a> {
+    /// The replica's number, counted from 0.
+    pub replica: u64,
+    /// The file that it is to read.
+    pub file: &'a str,
+}
+
+impl Command {
+    /// The program of the plugin of that name.
+    pub fn program(&self, plugin: &str) -> Option<&str>
+        ensures { option_copied result ≡ program_of self.now.options.0 plugin.now }
+    {
+        program_of(self.options.as_slice(), plugin)
+    }
+
+    /// How many replicas there are.
+    pub fn replicas(&self) -> usize
+        ensures { result ≡ count_of self.now.options.0 (codes "replica") }
+    {
+        count_of(self.options.as_slice(), OptionName::Replica.text())
+    }
+
+    /// The file of the replica with this number, counted from 0 in the order of the words.
+    pub fn replica(&self, number: usize) -> Option<&str>
+        ensures { option_copied result
+            ≡ slice_get (values_of self.now.options.0 (codes "replica")) number }
+    {
+        value_at(self.options.as_slice(), OptionName::Replica.text(), number)
+    }
+
+    /// The reload. `judge` has one, of a replica that there is.
+    pub fn reload(&self) -> Option<Reload<'_>>
+        ensures reload { MatchOption result
+            ((replica : ℕ) (file : List ℕ) → IsReloadAt self.now.options.0 replica file
+            → 2 ^ 64 ≤ replica)
+            (λ reload. IsReloadAt self.now.options.0 reload.replica reload.file.now) }
+        ensures given { IsCommand self.now.verb self.now.options.0 → self.now.verb ≡ Verb.Judge
+            → replicas_of self.now.options.0 ≤ 16
+            → IsSomeAnd result (λ reload. reload.replica < replicas_of self.now.options.0) }
+    {
+        reload_in(self.options.as_slice())
+    }
+
+    /// The seed. `gen` has one.
+    pub fn seed(&self) -> Option<u64>
+        ensures number { MatchOption result
+            ((n : ℕ) → IsNumberAt self.now.options.0 (codes "seed") n → 2 ^ 64 ≤ n)
+            (λ n. IsNumberAt self.now.options.0 (codes "seed") n) }
+        ensures given { IsCommand self.now.verb self.now.options.0 → self.now.verb ≡ Verb.Gen
+            → IsSome result }
+    {
+        number_at(self.options.as_slice(), OptionName::Seed.text())
+    }
+
+    /// The size. `gen` has one.
+    pub fn size(&self) -> Option<u64>
+        ensures number { MatchOption result
+            ((n : ℕ) → IsNumberAt self.now.options.0 (codes "size") n → 2 ^ 64 ≤ n)
+            (λ n. IsNumberAt self.now.options.0 (codes "size") n) }
+        ensures given { IsCommand self.now.verb self.now.options.0 → self.now.verb ≡ Verb.Gen
+            → IsWithinSize self.now.options.0 → IsSome result }
+    {
+        number_at(self.options.as_slice(), OptionName::Size.text())
+    }
+}
+
+/// The number at that name, if it is below 2^64.
+fn number_at(options: &[(Text, Text)], name: &str) -> Option<u64>
+    ensures { MatchOption result
+        ((n : ℕ) → IsNumberAt options.now name.now n → 2 ^ 64 ≤ n)
+        (λ n. IsNumberAt options.now name.now n) }
+{
+    match first_value(options, name) {
+        Some(text) => number_of(text),
+        None => None,
+    }
+}
+
+/// The reload among the options.
+fn reload_in(options: &[(Text, Text)]) -> Option<Reload<'_>>
+    ensures { MatchOption result
+        ((replica : ℕ) (file : List ℕ) → IsReloadAt options.now replica file → 2 ^ 64 ≤ replica)
+        (λ reload. IsReloadAt options.now reload.replica reload.file.now) }
+{
+    match first_value(options, OptionName::Reload.text()) {
+        Some(value) => reload_of(value),
+        None => None,
+    }
+}
+
+/// The reload that the value says.
+fn reload_of(value: &str) -> Option<Reload<'_>>
+    ensures { MatchOption result
+        ((replica : ℕ) → IsReloadOf value.now replica → 2 ^ 64 ≤ replica)
+        (λ reload. IsReloadOf value.now reload.replica
+        × (reload.file.now ≡ after_equals value.now)) }
+{
+    match parts_of(value) {
+        Some((replica, file)) => match number_of(replica) {
+            Some(replica) => Some(Reload { replica, file }),
+            None => None,
+        },
+        None => None,
+    }
+}
+
+/// What stands before and behind the first `=`.
+fn parts_of(value: &str) -> Option<(&str, &str)>
+    ensures { MatchOption result
+        (Contains value.now 0x3D → ⊥)
+        (λ parts. Contains value.now 0x3D × (parts.0.now ≡ before_equals value.now)
+        × (parts.1.now ≡ after_equals value.now)) }
+{
+    match value.split_once('=') {
+        Some((before, after)) => Some((before, after)),
+        None => None,
+    }
+}
+
+/// The value of the option of that name with this number, counted from 0.
+fn value_at<'a>(options: &'a [(Text, Text)], name: &str, number: usize) -> Option<&'a str>
+    ensures { option_copied result ≡ slice_get (values_of options.now name.now) number }
+{
+    let mut left = number;
+    for option in options {
+        if option.0.as_str() == name {
+            if left == 0 {
+                return Some(option.1.as_str());
+            }
+            left -= 1;
+        }
+    }
+    None
+}
+
+/// The program of the plugin of that name.
+fn program_of<'a>(options: &'a [(Text, Text)], plugin: &str) -> Option<&'a str>
+    ensures { option_copied result ≡ program_of options.now plugin.now }
+{
+    options
+        .iter()
+        .find(|option| is_plugin(option, plugin))
+        .map(|option| program_in(option.1.as_str()))
+}
+
+/// Whether the option is the plugin of that name.
+fn is_plugin(option: &(Text, Text), plugin: &str) -> bool
+    ensures { result ≡ is_plugin plugin.now option.now }
+{
+    option.0.as_str() == OptionName::Plugin.text() && name_of(option.1.as_str()) == plugin
+}
+
+/// What stands behind the first `=`.
+fn program_in(value: &str) -> &str
+    ensures { result.now ≡ after_equals value.now }
+{
+    match value.split_once('=') {
+        Some((_, program)) => program,
+        None => "",
+    }
+}

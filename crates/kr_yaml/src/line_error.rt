@@ -1,0 +1,9 @@
+//! Why a part of a line wasn't read.
+/// Why a part of a line wasn't read.
+#[derive(Clone, Copy, Debug, PartialEq, Eq)]
+pub enum LineError {
+    /// It isn't of the profile.
+    Form,
+    /// There was no memory.
+    NoMemory,
+}

@@ -1,8 +1,0 @@
-/// Why a part of a line wasn't read.
-#[derive(Clone, Copy, Debug, PartialEq, Eq)]
-pub enum LineNo {
-    /// It isn't of the profile.
-    Form,
-    /// There was no memory.
-    NoMemory,
-}

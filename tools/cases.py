@@ -1,0 +1,136 @@
+#!/usr/bin/env python3
+"""What the cases of kr_cases leave, by the implementation in tools/reference, which shares nothing with the Rattle code.
+
+With no word it reads cases from standard input and prints a line for each, as kr_cases does. With `check` it compares the
+stored answers, crates/kr_cases/stdout, with what it makes of the stored cases; with `write` it writes them. A case is:
+
+    case NAME
+    words WORD WORD ..    the words of the call, parted by single spaces
+    file NAME CONTENT     a file of the world
+    | LINE                one more line of the file named last, with LF
+    input CONTENT
+    dice SEAT CONTENT     random bytes of a seat
+    fails OBJECT N N ..   which calls of the object fail, from 1: input, output, errors, files or dice:SEAT
+    room N                bytes that the output has room for
+    step N                bytes that a call of input, output and errors carries at most, 1 if not said
+
+`files` numbers the world's calls for a file or a random source in one row. Lines that are empty or begin with `#` say
+nothing. In all texts a backslash begins what can't stand there: \\n, \\r, \\t, \\s and \\b are LF, CR, a tab, a space and a
+backslash, \\e is nothing, \\(HEX) is bytes in hex, \\(N*HEX) N times these.
+
+A line of the answer is NAME, and then: `status`; `output` and `errors` in hex, `-` for none, of more than 2,048 bytes their
+number and SHA-256; `left`, how many bytes of the input weren't taken; `faults` of input, output, errors and files; and for
+each seat how many random bytes are left and how often they failed, `out` where they didn't come back.
+"""
+
+import hashlib
+import re
+import sys
+from pathlib import Path
+
+sys.dont_write_bytecode = True
+
+from reference.calls import Dice, Sink, Source, World, run
+
+CRATE = Path(__file__).resolve().parent.parent / "crates" / "kr_cases"
+LETTERS = {"n": b"\n", "r": b"\r", "t": b"\t", "s": b" ", "b": b"\\", "e": b""}
+ROOM = 4_194_304
+ERRORS_ROOM = 65_536
+MOST_PRINTED = 2_048
+
+
+def spelled(text):
+    """The bytes that a text of a case spells."""
+    first, *pieces = text.split("\\")
+    data = first.encode()
+    for piece in pieces:
+        found = re.match(r"\((?:(\d+)\*)?([0-9a-fA-F]*)\)", piece)
+        if found:
+            data += bytes.fromhex(found[2]) * int(found[1] or 1) + piece[found.end() :].encode()
+        else:
+            data += LETTERS[piece[0]] + piece[1:].encode()
+    return data
+
+
+class Case:
+    def __init__(self, name):
+        self.name, self.words, self.files, self.input, self.dice = name, [], [], b"", []
+        self.fails, self.room, self.step = {}, ROOM, 1
+
+    def add(self, key, rest):
+        front, _, behind = rest.partition(" ")
+        if key == "words":
+            self.words += [spelled(word).decode() for word in rest.split(" ")]
+        elif key == "file":
+            self.files.append((spelled(front).decode(), spelled(behind)))
+        elif key == "|":
+            name, content = self.files[-1]
+            self.files[-1] = (name, content + spelled(rest) + b"\n")
+        elif key == "input":
+            self.input += spelled(rest)
+        elif key == "dice":
+            self.dice.append((int(front), spelled(behind)))
+        elif key == "fails":
+            self.fails.setdefault(front, set()).update(map(int, behind.split(" ")))
+        elif key in ("room", "step"):
+            setattr(self, key, int(rest))
+        else:
+            raise ValueError(f"no such key: {key}")
+
+    def fails_of(self, name):
+        return self.fails.get(name, set())
+
+    def answer(self):
+        """The line of what the call leaves."""
+        source = Source(self.input, self.fails_of("input"))
+        output, errors = Sink("output", self.room, self.fails_of("output")), Sink("errors", ERRORS_ROOM, self.fails_of("errors"))
+        dice = [(seat, Dice(seat, content, self.fails_of(f"dice:{seat}"))) for seat, content in self.dice]
+        world = World(self.files, dice, self.fails_of("files"))
+        if self.step != 1 and (source.fails or output.fails or errors.fails or self.room != ROOM):
+            raise ValueError(f"{self.name}: only with one byte a call is it known which call fails")
+        status = run(self.words, world, source, output, errors)
+        line = f"{self.name} status={status} output={printed(output.held)} errors={printed(errors.held)}"
+        line += f" left={len(source.content) - source.taken} faults=" + ":".join(str(it.faults) for it in (source, output, errors, world))
+        return line + "".join(f" dice:{seat}={len(it.content)}:{it.faults}" for seat, it in dice)
+
+
+def printed(data):
+    if len(data) > MOST_PRINTED:
+        return f"{len(data)}:{hashlib.sha256(data).hexdigest()}"
+    return data.hex() or "-"
+
+
+def cases_of(text):
+    found = []
+    for line in text.split("\n"):
+        key, _, rest = line.partition(" ")
+        if key == "case":
+            found.append(Case(rest))
+        elif line and not line.startswith("#"):
+            found[-1].add(key, rest)
+    return found
+
+
+def answers(text):
+    return "".join(case.answer() + "\n" for case in cases_of(text))
+
+
+def main():
+    if not sys.argv[1:]:
+        sys.stdout.write(answers(sys.stdin.read()))
+        return 0
+    wanted = answers((CRATE / "stdin").read_text())
+    if sys.argv[1:] == ["write"]:
+        (CRATE / "stdout").write_text(wanted)
+        return 0
+    stored = (CRATE / "stdout").read_text()
+    differing = [pair for pair in zip(wanted.split("\n"), stored.split("\n")) if pair[0] != pair[1]]
+    if wanted != stored:
+        print("not so:", *(differing[0] if differing else ("the number of answers",)), sep="\n", file=sys.stderr)
+        return 1
+    print(f"the stored answers of kr_cases are those of tools/reference for {wanted.count(chr(10))} calls")
+    return 0
+
+
+if __name__ == "__main__":
+    sys.exit(main())

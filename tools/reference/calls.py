@@ -1,0 +1,197 @@
+"""Whole calls: the outside in memory, and the steps of the commands."""
+
+from . import configuration
+from .values import Refused, inspected, printed, seal, unseal
+from .words import Usage, WordsLimit, command_of
+
+MOST_DATA = 2_097_152
+MOST_VALUE = 2_162_688
+MOST_CONFIG = 1_048_576
+
+
+class Stop(Exception):
+    """A step refuses, with a status and what the line says."""
+
+    def __init__(self, status, line):
+        super().__init__(status, line)
+        self.status, self.line = status, line
+
+
+class Numbered:
+    """An object whose calls fail by their numbers."""
+
+    def __init__(self, name, fails):
+        self.name, self.fails, self.made, self.faults = name, fails, 0, 0
+
+    def call(self, serves=True):
+        self.made += 1
+        if self.made in self.fails or not serves:
+            self.fault()
+
+    def fault(self):
+        self.faults += 1
+        raise Stop(4, f"fault {self.name} {self.faults}")
+
+
+class Source(Numbered):
+    """Gives a byte a call, and at the end nothing."""
+
+    def __init__(self, content, fails):
+        super().__init__("input", fails)
+        self.content, self.taken = content, 0
+
+    def read_all(self, limit, what):
+        if not self.fails:
+            # (the same as byte by byte)
+            self.taken = min(len(self.content), limit + 1)
+        while self.fails and self.taken <= limit:
+            self.call()
+            if self.taken == len(self.content):
+                break
+            self.taken += 1
+        if self.taken > limit:
+            raise Stop(6, f"limit {what} {limit}")
+        return self.content
+
+
+class Sink(Numbered):
+    """Takes a byte a call."""
+
+    def __init__(self, name, room, fails):
+        super().__init__(name, fails)
+        self.room, self.held = room, b""
+
+    def write_all(self, data):
+        if not self.fails and len(self.held) + len(data) <= self.room:
+            self.held += data
+            return
+        for at in range(len(data)):
+            self.call(len(self.held) < self.room)
+            self.held += data[at : at + 1]
+
+
+class Dice(Numbered):
+    """Gives random bytes that were written down."""
+
+    def __init__(self, seat, content, fails):
+        super().__init__(f"dice {seat}", fails)
+        self.content = content
+
+    def draw(self, size):
+        self.call(size <= len(self.content))
+        drawn, self.content = self.content[:size], self.content[size:]
+        return drawn
+
+
+class World(Numbered):
+    """Files by their names and random sources by their seats; the first of one name or seat counts."""
+
+    def __init__(self, files, dice, fails):
+        super().__init__("files", fails)
+        self.files, self.dice = files, dice
+
+    def load(self, name, limit):
+        self.call()
+        content = next((content for other, content in self.files if other == name), None)
+        if content is None:
+            raise Stop(3, "text 40 " + printed(name.encode()).decode())
+        if len(content) > limit:
+            raise Stop(6, f"limit config {limit}")
+        return content
+
+    def dice_of(self, seat):
+        found = next((dice for other, dice in self.dice if other == seat), None)
+        self.call(found is not None)
+        return found
+
+
+# ---- the commands
+
+
+def load_settings(world, name):
+    content = world.load(name, MOST_CONFIG)
+    try:
+        return configuration.read(content)
+    except configuration.Breach as no:
+        if no.code == 39:
+            raise Stop(6, "limit %s %d" % configuration.LIMITS[no.first]) from None
+        raise Stop(3, f"text {no.code} {no.first} {no.second}") from None
+
+
+def provider_text(provider):
+    return ":".join(provider[:2]) if provider[1] else provider[0]
+
+
+def check(options, world, output):
+    entries = load_settings(world, options["config"])
+    if "resource" in options:
+        lines = [provider_text(provider) for provider in configuration.list_for(entries, options["resource"])]
+    else:
+        lines = [
+            f"entry {number}: {','.join(patterns)}: {','.join(map(provider_text, providers))}" for number, (patterns, providers) in enumerate(entries)
+        ]
+    output.write_all("".join(line + "\n" for line in lines).encode())
+    return b""
+
+
+def settings_of_object(options, world):
+    """The settings of `encrypt` and `decrypt`, which serve no plugin yet."""
+    entries = load_settings(world, options["config"])
+    if any(provider[0] == "kms" for _, providers in entries for provider in providers):
+        raise Stop(3, "text 50 0 0")
+    return entries
+
+
+def encrypt(options, world, source, output):
+    entries = settings_of_object(options, world)
+    data = source.read_all(MOST_DATA, "data")
+    dice = world.dice_of(0)
+    writer = configuration.list_for(entries, options["resource"])[0]
+    output.write_all(seal(writer, options["path"].encode(), data, dice.draw))
+    return b""
+
+
+def decrypt(options, world, source, output):
+    entries = settings_of_object(options, world)
+    value = source.read_all(MOST_VALUE, "value")
+    world.dice_of(0)
+    data, is_stale = unseal(configuration.list_for(entries, options["resource"]), options["path"].encode(), value)
+    output.write_all(data)
+    return b"stale\n" if is_stale else b"fresh\n"
+
+
+def inspect(source, output):
+    output.write_all(inspected(source.read_all(MOST_VALUE, "value")))
+    return b""
+
+
+def answer(words, world, source, output):
+    """Does what the words ask for, and gives what is told on the errors."""
+    try:
+        command, options = command_of(words)
+    except Usage:
+        raise Stop(2, "usage: kmsrest COMMAND OPTIONS") from None
+    except WordsLimit as no:
+        raise Stop(6, f"limit {no}") from None
+    try:
+        if command == "check":
+            return check(options, world, output)
+        if command == "inspect":
+            return inspect(source, output)
+        return (encrypt if command == "encrypt" else decrypt)(options, world, source, output)
+    except Refused as no:
+        raise Stop(1, f"refused {no.text()}") from None
+
+
+def run(words, world, source, output, errors):
+    """The status of the call."""
+    try:
+        told = answer(words, world, source, output)
+        status = 0
+    except Stop as stop:
+        told, status = f"kmsrest: {stop.line}\n".encode(), stop.status
+    try:
+        errors.write_all(told)
+    except Stop:
+        return 4
+    return status
