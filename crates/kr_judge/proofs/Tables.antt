@@ -1,5 +1,5 @@
 -- The classes of some settings in their order are their table, and what comes next in it.
-use Rattle.std.proofs.Common.{◌≡◌, ◌≢◌, ℕ, zero, suc, Bool, true, false, List, [], ◌∷◌, ◌++◌, Option, None, Some, All, Contains, refl, sym, ap, subst, ◌∙◌, ◌⊎◌, inl, inr, arith, ◌↔◌}
+use Rattle.std.proofs.Common.{◌≡◌, ◌≢◌, zero, suc, Bool, true, false, List, [], ◌∷◌, Option, None, Some, All, Contains, refl, sym, ap, subst, ◌∙◌, ◌⊎◌, inl, inr, arith}
 use Rattle.std.specs.List.{AllByRecursion, filter, flat_map}
 use Rattle.std.specs.Prelude.{cond}
 use Rattle.std.specs.List.Sorted.{IsStrictlySortedBy}
@@ -13,7 +13,7 @@ use Rattle.std.proofs.lemmas.List.Elements.{Contains-append_cases, Contains-appe
 use Rattle.kr_config.specs.declared.class.Class.{Class}
 use Rattle.kr_config.specs.declared.class.Class.TheVariants.{Exact, Group, Rest}
 use Rattle.kr_config.specs.Kept.{Row}
-use Rattle.kr_config.specs.Classes.{class_cmp, classes_in, IsTableOf}
+use Rattle.kr_config.specs.Classes.{class_cmp, classes_in}
 use Rattle.kr_config.specs.Nexts.{comes_after, IsNextClass}
 use Rattle.kr_config.proofs.Orders.{class_total}
 use Rattle.kr_judge.specs.Tables.{with_class, in_order, table_of}

@@ -1,5 +1,5 @@
 -- The verdict from the first reason of each kind.
-use Rattle.std.proofs.Common.{◌≡◌, ◌≢◌, ℕ, List, [], ◌∷◌, ◌++◌, Option, None, Some, Result, Ok, Err, IfOk, MatchResult, map, refl, sym, ap, ◌∙◌}
+use Rattle.std.proofs.Common.{◌≡◌, ◌≢◌, ℕ, List, [], ◌∷◌, ◌++◌, None, Some, Result, Ok, Err, IfOk, MatchResult, map, refl, sym, ap, ◌∙◌}
 use Rattle.kr_base.specs.declared.errors.NoMemory.{NoMemory}
 use Rattle.kr_config.specs.declared.class.Class.{Class}
 use Rattle.kr_config.specs.declared.who.Who.{Who}

@@ -1,5 +1,5 @@
 -- Going through needs and generations.
-use Rattle.std.proofs.Common.{◌≡◌, ℕ, ◌<◌, ◌≤◌, ◌+◌, Bool, true, false, List, [], ◌∷◌, ◌++◌, Option, None, Some, length, get_or, drop, map, refl, sym, ap, ◌∙◌}
+use Rattle.std.proofs.Common.{◌≡◌, ℕ, ◌<◌, ◌≤◌, ◌+◌, Bool, true, false, List, ◌∷◌, None, Some, length, get_or, drop, map, refl, sym, ap, ◌∙◌}
 use Rattle.std.specs.Prelude.{cond, not}
 use Rattle.std.specs.List.{filter, flat_map}
 use Rattle.std.specs.Option.{option_map}

@@ -1,7 +1,7 @@
 -- The verdict on new settings of a replica: the first of all reasons against them.
 use Rattle.std.specs.Prelude.{ℕ, ◌+◌, ◌==◌, ◌&&◌, ◌++◌, not, Bool, List, [], ◌∷◌, Option, None, Some, map, filter}
 use Rattle.std.specs.List.{flat_map}
-use Rattle.std.specs.Option.{option_map, option_to_list}
+use Rattle.std.specs.Option.{option_to_list}
 use Rattle.kr_config.specs.declared.who.Who.{Who}
 use Rattle.kr_config.specs.declared.class.Class.{Class}
 use Rattle.kr_config.specs.Kept.{Row}
