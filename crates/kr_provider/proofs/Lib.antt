@@ -11,3 +11,5 @@ pub mod Sealings
 pub mod Tags
 pub mod SealedSizes
 pub mod OneReading
+mod Stacks
+mod Keys

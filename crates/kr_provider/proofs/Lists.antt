@@ -26,7 +26,7 @@ pub record Listed (list : List Who) : Type 0 where
   pub providers : list_all is_provider list ≡ true
   pub stand : apart rivals list ≡ true
 
-of_row : (row : Row) → keeps_row row ≡ true → Listed row.providers
+pub of_row : (row : Row) → keeps_row row ≡ true → Listed row.providers
 of_row row e =
     let providers = and_right (keeps_patterns row.patterns) (keeps_providers row.providers) e in
     let front = and_left (nat_le 1 (length row.providers) && list_all is_provider row.providers) (apart rivals row.providers) providers in
@@ -51,6 +51,15 @@ rows_keep rows e =
     let b = and_left (nat_le 1 (length rows) && nat_le (length rows) 64 && list_all keeps_row rows && nat_le (patterns_in rows) 256) (nat_le (keys_in rows) 64) a in
     let c = and_left (nat_le 1 (length rows) && nat_le (length rows) 64 && list_all keeps_row rows) (nat_le (patterns_in rows) 256) b in
     and_right (nat_le 1 (length rows) && nat_le (length rows) 64) (list_all keeps_row rows) c
+
+pub few_keys : (rows : List Row) → IsTrue (keeps rows) → keys_in rows ≤ 64
+unfolding keeps
+few_keys rows e =
+    let a = and_left (nat_le 1 (length rows) && nat_le (length rows) 64 && list_all keeps_row rows && nat_le (patterns_in rows) 256 && nat_le (keys_in rows) 64) (nat_le (kms_in rows) 16) e in
+    at_most (keys_in rows) (and_right (nat_le 1 (length rows) && nat_le (length rows) 64 && list_all keeps_row rows && nat_le (patterns_in rows) 256) (nat_le (keys_in rows) 64) a)
+  where
+    at_most : (n : ℕ) → nat_le n 64 ≡ true → n ≤ 64
+    at_most n e = grind (arith, nat_tests)
 
 pub listed : (rows : List Row) (resource : List ℕ) → IsTrue (keeps rows) → Listed (list_of rows resource)
 listed rows resource k = first_keeps Listed (λ pattern. matches pattern resource) rows (record { some = lit≤ tt; providers = refl; stand = refl }) of_row (rows_keep rows k)

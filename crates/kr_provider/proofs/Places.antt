@@ -46,6 +46,9 @@ reader_found list bytes place who e is =
     let found = position-Some (is_reader bytes) list place who e in
     place_found (is_reader bytes) list place e ∙ slice_get-get_or list place who found.0 ∙ ap (λ w. Some w) (sym is)
 
+pub reader_within : (list : List Who) (bytes : List ℕ) (place : ℕ) (who : Who) → reader_place list bytes ≡ Some place → place < length list
+reader_within list bytes place who e = (position-Some (is_reader bytes) list place who e).0
+
 pub reader_reads : (list : List Who) (bytes : List ℕ) (place : ℕ) (who : Who) → reader_place list bytes ≡ Some place → who ≡ get_or list place who → is_reader bytes who ≡ true
 reader_reads list bytes place who e is = ap (is_reader bytes) is ∙ (position-Some (is_reader bytes) list place who e).1
 

@@ -1,6 +1,7 @@
 pub mod BenchState
 pub mod Ciphers
 pub mod Envelopes
+pub mod KeyPages
 pub mod Laws
 pub mod Names
 pub mod Publication
@@ -8,3 +9,4 @@ pub mod Readers
 pub mod Reading
 pub mod Refusals
 pub mod Sealing
+pub mod inner

@@ -1,13 +1,16 @@
 //! Providers at work: what an object's data is sealed as for a resource, and what a stored value reads as.
 #![tactic(auto)]
 
+mod adopted;
 mod bench;
+mod key_pages;
 pub mod laws;
 mod links;
 mod prefixes;
 mod published;
 mod readers;
 mod refusal;
+mod rounds;
 mod sealing;
 mod unsealing;
 

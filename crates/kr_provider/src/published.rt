@@ -34,6 +34,14 @@ impl Model for Published {
 impl Published {
     ghost use Rattle.kr_provider.specs.Publication.{IsPublished, list_at};
 
+    /// The entries of the settings.
+    pub(crate) fn entries(&self) -> &[Entry]
+        ensures rows { rows_of result.now ≡ self.now.rows }
+        ensures kept { IsPublished self.now }
+    {
+        self.settings.get().entries.as_slice()
+    }
+
     /// The providers of the resource.
     pub fn list_for(&self, resource: &str) -> &[Who]
         ensures list { result.now ≡ list_at self.now resource.now }

@@ -1,7 +1,7 @@
 //! Seals: what a provider makes of an object's data.
 ghost use Rattle.std.specs.Prelude.{◌≡◌, ℕ, ◌<◌, ◌≤◌, ◌+◌, ◌-◌, ◌%◌, ◌++◌, List, true, false, length, take, replicate, All, IfSome, MatchResult};
 ghost use Rattle.std.specs.Io.KnownBytes.{Consumes, Keeps};
-ghost use Rattle.kr_aes.specs.KeyExpansion.{IsKeyLength};
+ghost use Rattle.kr_aes.specs.KeyExpansion.{IsKeyLength, padded_schedule};
 ghost use Rattle.kr_base.specs.Faults.{IsCounted};
 ghost use Rattle.kr_base.specs.Limits.{data_limit, path_limit};
 ghost use Rattle.kr_config.specs.Providers.{is_provider, is_kms};
@@ -12,9 +12,10 @@ ghost use Rattle.kr_modes.specs.Padding.{pad};
 ghost use Rattle.kr_provider.specs.Ciphers.{cipher_under};
 ghost use Rattle.kr_provider.specs.Envelopes.{gcm_body};
 ghost use Rattle.kr_provider.specs.Sealing.{Seals, IsBare};
+ghost use Rattle.kr_provider.specs.inner.Scan.{HasWords};
 
 use crate::refusal::SealNo;
-use kr_aes::expand;
+use crate::rounds::rounds_of;
 use kr_base::{Bytes, DATA_LIMIT, Dice, Failed, Text};
 use kr_config::Who;
 use kr_envelope::{Kind, MARK, push_prefix};
@@ -30,16 +31,19 @@ const NONCE: usize = 12;
 /// The bytes of a tag.
 const TAG: usize = 16;
 
-/// The value of the data by a provider that is no plugin. The memory for it is taken before the dice is asked.
+/// The value of the data by a provider that is no plugin, whose key's words are given. The memory for it is taken before
+/// the dice is asked.
 pub(crate) fn seal_by<D: Dice>(
     alloc: Global,
     who: &Who,
+    words: &[u32; 60],
     path: &str,
     plain: &[u8],
     dice: &mut D,
 ) -> Result<Bytes, SealNo>
     requires provider { is_provider who.now ≡ true }
     requires no_plugin { is_kms who.now ≡ false }
+    requires words { HasWords who.now words.now }
     requires path { length path.now ≤ path_limit }
     ensures sealed { (seeds : List SeedRow) → Seals D.left D.count seeds who.now path.now plain.now dice.old dice.new result }
     ensures plain_is { All (λ byte. byte < 256) plain.now }
@@ -52,8 +56,8 @@ pub(crate) fn seal_by<D: Dice>(
     }
     match who {
         Who::Identity => bare(alloc, plain),
-        Who::Aescbc(name, secret) => by_aescbc(alloc, name, secret, plain, dice),
-        Who::Aesgcm(name, secret) => by_aesgcm(alloc, name, secret, path, plain, dice),
+        Who::Aescbc(name, secret) => by_aescbc(alloc, name, secret, words, plain, dice),
+        Who::Aesgcm(name, secret) => by_aesgcm(alloc, name, secret, words, path, plain, dice),
         Who::Kms(_) => unreachable!(),
     }
 }
@@ -76,10 +80,12 @@ fn by_aescbc<D: Dice>(
     alloc: Global,
     name: &Text,
     secret: &Bytes,
+    words: &[u32; 60],
     plain: &[u8],
     dice: &mut D,
 ) -> Result<Bytes, SealNo>
     requires key { IsKeyLength (length secret.now) }
+    requires words { words.now ≡ padded_schedule secret.now }
     requires fits { length plain.now ≤ data_limit }
     ensures sealed { (seeds : List SeedRow) (path : List ℕ) → Seals D.left D.count seeds (Who.Aescbc name.now secret.now) path plain.now dice.old dice.new result }
     ensures later { D.count dice.old ≤ D.count dice.new }
@@ -94,7 +100,7 @@ fn by_aescbc<D: Dice>(
         Err(Failed) => return Err(SealNo::DiceFailed),
     }
     let start = value.len() - room;
-    write_cbc(secret, &iv, plain, &mut value, start);
+    write_cbc(secret, words, &iv, plain, &mut value, start);
     Ok(Bytes::from_vec(value))
 }
 
@@ -103,11 +109,13 @@ fn by_aesgcm<D: Dice>(
     alloc: Global,
     name: &Text,
     secret: &Bytes,
+    words: &[u32; 60],
     path: &str,
     plain: &[u8],
     dice: &mut D,
 ) -> Result<Bytes, SealNo>
     requires key { IsKeyLength (length secret.now) }
+    requires words { words.now ≡ padded_schedule secret.now }
     requires fits { length plain.now ≤ data_limit }
     requires path { length path.now ≤ path_limit }
     ensures sealed { (seeds : List SeedRow) → Seals D.left D.count seeds (Who.Aesgcm name.now secret.now) path.now plain.now dice.old dice.new result }
@@ -123,7 +131,7 @@ fn by_aesgcm<D: Dice>(
         Err(Failed) => return Err(SealNo::DiceFailed),
     }
     let start = value.len() - room;
-    write_gcm(secret, &nonce, path, plain, &mut value, start);
+    write_gcm(secret, words, &nonce, path, plain, &mut value, start);
     Ok(Bytes::from_vec(value))
 }
 
@@ -149,25 +157,31 @@ fn prefixed(alloc: Global, kind: Kind, name: &Text, room: usize) -> Option<Vec<u
 }
 
 /// Writes the IV and the CBC of the padded data from `start` on.
-fn write_cbc(secret: &Bytes, iv: &[u8; 16], plain: &[u8], value: &mut [u8], start: usize)
+fn write_cbc(
+    secret: &Bytes,
+    words: &[u32; 60],
+    iv: &[u8; 16],
+    plain: &[u8],
+    value: &mut [u8],
+    start: usize,
+)
     requires key { IsKeyLength (length secret.now) }
+    requires words { words.now ≡ padded_schedule secret.now }
     requires fits { length plain.now ≤ data_limit }
     requires size { length value.old ≡ start + (16 + (length plain.now + 16 - length plain.now % 16)) }
     ensures { value.new ≡ take start value.old ++ (iv.now ++ cbc (cipher_under secret.now) iv.now (pad plain.now)) }
 {
-    let mut words = [0u32; 60];
-    let Ok(rounds) = expand(secret.as_slice(), &mut words) else {
-        unreachable!();
-    };
+    let rounds = rounds_of(secret.as_slice());
     let (_, room) = value.split_at_mut(start);
     let (first, body) = room.split_at_mut(IV);
     first.copy_from_slice(iv);
-    cbc_seal(&words, rounds, iv, plain, body);
+    cbc_seal(words, rounds, iv, plain, body);
 }
 
 /// Writes the nonce and the GCM of the data, with the path as associated data, from `start` on.
 fn write_gcm(
     secret: &Bytes,
+    words: &[u32; 60],
     nonce: &[u8; 12],
     path: &str,
     plain: &[u8],
@@ -175,17 +189,15 @@ fn write_gcm(
     start: usize,
 )
     requires key { IsKeyLength (length secret.now) }
+    requires words { words.now ≡ padded_schedule secret.now }
     requires fits { length plain.now ≤ data_limit }
     requires path { length path.now ≤ path_limit }
     requires size { length value.old ≡ start + (12 + length plain.now + 16) }
     ensures { value.new ≡ take start value.old ++ gcm_body secret.now path.now plain.now nonce.now }
 {
-    let mut words = [0u32; 60];
-    let Ok(rounds) = expand(secret.as_slice(), &mut words) else {
-        unreachable!();
-    };
+    let rounds = rounds_of(secret.as_slice());
     let (_, room) = value.split_at_mut(start);
     let (first, body) = room.split_at_mut(NONCE);
     first.copy_from_slice(nonce);
-    gcm_seal(&words, rounds, nonce, path.as_bytes(), plain, body);
+    gcm_seal(words, rounds, nonce, path.as_bytes(), plain, body);
 }

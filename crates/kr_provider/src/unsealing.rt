@@ -1,15 +1,16 @@
 //! What stored values read as.
 ghost use Rattle.std.specs.Prelude.{◌≡◌, ◌≤◌, true, false, length};
-ghost use Rattle.kr_aes.specs.KeyExpansion.{IsKeyLength};
+ghost use Rattle.kr_aes.specs.KeyExpansion.{IsKeyLength, padded_schedule};
 ghost use Rattle.kr_base.specs.Limits.{path_limit, value_limit};
 ghost use Rattle.kr_config.specs.Providers.{is_provider, is_kms};
 ghost use Rattle.kr_modes.specs.Cbc.{cbc_opened};
 ghost use Rattle.kr_provider.specs.Ciphers.{inverse_under};
 ghost use Rattle.kr_provider.specs.Envelopes.{Envelope};
 ghost use Rattle.kr_provider.specs.Reading.{Gives, body_refusal, data_of, gcm_reading, provider_reading, body_reading, refused};
+ghost use Rattle.kr_provider.specs.inner.Scan.{HasWords};
 
 use crate::refusal::{UnsealNo, ValueNo};
-use kr_aes::expand;
+use crate::rounds::rounds_of;
 use kr_base::Bytes;
 use kr_config::Who;
 use kr_modes::{ModeNo, cbc_unseal, gcm_unseal};
@@ -18,23 +19,27 @@ use std::alloc::Global;
 /// The bytes of a nonce.
 const NONCE: usize = 12;
 
-/// The data of the body by a provider that is no plugin.
+/// The data of the body by a provider that is no plugin, whose key's words are given.
 pub(crate) fn unseal_by(
     alloc: Global,
     who: &Who,
+    words: &[u32; 60],
     path: &str,
     body: &[u8],
 ) -> Result<Bytes, UnsealNo>
     requires provider { is_provider who.now ≡ true }
     requires no_plugin { is_kms who.now ≡ false }
+    requires words { HasWords who.now words.now }
     requires path { length path.now ≤ path_limit }
     requires fits { length body.now ≤ value_limit }
     ensures { (envelope : Envelope) → Gives (provider_reading envelope who.now path.now body.now) result }
 {
     match who {
         Who::Identity => bare(alloc, body),
-        Who::Aescbc(_, secret) => by_aescbc(alloc, secret.as_slice(), body),
-        Who::Aesgcm(_, secret) => by_aesgcm(alloc, secret.as_slice(), path.as_bytes(), body),
+        Who::Aescbc(_, secret) => by_aescbc(alloc, secret.as_slice(), words, body),
+        Who::Aesgcm(_, secret) => {
+            by_aesgcm(alloc, secret.as_slice(), words, path.as_bytes(), body)
+        }
         Who::Kms(_) => unreachable!(),
     }
 }
@@ -48,19 +53,22 @@ fn bare(alloc: Global, body: &[u8]) -> Result<Bytes, UnsealNo>
     }
 }
 
-fn by_aescbc(alloc: Global, secret: &[u8], body: &[u8]) -> Result<Bytes, UnsealNo>
+fn by_aescbc(
+    alloc: Global,
+    secret: &[u8],
+    words: &[u32; 60],
+    body: &[u8],
+) -> Result<Bytes, UnsealNo>
     requires key { IsKeyLength (length secret.now) }
+    requires words { words.now ≡ padded_schedule secret.now }
     requires fits { length body.now ≤ value_limit }
     ensures { Gives (body_reading (cbc_opened (inverse_under secret.now) body.now)) result }
 {
-    let mut words = [0u32; 60];
-    let Ok(rounds) = expand(secret, &mut words) else {
-        unreachable!();
-    };
+    let rounds = rounds_of(secret);
     let Ok(mut out) = vec![in alloc; 0; body.len()] else {
         return Err(UnsealNo::NoMemory);
     };
-    match cbc_unseal(&words, rounds, body, out.as_mut_slice()) {
+    match cbc_unseal(words, rounds, body, out.as_mut_slice()) {
         Ok(length) => {
             out.truncate(length);
             Ok(Bytes::from_vec(out))
@@ -69,8 +77,15 @@ fn by_aescbc(alloc: Global, secret: &[u8], body: &[u8]) -> Result<Bytes, UnsealN
     }
 }
 
-fn by_aesgcm(alloc: Global, secret: &[u8], path: &[u8], body: &[u8]) -> Result<Bytes, UnsealNo>
+fn by_aesgcm(
+    alloc: Global,
+    secret: &[u8],
+    words: &[u32; 60],
+    path: &[u8],
+    body: &[u8],
+) -> Result<Bytes, UnsealNo>
     requires key { IsKeyLength (length secret.now) }
+    requires words { words.now ≡ padded_schedule secret.now }
     requires path { length path.now ≤ path_limit }
     requires fits { length body.now ≤ value_limit }
     ensures { Gives (gcm_reading secret.now path.now body.now) result }
@@ -78,17 +93,14 @@ fn by_aesgcm(alloc: Global, secret: &[u8], path: &[u8], body: &[u8]) -> Result<B
     if body.len() < NONCE {
         return Err(UnsealNo::Refused(refusal_of(ModeNo::Short)));
     }
-    let mut words = [0u32; 60];
-    let Ok(rounds) = expand(secret, &mut words) else {
-        unreachable!();
-    };
+    let rounds = rounds_of(secret);
     let (first, sealed) = body.split_at(NONCE);
     let mut nonce = [0u8; NONCE];
     nonce.copy_from_slice(first);
     let Ok(mut out) = vec![in alloc; 0; sealed.len()] else {
         return Err(UnsealNo::NoMemory);
     };
-    match gcm_unseal(&words, rounds, &nonce, path, sealed, out.as_mut_slice()) {
+    match gcm_unseal(words, rounds, &nonce, path, sealed, out.as_mut_slice()) {
         Ok(length) => {
             out.truncate(length);
             Ok(Bytes::from_vec(out))

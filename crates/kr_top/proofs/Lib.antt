@@ -8,6 +8,7 @@ pub mod OnePoint
 pub mod Pieces
 pub mod Printed
 pub mod Readings
+mod Rooms
 pub mod Settled
 pub mod Works
 pub mod Worlds

@@ -1,0 +1,9 @@
+pub mod Parts
+pub mod Needs
+pub mod Tables
+pub mod Raw
+pub mod ClassSteps
+pub mod Walks
+pub mod Verdicts
+pub mod Members
+pub mod Holders

@@ -1,0 +1,19 @@
+//! Which configuration a replica may take up: generations of settings, the needs of what is stored, and
+//! the verdict on new settings.
+#![tactic(auto)]
+
+mod board;
+mod class_walk;
+mod generation;
+mod holding;
+mod judging;
+mod laws;
+mod need;
+mod need_list;
+mod provider_lists;
+mod verdict;
+
+pub use board::Board;
+pub use laws::{judged_classes_are_a_table, needs_stay_by_path, providers_are_told_apart};
+pub use need::Need;
+pub use verdict::Verdict;

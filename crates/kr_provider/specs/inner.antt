@@ -1,0 +1,3 @@
+-- Definitions that inner contracts alone cite.
+pub mod Scan
+pub mod Stack

@@ -1,0 +1,30 @@
+-- Where the key of a provider stands among the keys of all entries.
+use Rattle.std.specs.Prelude.{◌≡◌, ℕ, suc, true, if◌then◌else◌, List, [], ◌∷◌, Option, Some, None, ⊤}
+use Rattle.std.specs.List.{list_any}
+use Rattle.std.specs.Str.{bytes_eq}
+use Rattle.kr_aes.specs.KeyExpansion.{padded_schedule}
+use Rattle.kr_config.specs.declared.who.Who.{Who}
+use Rattle.kr_config.specs.declared.who.Who.TheVariants.{Identity, Aescbc, Aesgcm, Kms}
+
+-- the first place of the secret, where the first of the list counts as `n`
+abbrev pub place_from : (n : ℕ) → (secrets : List (List ℕ)) → (secret : List ℕ) → Option ℕ
+place_from n [] secret = None
+place_from n (first ∷ rest) secret = if bytes_eq first secret then Some n else place_from (suc n) rest secret
+
+-- the provider's secret, if it has one, is one of these
+abbrev pub IsAmong : List (List ℕ) → Who → Type 0
+IsAmong secrets Identity = ⊤
+IsAmong secrets (Aescbc name secret) = list_any (λ s. bytes_eq s secret) secrets ≡ true
+IsAmong secrets (Aesgcm name secret) = list_any (λ s. bytes_eq s secret) secrets ≡ true
+IsAmong secrets (Kms name) = ⊤
+
+abbrev pub AreAmong : List (List ℕ) → List Who → Type 0
+AreAmong secrets [] = ⊤
+AreAmong secrets (who ∷ list) = IsAmong secrets who × AreAmong secrets list
+
+-- the words are those of the provider's key; one that has no key makes no use of them
+abbrev pub HasWords : Who → (words : List ℕ) → Type 0
+HasWords Identity words = ⊤
+HasWords (Aescbc name secret) words = words ≡ padded_schedule secret
+HasWords (Aesgcm name secret) words = words ≡ padded_schedule secret
+HasWords (Kms name) words = ⊤
