@@ -1,7 +1,11 @@
 //! The world of the system: its files, and its random device for each seat.
-ghost use Rattle.std.specs.Prelude.{◌≡◌, OnOk, MatchResult, None, slice_index_or};
+ghost use Rattle.std.specs.Prelude.{◌≡◌, ◌⊎◌, OnOk, OnErr, IfOk, IfErr, IsErrOf, MatchResult, None, codes};
 ghost use Rattle.std.specs.Io.KnownBytes.{Consumes, Keeps};
-ghost use Rattle.kr_base.specs.Faults.{IsCounted};
+ghost use Rattle.kr_base.specs.Faults.{Rose, IsCounted};
+ghost use Rattle.kr_kms.specs.Outside.{Notes, KeepsFiles, KeepsDice, HandsOut};
+ghost use Rattle.kr_kms.specs.declared.world.Asked.{Asked};
+ghost use Rattle.kmsrest.specs.Opened.{Holds};
+ghost use Rattle.kmsrest.specs.RealWorld.{real_world};
 
 use crate::files::{NamedFiles, OpenNo};
 use crate::streams::StdSource;
@@ -79,7 +83,7 @@ impl<'a, F: NamedFiles> World for RealWorld<'a, F> {
     // No call hands out a link.
     type Link = TablePlugin;
 
-    ghost told = { λ world. record { file = F.told world.files.now; load_faults = world.load_faults; open_faults = world.open_faults; dice = λ seat. None; dice_faults = λ seat. slice_index_or world.dice_faults seat 0; out = λ seat. slice_index_or world.out seat 0 } };
+    ghost told = { λ world. real_world (F.told world.files.now) world.load_faults world.open_faults world.dice_faults world.out };
 
     fn faults(&self) -> u64 {
         self.load_faults.saturating_add(self.open_faults)
@@ -105,7 +109,29 @@ impl<'a, F: NamedFiles> World for RealWorld<'a, F> {
         }
     }
 
-    fn dice(&mut self, _alloc: Global, seat: u32) -> Result<DeviceDice<F::File>, FileNo> {
+    fn dice(&mut self, _alloc: Global, seat: u32) -> Result<DeviceDice<F::File>, FileNo>
+        // The random bytes are those of the system's device.
+        ensures device { IfOk result (λ dice. Holds (F.told self.old.files.now (codes "/dev/urandom")) (F.File.remaining dice.device)) }
+
+        // As the trait says.
+        ensures ok { IfOk result (λ dice. HandsOut
+            (real_world (F.told self.old.files.now) self.old.load_faults self.old.open_faults self.old.dice_faults self.old.out)
+            (real_world (F.told self.new.files.now) self.new.load_faults self.new.open_faults self.new.dice_faults self.new.out)
+            seat None dice.faults) }
+        ensures err { OnErr result (KeepsDice
+            (real_world (F.told self.old.files.now) self.old.load_faults self.old.open_faults self.old.dice_faults self.old.out)
+            (real_world (F.told self.new.files.now) self.new.load_faults self.new.open_faults self.new.dice_faults self.new.out)) }
+        ensures refusals { IfErr result (λ why. (why ≡ FileNo.Failed) ⊎ (why ≡ FileNo.NoMemory)) }
+        ensures failed { IsErrOf result FileNo.Failed → Rose self.old.open_faults self.new.open_faults }
+        ensures asked { Notes
+            (real_world (F.told self.old.files.now) self.old.load_faults self.old.open_faults self.old.dice_faults self.old.out)
+            (real_world (F.told self.new.files.now) self.new.load_faults self.new.open_faults self.new.dice_faults self.new.out)
+            (Asked.RandomSource seat) result }
+        ensures files { KeepsFiles
+            (real_world (F.told self.old.files.now) self.old.load_faults self.old.open_faults self.old.dice_faults self.old.out)
+            (real_world (F.told self.new.files.now) self.new.load_faults self.new.open_faults self.new.dice_faults self.new.out) }
+        ensures loads { self.new.load_faults ≡ self.old.load_faults }
+    {
         let at = seat as usize;
         if at >= SEATS || self.out[at] == u64::MAX {
             self.open_faults = self.open_faults.saturating_add(1);

@@ -1,16 +1,18 @@
 //! Streams of the system as a source and a sink. What a reader or a writer tells of its bytes is told.
-ghost use Rattle.std.specs.Prelude.{◌≡◌, IfOk, length};
+ghost use Rattle.std.specs.Prelude.{◌≡◌, IfOk, MatchResult, length};
 ghost use Rattle.std.specs.Io.{ReadsAtMost, WritesAtMost};
 ghost use Rattle.std.specs.Io.KnownBytes.{ReadConsumes, WriteAppends};
+ghost use Rattle.kr_base.specs.Faults.{IsCounted};
+ghost use Rattle.kr_base.specs.Numbering.{next_number};
 
-use kr_base::{Failed, Sink, Source};
+use kr_base::{Failed, FaultCount, Sink, Source};
 use std::io::{ErrorKind, Read, Write};
 
 /// A stream that is read. A read that was interrupted is tried again.
 #[derive(Drop)]
 pub struct StdSource<R> {
     reader: R,
-    faults: u64,
+    faults: FaultCount,
 }
 
 impl<R: Read> StdSource<R> {
@@ -19,7 +21,10 @@ impl<R: Read> StdSource<R> {
         ensures reads { result.reader ≡ reader }
         ensures faults { result.faults ≡ 0 }
     {
-        StdSource { reader, faults: 0 }
+        StdSource {
+            reader,
+            faults: FaultCount::new(),
+        }
     }
 }
 
@@ -28,18 +33,26 @@ impl<R: Read> Source for StdSource<R> {
 
     ghost count = { λ source. source.faults };
 
-    fn read(&mut self, into: &mut [u8]) -> Result<usize, Failed> {
+    fn read(&mut self, into: &mut [u8]) -> Result<usize, Failed>
+        // A read that fails counts once, any other not at all.
+        ensures once { MatchResult result (λ _. self.new.faults ≡ self.old.faults) (λ _. self.new.faults ≡ next_number self.old.faults) }
+
+        // As the trait says.
+        ensures bound { ReadsAtMost result into.new }
+        ensures bytes { ReadConsumes (R.remaining self.old.reader) (R.remaining self.new.reader) result into.new }
+        ensures cause { IsCounted self.old.faults self.new.faults result }
+    {
         match read_again(&mut self.reader, into) {
             Ok(n) => Ok(n),
             Err(Failed) => {
-                self.faults = self.faults.saturating_add(1);
+                self.faults.rise();
                 Err(Failed)
             }
         }
     }
 
     fn faults(&self) -> u64 {
-        self.faults
+        self.faults.count()
     }
 }
 
@@ -47,7 +60,7 @@ impl<R: Read> Source for StdSource<R> {
 #[derive(Drop)]
 pub struct StdSink<W> {
     writer: W,
-    faults: u64,
+    faults: FaultCount,
 }
 
 impl<W: Write> StdSink<W> {
@@ -56,7 +69,10 @@ impl<W: Write> StdSink<W> {
         ensures writes { result.writer ≡ writer }
         ensures faults { result.faults ≡ 0 }
     {
-        StdSink { writer, faults: 0 }
+        StdSink {
+            writer,
+            faults: FaultCount::new(),
+        }
     }
 }
 
@@ -65,18 +81,27 @@ impl<W: Write> Sink for StdSink<W> {
 
     ghost count = { λ sink. sink.faults };
 
-    fn write(&mut self, bytes: &[u8]) -> Result<usize, Failed> {
+    fn write(&mut self, bytes: &[u8]) -> Result<usize, Failed>
+        // A write that fails counts once, any other not at all.
+        ensures once { MatchResult result (λ _. self.new.faults ≡ self.old.faults) (λ _. self.new.faults ≡ next_number self.old.faults) }
+
+        // As the trait says.
+        ensures bound { WritesAtMost result bytes.now }
+        ensures bytes { WriteAppends (W.contents self.old.writer) (W.contents self.new.writer) result bytes.now }
+        ensures progress { IfOk result (λ n. n ≡ 0 → length bytes.now ≡ 0) }
+        ensures cause { IsCounted self.old.faults self.new.faults result }
+    {
         match write_again(&mut self.writer, bytes) {
             Ok(n) => Ok(n),
             Err(Failed) => {
-                self.faults = self.faults.saturating_add(1);
+                self.faults.rise();
                 Err(Failed)
             }
         }
     }
 
     fn faults(&self) -> u64 {
-        self.faults
+        self.faults.count()
     }
 }
 

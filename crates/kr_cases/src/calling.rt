@@ -91,6 +91,7 @@ fn world_of(alloc: Global, case: &Case) -> Result<FailingWorld, NoMemory> {
         }
     }
     Ok(FailingWorld::new(
+        alloc,
         MemWorld::new(alloc, files, all, List::new(alloc)),
         case.fails_of(alloc, Object::Files)?,
     ))

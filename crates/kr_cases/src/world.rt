@@ -1,8 +1,8 @@
 //! The world in memory, of which calls fail by their numbers too.
-ghost use Rattle.std.specs.Prelude.{None};
+ghost use Rattle.std.specs.Prelude.{None, Some};
 
-use kr_base::{Bytes, List, MemDice};
-use kr_kms::{FileNo, MemWorld, TablePlugin, World};
+use kr_base::{Bytes, List, MemDice, Text};
+use kr_kms::{Asked, FileNo, MemWorld, TablePlugin, World};
 use std::alloc::Global;
 
 /// Which calls fail, by their numbers, the first being 1.
@@ -20,20 +20,23 @@ impl Numbering {
     }
 }
 
-/// A world in memory whose calls for a file or a random source fail by their numbers, which go on over both.
+/// A world in memory whose calls for a file or a random source fail by their numbers, which go on over both. It keeps
+/// what it was asked for.
 #[derive(Drop)]
 pub struct FailingWorld {
     inner: MemWorld<TablePlugin>,
     calls: Numbering,
+    asked: Vec<Asked>,
     load_faults: u64,
     open_faults: u64,
 }
 
 impl FailingWorld {
-    pub fn new(inner: MemWorld<TablePlugin>, fails: List<u64>) -> FailingWorld {
+    pub fn new(alloc: Global, inner: MemWorld<TablePlugin>, fails: List<u64>) -> FailingWorld {
         FailingWorld {
             inner,
             calls: Numbering { fails, made: 0 },
+            asked: Vec::new(alloc),
             load_faults: 0,
             open_faults: 0,
         }
@@ -51,13 +54,19 @@ impl World for FailingWorld {
     type Link = TablePlugin;
 
     // It tells nothing of its files, since a load may fail.
-    ghost told = { λ world. record { file = λ name. None; load_faults = world.load_faults; open_faults = world.open_faults; dice = λ seat. (⟦<MemWorld<TablePlugin> as World>⟧.told world.inner).dice seat; dice_faults = λ seat. (⟦<MemWorld<TablePlugin> as World>⟧.told world.inner).dice_faults seat; out = λ seat. (⟦<MemWorld<TablePlugin> as World>⟧.told world.inner).out seat } };
+    ghost told = { λ world. record { file = λ name. None; asked = Some world.asked.items; load_faults = world.load_faults; open_faults = world.open_faults; dice = λ seat. (⟦<MemWorld<TablePlugin> as World>⟧.told world.inner).dice seat; dice_faults = λ seat. (⟦<MemWorld<TablePlugin> as World>⟧.told world.inner).dice_faults seat; out = λ seat. (⟦<MemWorld<TablePlugin> as World>⟧.told world.inner).out seat } };
 
     fn faults(&self) -> u64 {
         self.load_faults.saturating_add(self.open_faults)
     }
 
     fn load(&mut self, alloc: Global, name: &str, limit: u64) -> Result<Bytes, FileNo> {
+        let Ok(copy) = Text::copy(alloc, name) else {
+            return Err(FileNo::NoMemory);
+        };
+        if self.asked.push(Asked::File(copy)).is_err() {
+            return Err(FileNo::NoMemory);
+        }
         if self.calls.next_fails() {
             self.load_faults = self.load_faults.saturating_add(1);
             return Err(FileNo::Failed);
@@ -75,6 +84,9 @@ impl World for FailingWorld {
     }
 
     fn dice(&mut self, alloc: Global, seat: u32) -> Result<MemDice, FileNo> {
+        if self.asked.push(Asked::RandomSource(seat)).is_err() {
+            return Err(FileNo::NoMemory);
+        }
         if self.calls.next_fails() {
             self.open_faults = self.open_faults.saturating_add(1);
             return Err(FileNo::Failed);

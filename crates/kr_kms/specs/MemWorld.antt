@@ -25,10 +25,11 @@ without dice seat = remove_entry (λ other. other == seat) dice
 abbrev pub link_of : {L : Type 0} → (L → List ℕ) → List (ℕ × L) → ℕ → List ℕ → Option L
 link_of name_of links seat plugin = option_map (λ link. link.1) (find (λ link. (link.0 == seat) && bytes_eq (name_of link.1) plugin) links)
 
--- no file of it fails
+-- no file of it fails; it doesn't tell what it was asked for
 abbrev pub told_by : List (List ℕ × List ℕ) → List (ℕ × InputState) → List ℕ → ℕ → Outside
 told_by files dice out faults = record {
   file = λ name. Some (file_of files name);
+  asked = None;
   load_faults = 0;
   open_faults = faults;
   dice = λ seat. option_map (λ d. d.bytes) (dice_of dice seat);

@@ -1,13 +1,17 @@
 -- What a world tells of its files and of the random sources of its seats, and what it has handed out.
-use Rattle.std.specs.Prelude.{◌≡◌, ◌≢◌, ℕ, ◌+◌, ◌-◌, ◌^◌, ◌<◌, ◌≤◌, ◌==◌, min, List, length, Option, None, Some, Result, Ok, Err, ⊤, if◌then◌else◌}
+use Rattle.std.specs.Prelude.{◌≡◌, ◌≢◌, ℕ, ◌+◌, ◌-◌, ◌^◌, ◌<◌, ◌≤◌, ◌⊎◌, ◌==◌, min, List, [], ◌∷◌, ◌++◌, length, Option, None, Some, Result, Ok, Err, ⊤, if◌then◌else◌}
+use Rattle.std.specs.Option.{option_map}
 use Rattle.kr_base.specs.Faults.{Rose}
 use Rattle.kr_base.specs.Told.{Agrees}
+use Rattle.kr_kms.specs.declared.world.Asked.{Asked}
 use Rattle.kr_kms.specs.declared.world.FileNo.{FileNo}
 use Rattle.kr_kms.specs.declared.world.FileNo.TheVariants.{Absent, TooLong, Failed, NoMemory}
 
 pub record Outside : Type 0 where
   -- a file by its name: none where the world doesn't tell; else absent, or its bytes
   pub file : List ℕ → Option (Option (List ℕ))
+  -- what it was asked for so far, one call behind another, where it tells that
+  pub asked : Option (List Asked)
   -- a count of faults for each kind of call: loads of files, and askings for a random source
   pub load_faults : ℕ
   pub open_faults : ℕ
@@ -32,6 +36,15 @@ pub record KeepsFiles (old new : Outside) : Type 0 where
   pub file : (name : List ℕ) → new.file name ≡ old.file name
   pub loads : old.load_faults ≤ new.load_faults
   pub opens : old.open_faults ≤ new.open_faults
+
+-- one more call was made
+abbrev pub noted : Asked → Option (List Asked) → Option (List Asked)
+noted call asked = option_map (λ calls. calls ++ call ∷ []) asked
+
+-- the call was made, and no other; where there was no memory, perhaps not even this
+abbrev pub Notes : {T : Type 0} → Outside → Outside → Asked → Result T FileNo → Type 0
+Notes old new call (Err NoMemory) = (new.asked ≡ old.asked) ⊎ (new.asked ≡ noted call old.asked)
+Notes old new call result = new.asked ≡ noted call old.asked
 
 -- a file within the limit was given, or why not
 abbrev pub Loads : Outside → Outside → List ℕ → ℕ → Result (List ℕ) FileNo → Type 0

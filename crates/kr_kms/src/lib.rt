@@ -12,4 +12,4 @@ pub use mem_world::MemWorld;
 pub use plugin::{Kms, KmsNo, Status, Wrapped};
 pub use seeds::{Field, SeedKey, SeedRow};
 pub use table_plugin::TablePlugin;
-pub use world::{FileNo, World};
+pub use world::{Asked, FileNo, World};

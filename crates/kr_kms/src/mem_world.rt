@@ -3,11 +3,11 @@ ghost use Rattle.std.specs.Option.{option_copied};
 ghost use Rattle.std.specs.List.{remove};
 ghost use Rattle.kr_base.specs.Faults.{Rose};
 ghost use Rattle.kr_base.specs.InMemory.{InputState};
-ghost use Rattle.kr_kms.specs.Outside.{at_seat, Loads, KeepsFiles, KeepsDice, HandsOut, TakesBack};
+ghost use Rattle.kr_kms.specs.Outside.{at_seat, Loads, Notes, KeepsFiles, KeepsDice, HandsOut, TakesBack};
 ghost use Rattle.kr_kms.specs.MemWorld.{file_of, dice_of, link_of, without, told_by, GivesFile, GivesDice};
 
 use crate::plugin::Kms;
-use crate::world::{FileNo, World};
+use crate::world::{Asked, FileNo, World};
 use kr_base::{Bytes, List, MemDice, Text};
 use std::alloc::Global;
 
@@ -87,7 +87,9 @@ impl<L: Kms + Send> World for MemWorld<L> {
 
         // As the trait says.
         ensures file { Loads (⟦<MemWorld<L> as World>⟧.told self.old) (⟦<MemWorld<L> as World>⟧.told self.new) name.now limit result }
+        ensures asked { Notes (⟦<MemWorld<L> as World>⟧.told self.old) (⟦<MemWorld<L> as World>⟧.told self.new) (Asked.File name.now) result }
         ensures files { KeepsFiles (⟦<MemWorld<L> as World>⟧.told self.old) (⟦<MemWorld<L> as World>⟧.told self.new) }
+        ensures opens { self.new.faults ≡ self.old.faults }
         ensures dice { KeepsDice (⟦<MemWorld<L> as World>⟧.told self.old) (⟦<MemWorld<L> as World>⟧.told self.new) }
     {
         let Some(file) = find_file(&self.files, name) else {
@@ -112,7 +114,9 @@ impl<L: Kms + Send> World for MemWorld<L> {
         ensures err { OnErr result (KeepsDice (⟦<MemWorld<L> as World>⟧.told self.old) (⟦<MemWorld<L> as World>⟧.told self.new)) }
         ensures refusals { IfErr result (λ why. (why ≡ FileNo.Failed) ⊎ (why ≡ FileNo.NoMemory)) }
         ensures failed { IsErrOf result FileNo.Failed → Rose self.old.faults self.new.faults }
+        ensures asked { Notes (⟦<MemWorld<L> as World>⟧.told self.old) (⟦<MemWorld<L> as World>⟧.told self.new) (Asked.RandomSource seat) result }
         ensures files { KeepsFiles (⟦<MemWorld<L> as World>⟧.told self.old) (⟦<MemWorld<L> as World>⟧.told self.new) }
+        ensures loads { (⟦<MemWorld<L> as World>⟧.told self.new).load_faults ≡ (⟦<MemWorld<L> as World>⟧.told self.old).load_faults }
     {
         let Some(at) = place_of(&self.dice, seat) else {
             self.faults = self.faults.saturating_add(1);
@@ -133,7 +137,10 @@ impl<L: Kms + Send> World for MemWorld<L> {
 
         // As the trait says.
         ensures back { TakesBack (⟦<MemWorld<L> as World>⟧.told self.old) (⟦<MemWorld<L> as World>⟧.told self.new) seat (Some dice.bytes) dice.calls.faults }
+        ensures asked { (⟦<MemWorld<L> as World>⟧.told self.new).asked ≡ (⟦<MemWorld<L> as World>⟧.told self.old).asked }
         ensures files { KeepsFiles (⟦<MemWorld<L> as World>⟧.told self.old) (⟦<MemWorld<L> as World>⟧.told self.new) }
+        ensures loads { (⟦<MemWorld<L> as World>⟧.told self.new).load_faults ≡ (⟦<MemWorld<L> as World>⟧.told self.old).load_faults }
+        ensures opens { self.new.faults ≡ self.old.faults }
     {
         strike(&mut self.out, seat);
         match self.dice.insert(0, (seat, dice)) {

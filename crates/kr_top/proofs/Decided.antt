@@ -1,6 +1,7 @@
 -- The last step of a command over told files and input decides its status.
 use Rattle.std.proofs.Common.{◌≡◌, ℕ, ◌<◌, ◌≤◌, ◌⊎◌, List, Option, None, Some, Ok, Err, refl, sym, ◌∙◌, ap, subst, inl, inr, arith}
 use Rattle.std.specs.Prelude.{Result, IsSome, IfSome, IsSomeAnd, codes}
+use Rattle.std.specs.Io.KnownBytes.{Appends}
 use Rattle.kr_words.specs.Grammar.{replicas_of, IsWithinSize}
 use Rattle.kr_words.specs.Numerals.{IsDecimal}
 use Rattle.kr_words.specs.Options.{value_of}
@@ -8,9 +9,9 @@ use Rattle.kr_words.specs.declared.command.Verb.{Verb}
 use Rattle.kr_words.proofs.Meanings.{mean_one}
 use Rattle.kr_top.specs.Command.{Command, encrypt, decrypt, check, inspect, IsOf, Asks, AskBadly}
 use Rattle.kr_top.specs.Commands.{steps}
-use Rattle.kr_top.specs.Message.{status_of, status_of_done, status_of_refusal, line_of}
+use Rattle.kr_top.specs.Message.{status_of, line_of}
 use Rattle.kr_top.specs.Steps.{Point, awaits, amid, refuses, gives}
-use Rattle.kr_top.specs.Ran.{Around, Sunk, Stays, left_of, Ends, Answers, Tells, WouldCome, status_at, IsDecided}
+use Rattle.kr_top.specs.Ran.{Around, Sunk, Stays, left_of, Ends, Answers, Tells, WouldCome, end_at, IsDecided}
 use Rattle.kr_top.specs.declared.refusal.BadWords.{BadWords}
 use Rattle.kr_top.specs.declared.refusal.BadWords.TheVariants.{Usage, Replicas, Size}
 use Rattle.kr_top.specs.declared.refusal.Refusal.{Refusal}
@@ -59,32 +60,36 @@ no_stop words command Replicas asks (verb, options, means, many) =
 no_stop words command Size asks (verb, options, means, few, large) =
     one_size (value_of options (codes "size")) (subst IsWithinSize (mean_one words asks.verb verb asks.options options asks.means means).1 asks.small) large
 
--- ---- the status by the point
+-- ---- the end by the point
 
-done_at : (q : Point) (old new : Around) (done : Done) → Ends q old new (Ok done) → status_at q ≡ Some (status_of_done done)
+done_at : (q : Point) (old new : Around) (done : Done) → Ends q old new (Ok done) → end_at q ≡ Some (Ok done)
 done_at (awaits call) old new done e = absurd e
 done_at amid old new done e = absurd e
 done_at (refuses why) old new done e = absurd e
-done_at (gives value d) old new done e = ap (λ x. Some (status_of_done x)) (sym e.0)
+done_at (gives value d) old new done e = ap (λ x. Some (Ok x)) (sym e.0)
 
-refused_at : (q : Point) (old new : Around) (why : Refusal) → Ends q old new (Err (Refused why)) → status_at q ≡ Some (status_of_refusal why)
+refused_at : (q : Point) (old new : Around) (why : Refusal) → Ends q old new (Err (Refused why)) → end_at q ≡ Some (Err (Refused why))
 refused_at (awaits call) old new why e = absurd e
 refused_at amid old new why e = absurd e
-refused_at (refuses r) old new why e = ap (λ x. Some (status_of_refusal x)) (sym e.0)
+refused_at (refuses r) old new why e = ap (λ x. Some (Err (Refused x))) (sym e.0)
 refused_at (gives value d) old new why e = absurd e
 
-by_point : (p q : Point) (old new : Around) (r : Result Done Stop) (status n : ℕ) → Alike p q → status_at p ≡ Some n → Ends q old new r → status ≡ status_of r → (status ≡ n) ⊎ (status ≡ 4) ⊎ (status ≡ 5)
-by_point p q old new (Ok done) status n a at e s = inl (s ∙ sym (a n _ at (done_at q old new done e)))
-by_point p q old new (Err (Words why)) status n a at e s = absurd (no_words_at old new why q e)
-by_point p q old new (Err (Refused why)) status n a at e s = inl (s ∙ sym (a n _ at (refused_at q old new why e)))
-by_point p q old new (Err (Fault object count)) status n a at e s = inr (inl s)
-by_point p q old new (Err NoMemory) status n a at e s = inr (inr s)
+abbrev Says : Sunk → ℕ → Result Done Stop → Type 0
+Says errors status r = (status ≡ status_of r) × Appends errors.old errors.new (line_of r)
+
+by_point : (p q : Point) (old new : Around) (errors : Sunk) (r : Result Done Stop) (status : ℕ) (end : Result Done Stop) → Alike p q → end_at p ≡ Some end → Ends q old new r → Says errors status r
+    → Says errors status end ⊎ (status ≡ 4) ⊎ (status ≡ 5)
+by_point p q old new errors (Ok done) status end a at e s = inl (subst (Says errors status) (sym (a end _ at (done_at q old new done e))) s)
+by_point p q old new errors (Err (Words why)) status end a at e s = absurd (no_words_at old new why q e)
+by_point p q old new errors (Err (Refused why)) status end a at e s = inl (subst (Says errors status) (sym (a end _ at (refused_at q old new why e))) s)
+by_point p q old new errors (Err (Fault object count)) status end a at e s = inr (inl s.0)
+by_point p q old new errors (Err NoMemory) status end a at e s = inr (inr s.0)
 
 some_input : (input : Option (List ℕ)) → IsSome input → (all : List ℕ) × (input ≡ Some all)
 some_input None h = absurd cc
 some_input (Some all) h = (all, refl)
 
-pub decided : (words : List (List ℕ)) (old new : Around) (errors : Sunk) (r : Result Done Stop) (status : ℕ) → Answers words old new r → Tells (line_of r) (status_of r) errors status → IsDecided words old status
+pub decided : (words : List (List ℕ)) (old new : Around) (errors : Sunk) (r : Result Done Stop) (status : ℕ) → Answers words old new r → Tells (line_of r) (status_of r) errors status → IsDecided words old errors status
 decided words old new errors r status a (inr t) command point n asks tells would at = inr (inl t.0)
 decided words old new errors (Ok d) status (inr a) (inl t) command point n asks tells would at = absurd a.0
 decided words old new errors (Err (Words why)) status (inr a) (inl t) command point n asks tells would at = absurd (no_stop words command why asks a.0)
@@ -97,4 +102,4 @@ decided words old new errors r status (inl a) (inl t) command point n asks tells
     let all = some_input old.input tells.input in
     let would_c = subst (λ x. WouldCome x old point) (one_command words command c asks k.comes.asks) would in
     let goes = going old.world.file (λ at left. (at ≡ k.point) × Stays left new) (λ at left. at ≡ k.point) (λ at left h. h.0) (steps c) (left_of old) k.comes.goes in
-    by_point point k.point old new r status n (one_point old.world.file tells.files point k.point (steps c) (settled c) (left_of old) (left_of old) all.0 all.1 all.1 would_c goes) at k.ends t.0
+    by_point point k.point old new errors r status n (one_point old.world.file tells.files point k.point (steps c) (settled c) (left_of old) (left_of old) all.0 all.1 all.1 would_c goes) at k.ends t

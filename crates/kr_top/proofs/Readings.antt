@@ -1,13 +1,14 @@
 -- What readers take from the relation of a call.
-use Rattle.std.proofs.Common.{◌≡◌, ℕ, ◌+◌, ◌-◌, ◌^◌, ◌≤◌, ◌⊎◌, min, List, Bool, true, false, Ok, Err, refl, sym, ◌∙◌, ap, subst, inl, inr, arith}
+use Rattle.std.proofs.Common.{◌≡◌, ℕ, ◌+◌, ◌-◌, ◌^◌, ◌≤◌, ◌⊎◌, min, List, length, take, take_all, Option, Bool, true, false, Ok, Err, refl, sym, ◌∙◌, ap, subst, inl, inr, arith}
 use Rattle.std.specs.Prelude.{Result, ◌==◌, if◌then◌else◌}
 use Rattle.std.specs.Io.KnownBytes.{Keeps, Appends}
 use Rattle.kr_base.specs.Faults.{Rose}
+use Rattle.kr_base.specs.Streams.{AppendsFront}
 use Rattle.kr_top.specs.Command.{Command, encrypt, decrypt, check, inspect, is_built, Asks, AskNothing, AskReplicas, AskSize, AskBadly}
 use Rattle.kr_top.specs.Commands.{steps}
-use Rattle.kr_top.specs.Message.{status_of, status_of_words, status_of_done, status_of_refusal, line_of}
+use Rattle.kr_top.specs.Message.{status_of, status_of_words, status_of_done, status_of_refusal, line_of, done_line}
 use Rattle.kr_top.specs.Steps.{Call, loading, reading, opening, drawing, writing, object_of, Point, awaits, amid, refuses, gives}
-use Rattle.kr_top.specs.Ran.{Around, Sunk, Stays, left_of, Did, IsHome, Ends, Stops, Answers, Tells, Comes, IsUntouched, faults_at, count_at, IsCut, IsUsage, IsCaused, IsRefused, IsDone}
+use Rattle.kr_top.specs.Ran.{Around, Sunk, Stays, left_of, Did, IsHome, Ends, Stops, Answers, Tells, Comes, IsUntouched, faults_at, count_at, IsCut, IsUsage, IsCaused, RefusesWith, GivesWith, IsRefused, IsDone, IsWritten}
 use Rattle.kr_top.specs.declared.refusal.Object.{Object}
 use Rattle.kr_top.specs.declared.refusal.BadWords.{BadWords}
 use Rattle.kr_top.specs.declared.refusal.BadWords.TheVariants.{Usage, Replicas, Size}
@@ -18,6 +19,7 @@ use Rattle.kr_top.specs.declared.refusal.Stop.TheVariants.{Words, Refused, Fault
 use Rattle.kr_top.specs.declared.refusal.Done.{Done}
 use Rattle.kr_top.specs.declared.refusal.Done.TheVariants.{Silent, Fresh, Stale}
 use Rattle.kr_top.proofs.Goes.{reached}
+use Rattle.kr_top.proofs.Worlds.{keeps_by}
 
 -- ---- the point that a command came to
 
@@ -54,9 +56,9 @@ other_rose a b c d h r = grind arith
 
 -- a call that failed raised its object's count
 object_rose : {old new : Around} (call : Call) → IsHome old new → Rose (faults_at call old) (faults_at call new) → Rose (count_at (object_of call) old) (count_at (object_of call) new)
-object_rose {old} {new} loading h r = sum_rose old.world.load_faults old.world.open_faults new.world.load_faults new.world.open_faults h.files.opens r
+object_rose {old} {new} (loading name) h r = sum_rose old.world.load_faults old.world.open_faults new.world.load_faults new.world.open_faults h.files.opens r
 object_rose reading h r = r
-object_rose {old} {new} opening h r = other_rose old.world.load_faults old.world.open_faults new.world.load_faults new.world.open_faults h.files.loads r
+object_rose {old} {new} (opening seat) h r = other_rose old.world.load_faults old.world.open_faults new.world.load_faults new.world.open_faults h.files.loads r
 object_rose (drawing seat) h r = r
 object_rose writing h r = r
 
@@ -106,10 +108,10 @@ not_refused why n e h = let s = status_in why in omega (arith, s)
 
 -- ---- status 2
 
-usage_means : {words : List (List ℕ)} {old new : Around} (r : Result Done Stop) → Answers words old new r → status_of r ≡ 2 → AskNothing words
+usage_means : {words : List (List ℕ)} {old new : Around} (r : Result Done Stop) → Answers words old new r → status_of r ≡ 2 → AskNothing words × IsUntouched old new
 usage_means (Ok d) a e = absurd (omega (arith, done_zero d))
 usage_means (Err (Words why)) (inl a) e = absurd (no_words (came a))
-usage_means {words} (Err (Words why)) (inr a) e = elim (stops_so words why a.0) [ inl s ↦ s.1 | inr s ↦ absurd (omega (arith, s.0)) ]
+usage_means {words} (Err (Words why)) (inr a) e = elim (stops_so words why a.0) [ inl s ↦ (s.1, a.1) | inr s ↦ absurd (omega (arith, s.0)) ]
 usage_means (Err (Refused why)) a e = absurd (not_refused why 2 (sym e) (inr (inl refl)))
 usage_means (Err (Fault object count)) a e = absurd (omega arith)
 usage_means (Err NoMemory) a e = absurd (omega arith)
@@ -134,7 +136,7 @@ nothing_so words old new errors r status (inl a) e none = absurd (asks_something
 nothing_so words old new errors r status (inr a) e none = elim (stopped_so words r a.0) [ inl q ↦ inl (e ∙ q) | inr q ↦ elim q [ inl p ↦ inr (inl (e ∙ p)) | inr p ↦ inr (inr (inl (e ∙ p.0, p.1))) ] ]
 
 pub usage : (words : List (List ℕ)) (old new : Around) (errors : Sunk) (r : Result Done Stop) (status : ℕ) → Answers words old new r → Tells (line_of r) (status_of r) errors status → IsUsage words errors status
-usage words old new errors r status a (inl t) = (λ two. usage_means r a (sym t.0 ∙ two), λ none. nothing_so words old new errors r status a t.0 none)
+usage words old new errors r status a (inl t) = (λ two. (usage_means r a (sym t.0 ∙ two)).0, λ none. nothing_so words old new errors r status a t.0 none)
 usage words old new errors r status a (inr t) = (λ two. absurd (omega (arith, t.0)), λ none. inr (inr (inr (t.0, t.1))))
 
 -- ---- status 4
@@ -166,22 +168,27 @@ caused words old new errors r status a (inr t) four = inr t.1
 not_among : (n k : ℕ) → n ≡ k → (k ≡ 0) ⊎ (k ≡ 2) ⊎ (k ≡ 4) ⊎ (k ≡ 5) → Statuses n → ⊥
 not_among n k e h s = omega (arith, h, s)
 
-abbrev Says : List (List ℕ) → Around → Around → ℕ → Type 0
-Says words old new status = ((why : Refusal) × Comes words old new (refuses why) × (status_of_refusal why ≡ status) × Keeps old.output new.output)
-    ⊎ ((status ≡ 6) × (AskReplicas words ⊎ AskSize words) × IsUntouched old new)
+-- a value that was given, with its status and its line
+given : {words : List (List ℕ)} {old new : Around} {status : ℕ} (errors : Sunk) (d : Done) → Came words old new (Ok d) → status_of_done d ≡ status → Appends errors.old errors.new (done_line d) → GivesWith words old new errors status
+given errors d k e line = let o = done_at d k.point k.comes k.ends in (o.0, d, o.1, e, o.2, line)
 
-refusal_by : {words : List (List ℕ)} {old new : Around} (r : Result Done Stop) (status : ℕ) → Answers words old new r → status ≡ status_of r → Statuses status → Says words old new status
-refusal_by (Ok d) status a e which = absurd (not_among status 0 (e ∙ done_zero d) (inl refl) which)
-refusal_by (Err (Words why)) status (inl a) e which = absurd (no_words (came a))
-refusal_by {words} (Err (Words why)) status (inr a) e which =
-    elim (stops_so words why a.0) [ inl s ↦ absurd (not_among status 2 (e ∙ s.0) (inr (inl refl)) which) | inr s ↦ inr (e ∙ s.0, s.1, a.1) ]
-refusal_by (Err (Refused why)) status (inl a) e which = let k = came a in let r = refused_at why k.point k.comes k.ends in inl (why, r.0, sym e, r.1)
-refusal_by (Err (Refused why)) status (inr a) e which = absurd a.0
-refusal_by (Err (Fault object count)) status a e which = absurd (not_among status 4 e (inr (inr (inl refl))) which)
-refusal_by (Err NoMemory) status a e which = absurd (not_among status 5 e (inr (inr (inr refl))) which)
+abbrev Refuses : List (List ℕ) → Around → Around → Sunk → ℕ → Type 0
+Refuses words old new errors status =
+    RefusesWith words old new errors status ⊎ GivesWith words old new errors status ⊎ ((status ≡ 6) × (AskReplicas words ⊎ AskSize words) × IsUntouched old new)
 
-pub refusal : (words : List (List ℕ)) (old new : Around) (errors : Sunk) (r : Result Done Stop) (status : ℕ) → Answers words old new r → Tells (line_of r) (status_of r) errors status → IsRefused words old new status
-refusal words old new errors r status a (inl t) which = refusal_by r status a t.0 which
+refusal_by : {words : List (List ℕ)} {old new : Around} (errors : Sunk) (r : Result Done Stop) (status : ℕ) → Answers words old new r → status ≡ status_of r → Appends errors.old errors.new (line_of r) → Statuses status → Refuses words old new errors status
+refusal_by errors (Ok d) status (inl a) e line which = inr (inl (given errors d (came a) (sym e) line))
+refusal_by errors (Ok d) status (inr a) e line which = absurd a.0
+refusal_by errors (Err (Words why)) status (inl a) e line which = absurd (no_words (came a))
+refusal_by {words} errors (Err (Words why)) status (inr a) e line which =
+    elim (stops_so words why a.0) [ inl s ↦ absurd (not_among status 2 (e ∙ s.0) (inr (inl refl)) which) | inr s ↦ inr (inr (e ∙ s.0, s.1, a.1)) ]
+refusal_by errors (Err (Refused why)) status (inl a) e line which = let k = came a in let r = refused_at why k.point k.comes k.ends in inl (why, r.0, sym e, r.1, line)
+refusal_by errors (Err (Refused why)) status (inr a) e line which = absurd a.0
+refusal_by errors (Err (Fault object count)) status a e line which = absurd (not_among status 4 e (inr (inr (inl refl))) which)
+refusal_by errors (Err NoMemory) status a e line which = absurd (not_among status 5 e (inr (inr (inr refl))) which)
+
+pub refusal : (words : List (List ℕ)) (old new : Around) (errors : Sunk) (r : Result Done Stop) (status : ℕ) → Answers words old new r → Tells (line_of r) (status_of r) errors status → IsRefused words old new errors status
+refusal words old new errors r status a (inl t) which = refusal_by errors r status a t.0 t.1 which
 refusal words old new errors r status a (inr t) which = absurd (not_among status 4 t.0 (inr (inr (inl refl))) which)
 
 -- ---- status 0
@@ -192,7 +199,7 @@ words_not_zero Replicas e = omega arith
 words_not_zero Size e = omega arith
 
 done_by : (words : List (List ℕ)) (old new : Around) (errors : Sunk) (r : Result Done Stop) (status : ℕ) → Answers words old new r → status ≡ status_of r → Appends errors.old errors.new (line_of r) → IsDone words old new errors status
-done_by words old new errors (Ok d) status (inl a) e line z = let k = came a in let o = done_at d k.point k.comes k.ends in (o.0, d, o.1, o.2, line)
+done_by words old new errors (Ok d) status (inl a) e line z = given errors d (came a) (sym e ∙ z) line
 done_by words old new errors (Ok d) status (inr a) e line z = absurd a.0
 done_by words old new errors (Err (Words why)) status a e line z = absurd (words_not_zero why (sym e ∙ z))
 done_by words old new errors (Err (Refused why)) status a e line z = absurd (not_refused why 0 (sym z ∙ e) (inl refl))
@@ -202,3 +209,32 @@ done_by words old new errors (Err NoMemory) status a e line z = absurd (omega ar
 pub done : (words : List (List ℕ)) (old new : Around) (errors : Sunk) (r : Result Done Stop) (status : ℕ) → Answers words old new r → Tells (line_of r) (status_of r) errors status → IsDone words old new errors status
 done words old new errors r status a (inl t) z = done_by words old new errors r status a t.0 t.1 z
 done words old new errors r status a (inr t) z = absurd (omega (arith, t.0))
+
+-- ---- what was written, at every status
+
+whole_front : (old new : Option (List ℕ)) (value : List ℕ) → Appends old new value → AppendsFront old new value
+whole_front old new value a = (length value, omega arith, subst (λ v. Appends old new v) (sym (take_all (length value) value (omega arith))) a)
+
+no_memory_at : (old new : Around) (point : Point) → Ends point old new (Err NoMemory) → Keeps old.output new.output
+no_memory_at old new (awaits call) e = e
+no_memory_at old new amid e = e
+no_memory_at old new (refuses why) e = e
+no_memory_at old new (gives value d) e = e
+
+abbrev Writes : List (List ℕ) → Around → Around → Type 0
+Writes words old new = Keeps old.output new.output ⊎ ((value : List ℕ) × (done : Done) × Comes words old new (gives value done) × AppendsFront old.output new.output value)
+
+cut_writes : {words : List (List ℕ)} {old new : Around} → Causes words old new → Writes words old new
+cut_writes c = elim c.1 [ inl h ↦ inl h.1 | inr h ↦ inr (h.1, h.2, h.3, h.4) ]
+
+writes : {words : List (List ℕ)} {old new : Around} (r : Result Done Stop) → Answers words old new r → Writes words old new
+writes r (inr a) = inl (keeps_by _ _ a.1.output.0)
+writes {words} {old} {new} (Ok d) (inl a) = let k = came a in let o = done_at d k.point k.comes k.ends in inr (o.0, d, o.1, whole_front old.output new.output o.0 o.2)
+writes (Err (Words why)) (inl a) = absurd (no_words (came a))
+writes (Err (Refused why)) (inl a) = let k = came a in inl (refused_at why k.point k.comes k.ends).1
+writes (Err (Fault object count)) (inl a) = let k = came a in cut_writes (fault_at object count k.point k.comes k.ends k.home)
+writes {words} {old} {new} (Err NoMemory) (inl a) = let k = came a in inl (no_memory_at old new k.point k.ends)
+
+pub written : (words : List (List ℕ)) (old new : Around) (errors : Sunk) (r : Result Done Stop) (status : ℕ) → Answers words old new r → Tells (line_of r) (status_of r) errors status → IsWritten words old new status
+written words old new errors r status a (inl t) = record { output = writes r a; usage = λ two. (usage_means r a (sym t.0 ∙ two)).1 }
+written words old new errors r status a (inr t) = record { output = writes r a; usage = λ two. absurd (omega (arith, t.0)) }

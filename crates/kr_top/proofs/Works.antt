@@ -47,10 +47,10 @@ keeps_none (Some x) (Some y) c = sym c
 -- ---- nothing is drawn, and one draw
 
 undrawn : (left : Left) (old new : Option (List ℕ)) → left.dice 0 ≡ old → Keeps old new → DrawsTo left new left
-undrawn left old new is k = record { input = refl; dice = subst (λ q. Keeps q new) (sym is) k; others = λ s n. refl }
+undrawn left old new is k = record { input = refl; dice = subst (λ q. Keeps q new) (sym is) k; others = λ s n. refl; asked = refl }
 
 drawn_to : (left : Left) (new : Option (List ℕ)) → DrawsTo left new (with_dice 0 new left)
-drawn_to left new = record { input = refl; dice = Keeps-refl new; others = λ s n. ap (λ q. if q then new else left.dice s) (to_false (0 == s) (λ t. n (sym ((Decides-eqb 0 s).0 t)))) }
+drawn_to left new = record { input = refl; dice = Keeps-refl new; others = λ s n. ap (λ q. if q then new else left.dice s) (to_false (0 == s) (λ t. n (sym ((Decides-eqb 0 s).0 t)))); asked = refl }
 
 gives_now : {old new : Option (List ℕ)} (value : List ℕ) (done : Done) → Keeps old new → Reaches (give value done) old new (gives value done)
 gives_now {old} {new} value done k = record { goes = λ file left is. (refl, undrawn left old new is k) }

@@ -1,8 +1,13 @@
 -- A world from one step of a command to the next.
-use Rattle.std.proofs.Common.{◌≡◌, ◌≢◌, ℕ, zero, suc, ◌≤◌, List, Option, None, Some, refl, sym, ◌∙◌, subst, arith}
+use Rattle.std.proofs.Common.{◌≡◌, ◌≢◌, ℕ, zero, suc, ◌≤◌, List, Option, None, Some, Ok, Err, refl, sym, ◌∙◌, subst, inr, arith}
+use Rattle.std.specs.Prelude.{Result}
 use Rattle.std.specs.Io.KnownBytes.{Keeps}
-use Rattle.kr_kms.specs.Outside.{Outside, KeepsFiles, KeepsDice}
+use Rattle.kr_kms.specs.Outside.{Outside, noted, KeepsFiles, KeepsDice}
+use Rattle.kr_kms.specs.declared.world.Asked.{Asked}
 use Rattle.kr_top.specs.Ran.{Around, IsUntouched, IsHome, Stays}
+use Rattle.kr_top.specs.inner.Phases.{AskedFor}
+use Rattle.kr_top.specs.declared.refusal.Stop.{Stop}
+use Rattle.kr_top.specs.declared.refusal.Stop.TheVariants.{Words, Refused, Fault, NoMemory}
 
 pub files_trans : {a b c : Outside} → KeepsFiles a b → KeepsFiles b c → KeepsFiles a c
 files_trans p q = record { file = λ name. q.file name ∙ p.file name; loads = omega (arith, p.loads, q.loads); opens = omega (arith, p.opens, q.opens) }
@@ -32,8 +37,9 @@ pub dice_kept : {old new : Outside} → KeepsDice old new → (seat : ℕ) → K
 dice_kept same seat = keeps_by _ _ (same.dice seat)
 
 -- nothing was consumed but of the input
-pub stays : {old : Outside} {new : Around} {rest : Option (List ℕ)} → KeepsDice old new.world → Keeps rest new.input → Stays (record { input = rest; dice = old.dice }) new
-stays same kept = record { input = kept; dice = dice_kept same }
+pub stays : {old : Outside} {new : Around} {rest : Option (List ℕ)} {asked : Option (List Asked)} → KeepsDice old new.world → Keeps rest new.input → new.world.asked ≡ asked
+    → Stays (record { input = rest; dice = old.dice; asked = asked }) new
+stays same kept made = record { input = kept; dice = dice_kept same; asked = made }
 
 pub home : {old new : Around} → KeepsFiles old.world new.world → KeepsDice old.world new.world → old.input_faults ≤ new.input_faults → old.output_faults ≤ new.output_faults → IsHome old new
 home files same more most = record { files = files; out = same.out; dice = λ s. omega (arith, same.faults s); input = more; output = most }
@@ -41,9 +47,18 @@ home files same more most = record { files = files; out = same.out; dice = λ s.
 pub untouched : (around : Around) → IsUntouched around around
 untouched around = record {
   files = λ name. refl;
+  asked = refl;
   loads = refl;
   opens = refl;
   dice = same_dice around.world;
   input = (refl, refl);
   output = (refl, refl);
 }
+
+-- a call that was made, whatever came of it
+pub asked_for : {T : Type 0} {new : Option (List Asked)} (old : Option (List Asked)) (call : Asked) (result : Result T Stop) → new ≡ noted call old → AskedFor old new call result
+asked_for old call (Ok x) e = e
+asked_for old call (Err (Words why)) e = e
+asked_for old call (Err (Refused why)) e = e
+asked_for old call (Err (Fault object count)) e = e
+asked_for old call (Err NoMemory) e = inr e

@@ -1,5 +1,6 @@
 -- The steps of each command.
 use Rattle.std.specs.Prelude.{ℕ, Bool, List, [], Option, Some, None, Result, Ok, Err, ⊤, if◌then◌else◌}
+use Rattle.kr_base.specs.Limits.{data_limit, value_limit}
 use Rattle.kr_config.specs.Kept.{Row}
 use Rattle.kr_config.specs.Lists.{list_of}
 use Rattle.kr_config.specs.declared.who.Who.{Who}
@@ -80,8 +81,8 @@ working Decrypt resource path rows bytes = unsealing (list_of rows resource) pat
 
 -- the most bytes of the input: of an object's data, or of a stored value
 abbrev pub limit_of : Direction → ℕ
-limit_of Encrypt = 2097152
-limit_of Decrypt = 2162688
+limit_of Encrypt = data_limit
+limit_of Decrypt = value_limit
 
 abbrev pub long_input : Direction → Refusal
 long_input Encrypt = LongData
@@ -101,4 +102,4 @@ abbrev pub steps : Command → Steps
 steps (encrypt config resource path) = converting Encrypt config resource path
 steps (decrypt config resource path) = converting Decrypt config resource path
 steps (check config resource) = configured config (λ rows. give (listing rows resource) Silent)
-steps inspect = take_input 2162688 LongValue (λ bytes. find (Result (List ℕ) Refusal) (Inspects bytes) shown)
+steps inspect = take_input value_limit LongValue (λ bytes. find (Result (List ℕ) Refusal) (Inspects bytes) shown)

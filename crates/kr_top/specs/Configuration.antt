@@ -1,6 +1,7 @@
 -- The configuration in a file, and how a foreign text is printed.
 use Rattle.std.specs.Prelude.{◌≡◌, ℕ, ◌<◌, ◌≤◌, ◌⊎◌, ◌&&◌, List, length, map, nat_le, Option, None, Some, Result, Ok, Err, if◌then◌else◌}
 use Rattle.std.specs.Result.{result_map_both}
+use Rattle.kr_base.specs.Limits.{config_limit}
 use Rattle.kr_config.specs.Kept.{Row}
 use Rattle.kr_config.specs.Meanings.{Means}
 use Rattle.kr_config.specs.declared.refusal.ConfigNo.{ConfigNo}
@@ -15,12 +16,12 @@ printed_byte byte = if nat_le 0x20 byte && nat_le byte 0x7E then byte else 0x3F
 abbrev pub printed : List ℕ → List ℕ
 printed text = map printed_byte text
 
--- what the file of a name is read as: it has at most 1,048,576 bytes, and they mean these entries or this breach
+-- what the file of a name is read as: it is within the limit, and they mean these entries or this breach
 abbrev pub IsConfiguration : List ℕ → Option (List ℕ) → Result (List Row) Refusal → Type 0
 IsConfiguration name None read = read ≡ Err (Absent (printed name))
 IsConfiguration name (Some bytes) read =
-    ((1048576 < length bytes) × (read ≡ Err LongConfiguration))
-    ⊎ ((length bytes ≤ 1048576) × (rows : Result (List Row) ConfigNo) × Means bytes rows
+    ((config_limit < length bytes) × (read ≡ Err LongConfiguration))
+    ⊎ ((length bytes ≤ config_limit) × (rows : Result (List Row) ConfigNo) × Means bytes rows
     × (read ≡ result_map_both (λ r. r) Configuration rows))
 
 -- a configuration that names a plugin isn't served

@@ -6,7 +6,7 @@ use Rattle.kr_base.specs.Streams.{AppendsFront}
 use Rattle.kr_kms.specs.Outside.{Outside, KeepsFiles, KeepsDice, file_faults}
 use Rattle.kr_top.specs.Command.{Command, Asks, AskNothing, AskReplicas, AskSize, AskBadly}
 use Rattle.kr_top.specs.Commands.{steps}
-use Rattle.kr_top.specs.Message.{status_of, status_of_done, status_of_refusal, line_of, done_line}
+use Rattle.kr_top.specs.Message.{status_of, status_of_done, status_of_refusal, line_of, refusal_line, done_line}
 use Rattle.kr_top.specs.Steps.{Steps, Call, loading, reading, opening, drawing, writing, object_of, Point, awaits, refuses, gives, Left, Goes}
 use Rattle.kr_top.specs.declared.refusal.Object.{Object}
 use Rattle.kr_top.specs.declared.refusal.Object.TheVariants.{Input, Output, Files, Dice}
@@ -46,9 +46,9 @@ sunk old new old_faults new_faults = record { old = old; new = new; old_faults =
 
 -- the faults of a kind of call
 abbrev pub faults_at : Call → Around → ℕ
-faults_at loading around = around.world.load_faults
+faults_at (loading name) around = around.world.load_faults
 faults_at reading around = around.input_faults
-faults_at opening around = around.world.open_faults
+faults_at (opening seat) around = around.world.open_faults
 faults_at (drawing seat) around = around.world.dice_faults seat
 faults_at writing around = around.output_faults
 
@@ -77,13 +77,14 @@ Ends (gives value done) old new (Err (Fault object count)) =
 Ends point old new (Err NoMemory) = Keeps old.output new.output
 Ends point old new result = ⊥
 
--- nothing was consumed but by the steps
+-- nothing was consumed but by the steps, and no call was made on the world but theirs
 pub record Stays (left : Left) (new : Around) : Type 0 where
   pub input : Keeps left.input new.input
   pub dice : (seat : ℕ) → Keeps (left.dice seat) (new.world.dice seat)
+  pub asked : new.world.asked ≡ left.asked
 
 abbrev pub left_of : Around → Left
-left_of around = record { input = around.input; dice = around.world.dice }
+left_of around = record { input = around.input; dice = around.world.dice; asked = around.world.asked }
 
 abbrev pub EndsAt : Around → Around → Result Done Stop → Point → Left → Type 0
 EndsAt old new result point left = Stays left new × Ends point old new result
@@ -109,6 +110,7 @@ pub record Did (command : Command) (old new : Around) (result : Result Done Stop
 -- nothing around was touched
 pub record IsUntouched (old new : Around) : Type 0 where
   pub files : (name : List ℕ) → new.world.file name ≡ old.world.file name
+  pub asked : new.world.asked ≡ old.world.asked
   pub loads : new.world.load_faults ≡ old.world.load_faults
   pub opens : new.world.open_faults ≡ old.world.open_faults
   pub dice : KeepsDice old.world new.world
@@ -174,11 +176,25 @@ IsCaused words old new errors status =
     × Rose (count_at (object_of call) old) (count_at (object_of call) new))
     ⊎ Rose errors.old_faults errors.new_faults
 
--- status 1, 3 or 6 comes only where a step refuses so, or, status 6, where the words pass a limit; nothing was written then
-abbrev pub IsRefused : List (List ℕ) → Around → Around → ℕ → Type 0
-IsRefused words old new status =
+-- the steps refuse so, with this status, and nothing was written but the line
+abbrev pub RefusesWith : List (List ℕ) → Around → Around → Sunk → ℕ → Type 0
+RefusesWith words old new errors status =
+    (why : Refusal) × Comes words old new (refuses why) × (status_of_refusal why ≡ status)
+    × Keeps old.output new.output × Appends errors.old errors.new (refusal_line why)
+
+-- the steps give a value with this status, and just that was written, and its line
+abbrev pub GivesWith : List (List ℕ) → Around → Around → Sunk → ℕ → Type 0
+GivesWith words old new errors status =
+    (value : List ℕ) × (done : Done) × Comes words old new (gives value done) × (status_of_done done ≡ status)
+    × Appends old.output new.output value × Appends errors.old errors.new (done_line done)
+
+-- status 1, 3 or 6 comes only where a step refuses so or a value has this status of its own; or, status 6, where the words
+-- pass a limit
+abbrev pub IsRefused : List (List ℕ) → Around → Around → Sunk → ℕ → Type 0
+IsRefused words old new errors status =
     (status ≡ 1) ⊎ (status ≡ 3) ⊎ (status ≡ 6)
-    → ((why : Refusal) × Comes words old new (refuses why) × (status_of_refusal why ≡ status) × Keeps old.output new.output)
+    → RefusesWith words old new errors status
+    ⊎ GivesWith words old new errors status
     ⊎ ((status ≡ 6) × (AskReplicas words ⊎ AskSize words) × IsUntouched old new)
 
 -- the files and the input are told
@@ -190,22 +206,27 @@ pub record IsTelling (old : Around) : Type 0 where
 abbrev pub WouldCome : Command → Around → Point → Type 0
 WouldCome command old point = Goes old.world.file (λ at left. at ≡ point) (steps command) (left_of old)
 
--- the status at the last step of a command
-abbrev pub status_at : Point → Option ℕ
-status_at (refuses why) = Some (status_of_refusal why)
-status_at (gives value done) = Some (status_of_done done)
-status_at point = None
+-- how the last step of a command ends it, whatever its value is
+abbrev pub end_at : Point → Option (Result Done Stop)
+end_at (refuses why) = Some (Err (Refused why))
+end_at (gives value done) = Some (Ok done)
+end_at point = None
 
--- where the files and the input are told, the last step that the command comes to decides the status; only a fault, 4, and
--- want of memory, 5, stand in its place. So 1, 3 and 6 come exactly where that step refuses so
-abbrev pub IsDecided : List (List ℕ) → Around → ℕ → Type 0
-IsDecided words old status =
-    (command : Command) (point : Point) (decided : ℕ) → Asks words command → IsTelling old → WouldCome command old point
-    → status_at point ≡ Some decided → (status ≡ decided) ⊎ (status ≡ 4) ⊎ (status ≡ 5)
+-- where the files and the input are told, the last step that the command comes to decides the status and the line; only a
+-- fault, 4, and want of memory, 5, stand in its place. So 1, 3 and 6 come exactly where that step refuses so
+abbrev pub IsDecided : List (List ℕ) → Around → Sunk → ℕ → Type 0
+IsDecided words old errors status =
+    (command : Command) (point : Point) (end : Result Done Stop) → Asks words command → IsTelling old
+    → WouldCome command old point → end_at point ≡ Some end
+    → ((status ≡ status_of end) × Appends errors.old errors.new (line_of end)) ⊎ (status ≡ 4) ⊎ (status ≡ 5)
 
 -- status 0 comes only where the steps give a value, and then just that was written, and its line
 abbrev pub IsDone : List (List ℕ) → Around → Around → Sunk → ℕ → Type 0
-IsDone words old new errors status =
-    status ≡ 0
-    → (value : List ℕ) × (done : Done) × Comes words old new (gives value done)
-    × Appends old.output new.output value × Appends errors.old errors.new (done_line done)
+IsDone words old new errors status = status ≡ 0 → GivesWith words old new errors 0
+
+-- whatever the status is, the output has what it had, and behind it at most a prefix of the value that the steps give; at
+-- status 2 nothing was touched
+pub record IsWritten (words : List (List ℕ)) (old new : Around) (status : ℕ) : Type 0 where
+  pub output : Keeps old.output new.output
+      ⊎ ((value : List ℕ) × (done : Done) × Comes words old new (gives value done) × AppendsFront old.output new.output value)
+  pub usage : status ≡ 2 → IsUntouched old new

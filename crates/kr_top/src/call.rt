@@ -5,7 +5,7 @@ ghost use Rattle.kr_words.specs.Grammar.{texts};
 ghost use Rattle.kr_words.specs.Options.{value_of};
 ghost use Rattle.kr_words.specs.Rules.{IsCommand};
 ghost use Rattle.kr_top.specs.Command.{Command, check, IsOf, IsOfObject};
-ghost use Rattle.kr_top.specs.Ran.{around, sunk, Ran, Answers, IsUsage, IsCaused, IsRefused, IsDecided, IsDone};
+ghost use Rattle.kr_top.specs.Ran.{around, sunk, Ran, Answers, IsUsage, IsCaused, IsRefused, IsDecided, IsDone, IsWritten};
 
 use crate::check::{CheckWords, check};
 use crate::convert::{Direction, ObjectWords, convert};
@@ -46,9 +46,15 @@ pub fn run<W: World, I: Source, O: Sink, E: Sink>(
     ensures refused { IsRefused (texts words.now)
         (around (W.told world.old) (I.left input.old) (I.count input.old) (O.held output.old) (O.count output.old))
         (around (W.told world.new) (I.left input.new) (I.count input.new) (O.held output.new) (O.count output.new))
+        (sunk (E.held errors.old) (E.held errors.new) (E.count errors.old) (E.count errors.new))
         result }
     ensures decided { IsDecided (texts words.now)
         (around (W.told world.old) (I.left input.old) (I.count input.old) (O.held output.old) (O.count output.old))
+        (sunk (E.held errors.old) (E.held errors.new) (E.count errors.old) (E.count errors.new))
+        result }
+    ensures written { IsWritten (texts words.now)
+        (around (W.told world.old) (I.left input.old) (I.count input.old) (O.held output.old) (O.count output.old))
+        (around (W.told world.new) (I.left input.new) (I.count input.new) (O.held output.new) (O.count output.new))
         result }
     ensures done { IsDone (texts words.now)
         (around (W.told world.old) (I.left input.old) (I.count input.old) (O.held output.old) (O.count output.old))

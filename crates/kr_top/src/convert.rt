@@ -7,7 +7,7 @@ ghost use Rattle.kr_top.specs.Ran.{around, Did};
 use crate::phases::{open_dice, serve, take_input, write_output};
 use crate::refusal::{Done, Refusal, Stop};
 use crate::work::make;
-use kr_base::{Sink, Source};
+use kr_base::{DATA_LIMIT, Sink, Source, VALUE_LIMIT};
 use kr_kms::World;
 use std::alloc::Global;
 
@@ -26,8 +26,8 @@ impl Direction {
         ensures { result ≡ limit_of self }
     {
         match self {
-            Direction::Encrypt => 2_097_152,
-            Direction::Decrypt => 2_162_688,
+            Direction::Encrypt => DATA_LIMIT,
+            Direction::Decrypt => VALUE_LIMIT,
         }
     }
 

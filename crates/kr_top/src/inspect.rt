@@ -11,13 +11,10 @@ ghost use Rattle.kr_top.specs.Ran.{around, Did};
 use crate::phases::{take_input, write_output};
 use crate::refusal::{Done, Refusal, Stop};
 use crate::text::{add, add_number, add_pair, add_printed};
-use kr_base::{Bytes, NoMemory, Sink, Source, Text};
+use kr_base::{Bytes, NoMemory, Sink, Source, Text, VALUE_LIMIT};
 use kr_envelope::{EncryptedObject, Kind, ObjectNo, SourceKind, Tagged, split};
 use kr_provider::ValueNo;
 use std::alloc::Global;
-
-/// The most bytes of a stored value.
-const VALUE_LIMIT: u64 = 2_162_688;
 
 /// Shows on the output what the input, a stored value, says of itself.
 pub fn inspect<I: Source, O: Sink>(

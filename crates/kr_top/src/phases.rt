@@ -4,23 +4,22 @@ ghost use Rattle.std.specs.Option.{option_copied};
 ghost use Rattle.kr_config.specs.Kept.{rows_of};
 ghost use Rattle.kr_provider.specs.Publication.{names_plugin};
 ghost use Rattle.kr_kms.specs.Outside.{KeepsFiles, KeepsDice, HandsOut};
-ghost use Rattle.kr_top.specs.inner.Phases.{Configures, Serves, ReadsRows, TakesInput, NoDice, WritesOutput};
+ghost use Rattle.kr_kms.specs.declared.world.Asked.{Asked};
+ghost use Rattle.kr_top.specs.inner.Phases.{AskedFor, Configures, Serves, ReadsRows, TakesInput, NoDice, WritesOutput};
 
 use crate::refusal::{Object, Refusal, Stop};
 use crate::text::printed;
-use kr_base::{Bytes, Failed, ReadNo, Sink, Source, read_all, write_all};
+use kr_base::{Bytes, CONFIG_LIMIT, Failed, ReadNo, Sink, Source, read_all, write_all};
 use kr_config::{ConfigErr, Settings, read};
 use kr_kms::{FileNo, World};
 use kr_provider::names_plugin;
 use std::alloc::Global;
 
-/// The most bytes of a configuration file.
-const CONFIG_LIMIT: u64 = 1_048_576;
-
 /// Loads a configuration. What is printed where there is no such file is made first, so that this refusal needs no
 /// memory.
 pub fn configure<W: World>(alloc: Global, world: &mut W, name: &str) -> Result<Settings, Stop>
     ensures settings { Configures (W.told world.old) (W.told world.new) name.now result }
+    ensures asked { AskedFor (W.told world.old).asked (W.told world.new).asked (Asked.File name.now) result }
     ensures files { KeepsFiles (W.told world.old) (W.told world.new) }
     ensures dice { KeepsDice (W.told world.old) (W.told world.new) }
 {
@@ -41,6 +40,7 @@ pub fn configure<W: World>(alloc: Global, world: &mut W, name: &str) -> Result<S
 /// Loads a configuration that is served: one that names no plugin.
 pub fn serve<W: World>(alloc: Global, world: &mut W, name: &str) -> Result<Settings, Stop>
     ensures settings { Serves (W.told world.old) (W.told world.new) name.now result }
+    ensures asked { AskedFor (W.told world.old).asked (W.told world.new).asked (Asked.File name.now) result }
     ensures no_plugin { IfOk result (λ settings. names_plugin (rows_of settings.entries.0) ≡ false) }
     ensures files { KeepsFiles (W.told world.old) (W.told world.new) }
     ensures dice { KeepsDice (W.told world.old) (W.told world.new) }
@@ -89,6 +89,7 @@ pub fn open_dice<W: World>(alloc: Global, world: &mut W, seat: u32) -> Result<W:
     ensures ok { IfOk result (λ dice. HandsOut (W.told world.old) (W.told world.new) seat (W.Rand.left dice) (W.Rand.count dice)) }
     ensures err { OnErr result (KeepsDice (W.told world.old) (W.told world.new)) }
     ensures why { IfErr result (NoDice (W.told world.old) (W.told world.new)) }
+    ensures asked { AskedFor (W.told world.old).asked (W.told world.new).asked (Asked.RandomSource seat) result }
     ensures files { KeepsFiles (W.told world.old) (W.told world.new) }
 {
     match world.dice(alloc, seat) {

@@ -1,11 +1,12 @@
 -- What the phases of a command give to it: each result is said by cases, and want of memory alone is free.
-use Rattle.std.specs.Prelude.{◌≡◌, ◌≢◌, ℕ, ◌+◌, ◌≤◌, List, [], ◌∷◌, ◌++◌, length, Option, Result, Ok, Err, ⊤}
+use Rattle.std.specs.Prelude.{◌≡◌, ◌≢◌, ℕ, ◌+◌, ◌≤◌, ◌⊎◌, List, [], ◌∷◌, ◌++◌, length, Option, Result, Ok, Err, ⊤}
 use Rattle.std.specs.Borrow.{Bor}
 use Rattle.std.specs.Io.KnownBytes.{Appends, Consumes, IsAtEnd, Keeps}
 use Rattle.kr_base.specs.Faults.{Rose}
 use Rattle.kr_base.specs.Told.{Agrees}
 use Rattle.kr_base.specs.Streams.{AppendsFront, TakesAtMost}
-use Rattle.kr_kms.specs.Outside.{Outside, file_faults}
+use Rattle.kr_kms.specs.Outside.{Outside, noted, file_faults}
+use Rattle.kr_kms.specs.declared.world.Asked.{Asked}
 use Rattle.kr_config.specs.Kept.{Row, rows_of}
 use Rattle.kr_config.specs.declared.settings.Settings.{Settings}
 use Rattle.kr_config.specs.Meanings.{Means}
@@ -33,6 +34,15 @@ ReadsRows bytes (Ok settings) = Means bytes (Ok (rows_of settings.entries.0))
 ReadsRows bytes (Err (Refused why)) = (breach : ConfigNo) × Means bytes (Err breach) × (why ≡ Configuration breach)
 ReadsRows bytes (Err NoMemory) = ⊤
 ReadsRows bytes result = ⊥
+
+-- the call was made on the world, and no other; where there was no memory, perhaps not even this
+abbrev pub AskedUnless : (old new : Option (List Asked)) → Asked → Stop → Type 0
+AskedUnless old new call NoMemory = (new ≡ old) ⊎ (new ≡ noted call old)
+AskedUnless old new call why = new ≡ noted call old
+
+abbrev pub AskedFor : {T : Type 0} → (old new : Option (List Asked)) → Asked → Result T Stop → Type 0
+AskedFor old new call (Ok x) = new ≡ noted call old
+AskedFor old new call (Err why) = AskedUnless old new call why
 
 -- a fault of the files in a load
 abbrev pub LoadFails : Outside → Outside → Object → ℕ → Type 0
@@ -90,6 +100,7 @@ pub record DrawsTo (left : Left) (new : Option (List ℕ)) (now : Left) : Type 0
   pub input : now.input ≡ left.input
   pub dice : Keeps (now.dice 0) new
   pub others : (seat : ℕ) → seat ≢ 0 → now.dice seat ≡ left.dice seat
+  pub asked : now.asked ≡ left.asked
 
 -- the steps over a random source that was borrowed come to this point, wherever a command takes them
 pub record Reaches (next : Steps) (old new : Option (List ℕ)) (point : Point) : Type 0 where

@@ -1,4 +1,4 @@
-use Rattle.kr_top.proofs.Readings.{usage, caused, refusal, done}
+use Rattle.kr_top.proofs.Readings.{usage, caused, refusal, done, written}
 use Rattle.kr_top.proofs.Decided.{decided}
 use Rattle.kr_top.proofs.call.run.Goals as goal
 
@@ -13,6 +13,9 @@ returns-clause-refused g c = refusal _ _ _ _ c.answer-answer.result _ c.answer-a
 
 pub returns-clause-done : goal.returns-clause-done
 returns-clause-done g c = done _ _ _ _ c.answer-answer.result _ c.answer-answer.ensures c.tell.ensures.told
+
+pub returns-clause-written : goal.returns-clause-written
+returns-clause-written g c = written _ _ _ _ c.answer-answer.result _ c.answer-answer.ensures c.tell.ensures.told
 
 pub returns-clause-decided : goal.returns-clause-decided
 returns-clause-decided g c = decided _ _ _ _ c.answer-answer.result _ c.answer-answer.ensures c.tell.ensures.told
