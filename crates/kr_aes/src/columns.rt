@@ -4,7 +4,7 @@ ghost use Rattle.std.specs.Prelude.{◌≡◌, ℕ, ◌<◌, List, [], ◌∷◌
 ghost use Rattle.kr_aes.specs.Cipher.{add_round_key, mix_columns, sbox, shift_rows, sub_bytes};
 ghost use Rattle.kr_aes.specs.EquivalentInverse.{inverse_mixed_word};
 ghost use Rattle.kr_aes.specs.InverseCipher.{inverse_mix_columns, inverse_sbox, inverse_shift_rows, inverse_sub_bytes};
-ghost use Rattle.kr_aes.specs.inner.Columns.{IsKeyed, block_of_columns, boxed, forward_byte, inverse_byte};
+ghost use Rattle.kr_aes.specs.inner.Columns.{IsKeyed, block_of_columns, sbox_column, forward_byte, inverse_byte};
 
 use crate::cells;
 
@@ -28,7 +28,7 @@ fn forward(a: u32, b: u32, c: u32, d: u32, key: u32) -> u32
 
 // The same in the last round, which doesn't mix columns.
 fn last_forward(a: u32, b: u32, c: u32, d: u32, key: u32) -> u32
-    ensures { IsKeyed (slice_index (boxed sbox a b c d)) key result }
+    ensures { IsKeyed (slice_index (sbox_column sbox a b c d)) key result }
 {
     keyed(
         cells::sbox(a.to_be_bytes()[0]),
@@ -52,7 +52,7 @@ fn inverse(a: u32, b: u32, c: u32, d: u32, key: u32) -> u32
 
 // The same in the last round, which doesn't mix columns.
 fn last_inverse(a: u32, b: u32, c: u32, d: u32, key: u32) -> u32
-    ensures { IsKeyed (slice_index (boxed inverse_sbox a b c d)) key result }
+    ensures { IsKeyed (slice_index (sbox_column inverse_sbox a b c d)) key result }
 {
     keyed(
         cells::inverse_sbox(a.to_be_bytes()[0]),

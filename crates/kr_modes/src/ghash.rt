@@ -1,5 +1,6 @@
-//! GHASH (SP 800-38D sections 6.3 and 6.4). A product by the hash subkey is the sum of 32 entries of
-//! tables, which are made once for a subkey: one entry for each four coefficients of the other factor.
+//! GHASH (SP 800-38D sections 6.3 and 6.4). A product by the hash subkey is the sum of 32 entries
+//! of tables, which are made once for a subkey: one entry for each four coefficients of the other
+//! factor.
 
 ghost use Rattle.std.specs.Prelude.{◌≡◌, ◌≤◌, ℕ, length, map};
 ghost use Rattle.std.specs.List.{range_with_len};

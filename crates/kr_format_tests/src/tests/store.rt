@@ -1,4 +1,5 @@
-//! A store over a tape in memory: its file, failing writes and cuts, lookups, breaches, and files that are read ahead.
+//! A store over a tape in memory: its file, failing writes and cuts, lookups, breaches, and files
+//! that are read ahead.
 use kr_base::{Bytes, List, MemTape, path_ok, resource_ok};
 use kr_store::{PutNo, Store, StoreNo, one_breach, one_file, some_answer};
 use std::alloc::Global;
@@ -215,7 +216,8 @@ fn long_tape(alloc: Global, half: &[u8], long: &[u8]) -> Option<MemTape> {
     Some(store.close())
 }
 
-// The file is longer than what is read ahead: its parts are read from what was read, behind a refill, and by themselves.
+// The file is longer than what is read ahead: its parts are read from what was read, behind a
+// refill, and by themselves.
 #[test]
 fn reads_long_files(rt: HostRuntime) -> Result<(), Fail> {
     let alloc = rt.alloc();
@@ -243,7 +245,8 @@ fn refusals(alloc: Global, store: &mut Store<MemTape>) -> Option<u64> {
     Some(refused)
 }
 
-/// Whether of six writes the one with that number is refused, and the others are there when the tape is loaded again.
+/// Whether of six writes the one with that number is refused, and the others are there when the
+/// tape is loaded again.
 fn loses_one(alloc: Global, fails: u64) -> Option<bool> {
     let mut store = loaded(alloc, b"", &[fails])?;
     let refused = refusals(alloc, &mut store)?;
