@@ -1,6 +1,6 @@
 //! Files that are opened by their names.
 ghost use Rattle.std.specs.Prelude.{ℕ, List, Option, None};
-ghost use Rattle.kmsrest.specs.Opened.{Opens};
+ghost use Rattle.kr_edge.specs.Opened.{Opens};
 
 use std::fs::File;
 use std::io::{ErrorKind, Read};
@@ -17,11 +17,13 @@ pub enum OpenNo {
 
 /// What opens files to be read.
 pub trait NamedFiles {
+    /// A file that is open.
     type File: Read + Send + Drop;
 
     // A file by its name: none where it isn't told; else absent, or its bytes.
     ghost told: { Self → List ℕ → Option (Option (List ℕ)) };
 
+    /// Opens the file of that name to be read, from its first byte.
     fn open(&self, name: &str) -> Result<Self::File, OpenNo>
         ensures { Opens Self.File.remaining (told self.now name.now) result };
 }
@@ -33,6 +35,7 @@ pub struct SystemFiles<'a, R> {
 }
 
 impl<'a, R> SystemFiles<'a, R> {
+    /// The files that this runtime reaches.
     pub fn new(rt: &'a R) -> SystemFiles<'a, R> {
         SystemFiles { rt }
     }

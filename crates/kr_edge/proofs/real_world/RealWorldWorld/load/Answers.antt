@@ -1,9 +1,9 @@
 -- A file that holds more than the limit.
 use Rattle.std.proofs.Common.{Err, sym, subst}
 use Rattle.kr_base.specs.Streams.{ReadsWhole}
-use Rattle.kmsrest.specs.Opened.{Holds}
-use Rattle.kmsrest.proofs.Loaded.{long_file}
-use Rattle.kmsrest.proofs.real_world.RealWorldWorld.load.Goals as goal
+use Rattle.kr_edge.specs.Opened.{Holds}
+use Rattle.kr_edge.proofs.Loaded.{long_file}
+use Rattle.kr_edge.proofs.real_world.RealWorldWorld.load.Goals as goal
 
 pub returns-in-Err-TooLong-clause-file : goal.returns-in-Err-TooLong-clause-file
 returns-in-Err-TooLong-clause-file g c =
