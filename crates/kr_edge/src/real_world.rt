@@ -135,7 +135,8 @@ impl<'a, F: NamedFiles> World for RealWorld<'a, F> {
                 self.new.dice_faults self.new.out)) }
         ensures refusals { IfErr result
             (λ why. (why ≡ FileNo.Failed) ⊎ (why ≡ FileNo.NoMemory)) }
-        ensures failed { IsErrOf result FileNo.Failed → Rose self.old.open_faults self.new.open_faults }
+        ensures failed { IsErrOf result FileNo.Failed
+            → Rose self.old.open_faults self.new.open_faults }
         ensures asked { Notes
             (real_world (F.told self.old.files.now) self.old.load_faults self.old.open_faults
                 self.old.dice_faults self.old.out)
