@@ -6,7 +6,11 @@ use Rattle.std.specs.Option.{option_map}
 use Rattle.std.specs.Str.Pattern.{FindsCharPrefix}
 use Rattle.std.proofs.lemmas.Str.Pattern.{strip_prefix_char}
 use Rattle.std.proofs.lemmas.List.{reverse-reverse, reverse-append}
-use Rattle.kr_yaml.specs.Bytes.{behind, skip, trim}
+use Rattle.kr_yaml.specs.Bytes.{behind, skip}
+use Rattle.kr_yaml.specs.inner.Stops.{trim}
+
+pub is_byte : (b c : ℕ) → (b == c) ≡ true → b ≡ c
+is_byte b c h = grind arith
 
 eqb_same : (n : ℕ) → eqb n n ≡ true
 eqb_same n = grind arith

@@ -5,8 +5,8 @@ use Rattle.std.proofs.lemmas.List.{append_assoc, append-nil, map-append}
 use Rattle.kr_yaml.specs.Data.{Data}
 use Rattle.kr_yaml.specs.Lines.{Token}
 use Rattle.kr_yaml.specs.Forms.{Shape, flat, Form}
-use Rattle.kr_yaml.specs.Open.{State, put, run, closed}
-use Rattle.kr_yaml.specs.Standing.{Stands, empty}
+use Rattle.kr_yaml.specs.inner.Open.{State, put, run, closed_value}
+use Rattle.kr_yaml.specs.inner.Standing.{Stands, empty}
 use Rattle.kr_yaml.specs.Reads.{plain, Makes, FormNone, FormTwice, FormDeep, Breaks, IsFirst, NoTree}
 use Rattle.kr_yaml.specs.declared.yaml_no.YamlNo.{YamlNo}
 use Rattle.kr_yaml.specs.declared.yaml_no.YamlNo.TheVariants.{Outside, Indent, DuplicateKey, Deep, NoMemory}
@@ -58,8 +58,8 @@ front_within xs ys d e s t f g =
     let y = node_ran 0 (xs ++ ys) e t g in
     let v = went xs [] start x.st flat (empty 0) x.runs in
     let w = went ys xs x.st y.st v.shape v.stands (sym (run_append xs ys start ∙ ap (option_and_then (run ys)) x.runs) ∙ y.runs) in
-    let front : s ≡ v.shape = one_shape xs d (closed x.st.0 x.st.1) s v.shape f (stands_node 0 xs x.st.0 x.st.1 v.shape v.stands) in
-    let whole : t ≡ w.shape = one_shape (xs ++ ys) e (closed y.st.0 y.st.1) t w.shape g (stands_node 0 (xs ++ ys) y.st.0 y.st.1 w.shape w.stands) in
+    let front : s ≡ v.shape = one_shape xs d (closed_value x.st.0 x.st.1) s v.shape f (stands_node 0 xs x.st.0 x.st.1 v.shape v.stands) in
+    let whole : t ≡ w.shape = one_shape (xs ++ ys) e (closed_value y.st.0 y.st.1) t w.shape g (stands_node 0 (xs ++ ys) y.st.0 y.st.1 w.shape w.stands) in
     subst (λ t. Within s t) (sym whole) (subst (λ s. Within s w.shape) (sym front) w.more)
 
 -- behind such tokens there is no tree

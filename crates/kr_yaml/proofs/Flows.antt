@@ -4,8 +4,8 @@ use Rattle.std.specs.Option.{option_map, option_map_or}
 use Rattle.std.proofs.lemmas.List.{append-nil}
 use Rattle.kr_yaml.specs.Bytes.{behind, skip}
 use Rattle.kr_yaml.specs.Data.{Data}
-use Rattle.kr_yaml.specs.Scalars.{scalar_at, data_of, with_front}
-use Rattle.kr_yaml.specs.Lines.{scalars}
+use Rattle.kr_yaml.specs.inner.ScalarReading.{scalar_at, data_of, with_front}
+use Rattle.kr_yaml.specs.inner.LineReading.{scalars}
 use Rattle.kr_yaml.specs.Shown.{view, views}
 use Rattle.kr_yaml.specs.declared.tree.Tree.{Tree}
 use Rattle.kr_yaml.specs.declared.scalar.Scalar.{Scalar}

@@ -6,12 +6,16 @@ use Rattle.std.proofs.lemmas.List.{append_assoc, append-nil, drop_all}
 use Rattle.kr_yaml.specs.Lines.{Token}
 use Rattle.kr_yaml.specs.Forms.{flat}
 use Rattle.kr_yaml.specs.Shown.{view}
-use Rattle.kr_yaml.specs.Open.{State, put, doubles, run, closed}
-use Rattle.kr_yaml.specs.Frames.{frame_views, state_view}
-use Rattle.kr_yaml.specs.Standing.{Stands, empty}
-use Rattle.kr_yaml.specs.Texts.{numbered, before_rest, tokens_from, line_tokens, is_empty, next_number}
+use Rattle.kr_yaml.specs.inner.Open.{State, put, doubles, run, closed_value}
+use Rattle.kr_yaml.specs.inner.Frames.{frame_views, state_view}
+use Rattle.kr_yaml.specs.inner.Standing.{Stands, empty}
+use Rattle.kr_yaml.specs.Lines.{at_line}
+use Rattle.kr_yaml.specs.inner.TextReading.{before_rest, tokens_from}
+use Rattle.kr_yaml.specs.Bytes.{is_empty}
+use Rattle.kr_yaml.specs.inner.TextReading.{line_tokens}
+use Rattle.kr_base.specs.Numbering.{next_place}
 use Rattle.kr_yaml.specs.Reads.{plain, Makes, FormNone, FormTwice, FormDeep, Breaks, IsFirst, ReadsTree, OnlyTree, NoTree}
-use Rattle.kr_yaml.specs.Progress.{Fails, Moves, IsGoing, Stays, Extends, ReadsLines}
+use Rattle.kr_yaml.specs.inner.Progress.{Fails, Moves, IsGoing, Stays, Extends, ReadsLines}
 use Rattle.kr_yaml.specs.declared.standing.Standing.{Standing as Nodes}
 use Rattle.kr_yaml.specs.declared.tree.Tree.{Tree}
 use Rattle.kr_yaml.specs.declared.progress.Progress.{Progress}
@@ -28,7 +32,7 @@ plain_push [] n t = refl
 plain_push (u ∷ us) n t = ap (λ l. u.1 ∷ l) (plain_push us n t)
 
 -- what stands makes a tree
-pub going_makes : (us : List (ℕ × Token)) (nodes : Nodes) → IsGoing us nodes → Makes (plain us) (closed (frame_views nodes.nodes.items) (option_map view nodes.value))
+pub going_makes : (us : List (ℕ × Token)) (nodes : Nodes) → IsGoing us nodes → Makes (plain us) (closed_value (frame_views nodes.nodes.items) (option_map view nodes.value))
 going_makes us nodes g = record { shape = g.shape; forms = stands_node 0 (plain us) (frame_views nodes.nodes.items) (option_map view nodes.value) g.shape g.stands; levels = g.levels; once = g.once }
 
 -- a run that is known, and one token more
@@ -62,7 +66,7 @@ first_more us (Deep line) n t h = breaks_more us line FormDeep n t h
 first_more us NoMemory n t h = absurd h
 
 breaks_here : (us : List (ℕ × Token)) (nodes : Nodes) (n : ℕ) (t : Token) (P : List Token → Type 0) → IsGoing us nodes → P (plain us ++ t ∷ []) → Breaks (us ++ (n, t) ∷ []) n P
-breaks_here us nodes n t P g h = record { before = us; token = t; after = []; split = refl; tree = closed (frame_views nodes.nodes.items) (option_map view nodes.value); makes = going_makes us nodes g; breach = h }
+breaks_here us nodes n t P g h = record { before = us; token = t; after = []; split = refl; tree = closed_value (frame_views nodes.nodes.items) (option_map view nodes.value); makes = going_makes us nodes g; breach = h }
 
 failed : (us : List (ℕ × Token)) (nodes : Nodes) (n : ℕ) (t : Token) (why : YamlNo) → IsGoing us nodes → Fails (put t (frame_views nodes.nodes.items) (option_map view nodes.value)) (doubles t (frame_views nodes.nodes.items)) n why → IsFirst (us ++ (n, t) ∷ []) why
 failed us nodes n t (Outside line) g f = absurd f
@@ -71,13 +75,13 @@ failed us nodes n t (Indent line) g f =
 failed us nodes n t (DuplicateKey line) g f =
     let m = grows 0 (plain us) (frame_views nodes.nodes.items) (option_map view nodes.value) g.shape g.stands t (omega arith) f.1.0 f.1.1 in
     subst (λ m. Breaks (us ++ (n, t) ∷ []) m FormTwice) (sym f.0) (breaks_here us nodes n t FormTwice g
-    (closed f.1.0.0 f.1.0.1, m.shape, stands_node 0 (plain us ++ t ∷ []) f.1.0.0 f.1.0.1 m.shape m.stands, m.twice g.once ∙ f.1.2))
+    (closed_value f.1.0.0 f.1.0.1, m.shape, stands_node 0 (plain us ++ t ∷ []) f.1.0.0 f.1.0.1 m.shape m.stands, m.twice g.once ∙ f.1.2))
 failed us nodes n t (Deep line) g f =
     let m = grows 0 (plain us) (frame_views nodes.nodes.items) (option_map view nodes.value) g.shape g.stands t (omega arith) f.1.0 f.1.1 in
     let l = frames_levels 0 (plain us ++ t ∷ []) f.1.0.0 f.1.0.1 m.shape m.stands in
     let k = f.1.2 in
     subst (λ m. Breaks (us ++ (n, t) ∷ []) m FormDeep) (sym f.0) (breaks_here us nodes n t FormDeep g
-    (closed f.1.0.0 f.1.0.1, m.shape, stands_node 0 (plain us ++ t ∷ []) f.1.0.0 f.1.0.1 m.shape m.stands, omega arith))
+    (closed_value f.1.0.0 f.1.0.1, m.shape, stands_node 0 (plain us ++ t ∷ []) f.1.0.0 f.1.0.1 m.shape m.stands, omega arith))
 failed us nodes n t NoMemory g f = absurd f
 
 frames_count : (nodes : Nodes) → length (frame_views nodes.nodes.items) ≤ 16
@@ -101,7 +105,7 @@ moved us n t (Going old) (Broken why) g h = failed us old n t why g h
 moved us n t (Broken why) (Going new) g h = absurd h
 moved us n t (Broken why) (Broken now) g h = subst (λ w. IsFirst (us ++ (n, t) ∷ []) w) (sym h) (first_more us why n t g)
 
-numbered_push : (n : ℕ) (ts : List Token) (t : Token) → numbered n (ts ++ t ∷ []) ≡ numbered n ts ++ (n, t) ∷ []
+numbered_push : (n : ℕ) (ts : List Token) (t : Token) → at_line n (ts ++ t ∷ []) ≡ at_line n ts ++ (n, t) ∷ []
 numbered_push n [] t = refl
 numbered_push n (x ∷ ts) t = ap (λ l. (n, x) ∷ l) (numbered_push n ts t)
 
@@ -114,7 +118,7 @@ extends_none old n = λ us h. subst (λ l. Stays l old) (sym (append-nil us)) h
 
 pub extends_more : (old now new : Progress) (n : ℕ) (ts : List Token) (t : Token) → Extends old n ts now → Moves now n t new → Extends old n (ts ++ t ∷ []) new
 extends_more old now new n ts t e m = λ us h.
-    subst (λ l. Stays l new) (append_assoc us (numbered n ts) ((n, t) ∷ []) ∙ ap (λ l. us ++ l) (sym (numbered_push n ts t))) (moved (us ++ numbered n ts) n t now new (e us h) m)
+    subst (λ l. Stays l new) (append_assoc us (at_line n ts) ((n, t) ∷ []) ∙ ap (λ l. us ++ l) (sym (numbered_push n ts t))) (moved (us ++ at_line n ts) n t now new (e us h) m)
 
 -- with the tokens of the lines before
 abbrev pub with_seen : List (ℕ × Token) → Result (List (ℕ × Token)) ℕ → Result (List (ℕ × Token)) ℕ
@@ -125,9 +129,9 @@ seen_none : (r : Result (List (ℕ × Token)) ℕ) → r ≡ with_seen [] r
 seen_none (Err n) = refl
 seen_none (Ok vs) = refl
 
-seen_line : (us : List (ℕ × Token)) (n : ℕ) (ts : List Token) (r : Result (List (ℕ × Token)) ℕ) → with_seen us (before_rest n (Some ts) r) ≡ with_seen (us ++ numbered n ts) r
+seen_line : (us : List (ℕ × Token)) (n : ℕ) (ts : List Token) (r : Result (List (ℕ × Token)) ℕ) → with_seen us (before_rest n (Some ts) r) ≡ with_seen (us ++ at_line n ts) r
 seen_line us n ts (Err m) = refl
-seen_line us n ts (Ok vs) = ap Ok (sym (append_assoc us (numbered n ts) vs))
+seen_line us n ts (Ok vs) = ap Ok (sym (append_assoc us (at_line n ts) vs))
 
 -- the lines so far were read
 pub record Reading (lines : List (List ℕ)) (i n : ℕ) (first : Bool) (progress : Progress) : Type 0 where
@@ -152,28 +156,28 @@ front : {Y : Type 0} (F : List (List ℕ) → Y) (lines : List (List ℕ)) (i : 
 front F lines i line h is = ap F (drop-cons lines i line h) ∙ ap (λ l. F (l ∷ drop (suc i) lines)) (sym is) ∙ ap (λ n. F (line ∷ drop n lines)) (sym (add-one i))
 
 pub reading_more : (lines : List (List ℕ)) (i j n m : ℕ) (first now : Bool) (old new : Progress) (line : List ℕ) (ts : List Token) → Reading lines i n first old → (i < length lines) × (line ≡ get_or lines i line) → j ≡ i + 1
-    → line_tokens first line ≡ Some ts → Extends old n ts new → now ≡ (first && is_empty line) → m ≡ next_number n → Reading lines j m now new
+    → line_tokens first line ≡ Some ts → Extends old n ts new → now ≡ (first && is_empty line) → m ≡ next_place n → Reading lines j m now new
 reading_more lines i j n m first now old new line ts r h next e x f k =
     subst (λ j. Reading lines j m now new) (sym next)
     (record {
-      us = r.us ++ numbered n ts;
+      us = r.us ++ at_line n ts;
       walked = r.walked ∙ front (λ l. with_seen r.us (tokens_from n first l)) lines i line h.0 h.1
-          ∙ ap (λ o. with_seen r.us (before_rest n o (tokens_from (next_number n) (first && is_empty line) (drop (i + 1) lines)))) e
-          ∙ seen_line r.us n ts (tokens_from (next_number n) (first && is_empty line) (drop (i + 1) lines))
-          ∙ ap (λ b. with_seen (r.us ++ numbered n ts) (tokens_from (next_number n) b (drop (i + 1) lines))) (sym f)
-          ∙ ap (λ a. with_seen (r.us ++ numbered n ts) (tokens_from a now (drop (i + 1) lines))) (sym k);
+          ∙ ap (λ o. with_seen r.us (before_rest n o (tokens_from (next_place n) (first && is_empty line) (drop (i + 1) lines)))) e
+          ∙ seen_line r.us n ts (tokens_from (next_place n) (first && is_empty line) (drop (i + 1) lines))
+          ∙ ap (λ b. with_seen (r.us ++ at_line n ts) (tokens_from (next_place n) b (drop (i + 1) lines))) (sym f)
+          ∙ ap (λ a. with_seen (r.us ++ at_line n ts) (tokens_from a now (drop (i + 1) lines))) (sym k);
       stays = x r.us r.stays;
     })
 
 pub reading_stops : (lines : List (List ℕ)) (i n : ℕ) (first : Bool) (old : Progress) (line : List ℕ) → Reading lines i n first old → (i < length lines) × (line ≡ get_or lines i line)
     → line_tokens first line ≡ None → tokens_from 1 true lines ≡ Err n
 reading_stops lines i n first old line r h e = r.walked ∙ front (λ l. with_seen r.us (tokens_from n first l)) lines i line h.0 h.1
-    ∙ ap (λ o. with_seen r.us (before_rest n o (tokens_from (next_number n) (first && is_empty line) (drop (i + 1) lines)))) e
+    ∙ ap (λ o. with_seen r.us (before_rest n o (tokens_from (next_place n) (first && is_empty line) (drop (i + 1) lines)))) e
 
 pub reading_ends : (lines : List (List ℕ)) (i n : ℕ) (first : Bool) (old : Progress) → Reading lines i n first old → i ≡ length lines → (us : List (ℕ × Token)) × (tokens_from 1 true lines ≡ Ok us) × Stays us old
 reading_ends lines i n first old r h = (r.us, r.walked ∙ ap (λ l. with_seen r.us (tokens_from n first l)) (drop_all i lines (omega arith)) ∙ ap Ok (append-nil r.us), r.stays)
 
-pub read_made : (wanted : Result (List (ℕ × Token)) ℕ) (progress : Progress) (nodes : Nodes) (tree : Tree) → ReadsLines wanted (Ok progress) → progress ≡ Going nodes → view tree ≡ closed (frame_views nodes.nodes.items) (option_map view nodes.value) → ReadsTree wanted tree
+pub read_made : (wanted : Result (List (ℕ × Token)) ℕ) (progress : Progress) (nodes : Nodes) (tree : Tree) → ReadsLines wanted (Ok progress) → progress ≡ Going nodes → view tree ≡ closed_value (frame_views nodes.nodes.items) (option_map view nodes.value) → ReadsTree wanted tree
 read_made wanted progress nodes tree r e t = subst (λ w. ReadsTree w tree) (sym r.1) (subst (Makes (plain r.0)) (sym t) (going_makes r.0 nodes (subst (Stays r.0) e r.2)))
 
 pub reads_only : (wanted : Result (List (ℕ × Token)) ℕ) (tree : Tree) → ReadsTree wanted tree → OnlyTree wanted (view tree)

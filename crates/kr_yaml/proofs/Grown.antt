@@ -7,8 +7,8 @@ use Rattle.std.specs.Str.{bytes_eq}
 use Rattle.kr_yaml.specs.Data.{Data}
 use Rattle.kr_yaml.specs.Lines.{Token, dash, pair, leaf}
 use Rattle.kr_yaml.specs.Forms.{Shape, flat, both, deeper, with_keys, keys, repeats, IsNode, no_tokens, one_leaf, one_list, one_mapping, AreItems, no_items, one_more_item, AreMembers, no_members, one_more_member, IsValue, on_line, to_the_right, list_below}
-use Rattle.kr_yaml.specs.Standing.{Stands, empty, full, in_item, in_value, Holds, held, right, below}
-use Rattle.kr_yaml.specs.Open.{Frame, items, members, State, column_of, is_dash_at, close, closed, begun, next, under, put, doubles, is_repeated}
+use Rattle.kr_yaml.specs.inner.Standing.{Stands, empty, full, in_item, in_value, Holds, held, right, below}
+use Rattle.kr_yaml.specs.inner.Open.{Frame, items, members, State, column_of, is_dash_at, close, closed_value, first_state, next, under, put, doubles, is_repeated}
 
 last_length : {X : Type 0} (xs : List X) (x : X) → 0 < length (xs ++ x ∷ [])
 last_length xs x = omega (arith, length-append xs (x ∷ []))
@@ -19,20 +19,20 @@ keys_push (m ∷ ms) k d = ap (λ l. m.0 ∷ l) (keys_push ms k d)
 
 mutual
   -- what stands in open nodes is a node
-  pub stands_node : (low : ℕ) (ts : List Token) (fs : List Frame) (o : Option Data) (s : Shape) → Stands low ts fs o s → IsNode low ts (closed fs o) s
+  pub stands_node : (low : ℕ) (ts : List Token) (fs : List Frame) (o : Option Data) (s : Shape) → Stands low ts fs o s → IsNode low ts (closed_value fs o) s
   stands_node low ts fs o s (empty l) = no_tokens low
   stands_node low ts fs o s (full l c d h) = one_leaf low c d h
   stands_node low ts fs o s (in_item l c us ws ds gs p m n h before rest) =
-      one_list low c (us ++ dash c ∷ ws) (ds ++ closed gs p ∷ []) (both m n) h (last_length ds (closed gs p)) (one_more_item c us ws ds (closed gs p) m n before (stands_node (suc c) ws gs p n rest))
+      one_list low c (us ++ dash c ∷ ws) (ds ++ closed_value gs p ∷ []) (both m n) h (last_length ds (closed_value gs p)) (one_more_item c us ws ds (closed_value gs p) m n before (stands_node (suc c) ws gs p n rest))
   stands_node low ts fs o s (in_value l c us ws ms k v gs p m n h before rest) =
-      subst (λ ks. IsNode low (us ++ pair c k v ∷ ws) (close (members c ms k) (closed gs p)) (with_keys ks (both m n))) (keys_push ms k (closed gs p))
-      (one_mapping low c (us ++ pair c k v ∷ ws) (ms ++ (k, closed gs p) ∷ []) (both m n) h (last_length ms (k, closed gs p)) (one_more_member c us ws ms k v (closed gs p) m n before (holds_value c v ws gs p n rest)))
+      subst (λ ks. IsNode low (us ++ pair c k v ∷ ws) (close (members c ms k) (closed_value gs p)) (with_keys ks (both m n))) (keys_push ms k (closed_value gs p))
+      (one_mapping low c (us ++ pair c k v ∷ ws) (ms ++ (k, closed_value gs p) ∷ []) (both m n) h (last_length ms (k, closed_value gs p)) (one_more_member c us ws ms k v (closed_value gs p) m n before (holds_value c v ws gs p n rest)))
 
-  pub holds_value : (c : ℕ) (v : Option Data) (ts : List Token) (fs : List Frame) (o : Option Data) (s : Shape) → Holds c v ts fs o s → IsValue c v ts (closed fs o) s
+  pub holds_value : (c : ℕ) (v : Option Data) (ts : List Token) (fs : List Frame) (o : Option Data) (s : Shape) → Holds c v ts fs o s → IsValue c v ts (closed_value fs o) s
   holds_value c v ts fs o s (held b d) = on_line c d
-  holds_value c v ts fs o s (right b ws gs p n rest) = to_the_right c ws (closed gs p) n (stands_node (suc c) ws gs p n rest)
+  holds_value c v ts fs o s (right b ws gs p n rest) = to_the_right c ws (closed_value gs p) n (stands_node (suc c) ws gs p n rest)
   holds_value c v ts fs o s (below b vs ws ds gs p m n before rest) =
-      list_below c (vs ++ dash c ∷ ws) (ds ++ closed gs p ∷ []) (both m n) (last_length ds (closed gs p)) (one_more_item c vs ws ds (closed gs p) m n before (stands_node (suc c) ws gs p n rest))
+      list_below c (vs ++ dash c ∷ ws) (ds ++ closed_value gs p ∷ []) (both m n) (last_length ds (closed_value gs p)) (one_more_item c vs ws ds (closed_value gs p) m n before (stands_node (suc c) ws gs p n rest))
 
 -- one shape has at least what the other has
 pub record Within (s t : Shape) : Type 0 where
@@ -121,7 +121,7 @@ holds_none : (c : ℕ) (v : Option Data) → Holds c v [] [] v flat
 holds_none c None = right c [] [] None flat (empty (suc c))
 holds_none c (Some d) = held c d
 
-begins : (low : ℕ) (t : Token) → low ≤ column_of t → Grows low [] t false flat (begun t)
+begins : (low : ℕ) (t : Token) → low ≤ column_of t → Grows low [] t false flat (first_state t)
 begins low (dash c) h = record { shape = deeper (both flat flat); stands = in_item low c [] [] [] [] None flat flat h (no_items c) (empty (suc c)); more = within_flat (deeper (both flat flat)); levels = omega arith; twice = λ e. refl }
 begins low (pair c k v) h = record { shape = with_keys (k ∷ []) (both flat flat); stands = in_value low c [] [] [] k v [] v flat flat h (no_members c) (holds_none c v); more = within_flat (with_keys (k ∷ []) (both flat flat)); levels = omega arith; twice = λ e. refl }
 begins low (leaf c d) h = record { shape = flat; stands = full low c d h; more = within_flat flat; levels = omega arith; twice = λ e. refl }
@@ -180,10 +180,10 @@ item_next c b us ws ds d m n true q before rest st e =
     })
 item_next c b us ws ds d m n false q before rest st e = cc
 
-item_grows : (c : ℕ) (us ws : List Token) (ds : List Data) (gs : List Frame) (p : Option Data) (m n : Shape) → AreItems c us ds m → IsNode (suc c) ws (closed gs p) n → GrowsIn (suc c) ws gs p n → (t : Token) (v : Bool) → nat_lt c (column_of t) ≡ v → (st : State)
-    → (if v then under (items c ds) (put t gs p) else next t (items c ds) (closed gs p)) ≡ Some st → ItemMore c (us ++ dash c ∷ ws) t (if v then doubles t gs else is_repeated t (items c ds)) (deeper (both m n)) st
+item_grows : (c : ℕ) (us ws : List Token) (ds : List Data) (gs : List Frame) (p : Option Data) (m n : Shape) → AreItems c us ds m → IsNode (suc c) ws (closed_value gs p) n → GrowsIn (suc c) ws gs p n → (t : Token) (v : Bool) → nat_lt c (column_of t) ≡ v → (st : State)
+    → (if v then under (items c ds) (put t gs p) else next t (items c ds) (closed_value gs p)) ≡ Some st → ItemMore c (us ++ dash c ∷ ws) t (if v then doubles t gs else is_repeated t (items c ds)) (deeper (both m n)) st
 item_grows c us ws ds gs p m n before node rest t true q st e = item_under c us ws ds gs p m n t st (put t gs p) refl before rest (below_col c (column_of t) q) e
-item_grows c us ws ds gs p m n before node rest (dash b) false q st e = item_next c b us ws ds (closed gs p) m n (b == c) refl before node st e
+item_grows c us ws ds gs p m n before node rest (dash b) false q st e = item_next c b us ws ds (closed_value gs p) m n (b == c) refl before node st e
 item_grows c us ws ds gs p m n before node rest (pair b k v) false q st e = cc
 item_grows c us ws ds gs p m n before node rest (leaf b d) false q st e = cc
 
@@ -251,13 +251,13 @@ member_next low c b us ws ms k l v x d m n true q h before rest st e =
     })
 member_next low c b us ws ms k l v x d m n false q h before rest st e = cc
 
-member_grows : (low c : ℕ) (us ws : List Token) (ms : List (List ℕ × Data)) (k : List ℕ) (v : Option Data) (gs : List Frame) (p : Option Data) (m n : Shape) → low ≤ c → AreMembers c us ms m → IsValue c v ws (closed gs p) n → HoldsIn c v ws gs p n
+member_grows : (low c : ℕ) (us ws : List Token) (ms : List (List ℕ × Data)) (k : List ℕ) (v : Option Data) (gs : List Frame) (p : Option Data) (m n : Shape) → low ≤ c → AreMembers c us ms m → IsValue c v ws (closed_value gs p) n → HoldsIn c v ws gs p n
     → (t : Token) (x : Bool) → (nat_lt c (column_of t) || is_dash_at c t) ≡ x → (st : State)
-    → (if x then under (members c ms k) (put t gs p) else next t (members c ms k) (closed gs p)) ≡ Some st
+    → (if x then under (members c ms k) (put t gs p) else next t (members c ms k) (closed_value gs p)) ≡ Some st
     → Grows low (us ++ pair c k v ∷ ws) t (if x then doubles t gs else is_repeated t (members c ms k)) (with_keys (keys ms ++ k ∷ []) (both m n)) st
 member_grows low c us ws ms k v gs p m n h before value rest t true q st e = member_under low c us ws ms k v gs p m n t st (put t gs p) refl h before rest q e
 member_grows low c us ws ms k v gs p m n h before value rest (dash b) false q st e = cc
-member_grows low c us ws ms k v gs p m n h before value rest (pair b l x) false q st e = member_next low c b us ws ms k l v x (closed gs p) m n (b == c) refl h before value st e
+member_grows low c us ws ms k v gs p m n h before value rest (pair b l x) false q st e = member_next low c b us ws ms k l v x (closed_value gs p) m n (b == c) refl h before value st e
 member_grows low c us ws ms k v gs p m n h before value rest (leaf b d) false q st e = cc
 
 blocked_items : (c b : ℕ) (x y : Option State) → suc c ≤ b → (if nat_lt b c then x else (if c == b then y else None)) ≡ None
@@ -273,7 +273,7 @@ dash_below low c ws gs p n h (empty l) st e =
     (record { shape = deeper (both flat flat); holds = below c [] [] [] [] None flat flat (no_items c) (empty (suc c)); more = within_flat (deeper (both flat flat)); levels = omega arith; twice = λ e. refl })
 dash_below low c ws gs p n h (full l b d k) st e = cc
 dash_below low c ws gs p n h (in_item l b us vs ds hs q m r k before rest) st e =
-    let z = blocked_items c b (under (items b ds) (put (dash c) hs q)) (Some (items b (ds ++ closed hs q ∷ []) ∷ [], None)) (omega arith) in cc
+    let z = blocked_items c b (under (items b ds) (put (dash c) hs q)) (Some (items b (ds ++ closed_value hs q ∷ []) ∷ [], None)) (omega arith) in cc
 dash_below low c ws gs p n h (in_value l b us vs ms key v hs q m r k before rest) st e =
     let z = blocked_members c b (under (members b ms key) (put (dash c) hs q)) (omega arith) in cc
 
@@ -299,7 +299,7 @@ list_grows c ts t b s st g = record {
 
 mutual
   pub grows : (low : ℕ) (ts : List Token) (fs : List Frame) (o : Option Data) (s : Shape) → Stands low ts fs o s → GrowsIn low ts fs o s
-  grows low ts fs o s (empty l) = λ t h st e. subst (Grows low [] t false flat) (some_same (begun t) st e) (begins low t h)
+  grows low ts fs o s (empty l) = λ t h st e. subst (Grows low [] t false flat) (some_same (first_state t) st e) (begins low t h)
   grows low ts fs o s (full l c d k) = λ t h st e. cc
   grows low ts fs o s (in_item l c us ws ds gs p m n k before rest) = λ t h st e.
       let g = item_grows c us ws ds gs p m n before (stands_node (suc c) ws gs p n rest) (grows (suc c) ws gs p n rest) t (nat_lt c (column_of t)) refl st e in

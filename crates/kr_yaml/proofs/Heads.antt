@@ -3,9 +3,11 @@ use Rattle.std.proofs.Common.{◌≡◌, ℕ, ◌+◌, ◌-◌, ◌<◌, ◌≤�
 use Rattle.std.specs.Prelude.{if◌then◌else◌, ◌==◌, ◌&&◌}
 use Rattle.std.specs.Option.{option_map_or}
 use Rattle.std.proofs.lemmas.List.{append-nil, append_assoc}
-use Rattle.kr_yaml.specs.Bytes.{behind, opens}
-use Rattle.kr_yaml.specs.Lines.{Token, dash, Head, head, onto, dash_behind}
-use Rattle.kr_yaml.specs.Seen.{token_view, token_views, IsHead}
+use Rattle.kr_yaml.specs.Bytes.{behind}
+use Rattle.kr_yaml.specs.inner.Stops.{opens}
+use Rattle.kr_yaml.specs.Lines.{Token, dash}
+use Rattle.kr_yaml.specs.inner.LineReading.{Head, head, onto, dash_behind}
+use Rattle.kr_yaml.specs.inner.Seen.{token_view, token_views, IsHead}
 use Rattle.kr_yaml.specs.declared.token.LineToken.{LineToken}
 use Rattle.kr_yaml.specs.declared.token.LineToken.TheVariants.{Dash}
 use Rattle.kr_yaml.proofs.Quotes.{behind_cons}

@@ -5,8 +5,8 @@ use Rattle.std.proofs.lemmas.List.{append-nil}
 use Rattle.kr_yaml.specs.Data.{Data}
 use Rattle.kr_yaml.specs.Lines.{Token, dash, pair, leaf}
 use Rattle.kr_yaml.specs.Forms.{Shape, flat, Form}
-use Rattle.kr_yaml.specs.Open.{Frame, items, members, State, is_inside, is_repeated, next, under, put, doubles, run, closed}
-use Rattle.kr_yaml.specs.Standing.{Stands, empty}
+use Rattle.kr_yaml.specs.inner.Open.{Frame, items, members, State, is_inside, is_repeated, next, under, put, doubles, run, closed_value}
+use Rattle.kr_yaml.specs.inner.Standing.{Stands, empty}
 use Rattle.kr_yaml.specs.Shown.{view}
 use Rattle.kr_yaml.specs.Reads.{plain, Makes, FormNone, FormTwice, FormDeep, Breaks, IsFirst, ReadsTree, Refuses}
 use Rattle.kr_yaml.specs.Laws.{OneForm, OneAnswer}
@@ -39,9 +39,9 @@ flat_under t f fs o st (Some inner) q rest h e =
     let same : (f ∷ inner.0, inner.1) ≡ st = cc in
     let m = ap (λ (s : State). length s.0) same in omega arith
 
-flat_at : (t : Token) (f : Frame) (fs : List Frame) (o : Option Data) (st : State) (v : Bool) → Flat t fs → (if v then doubles t fs else is_repeated t f) ≡ true → (if v then under f (put t fs o) else next t f (closed fs o)) ≡ Some st → length st.0 ≤ length (f ∷ fs)
+flat_at : (t : Token) (f : Frame) (fs : List Frame) (o : Option Data) (st : State) (v : Bool) → Flat t fs → (if v then doubles t fs else is_repeated t f) ≡ true → (if v then under f (put t fs o) else next t f (closed_value fs o)) ≡ Some st → length st.0 ≤ length (f ∷ fs)
 flat_at t f fs o st true rest h e = flat_under t f fs o st (put t fs o) refl rest h e
-flat_at t f fs o st false rest h e = let n = next_length t f (closed fs o) st h e in omega arith
+flat_at t f fs o st false rest h e = let n = next_length t f (closed_value fs o) st h e in omega arith
 
 repeated_flat : (t : Token) (fs : List Frame) → Flat t fs
 repeated_flat t [] = λ o st h e. cc
@@ -62,10 +62,10 @@ one_more xs t d e s u f g =
     let y = node_ran 0 (xs ++ t ∷ []) e u g in
     let v = went xs [] start x.st flat (empty 0) x.runs in
     let puts : put t x.st.0 x.st.1 ≡ Some y.st = put_run (put t x.st.0 x.st.1) y.st (sym (run_append xs (t ∷ []) start ∙ ap (option_and_then (run (t ∷ []))) x.runs) ∙ y.runs) in
-    let front : v.shape ≡ s = one_shape xs (closed x.st.0 x.st.1) d v.shape s (stands_node 0 xs x.st.0 x.st.1 v.shape v.stands) f in
+    let front : v.shape ≡ s = one_shape xs (closed_value x.st.0 x.st.1) d v.shape s (stands_node 0 xs x.st.0 x.st.1 v.shape v.stands) f in
     let stands = subst (λ s. Stands 0 xs x.st.0 x.st.1 s) front v.stands in
     let m = grows 0 xs x.st.0 x.st.1 s stands t (omega arith) y.st puts in
-    let whole : m.shape ≡ u = one_shape (xs ++ t ∷ []) (closed y.st.0 y.st.1) e m.shape u (stands_node 0 (xs ++ t ∷ []) y.st.0 y.st.1 m.shape m.stands) g in
+    let whole : m.shape ≡ u = one_shape (xs ++ t ∷ []) (closed_value y.st.0 y.st.1) e m.shape u (stands_node 0 (xs ++ t ∷ []) y.st.0 y.st.1 m.shape m.stands) g in
     record {
       old = x.st;
       new = y.st;

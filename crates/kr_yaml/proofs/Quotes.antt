@@ -3,9 +3,11 @@ use Rattle.std.proofs.Common.{◌≡◌, ℕ, ◌<◌, ◌≤◌, Bool, true, fa
 use Rattle.std.proofs.lemmas.List.{append_assoc, append-nil}
 use Rattle.std.specs.Prelude.{if◌then◌else◌, ◌==◌, ◌||◌, nat_lt}
 use Rattle.std.specs.Option.{option_map_or}
-use Rattle.kr_yaml.specs.Bytes.{behind, stops, length_until, at_stop, ascii_first}
+use Rattle.kr_yaml.specs.Bytes.{behind}
+use Rattle.kr_yaml.specs.inner.Stops.{stops, length_until, at_stop, ascii_first}
 use Rattle.kr_yaml.specs.declared.bytes.Stop.TheVariants.{SingleQuote, DoubleQuote}
-use Rattle.kr_yaml.specs.Scalars.{with_front, single, single_quote, double, escaped, escape}
+use Rattle.kr_yaml.specs.inner.ScalarReading.{with_front, single, single_quote, double, behind_backslash}
+use Rattle.kr_yaml.specs.Written.{escape}
 
 pub nil_bytes : {X : Type 0} (o : Option (List X × List ℕ)) → with_front [] o ≡ o
 nil_bytes None = refl
@@ -95,8 +97,8 @@ double_at : (b : ℕ) (bs : List ℕ) (v : Bool) → (b == 34 || b == 92) ≡ v 
 double_at b bs true e rest = sym (nil_bytes (double (b ∷ bs)))
 double_at b bs false e rest =
     let both = or_false (b == 34) (b == 92) e in
-    ap (λ v. if v then Some ([], bs) else (if b == 92 then escaped bs else with_front (b ∷ []) (double bs))) both.0
-    ∙ ap (λ v. if v then escaped bs else with_front (b ∷ []) (double bs)) both.1
+    ap (λ v. if v then Some ([], bs) else (if b == 92 then behind_backslash bs else with_front (b ∷ []) (double bs))) both.0
+    ∙ ap (λ v. if v then behind_backslash bs else with_front (b ∷ []) (double bs)) both.1
     ∙ ap (with_front (b ∷ [])) rest
     ∙ sym (join_bytes (b ∷ []) (take (length_until (stops DoubleQuote) bs) bs) (double (drop (length_until (stops DoubleQuote) bs) bs)))
 
@@ -133,7 +135,7 @@ double_ended text w rest piece after more inv pe ae some =
     ∙ ended (w ++ piece) more
 
 double_escape : (text w rest piece after more : List ℕ) → double text ≡ with_front w (double rest) → piece ≡ take (length_until (stops DoubleQuote) rest) rest → after ≡ drop (length_until (stops DoubleQuote) rest) rest
-    → Some more ≡ behind 92 after → double text ≡ with_front (w ++ piece) (escaped more)
+    → Some more ≡ behind 92 after → double text ≡ with_front (w ++ piece) (behind_backslash more)
 double_escape text w rest piece after more inv pe ae some =
     double_step text w rest piece after inv pe ae ∙ ap (λ a. with_front (w ++ piece) (double a)) (behind_cons 92 after more some)
 
@@ -147,11 +149,11 @@ escape_large b h = grind arith
 large : (b : ℕ) (v : Bool) → nat_lt b 128 ≡ v → v ≡ false → 128 ≤ b
 large b v e f = grind arith
 
-no_escape_at : (b : ℕ) (bs : List ℕ) (v : Bool) → nat_lt b 128 ≡ v → None ≡ (if v then found b bs else None) → escaped (b ∷ bs) ≡ None
+no_escape_at : (b : ℕ) (bs : List ℕ) (v : Bool) → nat_lt b 128 ≡ v → None ≡ (if v then found b bs else None) → behind_backslash (b ∷ bs) ≡ None
 no_escape_at b bs true e h = cc
 no_escape_at b bs false e h = ap (λ o. option_map_or (λ c. with_front (c ∷ []) (double bs)) o None) (escape_large b (large b false e refl))
 
-no_escape : (more : List ℕ) → None ≡ ascii_first more → escaped more ≡ None
+no_escape : (more : List ℕ) → None ≡ ascii_first more → behind_backslash more ≡ None
 no_escape [] h = refl
 no_escape (b ∷ bs) h = no_escape_at b bs (nat_lt b 128) refl h
 
@@ -174,13 +176,13 @@ pub double_unknown : (text w rest piece after more next : List ℕ) (b : ℕ) �
     → Some more ≡ behind 92 after → found b next ≡ ascii_first more → None ≡ escape b → double text ≡ None
 double_unknown text w rest piece after more next b inv pe ae some first none =
     double_escape text w rest piece after more inv pe ae some
-    ∙ ap (λ a. with_front (w ++ piece) (escaped a)) (first_cons b more next first)
+    ∙ ap (λ a. with_front (w ++ piece) (behind_backslash a)) (first_cons b more next first)
     ∙ ap (λ o. with_front (w ++ piece) (option_map_or (λ c. with_front (c ∷ []) (double next)) o None)) (sym none)
 
 pub double_goes_on : (text w rest piece after more next : List ℕ) (b c : ℕ) → double text ≡ with_front w (double rest) → piece ≡ take (length_until (stops DoubleQuote) rest) rest → after ≡ drop (length_until (stops DoubleQuote) rest) rest
     → Some more ≡ behind 92 after → found b next ≡ ascii_first more → Some c ≡ escape b → double text ≡ with_front ((w ++ piece) ++ (c ∷ [])) (double next)
 double_goes_on text w rest piece after more next b c inv pe ae some first meant =
     double_escape text w rest piece after more inv pe ae some
-    ∙ ap (λ a. with_front (w ++ piece) (escaped a)) (first_cons b more next first)
+    ∙ ap (λ a. with_front (w ++ piece) (behind_backslash a)) (first_cons b more next first)
     ∙ ap (λ o. with_front (w ++ piece) (option_map_or (λ c. with_front (c ∷ []) (double next)) o None)) (sym meant)
     ∙ sym (join_bytes (w ++ piece) (c ∷ []) (double next))

@@ -5,7 +5,7 @@ use Rattle.std.proofs.lemmas.List.{append_assoc}
 use Rattle.kr_yaml.specs.Data.{Data, list, mapping, items_of, members_of}
 use Rattle.kr_yaml.specs.Lines.{Token, dash, pair}
 use Rattle.kr_yaml.specs.Forms.{Shape, IsNode, no_tokens, one_leaf, one_list, one_mapping, AreItems, no_items, one_more_item, AreMembers, no_members, one_more_member, IsValue, on_line, to_the_right, list_below}
-use Rattle.kr_yaml.specs.Open.{Frame, items, members, State, column_of, is_dash_at, is_inside, closed, next, under, put, run}
+use Rattle.kr_yaml.specs.inner.Open.{Frame, items, members, State, column_of, is_dash_at, is_inside, closed_value, next, under, put, run}
 
 append_at : (xs ys : List Token) (o : Option State) → ((st : State) → run (xs ++ ys) st ≡ option_and_then (run ys) (run xs st)) → option_and_then (run (xs ++ ys)) o ≡ option_and_then (run ys) (option_and_then (run xs) o)
 append_at xs ys None h = refl
@@ -27,7 +27,7 @@ under_at f ts (Some st) h = h st
 pub run_under : (f : Frame) (ts : List Token) → AllInside f ts → (st : State) → run ts (f ∷ st.0, st.1) ≡ under f (run ts st)
 run_under f [] h st = refl
 run_under f (t ∷ ts) h st =
-    ap (λ v. option_and_then (run ts) (if v then under f (put t st.0 st.1) else next t f (closed st.0 st.1))) h.0
+    ap (λ v. option_and_then (run ts) (if v then under f (put t st.0 st.1) else next t f (closed_value st.0 st.1))) h.0
     ∙ under_at f ts (put t st.0 st.1) (run_under f ts h.1)
 
 -- each token stands at this column or further to the right
@@ -107,7 +107,7 @@ start = ([], None)
 pub record Ran (ts : List Token) (o : Option Data) (d : Data) : Type 0 where
   pub st : State
   pub runs : run ts ([], o) ≡ Some st
-  pub closes : closed st.0 st.1 ≡ d
+  pub closes : closed_value st.0 st.1 ≡ d
 
 record ItemsRan (c : ℕ) (ts : List Token) (ds : List Data) : Type 0 where
   more : run (ts ++ dash c ∷ []) start ≡ Some (items c ds ∷ [], None)
@@ -131,8 +131,8 @@ items_step c us ws ds d before above rest =
     let whole = joined us (dash c) ws (items c ds) None rest.st before.more (inside_items c ds ws above) rest.runs in
     record {
       more = run_append (us ++ dash c ∷ ws) (dash c ∷ []) start ∙ ap (option_and_then (run (dash c ∷ []))) whole
-          ∙ ap (λ v. option_and_then (run []) (if v then under (items c ds) (put (dash c) rest.st.0 rest.st.1) else (if c == c then Some (items c (ds ++ closed rest.st.0 rest.st.1 ∷ []) ∷ [], None) else None))) (not_right c)
-          ∙ ap (λ v. option_and_then (run []) (if v then Some (items c (ds ++ closed rest.st.0 rest.st.1 ∷ []) ∷ [], None) else None)) (at_itself c)
+          ∙ ap (λ v. option_and_then (run []) (if v then under (items c ds) (put (dash c) rest.st.0 rest.st.1) else (if c == c then Some (items c (ds ++ closed_value rest.st.0 rest.st.1 ∷ []) ∷ [], None) else None))) (not_right c)
+          ∙ ap (λ v. option_and_then (run []) (if v then Some (items c (ds ++ closed_value rest.st.0 rest.st.1 ∷ []) ∷ [], None) else None)) (at_itself c)
           ∙ ap (λ e. Some (items c (ds ++ e ∷ []) ∷ [], None)) rest.closes;
       whole = λ h. record { st = (items c ds ∷ rest.st.0, rest.st.1); runs = whole; closes = ap (λ e. list (items_of (ds ++ e ∷ []))) rest.closes };
     }
@@ -142,8 +142,8 @@ members_step c us ws ms l o d before inside rest =
     let whole = joined us (pair c l o) ws (members c ms l) o rest.st (before.more l o) inside rest.runs in
     record {
       more = λ k v. run_append (us ++ pair c l o ∷ ws) (pair c k v ∷ []) start ∙ ap (option_and_then (run (pair c k v ∷ []))) whole
-          ∙ ap (λ x. option_and_then (run []) (if x || false then under (members c ms l) (put (pair c k v) rest.st.0 rest.st.1) else (if c == c then Some (members c (ms ++ (l, closed rest.st.0 rest.st.1) ∷ []) k ∷ [], v) else None))) (not_right c)
-          ∙ ap (λ x. option_and_then (run []) (if x then Some (members c (ms ++ (l, closed rest.st.0 rest.st.1) ∷ []) k ∷ [], v) else None)) (at_itself c)
+          ∙ ap (λ x. option_and_then (run []) (if x || false then under (members c ms l) (put (pair c k v) rest.st.0 rest.st.1) else (if c == c then Some (members c (ms ++ (l, closed_value rest.st.0 rest.st.1) ∷ []) k ∷ [], v) else None))) (not_right c)
+          ∙ ap (λ x. option_and_then (run []) (if x then Some (members c (ms ++ (l, closed_value rest.st.0 rest.st.1) ∷ []) k ∷ [], v) else None)) (at_itself c)
           ∙ ap (λ e. Some (members c (ms ++ (l, e) ∷ []) k ∷ [], v)) rest.closes;
       whole = λ h. record { st = (members c ms l ∷ rest.st.0, rest.st.1); runs = whole; closes = ap (λ e. mapping (members_of (ms ++ (l, e) ∷ []))) rest.closes };
     }
@@ -173,4 +173,4 @@ one_tree ts d e s t f g =
     let x = node_ran 0 ts d s f in
     let y = node_ran 0 ts e t g in
     let same : x.st ≡ y.st = ap (λ o. unwrap_or o x.st) (sym x.runs ∙ y.runs) in
-    sym x.closes ∙ ap (λ st. closed st.0 st.1) same ∙ y.closes
+    sym x.closes ∙ ap (λ st. closed_value st.0 st.1) same ∙ y.closes

@@ -4,8 +4,8 @@ use Rattle.std.specs.Prelude.{nat_lt}
 use Rattle.std.proofs.lemmas.List.{append_assoc, append-nil}
 use Rattle.kr_yaml.specs.Lines.{Token}
 use Rattle.kr_yaml.specs.Forms.{Shape, flat}
-use Rattle.kr_yaml.specs.Open.{State, put, doubles, run, closed}
-use Rattle.kr_yaml.specs.Standing.{Stands, empty}
+use Rattle.kr_yaml.specs.inner.Open.{State, put, doubles, run, closed_value}
+use Rattle.kr_yaml.specs.inner.Standing.{Stands, empty}
 use Rattle.kr_yaml.specs.Reads.{plain, Makes, FormNone, FormTwice, FormDeep, Breaks, IsFirst, Refuses}
 use Rattle.kr_yaml.specs.Laws.{Answered, SomeAnswer}
 use Rattle.kr_yaml.specs.declared.yaml_no.YamlNo.{YamlNo}
@@ -28,11 +28,11 @@ record Broke (us : List (ℕ × Token)) : Type 0 where
   why : YamlNo
   first : IsFirst us why
 
-makes : (us : List (ℕ × Token)) (g : Stood us) → Makes (plain us) (closed g.st.0 g.st.1)
+makes : (us : List (ℕ × Token)) (g : Stood us) → Makes (plain us) (closed_value g.st.0 g.st.1)
 makes us g = record { shape = g.shape; forms = stands_node 0 (plain us) g.st.0 g.st.1 g.shape g.stands; levels = g.levels; once = g.once }
 
 breaks : (us : List (ℕ × Token)) (n : ℕ) (t : Token) (P : List Token → Type 0) → Stood us → P (plain us ++ t ∷ []) → Breaks (us ++ (n, t) ∷ []) n P
-breaks us n t P g h = record { before = us; token = t; after = []; split = refl; tree = closed g.st.0 g.st.1; makes = makes us g; breach = h }
+breaks us n t P g h = record { before = us; token = t; after = []; split = refl; tree = closed_value g.st.0 g.st.1; makes = makes us g; breach = h }
 
 more_levels : (n : ℕ) → nat_lt 16 n ≡ true → 16 < n
 more_levels n h = grind arith
@@ -44,7 +44,7 @@ single : (us : List (ℕ × Token)) (n : ℕ) (t : Token) (g : Stood us) (new : 
     → Stood (us ++ (n, t) ∷ []) ⊎ Broke (us ++ (n, t) ∷ [])
 single us n t g new e m once true deep few = inr (record {
   why = Deep n;
-  first = breaks us n t FormDeep g (closed new.0 new.1, m.shape, stands_node 0 (plain us ++ t ∷ []) new.0 new.1 m.shape m.stands, deep refl);
+  first = breaks us n t FormDeep g (closed_value new.0 new.1, m.shape, stands_node 0 (plain us ++ t ∷ []) new.0 new.1 m.shape m.stands, deep refl);
 })
 single us n t g new e m once false deep few = inl (record {
   st = new;
@@ -58,7 +58,7 @@ single us n t g new e m once false deep few = inl (record {
 grown : (us : List (ℕ × Token)) (n : ℕ) (t : Token) (g : Stood us) (new : State) → put t g.st.0 g.st.1 ≡ Some new → (m : Grows 0 (plain us) t (doubles t g.st.0) g.shape new) → (v : Bool) → m.shape.twice ≡ v → Stood (us ++ (n, t) ∷ []) ⊎ Broke (us ++ (n, t) ∷ [])
 grown us n t g new e m true twice = inr (record {
   why = DuplicateKey n;
-  first = breaks us n t FormTwice g (closed new.0 new.1, m.shape, stands_node 0 (plain us ++ t ∷ []) new.0 new.1 m.shape m.stands, twice);
+  first = breaks us n t FormTwice g (closed_value new.0 new.1, m.shape, stands_node 0 (plain us ++ t ∷ []) new.0 new.1 m.shape m.stands, twice);
 })
 grown us n t g new e m false once = single us n t g new e m once (nat_lt 16 m.shape.levels) (more_levels m.shape.levels) (few_levels m.shape.levels)
 
@@ -90,7 +90,7 @@ refuses us (Deep n) h = (h, λ e. cc)
 refuses us NoMemory h = absurd h
 
 answered : (us : List (ℕ × Token)) → Reached us → Answered (Ok us)
-answered us (inl g) = inl (closed g.st.0 g.st.1, makes us g)
+answered us (inl g) = inl (closed_value g.st.0 g.st.1, makes us g)
 answered us (inr b) = let r = refuses us b.why b.first in inr (b.why, r.0, r.1)
 
 pub some_answer : SomeAnswer

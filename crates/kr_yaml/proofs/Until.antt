@@ -2,7 +2,7 @@
 use Rattle.std.proofs.Common.{◌≡◌, ℕ, ◌+◌, ◌-◌, ◌<◌, ◌≤◌, Bool, true, false, List, [], ◌∷◌, length, drop, take, get_or, refl, sym, ap, ◌∙◌, arith, suc, add-one, drop-cons}
 use Rattle.std.specs.Prelude.{if◌then◌else◌}
 use Rattle.std.proofs.lemmas.List.{drop_all, take_all, length-drop}
-use Rattle.kr_yaml.specs.Bytes.{stops, length_until, at_stop}
+use Rattle.kr_yaml.specs.inner.Stops.{stops, length_until, at_stop}
 use Rattle.kr_yaml.specs.declared.bytes.Stop.{Stop}
 use Rattle.kr_yaml.specs.declared.bytes.Stop.TheVariants.{Colon, Comment, KeyEnd, FlowSign, SingleQuote, DoubleQuote}
 

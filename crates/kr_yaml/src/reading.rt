@@ -1,11 +1,15 @@
 //! Reading a text.
 ghost use Rattle.std.specs.Prelude.{◌≡◌, ◌<◌, ◌&&◌, true, IfOk, IfErr};
 ghost use Rattle.std.specs.Str.Lines.{lines};
-ghost use Rattle.kr_yaml.specs.Seen.{token_view, token_views, list_tokens};
-ghost use Rattle.kr_yaml.specs.Gives.{Gives};
+ghost use Rattle.kr_yaml.specs.inner.Seen.{token_view, token_views, list_tokens};
+ghost use Rattle.kr_yaml.specs.inner.Gives.{Gives};
 ghost use Rattle.std.specs.Option.{option_map};
-ghost use Rattle.kr_yaml.specs.Texts.{behind_three, marks, begins_blank, goes_on, marks_more, is_foreign, line_tokens, is_empty, tokens_from, text_tokens};
-ghost use Rattle.kr_yaml.specs.Progress.{Moves, Extends, ReadsLines};
+ghost use Rattle.kr_yaml.specs.Bytes.{behind_three};
+ghost use Rattle.kr_yaml.specs.inner.TextReading.{marks, begins_blank, goes_on, marks_more, is_foreign, line_tokens};
+ghost use Rattle.kr_yaml.specs.Bytes.{is_empty};
+ghost use Rattle.kr_yaml.specs.inner.TextReading.{tokens_from};
+ghost use Rattle.kr_yaml.specs.Texts.{text_tokens};
+ghost use Rattle.kr_yaml.specs.inner.Progress.{Moves, Extends, ReadsLines};
 ghost use Rattle.kr_yaml.specs.Reads.{Reads, OnlyTree, NoTree};
 ghost use Rattle.kr_yaml.specs.Shown.{view};
 
@@ -181,9 +185,10 @@ fn read_lines(alloc: Global, text: &str) -> Result<Progress, YamlNo>
     Ok(progress)
 }
 
-/// Reads a text of the profile. The first line that isn't of it is looked for in all lines; then the first breach of the
-/// tokens decides. Where it refuses, but for want of memory, there is no tree. It takes time in proportion to the text, and
-/// finds a doubled key by a sorted set.
+/// Reads a text of the profile. The first line that isn't of it is looked for in all lines; then
+/// the first breach of the tokens decides. Where it refuses, but for want of memory, there is no
+/// tree. It takes time in proportion to the text, and finds a key that stands twice by a sorted
+/// set.
 #[tactic(auto, unfolding(crate::specs::Texts::text_tokens))]
 pub fn read(alloc: Global, text: &str) -> Result<Tree, YamlNo>
     ensures reads { Reads (text_tokens text.now) result }

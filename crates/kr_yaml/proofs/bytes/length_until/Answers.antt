@@ -1,5 +1,5 @@
 use Rattle.std.proofs.Common.{arith, sym, ap, ◌∙◌}
-use Rattle.kr_yaml.specs.Bytes.{stops}
+use Rattle.kr_yaml.specs.inner.Stops.{stops}
 use Rattle.kr_yaml.proofs.Until.{until_more, tail_is}
 use Rattle.kr_yaml.proofs.bytes.length_until.Goals as goal
 

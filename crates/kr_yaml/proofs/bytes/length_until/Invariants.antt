@@ -1,5 +1,5 @@
 use Rattle.std.proofs.Common.{◌≡◌, ◌+◌, drop}
-use Rattle.kr_yaml.specs.Bytes.{stops, length_until}
+use Rattle.kr_yaml.specs.inner.Stops.{stops, length_until}
 use Rattle.kr_yaml.proofs.bytes.length_until.Given as goal
 
 abbrev pub invariant-loop-index : goal.invariant-loop-index

@@ -1,5 +1,6 @@
-use Rattle.kr_yaml.proofs.AsWritten.{as_written}
+-- The tokens of each line are those that it has.
+use Rattle.kr_yaml.proofs.LineRead.{read_as_written}
 use Rattle.kr_yaml.proofs.laws.read_as_written.Goals as goal
 
 pub returns : goal.returns
-returns c = as_written
+returns c = read_as_written

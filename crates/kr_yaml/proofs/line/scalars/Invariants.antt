@@ -1,8 +1,8 @@
 use Rattle.std.proofs.Common.{◌≡◌, ◌-◌, length}
 use denote.Text.{Utf8}
 use denote.Shadow.{shadow}
-use Rattle.kr_yaml.specs.Scalars.{with_front}
-use Rattle.kr_yaml.specs.Lines.{scalars}
+use Rattle.kr_yaml.specs.inner.ScalarReading.{with_front}
+use Rattle.kr_yaml.specs.inner.LineReading.{scalars}
 use Rattle.kr_yaml.specs.Shown.{views}
 use Rattle.kr_yaml.proofs.line.scalars.Given as goal
 

@@ -1,7 +1,7 @@
 use Rattle.std.proofs.Common.{◌≡◌, ◌+◌, drop}
-use Rattle.kr_yaml.specs.Seen.{token_view}
-use Rattle.kr_yaml.specs.Open.{place}
-use Rattle.kr_yaml.specs.Frames.{frame_views}
+use Rattle.kr_yaml.specs.inner.Seen.{token_view}
+use Rattle.kr_yaml.specs.inner.Open.{place}
+use Rattle.kr_yaml.specs.inner.Frames.{frame_views}
 use Rattle.kr_yaml.proofs.open.place.Given as goal
 
 abbrev pub invariant-loop-index : goal.invariant-loop-index

@@ -1,9 +1,9 @@
 use Rattle.std.proofs.Common.{ap, ◌∙◌}
 use Rattle.std.specs.Option.{option_map}
 use Rattle.kr_yaml.specs.Shown.{view, member_views}
-use Rattle.kr_yaml.specs.Seen.{token_view}
+use Rattle.kr_yaml.specs.inner.Seen.{token_view}
 use Rattle.kr_yaml.specs.Lines.{pair}
-use Rattle.kr_yaml.specs.Frames.{frame_view, mapping_frame}
+use Rattle.kr_yaml.specs.inner.Frames.{frame_view, mapping_frame}
 use Rattle.kr_yaml.proofs.Putting.{added, goes}
 use Rattle.kr_yaml.proofs.put.go_on.Goals as goal
 

@@ -2,8 +2,8 @@ use Rattle.std.proofs.Common.{◌∷◌, [], length, Some, sym, ap, ◌∙◌, a
 use Rattle.std.specs.Option.{option_map}
 use Rattle.std.proofs.lemmas.List.{length-append}
 use Rattle.kr_yaml.specs.Shown.{view}
-use Rattle.kr_yaml.specs.Seen.{token_view}
-use Rattle.kr_yaml.specs.Frames.{state_view}
+use Rattle.kr_yaml.specs.inner.Seen.{token_view}
+use Rattle.kr_yaml.specs.inner.Frames.{state_view}
 use Rattle.kr_yaml.proofs.Putting.{next_node, next_refused, next_put}
 use Rattle.kr_yaml.proofs.put.put_at.Goals as goal
 

@@ -3,7 +3,7 @@ use Rattle.std.specs.Str.Lines.{lines}
 use Rattle.std.proofs.lemmas.List.{length-append}
 use Rattle.std.proofs.lemmas.Iterator.Consumers.{YieldsList-turn, YieldsList-end}
 use Rattle.std.proofs.lemmas.Iterator.Splits.{YieldsList-from_lines}
-use Rattle.kr_yaml.specs.Seen.{list_tokens}
+use Rattle.kr_yaml.specs.inner.Seen.{list_tokens}
 use Rattle.kr_yaml.proofs.Following.{reading_more, reading_stops, reading_ends}
 use Rattle.kr_yaml.proofs.reading.read_lines.Goals as goal
 

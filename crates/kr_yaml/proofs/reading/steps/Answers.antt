@@ -1,8 +1,8 @@
 use Rattle.std.proofs.Common.{sym, ◌∙◌, subst, arith}
 use Rattle.std.proofs.lemmas.Iterator.Consumers.{YieldsList-end}
 use Rattle.std.proofs.lemmas.Iterator.Adapters.{YieldsList-from_vec}
-use Rattle.kr_yaml.specs.Seen.{token_view, token_views}
-use Rattle.kr_yaml.specs.Progress.{Extends}
+use Rattle.kr_yaml.specs.inner.Seen.{token_view, token_views}
+use Rattle.kr_yaml.specs.inner.Progress.{Extends}
 use Rattle.kr_yaml.proofs.Heads.{token_push}
 use Rattle.kr_yaml.proofs.Following.{extends_more, same_items}
 use Rattle.kr_yaml.proofs.reading.steps.Goals as goal

@@ -2,7 +2,7 @@ use Rattle.std.proofs.Common.{◌≡◌, length}
 use denote.Text.{Utf8}
 use denote.Shadow.{shadow}
 use Rattle.std.specs.String.{string_bytes}
-use Rattle.kr_yaml.specs.Scalars.{double, with_front}
+use Rattle.kr_yaml.specs.inner.ScalarReading.{double, with_front}
 use Rattle.kr_yaml.proofs.scalar.double.Given as goal
 
 abbrev pub invariant-pieces : goal.invariant-pieces
