@@ -34,7 +34,8 @@ TellsText text printed =
 -- of a document, which may not be a text
 abbrev pub TellsDocument : List ℕ → List ℕ → Type 0
 TellsDocument document printed =
-    (IsUtf8 document × TellsText document printed) ⊎ ((¬ IsUtf8 document) × (printed ≡ codes "NotUtf8"))
+    (IsUtf8 document × TellsText document printed)
+    ⊎ ((¬ IsUtf8 document) × (printed ≡ codes "NotUtf8"))
 
 -- the document of a line: a dash alone stands for the empty one, and hex for any other
 abbrev pub document_of : List ℕ → Option (List ℕ)

@@ -21,7 +21,8 @@ use Rattle.kr_yaml.proofs.Quotes.{behind_cons}
 use Rattle.kr_yaml.proofs.Spaces.{clash, NoSpaceFront, skip_spaces, skip_is, skip_front}
 use Rattle.kr_yaml.proofs.Spaces.{tail_closes, tail_opens, closes_tail, over_closes, closes_over}
 use Rattle.kr_yaml.proofs.ScalarRead.{Start, key_start, scalar_start, start_behind, other_first}
-use Rattle.kr_yaml.proofs.ScalarRead.{found, line_value, line_key, IsRead, value_is_read, key_is_read}
+use Rattle.kr_yaml.proofs.ScalarRead.{found, line_value, line_key, IsRead, value_is_read}
+use Rattle.kr_yaml.proofs.ScalarRead.{key_is_read}
 use Rattle.kr_yaml.proofs.FlowRead.{FlowSplit, found_list, no_part, parts, flow_is, flow_makes}
 
 -- a scalar or a flow value, and its tail
@@ -70,7 +71,14 @@ mapping_end : (r rest : List ℕ) (d : Data) (v : Bool) → r ≡ 125 ∷ rest �
     → (if v then Some (mapping (members_of [])) else None) ≡ Some d → Leaf (123 ∷ r) d
 mapping_end r rest d true e c h =
     subst (Leaf (123 ∷ r)) (some_same (mapping (members_of [])) d h)
-    (record { bytes = 123 ∷ (125 ∷ []); tail = rest; whole = ap (λ l. 123 ∷ l) e; leaf = empty_mapping; behind = closes_tail rest c })
+    (record {
+      bytes = 123 ∷ (125 ∷ []);
+      tail = rest;
+      whole = ap (λ l. 123 ∷ l) e;
+      leaf =
+          empty_mapping;
+      behind = closes_tail rest c;
+    })
 mapping_end r rest d false e c h = absurd cc
 
 abbrev empty_with : List ℕ → Data × List ℕ
@@ -141,7 +149,8 @@ leaf_content c bs d t n l e =
       bytes = l.bytes;
       tail = l.tail;
       whole = l.whole;
-      content = value c d l.bytes l.leaf (λ k. clash (sym (tail_opens l.tail l.behind) ∙ n l.tail (l.whole ∙ ap (λ m. m ++ l.tail) k)));
+      content = value c d l.bytes l.leaf (λ k. clash (sym (tail_opens l.tail l.behind)
+          ∙ n l.tail (l.whole ∙ ap (λ m. m ++ l.tail) k)));
       behind = l.behind;
     })
 
@@ -236,10 +245,12 @@ colon_by c bs x t (Some r) f e k h =
 
 scalar_content : (c : ℕ) (bs : List ℕ) (x : Scalar × List ℕ) (t : Token) (v : Bool)
     → NoSpaceFront bs → NoItem bs → scalar_at Line bs ≡ found x.0 x.1 → closes x.1 ≡ v
-    → (if v then Some (leaf c (data_of x.0)) else option_map_or (λ rest. key_at c x.0 rest) (behind 58 x.1) None)
+    → (if v then Some (leaf c (data_of x.0)) else option_map_or (λ rest. key_at c x.0 rest)
+    (behind 58 x.1) None)
     ≡ Some t → Content c bs t
 scalar_content c bs x t true f n e k h =
-    leaf_content c bs (data_of x.0) t n (scalar_leaf bs x.0 x.1 f e k) (some_same (leaf c (data_of x.0)) t h)
+    leaf_content c bs (data_of x.0) t n (scalar_leaf bs x.0 x.1 f e k)
+    (some_same (leaf c (data_of x.0)) t h)
 scalar_content c bs x t false f n e k h = colon_by c bs x t (behind 58 x.1) f e refl h
 
 content_by : (c : ℕ) (bs : List ℕ) (t : Token) (o p : Option (List ℕ))
@@ -249,9 +260,11 @@ content_by : (c : ℕ) (bs : List ℕ) (t : Token) (o p : Option (List ℕ))
     (option_map_or (λ rest. option_map (leaf c) (mapping_alone rest)) p
     (option_map_or (scalar_or_key c) q None)) ≡ Some t → Content c bs t
 content_by c bs t (Some r) p q f n e g k h =
-    leaf_content_by c bs t (list_alone r) n (λ d l. subst (λ m. Leaf m d) (sym (behind_cons 91 bs r e)) (list_read r d l)) h
+    leaf_content_by c bs t (list_alone r) n (λ d l. subst (λ m. Leaf m d)
+    (sym (behind_cons 91 bs r e)) (list_read r d l)) h
 content_by c bs t None (Some r) q f n e g k h =
-    leaf_content_by c bs t (mapping_alone r) n (λ d l. subst (λ m. Leaf m d) (sym (behind_cons 123 bs r g)) (mapping_read r d l)) h
+    leaf_content_by c bs t (mapping_alone r) n (λ d l. subst (λ m. Leaf m d)
+    (sym (behind_cons 123 bs r g)) (mapping_read r d l)) h
 content_by c bs t None None (Some x) f n e g k h = scalar_content c bs x t (closes x.1) f n k refl h
 content_by c bs t None None None f n e g k h = absurd cc
 
@@ -266,7 +279,8 @@ content_read c bs t f n h =
 list_makes : (bs tail : List ℕ) (d : Data) → read_list bs ≡ found_list d tail → IsTail tail
     → list_alone bs ≡ Some d
 list_makes bs tail d e t =
-    ap (λ o. option_map_or alone o None) e ∙ ap (λ v. if v then Some d else None) (tail_closes tail t)
+    ap (λ o. option_map_or alone o None) e
+    ∙ ap (λ v. if v then Some d else None) (tail_closes tail t)
 
 empty_list_makes : (tail : List ℕ) → read_list (93 ∷ tail) ≡ found_list (list (items_of [])) tail
 unfolding read_list
@@ -277,17 +291,24 @@ leaf_makes : (tail : List ℕ) → IsTail tail → (d : Data) (bytes : List ℕ)
 unfolding leaf_at
 leaf_makes tail t d bytes (scalar e bs s) = by (value_is_read tail t e bs s) (scalar_start e bs s)
   where
-    by : (rest : List ℕ) × IsRead Line e (bs ++ tail) rest × (closes rest ≡ true) → Start bs → leaf_at (bs ++ tail) ≡ Some e
+    by : (rest : List ℕ) × IsRead Line e (bs ++ tail) rest × (closes rest ≡ true) → Start bs
+        → leaf_at (bs ++ tail) ≡ Some e
     by v st =
-        ap (λ o. option_map_or list_alone o (option_map_or mapping_alone (behind 123 (bs ++ tail)) (option_map_or scalar_alone (scalar_at Line (bs ++ tail)) None))) (start_behind 91 bs tail st st.no_list)
-        ∙ ap (λ o. option_map_or mapping_alone o (option_map_or scalar_alone (scalar_at Line (bs ++ tail)) None)) (start_behind 123 bs tail st st.no_mapping)
+        ap (λ o. option_map_or list_alone o (option_map_or mapping_alone (behind 123 (bs ++ tail))
+        (option_map_or scalar_alone (scalar_at Line (bs ++ tail)) None)))
+        (start_behind 91 bs tail st st.no_list)
+        ∙ ap (λ o. option_map_or mapping_alone o (option_map_or scalar_alone
+        (scalar_at Line (bs ++ tail)) None)) (start_behind 123 bs tail st st.no_mapping)
         ∙ ap (λ o. option_map_or scalar_alone o None) v.1.reads
         ∙ ap (λ w. if w then Some (data_of v.1.scalar) else None) v.2
         ∙ ap (λ y. Some y) v.1.says
-leaf_makes tail t d bytes empty_list = list_makes (93 ∷ tail) tail (list (items_of [])) (empty_list_makes tail) t
+leaf_makes tail t d bytes empty_list = list_makes (93 ∷ tail) tail (list (items_of []))
+    (empty_list_makes tail) t
 leaf_makes tail t d bytes (flow_list ds bs p) =
-    ap list_alone (append_assoc bs (93 ∷ []) tail) ∙ list_makes (bs ++ 93 ∷ tail) tail (list (items_of ds)) (flow_makes ds bs tail p) t
-leaf_makes tail t d bytes empty_mapping = ap (λ v. if v then Some (mapping (members_of [])) else None) (tail_closes tail t)
+    ap list_alone (append_assoc bs (93 ∷ []) tail)
+    ∙ list_makes (bs ++ 93 ∷ tail) tail (list (items_of ds)) (flow_makes ds bs tail p) t
+leaf_makes tail t d bytes empty_mapping =
+    ap (λ v. if v then Some (mapping (members_of [])) else None) (tail_closes tail t)
 
 -- the same as a content
 
@@ -309,7 +330,8 @@ same_leaf : (c : ℕ) (d : Data) (o p : Option (List ℕ)) (q : Option (Scalar �
     ≡ Some d → leaf_or_key c o p q ≡ Some (leaf c d)
 same_leaf c d (Some r) p q h = ap (option_map (leaf c)) h
 same_leaf c d None (Some r) q h = ap (option_map (leaf c)) h
-same_leaf c d None None (Some x) h = same_end c x d (closes x.1) (option_map_or (λ rest. key_at c x.0 rest) (behind 58 x.1) None) h
+same_leaf c d None None (Some x) h = same_end c x d (closes x.1)
+    (option_map_or (λ rest. key_at c x.0 rest) (behind 58 x.1) None) h
 same_leaf c d None None None h = absurd cc
 
 content_of_leaf : (c : ℕ) (bs : List ℕ) (d : Data) → leaf_at bs ≡ Some d
@@ -342,8 +364,10 @@ key_makes c key bytes r v k o h =
     let s = key_start key bytes k in
     let x = key_is_read r o key bytes k in
     let bs = bytes ++ 58 ∷ r in
-    ap (λ y. leaf_or_key c y (behind 123 bs) (scalar_at Line bs)) (start_behind 91 bytes (58 ∷ r) s s.no_list)
-    ∙ ap (λ y. leaf_or_key c None y (scalar_at Line bs)) (start_behind 123 bytes (58 ∷ r) s s.no_mapping)
+    ap (λ y. leaf_or_key c y (behind 123 bs) (scalar_at Line bs)) (start_behind 91 bytes (58 ∷ r) s
+    s.no_list)
+    ∙ ap (λ y. leaf_or_key c None y (scalar_at Line bs)) (start_behind 123 bytes (58 ∷ r) s
+    s.no_mapping)
     ∙ ap (λ y. leaf_or_key c None None y) x.reads
     ∙ ap (λ w. if w then None else member_at c x.scalar.text r) x.no_merge
     ∙ ap (λ w. if w then option_map (λ y. pair c x.scalar.text y) (value_at r) else None) o
@@ -365,13 +389,46 @@ pub record LeafStart (bytes : List ℕ) : Type 0 where
   pub no_item : (rest : List ℕ) → bytes ≢ 45 ∷ (32 ∷ rest)
 
 leaf_begins : (bytes : List ℕ) → Start bytes → LeafStart bytes
-leaf_begins bytes s = record { first = s.first; more = s.more; begins = s.begins; no_space = s.no_space; no_hash = s.no_hash; no_item = s.no_item }
+leaf_begins bytes s = record {
+  first = s.first;
+  more = s.more;
+  begins = s.begins;
+  no_space =
+      s.no_space;
+  no_hash = s.no_hash;
+  no_item = s.no_item;
+}
 
 pub leaf_start : (d : Data) (bytes : List ℕ) → IsLeaf d bytes → LeafStart bytes
 leaf_start d bytes (scalar e bs s) = leaf_begins bs (scalar_start e bs s)
-leaf_start d bytes empty_list = record { first = 91; more = 93 ∷ []; begins = refl; no_space = refl; no_hash = refl; no_item = λ rest. other_first 91 (93 ∷ []) (32 ∷ rest) refl }
-leaf_start d bytes (flow_list ds bs p) = record { first = 91; more = bs ++ 93 ∷ []; begins = refl; no_space = refl; no_hash = refl; no_item = λ rest. other_first 91 (bs ++ 93 ∷ []) (32 ∷ rest) refl }
-leaf_start d bytes empty_mapping = record { first = 123; more = 125 ∷ []; begins = refl; no_space = refl; no_hash = refl; no_item = λ rest. other_first 123 (125 ∷ []) (32 ∷ rest) refl }
+leaf_start d bytes empty_list = record {
+  first = 91;
+  more = 93 ∷ [];
+  begins = refl;
+  no_space =
+      refl;
+  no_hash = refl;
+  no_item = λ rest. other_first 91 (93 ∷ []) (32 ∷ rest) refl;
+}
+leaf_start d bytes (flow_list ds bs p) = record {
+  first = 91;
+  more = bs ++ 93 ∷ [];
+  begins =
+      refl;
+  no_space = refl;
+  no_hash = refl;
+  no_item = λ rest. other_first 91 (bs ++ 93 ∷ [])
+      (32 ∷ rest) refl;
+}
+leaf_start d bytes empty_mapping = record {
+  first = 123;
+  more = 125 ∷ [];
+  begins = refl;
+  no_space =
+      refl;
+  no_hash = refl;
+  no_item = λ rest. other_first 123 (125 ∷ []) (32 ∷ rest) refl;
+}
 
 skip_leaf : (bytes rest : List ℕ) → LeafStart bytes → skip (bytes ++ rest) ≡ bytes ++ rest
 skip_leaf bytes rest s =

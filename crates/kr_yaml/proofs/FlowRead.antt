@@ -38,17 +38,23 @@ four a b c d e =
 some_pair : (x y : Found) → Some x ≡ Some y → x ≡ y
 some_pair x y h = ap (λ o. option_map_or (λ z. z) o x) h
 
-record Fronted (front : List Data) (o : Option Found) (ds : List Data) (rest : List ℕ) : Type 0 where
-  inner : List Data
-  reads : o ≡ found inner rest
-  whole : front ++ inner ≡ ds
+record Fronted (front : List Data) (o : Option Found) (ds : List Data) (rest : List ℕ) : Type 0
+  where
+    inner : List Data
+    reads : o ≡ found inner rest
+    whole : front ++ inner ≡ ds
 
 fronted : (front : List Data) (o : Option Found) (ds : List Data) (rest : List ℕ)
     → with_front front o ≡ found ds rest → Fronted front o ds rest
 fronted front None ds rest h = absurd cc
 fronted front (Some x) ds rest h =
     let e = some_pair (front ++ x.0, x.1) (ds, rest) h in
-    record { inner = x.0; reads = ap (λ (p : Found). found x.0 p.1) e; whole = ap (λ (p : Found). p.0) e }
+    record {
+      inner = x.0;
+      reads = ap (λ (p : Found). found x.0 p.1) e;
+      whole =
+          ap (λ (p : Found). p.0) e;
+    }
 
 -- scalars and the closing bracket
 pub record Listed (bs : List ℕ) (ds : List Data) (rest : List ℕ) : Type 0 where
@@ -158,12 +164,14 @@ flow_by : (bs : List ℕ) (d : Data) (rest : List ℕ) (o : Option (List ℕ)) (
 flow_by bs d rest (Some more) p e f h =
     let same = some_list (list (items_of []), more) (d, rest) h in
     subst (λ (x : FoundList). FlowSplit bs x.0 x.1) same
-    (subst (λ l. FlowSplit l (list (items_of [])) more) (sym (behind_cons 93 bs more e)) (no_part more))
+    (subst (λ l. FlowSplit l (list (items_of [])) more) (sym (behind_cons 93 bs more e))
+    (no_part more))
 flow_by bs d rest None (Some x) e f h =
     let l = scalars_read (length bs) bs x.0 x.1 f in
     let same = some_list (list (items_of x.0), x.1) (d, rest) h in
     subst (λ (y : FoundList). FlowSplit bs y.0 y.1) same
-    (subst (λ b. FlowSplit b (list (items_of x.0)) x.1) (sym l.whole) (parts x.0 l.bytes x.1 l.parts))
+    (subst (λ b. FlowSplit b (list (items_of x.0)) x.1) (sym l.whole)
+    (parts x.0 l.bytes x.1 l.parts))
 flow_by bs d rest None None e f h = absurd cc
 
 pub flow_is : (bs : List ℕ) (d : Data) (rest : List ℕ) → flow_list bs ≡ found_list d rest
@@ -196,7 +204,8 @@ longer a b n h = let e = length-append a b in omega arith
 last_makes : (before after : ℕ) (d : Data) (bytes : List ℕ) → IsPart d bytes → (n : ℕ)
     (rest : List ℕ) → Makes (d ∷ []) (spaces before ++ (bytes ++ spaces after)) n rest
 last_makes before after d bytes p zero rest h =
-    absurd (let k = longer (spaces before ++ (bytes ++ spaces after)) (93 ∷ rest) zero h in omega arith)
+    absurd (let k = longer (spaces before ++ (bytes ++ spaces after)) (93 ∷ rest) zero h in omega
+    arith)
 last_makes before after d bytes p (suc n) rest h =
     let r = part_is_read after 93 rest refl refl d bytes p in
     ap (scalars (suc n)) (sym (three (spaces before) bytes (spaces after) (93 ∷ rest)))
@@ -207,11 +216,13 @@ more_makes : (before after : ℕ) (d : Data) (bytes : List ℕ) (ds : List Data)
     (rest : List ℕ)
     → Makes (d ∷ ds) (spaces before ++ (bytes ++ (spaces after ++ 44 ∷ more))) n rest
 more_makes before after d bytes ds more p ih zero rest h =
-    absurd (let k = longer (spaces before ++ (bytes ++ (spaces after ++ 44 ∷ more))) (93 ∷ rest) zero h in omega arith)
+    absurd (let k = longer (spaces before ++ (bytes ++ (spaces after ++ 44 ∷ more))) (93 ∷ rest)
+    zero h in omega arith)
 more_makes before after d bytes ds more p ih (suc n) rest h =
     let r = part_is_read after 44 (more ++ 93 ∷ rest) refl refl d bytes p in
     let e = four (spaces before) bytes (spaces after) (44 ∷ more) (93 ∷ rest) in
-    let whole : length (spaces before ++ (bytes ++ (spaces after ++ (44 ∷ more ++ 93 ∷ rest)))) ≤ suc n =
+    let whole : length (spaces before ++ (bytes ++ (spaces after ++ (44 ∷ more ++ 93 ∷ rest))))
+    ≤ suc n =
     subst (λ l. length l ≤ suc n) (sym e) h in
     let tail = longer (spaces after) (44 ∷ (more ++ 93 ∷ rest)) (suc n)
     (longer bytes (spaces after ++ 44 ∷ (more ++ 93 ∷ rest)) (suc n)
@@ -235,7 +246,8 @@ no_end_at : (before : ℕ) (d : Data) (bytes more rest : List ℕ) → IsPart d 
 no_end_at before d bytes more rest p =
     let s = part_start d bytes p in
     ap (behind 93) (sym (three (spaces before) bytes more rest))
-    ∙ spaces_no_end before (bytes ++ (more ++ rest)) (start_behind 93 bytes (more ++ rest) s s.no_end)
+    ∙ spaces_no_end before (bytes ++ (more ++ rest)) (start_behind 93 bytes (more ++ rest) s
+    s.no_end)
 
 parts_no_end : (ds : List Data) (bytes rest : List ℕ) → AreParts ds bytes
     → behind 93 (bytes ++ rest) ≡ None

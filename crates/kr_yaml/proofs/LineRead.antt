@@ -1,6 +1,7 @@
 -- The tokens of a line are read as they are written.
 use Rattle.std.proofs.Common.{◌≡◌, ◌≢◌, ℕ, ◌+◌, Bool, true, false, List, [], ◌∷◌, ◌++◌, Option}
-use Rattle.std.proofs.Common.{None, Some, refl, sym, ap, ◌∙◌, subst, arith, zero, suc, map, inl, inr, ◌⊎◌, Result}
+use Rattle.std.proofs.Common.{None, Some, refl, sym, ap, ◌∙◌, subst, arith, zero, suc, map, inl}
+use Rattle.std.proofs.Common.{inr, ◌⊎◌, Result}
 use Rattle.std.specs.Prelude.{if◌then◌else◌, ◌==◌, ◌&&◌, ◌||◌, not, is_some, option_and_then}
 use Rattle.std.specs.Option.{option_map, option_map_or}
 use Rattle.std.specs.List.{list_all}
@@ -35,8 +36,10 @@ tokens_at c bs = tokens_in (head c bs)
 -- one byte of the head
 
 onto_by : (c : ℕ) (ds : List ℕ) (v : Bool) (o : Option Token)
-    → (if v then Some (dash c ∷ map dash ds) else option_map (λ t. dash c ∷ (map dash ds ++ (t ∷ []))) o)
-    ≡ option_map (λ ts. dash c ∷ ts) (if v then Some (map dash ds) else option_map (λ t. map dash ds ++ (t ∷ [])) o)
+    → (if v then Some (dash c ∷ map dash ds) else option_map
+    (λ t. dash c ∷ (map dash ds ++ (t ∷ []))) o)
+    ≡ option_map (λ ts. dash c ∷ ts) (if v then Some (map dash ds) else option_map
+    (λ t. map dash ds ++ (t ∷ [])) o)
 onto_by c ds true o = refl
 onto_by c ds false None = refl
 onto_by c ds false (Some t) = refl
@@ -45,7 +48,12 @@ at_dash : (c : ℕ) (bs : List ℕ) → opens bs ≡ true
     → tokens_at c (45 ∷ bs) ≡ option_map (λ ts. dash c ∷ ts) (tokens_at (c + 1) bs)
 at_dash c bs o =
     let h = head (c + 1) bs in
-    ap (λ v. tokens_in (if v then onto (c ∷ []) (head (c + 1) bs) else record { dashes = []; column = c; rest = 45 ∷ bs })) o
+    ap (λ v. tokens_in (if v then onto (c ∷ []) (head (c + 1) bs) else record {
+      dashes =
+          [];
+      column = c;
+      rest = 45 ∷ bs;
+    })) o
     ∙ onto_by c h.dashes (over h.rest) (content_at h.column h.rest)
 
 abbrev last_token : ℕ → List ℕ → Bool → Option (List Token)
@@ -54,8 +62,14 @@ last_token c bs v = if v then Some [] else option_map (λ t. t ∷ []) (content_
 at_content : (c b : ℕ) (bs : List ℕ) → (b == 32) ≡ false → (b == 45 && opens bs) ≡ false
     → tokens_at c (b ∷ bs) ≡ last_token c (b ∷ bs) (b == 35)
 at_content c b bs e f =
-    ap (λ v. tokens_in (if v then head (c + 1) bs else if b == 45 && opens bs then onto (c ∷ []) (head (c + 1) bs) else record { dashes = []; column = c; rest = b ∷ bs })) e
-    ∙ ap (λ v. tokens_in (if v then onto (c ∷ []) (head (c + 1) bs) else record { dashes = []; column = c; rest = b ∷ bs })) f
+    ap (λ v. tokens_in (if v then head (c + 1) bs else if b == 45 && opens bs then onto (c ∷ [])
+    (head (c + 1) bs) else record { dashes = []; column = c; rest = b ∷ bs })) e
+    ∙ ap (λ v. tokens_in (if v then onto (c ∷ []) (head (c + 1) bs) else record {
+      dashes =
+          [];
+      column = c;
+      rest = b ∷ bs;
+    })) f
 
 -- what was read
 
@@ -88,14 +102,34 @@ record ContentStart (bytes : List ℕ) : Type 0 where
   no_space : (first == 32) ≡ false
 
 leaf_first : (bytes rest : List ℕ) → LeafStart bytes → ContentStart (bytes ++ rest)
-leaf_first bytes rest s = record { first = s.first; more = s.more ++ rest; begins = ap (λ l. l ++ rest) s.begins; no_space = s.no_space }
+leaf_first bytes rest s = record {
+  first = s.first;
+  more = s.more ++ rest;
+  begins =
+      ap (λ l. l ++ rest) s.begins;
+  no_space = s.no_space;
+}
 
 content_start : (c : ℕ) (bytes : List ℕ) (ts : List Token) → IsContent c bytes ts
     → ContentStart bytes
-content_start c bytes ts (empty_item b) = record { first = 45; more = []; begins = refl; no_space = refl }
-content_start c bytes ts (item b n bs us h) = record { first = 45; more = spaces (suc n) ++ bs; begins = refl; no_space = refl }
-content_start c bytes ts (empty_member b key bs k) = leaf_first bs (58 ∷ []) (leaf_begins bs (key_start key bs k))
-content_start c bytes ts (member b n key bs d more k l) = leaf_first bs (58 ∷ (spaces (suc n) ++ more)) (leaf_begins bs (key_start key bs k))
+content_start c bytes ts (empty_item b) = record {
+  first = 45;
+  more = [];
+  begins = refl;
+  no_space =
+      refl;
+}
+content_start c bytes ts (item b n bs us h) = record {
+  first = 45;
+  more =
+      spaces (suc n) ++ bs;
+  begins = refl;
+  no_space = refl;
+}
+content_start c bytes ts (empty_member b key bs k) = leaf_first bs (58 ∷ [])
+    (leaf_begins bs (key_start key bs k))
+content_start c bytes ts (member b n key bs d more k l) =
+    leaf_first bs (58 ∷ (spaces (suc n) ++ more)) (leaf_begins bs (key_start key bs k))
 content_start c bytes ts (value b d bs l h) =
     let s = leaf_start d bs l in
     record { first = s.first; more = s.more; begins = s.begins; no_space = s.no_space }
@@ -108,7 +142,8 @@ at_zero c = omega arith
 
 alone_item : (c : ℕ) (tail : List ℕ) → IsTail tail → Spaced c (45 ∷ tail) (dash c ∷ [])
 alone_item c tail t =
-    full c zero (45 ∷ []) tail (dash c ∷ []) (subst (λ k. IsContent k (45 ∷ []) (dash c ∷ [])) (at_zero c) (empty_item c)) t
+    full c zero (45 ∷ []) tail (dash c ∷ []) (subst (λ k. IsContent k (45 ∷ []) (dash c ∷ []))
+    (at_zero c) (empty_item c)) t
 
 item_of : (c b n : ℕ) (bytes tail : List ℕ) (us : List Token) → b ≡ c + 1
     → IsContent (b + suc n) bytes us → IsTail tail
@@ -170,10 +205,12 @@ content_end c b bs ts true o e f g k h =
     subst (Spaced c (b ∷ bs)) (some_same [] ts h)
     (subst (λ x. Spaced c (x ∷ bs) []) (sym (is_byte b 35 g)) (remark c zero bs))
 content_end c b bs ts false (Some t) e f g k h =
-    let r = content_read c (b ∷ bs) t (λ more. no_front b bs more e) (λ rest. no_item_at b bs rest f) k in
+    let r = content_read c (b ∷ bs) t (λ more. no_front b bs more e) (λ rest. no_item_at b bs rest
+    f) k in
     subst (Spaced c (b ∷ bs)) (some_same (t ∷ []) ts h)
     (subst (λ l. Spaced c l (t ∷ [])) (sym r.whole)
-    (full c zero r.bytes r.tail (t ∷ []) (subst (λ m. IsContent m r.bytes (t ∷ [])) (at_zero c) r.content) r.behind))
+    (full c zero r.bytes r.tail (t ∷ []) (subst (λ m. IsContent m r.bytes (t ∷ [])) (at_zero c)
+    r.content) r.behind))
 content_end c b bs ts false None e f g k h = absurd cc
 
 line_by : (c b : ℕ) (bs : List ℕ) (v w : Bool) → (b == 32) ≡ v → (b == 45 && opens bs) ≡ w
@@ -194,7 +231,8 @@ line_by c b bs false false e f ih = λ ts h.
 
 line_read : (bs : List ℕ) (c : ℕ) → ReadsFrom c bs
 line_read [] c = λ ts h. subst (Spaced c []) (some_same [] ts h) (empty c zero)
-line_read (b ∷ bs) c = line_by c b bs (b == 32) (b == 45 && opens bs) refl refl (line_read bs (c + 1))
+line_read (b ∷ bs) c = line_by c b bs (b == 32) (b == 45 && opens bs) refl refl
+    (line_read bs (c + 1))
 
 no_tab : (bytes rest : List ℕ) → behind 9 (bytes ++ rest) ≡ None → (more : List ℕ)
     → bytes ≢ 9 ∷ more
@@ -232,7 +270,8 @@ tokens_read line ts h = tokens_by line ts (behind 9 (skip line)) refl h
 
 spaces_at : (c n : ℕ) (bs : List ℕ) → tokens_at c (spaces n ++ bs) ≡ tokens_at (c + n) bs
 spaces_at c zero bs = ap (λ k. tokens_at k bs) (at_zero c)
-spaces_at c (suc n) bs = spaces_at (c + 1) n bs ∙ ap (λ k. tokens_at k bs) (one_more (c + 1) c n refl)
+spaces_at c (suc n) bs = spaces_at (c + 1) n bs
+    ∙ ap (λ k. tokens_at k bs) (one_more (c + 1) c n refl)
 
 spaces_none : (c n : ℕ) → tokens_at c (spaces n) ≡ Some []
 spaces_none c zero = refl
@@ -253,7 +292,8 @@ dash_off b [] rest whole e h k =
 dash_off b (x ∷ more) rest whole e h k =
     none_of (b == 45 && x == 32) (λ t.
     let both = both_true (b == 45) (x == 32) t in
-    h more (e ∙ ap (λ c. c ∷ (x ∷ more)) (is_byte b 45 both.0) ∙ ap (λ c. 45 ∷ (c ∷ more)) (is_byte x 32 both.1)))
+    h more (e ∙ ap (λ c. c ∷ (x ∷ more)) (is_byte b 45 both.0)
+    ∙ ap (λ c. 45 ∷ (c ∷ more)) (is_byte x 32 both.1)))
 
 last_made : (c : ℕ) (bytes rest : List ℕ) (t : Token) (s : LeafStart bytes)
     → (bytes ≡ 45 ∷ [] → opens rest ≡ false) → content_at c (bytes ++ rest) ≡ Some t
@@ -262,7 +302,8 @@ last_made c bytes rest t s k h =
     let e = s.begins in
     let whole : s.first ∷ (s.more ++ rest) ≡ bytes ++ rest = sym (ap (λ l. l ++ rest) e) in
     ap (tokens_at c) (sym whole)
-    ∙ at_content c s.first (s.more ++ rest) s.no_space (dash_off s.first s.more rest bytes e s.no_item k)
+    ∙ at_content c s.first (s.more ++ rest) s.no_space (dash_off s.first s.more rest bytes e
+    s.no_item k)
     ∙ ap (last_token c (s.first ∷ (s.more ++ rest))) s.no_hash
     ∙ ap (λ l. option_map (λ t. t ∷ []) (content_at c l)) whole
     ∙ ap (option_map (λ t. t ∷ [])) h
@@ -270,21 +311,27 @@ last_made c bytes rest t s k h =
 content_made : (tail : List ℕ) → IsTail tail → (c : ℕ) (bytes : List ℕ) (ts : List Token)
     → IsContent c bytes ts → tokens_at c (bytes ++ tail) ≡ Some ts
 content_made tail t c bytes ts (empty_item b) =
-    at_dash b tail (tail_opens tail t) ∙ ap (option_map (λ us. dash b ∷ us)) (tail_none (b + 1) tail t)
+    at_dash b tail (tail_opens tail t)
+    ∙ ap (option_map (λ us. dash b ∷ us)) (tail_none (b + 1) tail t)
 content_made tail t c bytes ts (item b n bs us h) =
     at_dash b ((spaces (suc n) ++ bs) ++ tail) refl
-    ∙ ap (λ l. option_map (λ us. dash b ∷ us) (tokens_at (b + 1) l)) (append_assoc (spaces (suc n)) bs tail)
-    ∙ ap (option_map (λ us. dash b ∷ us)) (spaces_at (b + 1) (suc n) (bs ++ tail) ∙ content_made tail t (b + 1 + suc n) bs us h)
+    ∙ ap (λ l. option_map (λ us. dash b ∷ us) (tokens_at (b + 1) l)) (append_assoc (spaces (suc n))
+    bs tail)
+    ∙ ap (option_map (λ us. dash b ∷ us)) (spaces_at (b + 1) (suc n) (bs ++ tail)
+    ∙ content_made tail t (b + 1 + suc n) bs us h)
 content_made tail t c bytes ts (empty_member b key bs k) =
     ap (tokens_at b) (append_assoc bs (58 ∷ []) tail)
     ∙ last_made b bs (58 ∷ tail) (pair b key None) (leaf_begins bs (key_start key bs k)) (λ e. refl)
     (empty_is_read b tail t key bs k)
 content_made tail t c bytes ts (member b n key bs d more k l) =
-    ap (tokens_at b) (append_assoc bs (58 ∷ (spaces (suc n) ++ more)) tail ∙ ap (λ m. bs ++ 58 ∷ m) (append_assoc (spaces (suc n)) more tail))
-    ∙ last_made b bs (58 ∷ (spaces (suc n) ++ (more ++ tail))) (pair b key (Some d)) (leaf_begins bs (key_start key bs k)) (λ e. refl)
+    ap (tokens_at b) (append_assoc bs (58 ∷ (spaces (suc n) ++ more)) tail
+    ∙ ap (λ m. bs ++ 58 ∷ m) (append_assoc (spaces (suc n)) more tail))
+    ∙ last_made b bs (58 ∷ (spaces (suc n) ++ (more ++ tail))) (pair b key (Some d))
+    (leaf_begins bs (key_start key bs k)) (λ e. refl)
     (member_is_read b n tail t key bs d more k l)
 content_made tail t c bytes ts (value b d bs l h) =
-    last_made b bs tail (leaf b d) (leaf_start d bs l) (λ e. absurd (h e)) (leaf_is_read b tail t d bs l)
+    last_made b bs tail (leaf b d) (leaf_start d bs l) (λ e. absurd (h e))
+    (leaf_is_read b tail t d bs l)
 
 tokens_untabbed : (line : List ℕ) → behind 9 (skip line) ≡ None → tokens_of line ≡ tokens_at 0 line
 unfolding tokens_of
@@ -292,20 +339,24 @@ tokens_untabbed line h = ap (λ o. if is_some o then None else tokens_at 0 line)
 
 untabbed : (b : ℕ) (bs : List ℕ) → ((more : List ℕ) → b ∷ bs ≢ 9 ∷ more) → behind 9 (b ∷ bs) ≡ None
 untabbed b bs h =
-    ap (λ v. if v then Some bs else None) (none_of (b == 9) (λ t. h bs (ap (λ c. c ∷ bs) (is_byte b 9 t))))
+    ap (λ v. if v then Some bs else None)
+    (none_of (b == 9) (λ t. h bs (ap (λ c. c ∷ bs) (is_byte b 9 t))))
 
 content_untabbed : (bytes tail : List ℕ) → ContentStart bytes → ((more : List ℕ) → bytes ≢ 9 ∷ more)
     → behind 9 (bytes ++ tail) ≡ None
 content_untabbed bytes tail s h =
     ap (λ l. behind 9 (l ++ tail)) s.begins
-    ∙ ap (λ v. if v then Some (s.more ++ tail) else None) (none_of (s.first == 9) (λ t. h s.more (s.begins ∙ ap (λ c. c ∷ s.more) (is_byte s.first 9 t))))
+    ∙ ap (λ v. if v then Some (s.more ++ tail) else None)
+    (none_of (s.first == 9) (λ t. h s.more (s.begins
+    ∙ ap (λ c. c ∷ s.more) (is_byte s.first 9 t))))
 
 spaces_untabbed : (n : ℕ) → behind 9 (skip (spaces n)) ≡ None
 spaces_untabbed zero = refl
 spaces_untabbed (suc n) = spaces_untabbed n
 
 tokens_made : (line : List ℕ) (ts : List Token) → IsLine line ts → tokens_of line ≡ Some ts
-tokens_made line ts (empty_line n) = tokens_untabbed (spaces n) (spaces_untabbed n) ∙ spaces_none 0 n
+tokens_made line ts (empty_line n) = tokens_untabbed (spaces n) (spaces_untabbed n)
+    ∙ spaces_none 0 n
 tokens_made line ts (comment_line n text) =
     tokens_untabbed (spaces n ++ 35 ∷ text) (ap (behind 9) (skip_spaces n (35 ∷ text)))
     ∙ spaces_at 0 n (35 ∷ text)
@@ -313,7 +364,8 @@ tokens_made line ts (content_line n bytes tail us c t h) =
     let s = content_start n bytes us c in
     let e = skip_spaces n (bytes ++ tail) ∙ content_skip bytes tail s in
     let at : 0 + n ≡ n = omega arith in
-    tokens_untabbed (spaces n ++ (bytes ++ tail)) (ap (behind 9) e ∙ content_untabbed bytes tail s h)
+    tokens_untabbed (spaces n ++ (bytes ++ tail)) (ap (behind 9) e
+    ∙ content_untabbed bytes tail s h)
     ∙ spaces_at 0 n (bytes ++ tail) ∙ ap (λ k. tokens_at k (bytes ++ tail)) at
     ∙ content_made tail t n bytes us c
 
@@ -354,9 +406,21 @@ parted_blank (b ∷ bs) h = refl
 
 kind_by : (c : ℕ) (line rest : List ℕ) (v : Bool) → line ≡ c ∷ (c ∷ (c ∷ rest))
     → closes rest ≡ v → Kind c line (closes rest) (goes_on rest) (is_parted rest)
-kind_by c line rest true e h = inl (record { rest = rest; is = e; tail = h; marks = h; more = shut_more rest h; mark = parted_opens rest h })
+kind_by c line rest true e h = inl (record {
+  rest = rest;
+  is = e;
+  tail = h;
+  marks = h;
+  more =
+      shut_more rest h;
+  mark = parted_opens rest h;
+})
 kind_by c line rest false e h =
-    inr (h, ap (λ v. begins_blank rest && not v) h ∙ and_true (begins_blank rest) ∙ parted_blank rest h)
+    inr (
+      h,
+      ap (λ v. begins_blank rest && not v) h ∙ and_true (begins_blank rest)
+          ∙ parted_blank rest h,
+    )
 
 kind_third : (c : ℕ) (line l : List ℕ) (o : Option (List ℕ)) → line ≡ c ∷ (c ∷ l)
     → o ≡ behind c l
@@ -394,16 +458,19 @@ by_marks allowed first m n p q o =
 
 abbrev Left : Bool → Bool → Bool → Option (List Token) → List Token → Type 0
 Left first m p o ts =
-    ((m ≡ true) × (first ≡ true) × ([] ≡ ts)) ⊎ ((m ≡ false) × ((p && not first) ≡ false) × (o ≡ Some ts))
+    ((m ≡ true) × (first ≡ true) × ([] ≡ ts)) ⊎ ((m ≡ false) × ((p && not first) ≡ false)
+    × (o ≡ Some ts))
 
-record Unmarked (allowed first m n p q : Bool) (o : Option (List Token)) (ts : List Token) : Type 0 where
-  allows : allowed ≡ true
-  no_more : n ≡ false
-  no_dots : q ≡ false
-  left : Left first m p o ts
+record Unmarked (allowed first m n p q : Bool) (o : Option (List Token)) (ts : List Token) : Type 0
+  where
+    allows : allowed ≡ true
+    no_more : n ≡ false
+    no_dots : q ≡ false
+    left : Left first m p o ts
 
 left_by : (first m p : Bool) (o : Option (List Token)) (ts : List Token)
-    → (if m then (if first then Some [] else None) else if p && not first then None else o) ≡ Some ts
+    → (if m then (if first then Some [] else None) else if p && not first then None else o)
+    ≡ Some ts
     → Left first m p o ts
 left_by true true p o ts h = inl (refl, refl, some_same [] ts h)
 left_by false true p o ts h = absurd cc
@@ -417,7 +484,13 @@ unmarked_by : (allowed first m n p q : Bool) (o : Option (List Token)) (ts : Lis
 unmarked_by false first m n p q o ts h = absurd cc
 unmarked_by true first m true p q o ts h = absurd cc
 unmarked_by true first m false p true o ts h = absurd cc
-unmarked_by true first m false p false o ts h = record { allows = refl; no_more = refl; no_dots = refl; left = left_by first m p o ts h }
+unmarked_by true first m false p false o ts h = record {
+  allows = refl;
+  no_more = refl;
+  no_dots =
+      refl;
+  left = left_by first m p o ts h;
+}
 
 first_of : (p first : Bool) → p ≡ true → (p && not first) ≡ false → first ≡ true
 first_of true true e h = refl
@@ -429,10 +502,12 @@ begin_stands : (first : Bool) (line : List ℕ) (ts : List Token) (m n i : Bool)
 begin_stands first line ts m n i (inl s) e f g =
     subst (λ l. StandsFor first l ts) (sym s.is)
     (subst (λ v. StandsFor v (45 ∷ (45 ∷ (45 ∷ s.rest))) ts) (sym f)
-    (subst (StandsFor true (45 ∷ (45 ∷ (45 ∷ s.rest)))) g (first_mark s.rest (closes_tail s.rest s.tail))))
+    (subst (StandsFor true (45 ∷ (45 ∷ (45 ∷ s.rest)))) g
+    (first_mark s.rest (closes_tail s.rest s.tail))))
 begin_stands first line ts m n i (inr z) e f g = absurd (clash (sym e ∙ z.0))
 
-dots_stand : (first : Bool) (line : List ℕ) (ts : List Token) (p q j : Bool) → is_mark 45 line ≡ false
+dots_stand : (first : Bool) (line : List ℕ) (ts : List Token) (p q j : Bool)
+    → is_mark 45 line ≡ false
     → is_mark 46 line ≡ j → Kind 46 line p q j → q ≡ false → (p && not first) ≡ false
     → IsLine line ts → StandsFor first line ts
 dots_stand first line ts p q j e f (inl s) g h l =
@@ -450,12 +525,15 @@ line_has : (first : Bool) (line : List ℕ) (ts : List Token) → line_tokens fi
     → HasTokens first line ts
 line_has first line ts h =
     let dashes = kind 45 line in
-    let u = unmarked_by (list_all is_allowed (chars line)) first (marks 45 line) (marks_more 45 line) (marks 46 line) (marks_more 46 line) (tokens_of line) ts h in (
+    let u = unmarked_by (list_all is_allowed (chars line)) first (marks 45 line)
+    (marks_more 45 line) (marks 46 line) (marks_more 46 line) (tokens_of line) ts h in (
       u.allows,
       elim u.left [
-        | inl l ↦ begin_stands first line ts (marks 45 line) (marks_more 45 line) (is_mark 45 line) dashes l.0 l.1 l.2
+        | inl l ↦ begin_stands first line ts (marks 45 line) (marks_more 45 line) (is_mark 45 line)
+            dashes l.0 l.1 l.2
         | inr l ↦ dots_stand first line ts (marks 46 line) (marks_more 46 line) (is_mark 46 line)
-            (not_mark 45 line (marks 45 line) (marks_more 45 line) (is_mark 45 line) dashes l.0 u.no_more)
+            (not_mark 45 line (marks 45 line) (marks_more 45 line) (is_mark 45 line) dashes l.0
+            u.no_more)
             refl (kind 46 line) u.no_dots l.1 (tokens_read line ts l.2)
       ],
     )
@@ -472,21 +550,26 @@ no_kind : (c : ℕ) (line : List ℕ) (m n i : Bool) → Kind c line m n i → i
 no_kind c line m n i (inl s) e = absurd (clash (sym s.mark ∙ e))
 no_kind c line m n i (inr z) e = (z.0, z.1 ∙ e)
 
-has_line : (first : Bool) (line : List ℕ) (ts : List Token) → list_all is_allowed (chars line) ≡ true
+has_line : (first : Bool) (line : List ℕ) (ts : List Token) → list_all is_allowed (chars line)
+    ≡ true
     → StandsFor first line ts → line_tokens first line ≡ Some ts
 has_line first line ts a (first_mark tail t) =
     let bs = 45 ∷ (45 ∷ (45 ∷ tail)) in
-    by_marks_is (list_all is_allowed (chars bs)) true (closes tail) (goes_on tail) false false (tokens_of bs) a (shut_more tail (tail_closes tail t)) refl
+    by_marks_is (list_all is_allowed (chars bs)) true (closes tail) (goes_on tail) false false
+    (tokens_of bs) a (shut_more tail (tail_closes tail t)) refl
     ∙ ap (λ v. if v then Some [] else tokens_of bs) (tail_closes tail t)
 has_line first line ts a (first_dots tail us t l) =
     let bs = 46 ∷ (46 ∷ (46 ∷ tail)) in
-    by_marks_is (list_all is_allowed (chars bs)) true false false (closes tail) (goes_on tail) (tokens_of bs) a refl (shut_more tail (tail_closes tail t))
+    by_marks_is (list_all is_allowed (chars bs)) true false false (closes tail) (goes_on tail)
+    (tokens_of bs) a refl (shut_more tail (tail_closes tail t))
     ∙ ap (λ v. if v then None else tokens_of bs) (and_false (closes tail)) ∙ tokens_made bs us l
 has_line first line ts a (no_mark f bs us e g l) =
     let d = no_kind 45 bs (marks 45 bs) (marks_more 45 bs) (is_mark 45 bs) (kind 45 bs) e in
     let o = no_kind 46 bs (marks 46 bs) (marks_more 46 bs) (is_mark 46 bs) (kind 46 bs) g in
-    by_marks_is (list_all is_allowed (chars bs)) f (marks 45 bs) (marks_more 45 bs) (marks 46 bs) (marks_more 46 bs) (tokens_of bs) a d.1 o.1
-    ∙ ap (λ v. if v then (if f then Some [] else None) else if marks 46 bs && not f then None else tokens_of bs) d.0
+    by_marks_is (list_all is_allowed (chars bs)) f (marks 45 bs) (marks_more 45 bs) (marks 46 bs)
+    (marks_more 46 bs) (tokens_of bs) a d.1 o.1
+    ∙ ap (λ v. if v then (if f then Some [] else None) else if marks 46 bs && not
+    f then None else tokens_of bs) d.0
     ∙ ap (λ v. if v && not f then None else tokens_of bs) o.0 ∙ tokens_made bs us l
 
 -- lines
@@ -494,32 +577,42 @@ has_line first line ts a (no_mark f bs us e g l) =
 abbrev Tokens : Type 0
 Tokens = Result (List (ℕ × Token)) ℕ
 
-with_tokens : (n : ℕ) (first : Bool) (line : List ℕ) (rest : List (List ℕ)) (o : Option (List Token))
+with_tokens : (n : ℕ) (first : Bool) (line : List ℕ) (rest : List (List ℕ))
+    (o : Option (List Token))
     → line_tokens first line ≡ o
-    → HaveTokens (next_place n) (first && is_empty line) rest (tokens_from (next_place n) (first && is_empty line) rest)
-    → HaveTokens n first (line ∷ rest) (before_rest n o (tokens_from (next_place n) (first && is_empty line) rest))
+    → HaveTokens (next_place n) (first && is_empty line) rest (tokens_from (next_place n)
+    (first && is_empty line) rest)
+    → HaveTokens n first (line ∷ rest)
+    (before_rest n o (tokens_from (next_place n) (first && is_empty line) rest))
 with_tokens n first line rest None e h =
-    line_without n first line rest (λ ts k. let none : None ≡ Some ts = sym e ∙ has_line first line ts k.0 k.1 in absurd cc)
+    line_without n first line rest (λ ts k. let none : None ≡ Some ts = sym e
+    ∙ has_line first line ts k.0 k.1 in absurd cc)
 with_tokens n first line rest (Some ts) e h =
-    line_with n first line rest ts (tokens_from (next_place n) (first && is_empty line) rest) (line_has first line ts e) h
+    line_with n first line rest ts (tokens_from (next_place n) (first && is_empty line) rest)
+    (line_has first line ts e) h
 
-have_tokens : (n : ℕ) (first : Bool) (rest : List (List ℕ)) → HaveTokens n first rest (tokens_from n first rest)
+have_tokens : (n : ℕ) (first : Bool) (rest : List (List ℕ))
+    → HaveTokens n first rest (tokens_from n first rest)
 have_tokens n first [] = no_lines n first
 have_tokens n first (line ∷ rest) =
-    with_tokens n first line rest (line_tokens first line) refl (have_tokens (next_place n) (first && is_empty line) rest)
+    with_tokens n first line rest (line_tokens first line) refl (have_tokens (next_place n)
+    (first && is_empty line) rest)
 
 without : (first : Bool) (line : List ℕ) (o : Option (List Token)) → line_tokens first line ≡ o
     → ((ts : List Token) → HasTokens first line ts → ⊥) → o ≡ None
 without first line None e h = refl
 without first line (Some ts) e h = absurd (h ts (line_has first line ts e))
 
-are_read : (n : ℕ) (first : Bool) (rest : List (List ℕ)) (wanted : Tokens) → HaveTokens n first rest wanted
+are_read : (n : ℕ) (first : Bool) (rest : List (List ℕ)) (wanted : Tokens)
+    → HaveTokens n first rest wanted
     → tokens_from n first rest ≡ wanted
 are_read n first rest wanted (no_lines m f) = refl
 are_read n first rest wanted (line_without m f line more h) =
-    ap (λ o. before_rest m o (tokens_from (next_place m) (f && is_empty line) more)) (without f line (line_tokens f line) refl h)
+    ap (λ o. before_rest m o (tokens_from (next_place m) (f && is_empty line) more))
+    (without f line (line_tokens f line) refl h)
 are_read n first rest wanted (line_with m f line more ts seen h k) =
-    ap (λ o. before_rest m o (tokens_from (next_place m) (f && is_empty line) more)) (has_line f line ts h.0 h.1)
+    ap (λ o. before_rest m o (tokens_from (next_place m) (f && is_empty line) more))
+    (has_line f line ts h.0 h.1)
     ∙ ap (with_line m ts) (are_read (next_place m) (f && is_empty line) more seen k)
 
 pub read_as_written : ReadAsWritten

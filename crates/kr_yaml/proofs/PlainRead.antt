@@ -124,8 +124,10 @@ plain_reads text p = subst (λ t. is_plain t ≡ true) (sym p.begins) (by p.firs
   where
     by : (b : ℕ) (bs : List ℕ) → text ≡ b ∷ bs → is_plain (b ∷ bs) ≡ true
     by b bs e =
-        let first : is_indicator b ≡ false = subst (λ l. first_is l ≡ false) (sym p.begins ∙ e) p.no_indicator in
-        let item : (b == 45 && is_space bs) ≡ false = none_of (b == 45 && is_space bs) (λ t. let d = dash_space_is b bs t in p.no_item d.0 (e ∙ d.1)) in
+        let first : is_indicator b ≡ false = subst (λ l. first_is l ≡ false) (sym p.begins
+        ∙ e) p.no_indicator in
+        let item : (b == 45 && is_space bs) ≡ false = none_of (b == 45 && is_space bs) (λ t. let d =
+        dash_space_is b bs t in p.no_item d.0 (e ∙ d.1)) in
         let key : has Colon (b ∷ bs) ≡ false = ap (has Colon) (sym e) ∙ no_colon text p in
         ap (λ v. not v && not (b == 45 && is_space bs) && not (has Colon (b ∷ bs))) first
         ∙ ap (λ v. not v && not (has Colon (b ∷ bs))) item ∙ ap not key
@@ -195,7 +197,8 @@ value_made bs front gone s rest f whole inside c h =
         count = t.0;
         scalar = ap (λ l. plain_of l) (sym text) ∙ p.scalar;
         whole = split;
-        rules = plain_is (trim front) (spaces t.0 ++ rest) bs (ap is_plain (sym text) ∙ p.rules) split f
+        rules = plain_is (trim front) (spaces t.0 ++ rest) bs (ap is_plain (sym text)
+            ∙ p.rules) split f
             (no_comment_in front gone (trim front) (spaces t.0) inside t.1);
       },
       t.2,
@@ -315,11 +318,20 @@ record TailCut (tail : List ℕ) : Type 0 where
   shut : closes rest ≡ true
 
 tail_cut : (tail : List ℕ) → IsTail tail → TailCut tail
-tail_cut tail (spaces_alone n) = record { count = n; rest = []; whole = sym (append-nil (spaces n)); stop = refl; no_hash = refl; no_colon = refl; shut = refl }
+tail_cut tail (spaces_alone n) = record {
+  count = n;
+  rest = [];
+  whole = sym (append-nil (spaces n));
+  stop = refl;
+  no_hash = refl;
+  no_colon = refl;
+  shut = refl;
+}
 tail_cut tail (comment_behind n text) = record {
   count = n;
   rest = 32 ∷ (35 ∷ text);
-  whole = ap (λ l. l ++ 35 ∷ text) (sym (spaces_last n)) ∙ append_assoc (spaces n) (32 ∷ []) (35 ∷ text);
+  whole = ap (λ l. l ++ 35 ∷ text) (sym (spaces_last n))
+      ∙ append_assoc (spaces n) (32 ∷ []) (35 ∷ text);
   stop = refl;
   no_hash = refl;
   no_colon = refl;
@@ -344,8 +356,10 @@ value_reads text tail p e t =
     let cut = until_at (stops KeyEnd) (text ++ spaces c.count) c.rest inside c.stop in (
       c.rest,
       ap (plain_at Line) whole
-          ∙ plain_line ((text ++ spaces c.count) ++ c.rest) (text ++ spaces c.count) c.rest cut.0 cut.1
-          ∙ ap (λ o. plain_scalar (option_map_or (λ _. text ++ spaces c.count) o (trim (text ++ spaces c.count))) c.rest) c.no_colon
+          ∙ plain_line ((text ++ spaces c.count) ++ c.rest) (text ++ spaces c.count) c.rest cut.0
+          cut.1
+          ∙ ap (λ o. plain_scalar (option_map_or (λ _. text ++ spaces c.count) o
+          (trim (text ++ spaces c.count))) c.rest) c.no_colon
           ∙ ap (λ l. plain_scalar l c.rest) (trim_text text c.count e) ∙ plain_made text c.rest p,
       c.shut,
     )

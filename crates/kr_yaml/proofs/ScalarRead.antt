@@ -1,6 +1,7 @@
 -- Scalars are read as they are written: as values on a line, as keys and in flow lists.
 use Rattle.std.proofs.Common.{◌≡◌, ◌≢◌, ℕ, Bool, true, false, List, [], ◌∷◌, ◌++◌, length}
-use Rattle.std.proofs.Common.{Option, None, Some, refl, sym, ap, ◌∙◌, subst, zero, suc, inl, inr, ◌⊎◌}
+use Rattle.std.proofs.Common.{Option, None, Some, refl, sym, ap, ◌∙◌, subst, zero, suc, inl, inr}
+use Rattle.std.proofs.Common.{◌⊎◌}
 use Rattle.std.specs.Prelude.{if◌then◌else◌, ◌==◌, ◌&&◌, ◌||◌, codes}
 use Rattle.std.specs.Option.{option_map_or}
 use Rattle.std.specs.Str.{bytes_eq}
@@ -8,8 +9,10 @@ use Rattle.std.proofs.lemmas.List.{append_assoc}
 use Rattle.kr_yaml.specs.Bytes.{behind, skip, spaces}
 use Rattle.kr_yaml.specs.Data.{Data, null, word}
 use Rattle.kr_yaml.specs.Written.{with_quotes_twice, IsQuoted, in_single, in_double, is_indicator}
-use Rattle.kr_yaml.specs.Written.{IsPlain, NoSpaceBehind, IsScalar, quoted_value, plain_value, IsPart}
-use Rattle.kr_yaml.specs.Written.{quoted_part, plain_part, is_merge_text, IsKey, quoted_key, plain_key}
+use Rattle.kr_yaml.specs.Written.{IsPlain, NoSpaceBehind, IsScalar, quoted_value, plain_value}
+use Rattle.kr_yaml.specs.Written.{IsPart}
+use Rattle.kr_yaml.specs.Written.{quoted_part, plain_part, is_merge_text, IsKey, quoted_key}
+use Rattle.kr_yaml.specs.Written.{plain_key}
 use Rattle.kr_yaml.specs.Lines.{IsTail}
 use Rattle.kr_yaml.specs.inner.Stops.{opens, closes, stops}
 use Rattle.kr_yaml.specs.inner.ScalarReading.{single, double, plain_at, quoted_scalar, scalar_at}
@@ -43,8 +46,31 @@ pub other_first : (c : ℕ) (bs rest : List ℕ) → (c == 45) ≡ false → c �
 other_first c bs rest h e = differ c 45 h (heads e)
 
 quoted_start : (text bytes : List ℕ) → IsQuoted text bytes → Start bytes
-quoted_start text bytes (in_single t) = record { first = 39; more = with_quotes_twice t ++ 39 ∷ []; begins = refl; no_space = refl; no_hash = refl; no_list = refl; no_end = refl; no_mapping = refl; no_item = λ rest. other_first 39 (with_quotes_twice t ++ 39 ∷ []) (32 ∷ rest) refl }
-quoted_start text bytes (in_double t w e) = record { first = 34; more = w ++ 34 ∷ []; begins = refl; no_space = refl; no_hash = refl; no_list = refl; no_end = refl; no_mapping = refl; no_item = λ rest. other_first 34 (w ++ 34 ∷ []) (32 ∷ rest) refl }
+quoted_start text bytes (in_single t) = record {
+  first = 39;
+  more = with_quotes_twice t ++ 39 ∷ [];
+  begins = refl;
+  no_space = refl;
+  no_hash = refl;
+  no_list = refl;
+  no_end = refl;
+  no_mapping =
+      refl;
+  no_item = λ rest. other_first 39 (with_quotes_twice t ++ 39 ∷ []) (32 ∷ rest) refl;
+}
+quoted_start text bytes (in_double t w e) = record {
+  first = 34;
+  more = w ++ 34 ∷ [];
+  begins =
+      refl;
+  no_space = refl;
+  no_hash = refl;
+  no_list = refl;
+  no_end = refl;
+  no_mapping =
+      refl;
+  no_item = λ rest. other_first 34 (w ++ 34 ∷ []) (32 ∷ rest) refl;
+}
 
 not_first : (b c : ℕ) → is_indicator c ≡ true → is_indicator b ≡ false → (b == c) ≡ false
 not_first b c h e =
@@ -166,7 +192,8 @@ scalar_read context bs s rest h =
 
 quoted_data : (s : Scalar) → s.plain ≡ false → data_of s ≡ word s.text
 quoted_data s e =
-    ap (λ v. if v && (bytes_eq s.text (codes "null") || bytes_eq s.text (codes "~")) then null else word s.text) e
+    ap (λ v. if v && (bytes_eq s.text (codes "null") || bytes_eq s.text
+    (codes "~")) then null else word s.text) e
 
 -- a value on a line and its tail
 pub record Valued (bs : List ℕ) (d : Data) : Type 0 where
@@ -183,7 +210,8 @@ line_value bs s rest f c h = elim (scalar_read Line bs s rest h) [
     bytes = q.bytes;
     tail = rest;
     whole = q.whole;
-    scalar = subst (λ d. IsScalar d q.bytes) (sym (quoted_data s q.not_plain)) (quoted_value s.text q.bytes q.quoted);
+    scalar = subst (λ d. IsScalar d q.bytes) (sym (quoted_data s q.not_plain))
+        (quoted_value s.text q.bytes q.quoted);
     behind = closes_tail rest c;
   }
   | inr k ↦ (let v = value_read bs s rest f c k in
@@ -191,7 +219,8 @@ line_value bs s rest f c h = elim (scalar_read Line bs s rest h) [
         bytes = v.0.text;
         tail = spaces v.0.count ++ rest;
         whole = v.0.whole;
-        scalar = subst (λ s. IsScalar (data_of s) v.0.text) v.0.scalar (plain_value v.0.text v.0.rules v.1);
+        scalar = subst (λ s. IsScalar (data_of s) v.0.text) v.0.scalar
+            (plain_value v.0.text v.0.rules v.1);
         behind = tail_spaces v.0.count rest (closes_tail rest c);
       })
 ]
@@ -219,14 +248,16 @@ flow_part bs s rest f h = elim (scalar_read Flow bs s rest h) [
     bytes = q.bytes;
     count = zero;
     whole = q.whole;
-    scalar = subst (λ d. IsPart d q.bytes) (sym (quoted_data s q.not_plain)) (quoted_part s.text q.bytes q.quoted);
+    scalar = subst (λ d. IsPart d q.bytes) (sym (quoted_data s q.not_plain))
+        (quoted_part s.text q.bytes q.quoted);
   }
   | inr k ↦ (let v = flow_read bs s rest f k in
       record {
         bytes = v.0.text;
         count = v.0.count;
         whole = v.0.whole;
-        scalar = subst (λ s. IsPart (data_of s) v.0.text) v.0.scalar (plain_part v.0.text v.0.rules v.1 v.2);
+        scalar = subst (λ s. IsPart (data_of s) v.0.text) v.0.scalar (plain_part v.0.text v.0.rules
+            v.1 v.2);
       })
 ]
 
@@ -250,8 +281,11 @@ plain_reads_at context text rest p =
     let s = plain_start text p in
     let no_single = start_behind 39 text rest s (not_first p.first 39 refl p.no_indicator) in
     let no_double = start_behind 34 text rest s (not_first p.first 34 refl p.no_indicator) in
-    ap (λ o. option_map_or (λ r. quoted_scalar (single r)) o (option_map_or (λ r. quoted_scalar (double r)) (behind 34 (text ++ rest)) (plain_at context (text ++ rest)))) no_single
-    ∙ ap (λ o. option_map_or (λ r. quoted_scalar (double r)) o (plain_at context (text ++ rest))) no_double
+    ap (λ o. option_map_or (λ r. quoted_scalar (single r)) o
+    (option_map_or (λ r. quoted_scalar (double r)) (behind 34 (text ++ rest))
+    (plain_at context (text ++ rest)))) no_single
+    ∙ ap (λ o. option_map_or (λ r. quoted_scalar (double r)) o (plain_at context (text ++ rest)))
+    no_double
 
 pub record IsRead (context : Context) (d : Data) (bs rest : List ℕ) : Type 0 where
   pub scalar : Scalar
@@ -261,11 +295,27 @@ pub record IsRead (context : Context) (d : Data) (bs rest : List ℕ) : Type 0 w
 pub value_is_read : (tail : List ℕ) → IsTail tail → (d : Data) (bytes : List ℕ)
     → IsScalar d bytes
     → (rest : List ℕ) × IsRead Line d (bytes ++ tail) rest × (closes rest ≡ true)
-value_is_read tail t d bytes (quoted_value text bs q) =
-    (tail, record { scalar = record { text = text; plain = false }; says = refl; reads = quoted_reads Line text bs tail (tail_no_byte 39 tail refl t) q }, tail_closes tail t)
+value_is_read tail t d bytes (quoted_value text bs q) = (
+  tail,
+  record {
+    scalar = record { text = text; plain = false };
+    says = refl;
+    reads =
+        quoted_reads Line text bs tail (tail_no_byte 39 tail refl t) q;
+  },
+  tail_closes tail t,
+)
 value_is_read tail t d bytes (plain_value text p e) =
-    let v = value_reads text tail p e t in
-    (v.0, record { scalar = record { text = text; plain = true }; says = refl; reads = plain_reads_at Line text tail p ∙ v.1 }, v.2)
+    let v = value_reads text tail p e t in (
+      v.0,
+      record {
+        scalar = record { text = text; plain = true };
+        says = refl;
+        reads =
+            plain_reads_at Line text tail p ∙ v.1;
+      },
+      v.2,
+    )
 
 pub record KeyReads (key bs r : List ℕ) : Type 0 where
   pub scalar : Scalar
@@ -299,14 +349,26 @@ sign_no_quote b more h =
 
 pub part_is_read : (n b : ℕ) (more : List ℕ) → stops FlowSign (b ∷ more) ≡ true
     → (b == 32) ≡ false → (d : Data) (bytes : List ℕ) → IsPart d bytes
-    → (rest : List ℕ) × IsRead Flow d (bytes ++ (spaces n ++ b ∷ more)) rest × (skip rest ≡ b ∷ more)
+    → (rest : List ℕ) × IsRead Flow d (bytes ++ (spaces n ++ b ∷ more)) rest
+    × (skip rest ≡ b ∷ more)
 part_is_read n b more h k d bytes (quoted_part text bs q) = (
   spaces n ++ b ∷ more,
-  record { scalar = record { text = text; plain = false }; says = refl; reads = quoted_reads Flow text bs (spaces n ++ b ∷ more) (spaces_no_quote n b more (sign_no_quote b more h)) q },
+  record {
+    scalar = record { text = text; plain = false };
+    says = refl;
+    reads =
+        quoted_reads Flow text bs (spaces n ++ b ∷ more)
+        (spaces_no_quote n b more (sign_no_quote b more h)) q;
+  },
   skip_spaces n (b ∷ more) ∙ ap (λ v. if v then skip more else b ∷ more) k,
 )
 part_is_read n b more h k d bytes (plain_part text p e s) = (
   b ∷ more,
-  record { scalar = record { text = text; plain = true }; says = refl; reads = plain_reads_at Flow text (spaces n ++ b ∷ more) p ∙ flow_reads text n b more p e s h },
+  record {
+    scalar = record { text = text; plain = true };
+    says = refl;
+    reads =
+        plain_reads_at Flow text (spaces n ++ b ∷ more) p ∙ flow_reads text n b more p e s h;
+  },
   ap (λ v. if v then skip more else b ∷ more) k,
 )

@@ -2,9 +2,13 @@
 ghost use Rattle.std.specs.Prelude.{◌≡◌, IfOk, length, map};
 ghost use Rattle.std.specs.Option.{option_map};
 ghost use Rattle.kr_yaml.specs.Lines.{Token, dash, leaf, pair};
-ghost use Rattle.kr_yaml.specs.inner.LineReading.{scalars, flow_list, flow_mapping, list_alone, mapping_alone, leaf_at, value_at, member_at, key_at, content_at, Head, head, dash_behind, tokens_in, tokens_of};
+ghost use Rattle.kr_yaml.specs.inner.LineReading.{scalars, flow_list, flow_mapping, list_alone};
+ghost use Rattle.kr_yaml.specs.inner.LineReading.{mapping_alone, leaf_at, value_at, member_at};
+ghost use Rattle.kr_yaml.specs.inner.LineReading.{key_at, content_at, Head, head, dash_behind};
+ghost use Rattle.kr_yaml.specs.inner.LineReading.{tokens_in, tokens_of};
 ghost use Rattle.kr_yaml.specs.Shown.{view};
-ghost use Rattle.kr_yaml.specs.inner.Seen.{token_view, token_views, lent_trees, lent_tree, list_tokens, IsHead};
+ghost use Rattle.kr_yaml.specs.inner.Seen.{token_view, token_views, lent_trees, lent_tree};
+ghost use Rattle.kr_yaml.specs.inner.Seen.{list_tokens, IsHead};
 ghost use Rattle.kr_yaml.specs.inner.Gives.{Gives};
 
 use crate::bytes::{behind, closes, opens, over, skip};

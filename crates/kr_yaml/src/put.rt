@@ -1,10 +1,12 @@
 //! Putting a token into the open nodes.
-ghost use Rattle.std.specs.Prelude.{◌≡◌, ◌<◌, ◌≤◌, ◌+◌, true, false, [], ◌∷◌, length, take, drop, IfOk, OnOk, None, unwrap_or};
+ghost use Rattle.std.specs.Prelude.{◌≡◌, ◌<◌, ◌≤◌, ◌+◌, true, false, [], ◌∷◌, length, take, drop};
+ghost use Rattle.std.specs.Prelude.{IfOk, OnOk, None, unwrap_or};
 ghost use Rattle.std.specs.Option.{option_map};
 ghost use Rattle.kr_yaml.specs.Data.{null};
 ghost use Rattle.kr_yaml.specs.Shown.{view};
 ghost use Rattle.kr_yaml.specs.inner.Seen.{token_view};
-ghost use Rattle.kr_yaml.specs.inner.Open.{closed_value, first_state, next, put, is_repeated, doubles, place};
+ghost use Rattle.kr_yaml.specs.inner.Open.{closed_value, first_state, next, put, is_repeated};
+ghost use Rattle.kr_yaml.specs.inner.Open.{doubles, place};
 ghost use Rattle.kr_yaml.specs.inner.Frames.{frame_view, frame_views, state_view};
 ghost use Rattle.kr_yaml.specs.inner.Puts.{GoesOn, Begins, Puts};
 

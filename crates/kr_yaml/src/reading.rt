@@ -5,7 +5,8 @@ ghost use Rattle.kr_yaml.specs.inner.Seen.{token_view, token_views, list_tokens}
 ghost use Rattle.kr_yaml.specs.inner.Gives.{Gives};
 ghost use Rattle.std.specs.Option.{option_map};
 ghost use Rattle.kr_yaml.specs.Bytes.{behind_three};
-ghost use Rattle.kr_yaml.specs.inner.TextReading.{marks, begins_blank, goes_on, marks_more, is_foreign, line_tokens};
+ghost use Rattle.kr_yaml.specs.inner.TextReading.{marks, begins_blank, goes_on, marks_more};
+ghost use Rattle.kr_yaml.specs.inner.TextReading.{is_foreign, line_tokens};
 ghost use Rattle.kr_yaml.specs.Bytes.{is_empty};
 ghost use Rattle.kr_yaml.specs.inner.TextReading.{tokens_from};
 ghost use Rattle.kr_yaml.specs.Texts.{text_tokens};
@@ -78,7 +79,8 @@ fn marks_more(mark: char, line: &str) -> bool
     }
 }
 
-/// Whether a line holds what a reader of YAML might take for the end of the line or of the document.
+/// Whether a line holds what a reader of YAML might take for the end of the line or of the
+/// document.
 fn is_foreign(line: &str) -> bool
     ensures { result ≡ is_foreign line.now }
 {

@@ -2,7 +2,9 @@
 ghost use Rattle.std.specs.Prelude.{◌≡◌, ◌<◌, IfSome};
 ghost use Rattle.std.specs.List.{list_all};
 ghost use Rattle.kr_yaml.specs.Bytes.{is_blank};
-ghost use Rattle.kr_yaml.specs.inner.ScalarReading.{is_merge, single, double, is_plain, is_space, is_null, plain_text, plain_scalar, plain_at, scalar_at, data_of, quoted_scalar};
+ghost use Rattle.kr_yaml.specs.inner.ScalarReading.{is_merge, single, double, is_plain, is_space};
+ghost use Rattle.kr_yaml.specs.inner.ScalarReading.{is_null, plain_text, plain_scalar, plain_at};
+ghost use Rattle.kr_yaml.specs.inner.ScalarReading.{scalar_at, data_of, quoted_scalar};
 ghost use Rattle.kr_yaml.specs.Written.{escape, is_indicator};
 ghost use Rattle.kr_yaml.specs.Shown.{view};
 ghost use Rattle.kr_yaml.specs.inner.Gives.{Gives, with_rest};

@@ -18,8 +18,8 @@ pub enum YamlNo {
         /// The line.
         line: u32,
     },
-    /// The tree has more than 16 levels of lists and mappings from this line on. A flow value counts
-    /// none.
+    /// The tree has more than 16 levels of lists and mappings from this line on. A flow value
+    /// counts none.
     Deep {
         /// The line.
         line: u32,

@@ -7,4 +7,5 @@ use Rattle.kr_yaml.specs.Shown.{views}
 use Rattle.kr_yaml.proofs.line.scalars.Given as goal
 
 abbrev pub invariant-scalars : goal.invariant-scalars
-invariant-scalars l = shadow (Utf8 l.rest) × (scalars (length l.text) l.text ≡ with_front (views l.trees.0) (scalars (length l.text - l.step) l.rest))
+invariant-scalars l = shadow (Utf8 l.rest) × (scalars (length l.text) l.text
+    ≡ with_front (views l.trees.0) (scalars (length l.text - l.step) l.rest))

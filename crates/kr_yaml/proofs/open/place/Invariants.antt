@@ -5,4 +5,5 @@ use Rattle.kr_yaml.specs.inner.Frames.{frame_views}
 use Rattle.kr_yaml.proofs.open.place.Given as goal
 
 abbrev pub invariant-loop-index : goal.invariant-loop-index
-invariant-loop-index l = place (token_view l.token) (frame_views l.nodes) ≡ l.index + place (token_view l.token) (frame_views (drop l.index l.nodes))
+invariant-loop-index l = place (token_view l.token) (frame_views l.nodes)
+    ≡ l.index + place (token_view l.token) (frame_views (drop l.index l.nodes))

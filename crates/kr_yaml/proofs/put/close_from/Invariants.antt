@@ -9,7 +9,8 @@ abbrev pub invariant-nodes : goal.invariant-nodes
 invariant-nodes l = record {
   within : l.at ≤ length l.nodes.items;
   front : take l.at l.nodes.items ≡ take l.at l.fn.nodes.items;
-  tree : closed_value (frame_views (drop l.at l.fn.nodes.items)) (option_map view l.fn.value) ≡ closed_value (frame_views (drop l.at l.nodes.items)) (Some (view l.tree));
+  tree : closed_value (frame_views (drop l.at l.fn.nodes.items)) (option_map view l.fn.value)
+      ≡ closed_value (frame_views (drop l.at l.nodes.items)) (Some (view l.tree));
 }
 
 abbrev pub decreases-nodes : goal.decreases-nodes

@@ -10,6 +10,9 @@ use Rattle.kr_yaml.proofs.put.go_on.Goals as goal
 pub returns-in-Err-add : goal.returns-in-Err-add
 returns-in-Err-add c =
     let m = c.in-Members-Pair in
-    goes (token_view c.args.token) (pair m.mapping.column m.key (option_map view m.beside)) (frame_view c.args.node) (mapping_frame m.mapping) (view c.args.value) c.in-Err-add.why
-    (ap token_view m.is-1 ∙ ap (λ n. pair n m.key (option_map view m.beside)) c.if-own-mapping.false) (ap frame_view m.is-0)
-    (added m.mapping.column (member_views m.mapping.done.0) m.mapping.key m.key (option_map view m.beside) (view c.args.value) c.in-Err-add.why c.in-Err-add.ensures)
+    goes (token_view c.args.token) (pair m.mapping.column m.key (option_map view m.beside))
+    (frame_view c.args.node) (mapping_frame m.mapping) (view c.args.value) c.in-Err-add.why
+    (ap token_view m.is-1 ∙ ap (λ n. pair n m.key (option_map view m.beside))
+    c.if-own-mapping.false) (ap frame_view m.is-0)
+    (added m.mapping.column (member_views m.mapping.done.0) m.mapping.key m.key
+    (option_map view m.beside) (view c.args.value) c.in-Err-add.why c.in-Err-add.ensures)

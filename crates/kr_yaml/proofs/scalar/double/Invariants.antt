@@ -6,7 +6,8 @@ use Rattle.kr_yaml.specs.inner.ScalarReading.{double, with_front}
 use Rattle.kr_yaml.proofs.scalar.double.Given as goal
 
 abbrev pub invariant-pieces : goal.invariant-pieces
-invariant-pieces l = shadow (Utf8 l.rest) × (double l.text ≡ with_front (string_bytes l.word) (double l.rest))
+invariant-pieces l = shadow (Utf8 l.rest) × (double l.text ≡ with_front (string_bytes l.word)
+    (double l.rest))
 
 abbrev pub decreases-pieces : goal.decreases-pieces
 decreases-pieces l = length l.rest
