@@ -388,7 +388,7 @@ pub record LeafStart (bytes : List ℕ) : Type 0 where
   pub no_hash : (first == 35) ≡ false
   pub no_item : (rest : List ℕ) → bytes ≢ 45 ∷ (32 ∷ rest)
 
-leaf_begins : (bytes : List ℕ) → Start bytes → LeafStart bytes
+pub leaf_begins : (bytes : List ℕ) → Start bytes → LeafStart bytes
 leaf_begins bytes s = record {
   first = s.first;
   more = s.more;

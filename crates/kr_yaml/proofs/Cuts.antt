@@ -1,6 +1,6 @@
 -- Bytes that are cut before the first place where something stands.
 use Rattle.std.proofs.Common.{◌≡◌, ℕ, Bool, true, false, List, [], ◌∷◌, ◌++◌, length, drop, take}
-use Rattle.std.proofs.Common.{refl, sym, ap, ◌∙◌, subst, arith, suc}
+use Rattle.std.proofs.Common.{refl, sym, ap, ◌∙◌, subst, arith, zero, suc}
 use Rattle.std.specs.Prelude.{if◌then◌else◌, ◌==◌, ◌&&◌, ◌||◌, nat_lt}
 use Rattle.std.proofs.lemmas.List.{append_assoc, append-nil, take-append-drop}
 use Rattle.kr_yaml.specs.Bytes.{spaces}

@@ -5,14 +5,15 @@ pub mod Until
 pub mod Quotes
 pub mod Flows
 pub mod Heads
-mod Spaces
-mod Cuts
-mod QuotedRead
-mod PlainRead
-mod ScalarRead
-mod FlowRead
-mod ContentRead
-mod LineRead
+pub mod Spaces
+pub mod Cuts
+pub mod QuotedRead
+pub mod PlainRead
+pub mod ScalarRead
+pub mod FlowRead
+pub mod ContentRead
+pub mod LineRead
+pub mod TextRead
 pub mod Grown
 pub mod Runs
 pub mod Shapes

@@ -1,27 +1,23 @@
 -- The tokens of a line are read as they are written.
 use Rattle.std.proofs.Common.{◌≡◌, ◌≢◌, ℕ, ◌+◌, Bool, true, false, List, [], ◌∷◌, ◌++◌, Option}
 use Rattle.std.proofs.Common.{None, Some, refl, sym, ap, ◌∙◌, subst, arith, zero, suc, map, inl}
-use Rattle.std.proofs.Common.{inr, ◌⊎◌, Result}
+use Rattle.std.proofs.Common.{inr, ◌⊎◌}
 use Rattle.std.specs.Prelude.{if◌then◌else◌, ◌==◌, ◌&&◌, ◌||◌, not, is_some, option_and_then}
 use Rattle.std.specs.Option.{option_map, option_map_or}
 use Rattle.std.specs.List.{list_all}
 use Rattle.std.specs.Str.{chars}
-use Rattle.std.specs.Str.Lines.{lines}
 use Rattle.std.proofs.lemmas.List.{append_assoc}
-use Rattle.kr_base.specs.Numbering.{next_place}
 use Rattle.kr_yaml.specs.Characters.{is_allowed}
-use Rattle.kr_yaml.specs.Bytes.{behind, behind_three, is_blank, skip, spaces, over, is_empty}
+use Rattle.kr_yaml.specs.Bytes.{behind, behind_three, is_blank, skip, spaces, over}
 use Rattle.kr_yaml.specs.Lines.{Token, dash, pair, leaf, IsTail, spaces_alone, comment_behind}
 use Rattle.kr_yaml.specs.Lines.{IsLeaf, IsContent, empty_item, item, empty_member, member, value}
-use Rattle.kr_yaml.specs.Lines.{IsLine, empty_line, comment_line, content_line, with_line}
+use Rattle.kr_yaml.specs.Lines.{IsLine, empty_line, comment_line, content_line}
 use Rattle.kr_yaml.specs.Texts.{is_parted, is_mark, StandsFor, first_mark, first_dots, no_mark}
-use Rattle.kr_yaml.specs.Texts.{HasTokens, HaveTokens, no_lines, line_without, line_with}
-use Rattle.kr_yaml.specs.Texts.{text_tokens}
-use Rattle.kr_yaml.specs.Laws.{ReadAsWritten}
+use Rattle.kr_yaml.specs.Texts.{HasTokens}
 use Rattle.kr_yaml.specs.inner.Stops.{opens, closes}
 use Rattle.kr_yaml.specs.inner.LineReading.{content_at, Head, onto, head, tokens_in, tokens_of}
 use Rattle.kr_yaml.specs.inner.TextReading.{marks, begins_blank, goes_on, marks_more}
-use Rattle.kr_yaml.specs.inner.TextReading.{tokens_by_marks, line_tokens, before_rest, tokens_from}
+use Rattle.kr_yaml.specs.inner.TextReading.{tokens_by_marks, line_tokens}
 use Rattle.kr_yaml.proofs.Behind.{is_byte}
 use Rattle.kr_yaml.proofs.Quotes.{behind_cons}
 use Rattle.kr_yaml.proofs.Spaces.{differ, heads, clash, none_of, both_true, skip_spaces}
@@ -521,7 +517,7 @@ not_mark : (c : ℕ) (line : List ℕ) (m n i : Bool) → Kind c line m n i → 
 not_mark c line m n i (inl s) e f = absurd (clash (sym s.marks ∙ e))
 not_mark c line m n i (inr z) e f = sym z.1 ∙ f
 
-line_has : (first : Bool) (line : List ℕ) (ts : List Token) → line_tokens first line ≡ Some ts
+pub line_has : (first : Bool) (line : List ℕ) (ts : List Token) → line_tokens first line ≡ Some ts
     → HasTokens first line ts
 line_has first line ts h =
     let dashes = kind 45 line in
@@ -550,7 +546,7 @@ no_kind : (c : ℕ) (line : List ℕ) (m n i : Bool) → Kind c line m n i → i
 no_kind c line m n i (inl s) e = absurd (clash (sym s.mark ∙ e))
 no_kind c line m n i (inr z) e = (z.0, z.1 ∙ e)
 
-has_line : (first : Bool) (line : List ℕ) (ts : List Token) → list_all is_allowed (chars line)
+pub has_line : (first : Bool) (line : List ℕ) (ts : List Token) → list_all is_allowed (chars line)
     ≡ true
     → StandsFor first line ts → line_tokens first line ≡ Some ts
 has_line first line ts a (first_mark tail t) =
@@ -571,53 +567,3 @@ has_line first line ts a (no_mark f bs us e g l) =
     ∙ ap (λ v. if v then (if f then Some [] else None) else if marks 46 bs && not
     f then None else tokens_of bs) d.0
     ∙ ap (λ v. if v && not f then None else tokens_of bs) o.0 ∙ tokens_made bs us l
-
--- lines
-
-abbrev Tokens : Type 0
-Tokens = Result (List (ℕ × Token)) ℕ
-
-with_tokens : (n : ℕ) (first : Bool) (line : List ℕ) (rest : List (List ℕ))
-    (o : Option (List Token))
-    → line_tokens first line ≡ o
-    → HaveTokens (next_place n) (first && is_empty line) rest (tokens_from (next_place n)
-    (first && is_empty line) rest)
-    → HaveTokens n first (line ∷ rest)
-    (before_rest n o (tokens_from (next_place n) (first && is_empty line) rest))
-with_tokens n first line rest None e h =
-    line_without n first line rest (λ ts k. let none : None ≡ Some ts = sym e
-    ∙ has_line first line ts k.0 k.1 in absurd cc)
-with_tokens n first line rest (Some ts) e h =
-    line_with n first line rest ts (tokens_from (next_place n) (first && is_empty line) rest)
-    (line_has first line ts e) h
-
-have_tokens : (n : ℕ) (first : Bool) (rest : List (List ℕ))
-    → HaveTokens n first rest (tokens_from n first rest)
-have_tokens n first [] = no_lines n first
-have_tokens n first (line ∷ rest) =
-    with_tokens n first line rest (line_tokens first line) refl (have_tokens (next_place n)
-    (first && is_empty line) rest)
-
-without : (first : Bool) (line : List ℕ) (o : Option (List Token)) → line_tokens first line ≡ o
-    → ((ts : List Token) → HasTokens first line ts → ⊥) → o ≡ None
-without first line None e h = refl
-without first line (Some ts) e h = absurd (h ts (line_has first line ts e))
-
-are_read : (n : ℕ) (first : Bool) (rest : List (List ℕ)) (wanted : Tokens)
-    → HaveTokens n first rest wanted
-    → tokens_from n first rest ≡ wanted
-are_read n first rest wanted (no_lines m f) = refl
-are_read n first rest wanted (line_without m f line more h) =
-    ap (λ o. before_rest m o (tokens_from (next_place m) (f && is_empty line) more))
-    (without f line (line_tokens f line) refl h)
-are_read n first rest wanted (line_with m f line more ts seen h k) =
-    ap (λ o. before_rest m o (tokens_from (next_place m) (f && is_empty line) more))
-    (has_line f line ts h.0 h.1)
-    ∙ ap (with_line m ts) (are_read (next_place m) (f && is_empty line) more seen k)
-
-pub read_as_written : ReadAsWritten
-unfolding text_tokens
-read_as_written text wanted = (
-  λ h. subst (HaveTokens 1 true (lines text)) h (have_tokens 1 true (lines text)),
-  are_read 1 true (lines text) wanted,
-)

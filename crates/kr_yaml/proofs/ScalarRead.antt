@@ -127,12 +127,12 @@ found s rest = Some (s, rest)
 abbrev Texts : Type 0
 Texts = List ℕ × List ℕ
 
+abbrev texts : List ℕ → List ℕ → Option Texts
+texts text rest = Some (text, rest)
+
 record Read (o : Option Texts) (s : Scalar) (rest : List ℕ) : Type 0 where
   reads : o ≡ texts s.text rest
   not_plain : s.plain ≡ false
-
-abbrev texts : List ℕ → List ℕ → Option Texts
-texts text rest = Some (text, rest)
 
 some_pair : (x y : Scalar × List ℕ) → Some x ≡ Some y → x ≡ y
 some_pair x y h = ap (λ o. option_map_or (λ z. z) o x) h
@@ -276,7 +276,7 @@ quoted_reads context text bytes rest h (in_double t w e) =
 
 plain_reads_at : (context : Context) (text rest : List ℕ) → IsPlain text
     → scalar_at context (text ++ rest) ≡ plain_at context (text ++ rest)
-unfolding scalar_at
+unfolding scalar_at plain_start
 plain_reads_at context text rest p =
     let s = plain_start text p in
     let no_single = start_behind 39 text rest s (not_first p.first 39 refl p.no_indicator) in

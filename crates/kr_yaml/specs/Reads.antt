@@ -3,6 +3,7 @@ use Rattle.std.specs.Prelude.{◌≡◌, ℕ, ◌<◌, ◌≤◌, ⊤, true, fal
 use Rattle.std.specs.Prelude.{Result, Ok, Err}
 use Rattle.kr_yaml.specs.Data.{Data}
 use Rattle.kr_yaml.specs.Lines.{Token}
+use Rattle.kr_yaml.specs.Texts.{TextHas}
 use Rattle.kr_yaml.specs.Forms.{Shape, Form}
 use Rattle.kr_yaml.specs.Shown.{view}
 use Rattle.kr_yaml.specs.declared.tree.Tree.{Tree}
@@ -84,3 +85,16 @@ HasTree (Err n) d = ⊥
 abbrev pub NoTree : Result (List (ℕ × Token)) ℕ → YamlNo → Type 0
 NoTree wanted NoMemory = ⊤
 NoTree wanted why = (d : Data) → HasTree wanted d → ⊥
+
+-- The answer for a text: what its lines have, and what reading that answers.
+abbrev pub ReadsText : List ℕ → Result Tree YamlNo → Type 0
+ReadsText text result =
+    (wanted : Result (List (ℕ × Token)) ℕ) × TextHas text wanted × Reads wanted result
+
+abbrev pub IsOnlyTree : List ℕ → Data → Type 0
+IsOnlyTree text tree =
+    (wanted : Result (List (ℕ × Token)) ℕ) → TextHas text wanted → OnlyTree wanted tree
+
+abbrev pub HasNoTree : List ℕ → YamlNo → Type 0
+HasNoTree text why =
+    (wanted : Result (List (ℕ × Token)) ℕ) → TextHas text wanted → NoTree wanted why

@@ -11,7 +11,7 @@ ghost use Rattle.kr_yaml.specs.Bytes.{is_empty};
 ghost use Rattle.kr_yaml.specs.inner.TextReading.{tokens_from};
 ghost use Rattle.kr_yaml.specs.Texts.{text_tokens};
 ghost use Rattle.kr_yaml.specs.inner.Progress.{Moves, Extends, ReadsLines};
-ghost use Rattle.kr_yaml.specs.Reads.{Reads, OnlyTree, NoTree};
+ghost use Rattle.kr_yaml.specs.Reads.{Reads, OnlyTree, NoTree, ReadsText, IsOnlyTree, HasNoTree};
 ghost use Rattle.kr_yaml.specs.Shown.{view};
 
 use crate::bytes::{behind, closes, over, skip};
@@ -190,9 +190,19 @@ fn read_lines(alloc: Global, text: &str) -> Result<Progress, YamlNo>
 /// Reads a text of the profile. The first line that isn't of it is looked for in all lines; then
 /// the first breach of the tokens decides. Where it refuses, but for want of memory, there is no
 /// tree. It takes time in proportion to the text, and finds a key that stands twice by a sorted
-/// set.
-#[tactic(auto, unfolding(crate::specs::Texts::text_tokens))]
+/// set. The clause `tokens` is for callers' proofs: `text_tokens` computes what the lines have.
 pub fn read(alloc: Global, text: &str) -> Result<Tree, YamlNo>
+    ensures reads { ReadsText text.now result }
+    ensures only { IfOk result (λ tree. IsOnlyTree text.now (view tree)) }
+    ensures none { IfErr result (λ why. HasNoTree text.now why) }
+    ensures tokens { Reads (text_tokens text.now) result }
+{
+    read_tokens(alloc, text)
+}
+
+/// The same by the tokens as they are computed.
+#[tactic(auto, unfolding(crate::specs::Texts::text_tokens))]
+fn read_tokens(alloc: Global, text: &str) -> Result<Tree, YamlNo>
     ensures reads { Reads (text_tokens text.now) result }
     ensures only { IfOk result (λ tree. OnlyTree (text_tokens text.now) (view tree)) }
     ensures none { IfErr result (λ why. NoTree (text_tokens text.now) why) }

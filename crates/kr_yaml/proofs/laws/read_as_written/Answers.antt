@@ -1,5 +1,4 @@
--- The tokens of each line are those that it has.
-use Rattle.kr_yaml.proofs.LineRead.{read_as_written}
+use Rattle.kr_yaml.proofs.TextRead.{read_as_written}
 use Rattle.kr_yaml.proofs.laws.read_as_written.Goals as goal
 
 pub returns : goal.returns
