@@ -1,7 +1,7 @@
 -- Contents are read as they are written.
 use Rattle.std.proofs.Common.{◌≡◌, ◌≢◌, ℕ, Bool, true, false, List, [], ◌∷◌, ◌++◌, Option, None}
-use Rattle.std.proofs.Common.{Some, refl, sym, ap, ◌∙◌, subst, zero, suc}
-use Rattle.std.specs.Prelude.{if◌then◌else◌, ◌==◌, ◌&&◌}
+use Rattle.std.proofs.Common.{Some, refl, sym, ap, ◌∙◌, subst, suc}
+use Rattle.std.specs.Prelude.{if◌then◌else◌, ◌==◌}
 use Rattle.std.specs.Option.{option_map, option_map_or}
 use Rattle.std.proofs.lemmas.List.{append_assoc}
 use Rattle.kr_yaml.specs.Bytes.{behind, skip, spaces, over}
@@ -11,7 +11,7 @@ use Rattle.kr_yaml.specs.Lines.{Token, pair, leaf, IsTail, IsLeaf, scalar, empty
 use Rattle.kr_yaml.specs.Lines.{empty_mapping, IsContent, empty_member, member, value}
 use Rattle.kr_yaml.specs.inner.Stops.{opens, closes}
 use Rattle.kr_yaml.specs.inner.ScalarReading.{scalar_at, data_of, is_merge}
-use Rattle.kr_yaml.specs.inner.LineReading.{flow_list as read_list, flow_mapping, alone, list_alone}
+use Rattle.kr_yaml.specs.inner.LineReading.{flow_list as read_list, alone, list_alone}
 use Rattle.kr_yaml.specs.inner.LineReading.{mapping_alone, scalar_alone, leaf_at, value_at}
 use Rattle.kr_yaml.specs.inner.LineReading.{member_at, key_at, scalar_or_key, content_at}
 use Rattle.kr_yaml.specs.declared.scalar.Scalar.{Scalar}

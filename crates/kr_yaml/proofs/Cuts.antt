@@ -1,10 +1,10 @@
 -- Bytes that are cut before the first place where something stands.
 use Rattle.std.proofs.Common.{◌≡◌, ℕ, Bool, true, false, List, [], ◌∷◌, ◌++◌, length, drop, take}
-use Rattle.std.proofs.Common.{refl, sym, ap, ◌∙◌, subst, arith, zero, suc}
-use Rattle.std.specs.Prelude.{if◌then◌else◌, ◌==◌, ◌&&◌, ◌||◌, nat_lt}
+use Rattle.std.proofs.Common.{refl, sym, ap, ◌∙◌, arith, zero, suc}
+use Rattle.std.specs.Prelude.{if◌then◌else◌, nat_lt}
 use Rattle.std.proofs.lemmas.List.{append_assoc, append-nil, take-append-drop}
 use Rattle.kr_yaml.specs.Bytes.{spaces}
-use Rattle.kr_yaml.specs.inner.Stops.{stops, length_until, has, is_hash}
+use Rattle.kr_yaml.specs.inner.Stops.{stops, length_until, has}
 use Rattle.kr_yaml.specs.declared.bytes.Stop.{Stop}
 use Rattle.kr_yaml.proofs.Spaces.{heads, tails}
 

@@ -1,9 +1,9 @@
 -- Flow lists are read as they are written.
-use Rattle.std.proofs.Common.{◌≡◌, ℕ, ◌+◌, ◌<◌, ◌≤◌, Bool, true, false, List, [], ◌∷◌, ◌++◌}
+use Rattle.std.proofs.Common.{◌≡◌, ℕ, ◌≤◌, List, [], ◌∷◌, ◌++◌}
 use Rattle.std.proofs.Common.{Option, None, Some, refl, sym, ap, ◌∙◌, subst, arith, zero, suc}
 use Rattle.std.proofs.Common.{length}
 use Rattle.std.specs.Option.{option_map, option_map_or}
-use Rattle.std.proofs.lemmas.List.{append_assoc, append-nil, length-append}
+use Rattle.std.proofs.lemmas.List.{append_assoc, length-append}
 use Rattle.kr_yaml.specs.Bytes.{behind, skip, spaces}
 use Rattle.kr_yaml.specs.Data.{Data, list, items_of}
 use Rattle.kr_yaml.specs.Written.{IsPart}
@@ -15,7 +15,7 @@ use Rattle.kr_yaml.specs.declared.scalar.Context.TheVariants.{Flow}
 use Rattle.kr_yaml.proofs.Flows.{next, with_scalar}
 use Rattle.kr_yaml.proofs.Quotes.{behind_cons}
 use Rattle.kr_yaml.proofs.Spaces.{skip_spaces, skip_is, skip_front}
-use Rattle.kr_yaml.proofs.ScalarRead.{Start, part_start, start_behind, start_skip, Parted}
+use Rattle.kr_yaml.proofs.ScalarRead.{part_start, start_behind, start_skip}
 use Rattle.kr_yaml.proofs.ScalarRead.{flow_part, IsRead, part_is_read}
 
 abbrev Found : Type 0

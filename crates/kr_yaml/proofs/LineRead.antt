@@ -8,21 +8,21 @@ use Rattle.std.specs.List.{list_all}
 use Rattle.std.specs.Str.{chars}
 use Rattle.std.proofs.lemmas.List.{append_assoc}
 use Rattle.kr_yaml.specs.Characters.{is_allowed}
-use Rattle.kr_yaml.specs.Bytes.{behind, behind_three, is_blank, skip, spaces, over}
+use Rattle.kr_yaml.specs.Bytes.{behind, skip, spaces, over}
 use Rattle.kr_yaml.specs.Lines.{Token, dash, pair, leaf, IsTail, spaces_alone, comment_behind}
-use Rattle.kr_yaml.specs.Lines.{IsLeaf, IsContent, empty_item, item, empty_member, member, value}
+use Rattle.kr_yaml.specs.Lines.{IsContent, empty_item, item, empty_member, member, value}
 use Rattle.kr_yaml.specs.Lines.{IsLine, empty_line, comment_line, content_line}
 use Rattle.kr_yaml.specs.Texts.{is_parted, is_mark, StandsFor, first_mark, first_dots, no_mark}
 use Rattle.kr_yaml.specs.Texts.{HasTokens}
 use Rattle.kr_yaml.specs.inner.Stops.{opens, closes}
-use Rattle.kr_yaml.specs.inner.LineReading.{content_at, Head, onto, head, tokens_in, tokens_of}
+use Rattle.kr_yaml.specs.inner.LineReading.{content_at, onto, head, tokens_in, tokens_of}
 use Rattle.kr_yaml.specs.inner.TextReading.{marks, begins_blank, goes_on, marks_more}
-use Rattle.kr_yaml.specs.inner.TextReading.{tokens_by_marks, line_tokens}
+use Rattle.kr_yaml.specs.inner.TextReading.{line_tokens}
 use Rattle.kr_yaml.proofs.Behind.{is_byte}
 use Rattle.kr_yaml.proofs.Quotes.{behind_cons}
 use Rattle.kr_yaml.proofs.Spaces.{differ, heads, clash, none_of, both_true, skip_spaces}
 use Rattle.kr_yaml.proofs.Spaces.{tail_opens, closes_tail, tail_closes}
-use Rattle.kr_yaml.proofs.ScalarRead.{Start, key_start}
+use Rattle.kr_yaml.proofs.ScalarRead.{key_start}
 use Rattle.kr_yaml.proofs.ContentRead.{LeafStart, leaf_begins, leaf_start, content_read}
 use Rattle.kr_yaml.proofs.ContentRead.{leaf_is_read, empty_is_read, member_is_read}
 

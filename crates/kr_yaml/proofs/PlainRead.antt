@@ -1,7 +1,7 @@
 -- Plain scalars are read as they are written.
 use Rattle.std.proofs.Common.{◌≡◌, ◌≢◌, ℕ, Bool, true, false, List, [], ◌∷◌, ◌++◌, drop, take}
-use Rattle.std.proofs.Common.{Option, None, Some, refl, sym, ap, ◌∙◌, subst, arith, suc, zero}
-use Rattle.std.specs.Prelude.{if◌then◌else◌, ◌==◌, ◌&&◌, ◌||◌, not, nat_lt, length}
+use Rattle.std.proofs.Common.{Option, None, Some, refl, sym, ap, ◌∙◌, subst, suc, zero}
+use Rattle.std.specs.Prelude.{if◌then◌else◌, ◌==◌, ◌&&◌, ◌||◌, not}
 use Rattle.std.specs.Option.{option_map_or}
 use Rattle.std.proofs.lemmas.List.{append_assoc, append-nil, take-append-drop}
 use Rattle.kr_yaml.specs.Bytes.{behind, spaces}
@@ -14,8 +14,8 @@ use Rattle.kr_yaml.specs.declared.bytes.Stop.TheVariants.{Colon, Comment, KeyEnd
 use Rattle.kr_yaml.specs.declared.scalar.Scalar.{Scalar}
 use Rattle.kr_yaml.specs.declared.scalar.Context.TheVariants.{Line, Flow}
 use Rattle.kr_yaml.proofs.Behind.{is_byte}
-use Rattle.kr_yaml.proofs.Spaces.{heads, differ, clash, both_true, none_of, NoSpaceFront}
-use Rattle.kr_yaml.proofs.Spaces.{spaces_last, trim_text, trim_is, tail_no_hash}
+use Rattle.kr_yaml.proofs.Spaces.{clash, both_true, none_of, NoSpaceFront}
+use Rattle.kr_yaml.proofs.Spaces.{spaces_last, trim_text, trim_is}
 use Rattle.kr_yaml.proofs.Cuts.{Inside, inside_append, inside_spaces, until_inside, until_at}
 use Rattle.kr_yaml.proofs.Cuts.{has_not, stop_there}
 

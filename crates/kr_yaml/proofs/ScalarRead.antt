@@ -1,5 +1,5 @@
 -- Scalars are read as they are written: as values on a line, as keys and in flow lists.
-use Rattle.std.proofs.Common.{◌≡◌, ◌≢◌, ℕ, Bool, true, false, List, [], ◌∷◌, ◌++◌, length}
+use Rattle.std.proofs.Common.{◌≡◌, ◌≢◌, ℕ, true, false, List, [], ◌∷◌, ◌++◌}
 use Rattle.std.proofs.Common.{Option, None, Some, refl, sym, ap, ◌∙◌, subst, zero, suc, inl, inr}
 use Rattle.std.proofs.Common.{◌⊎◌}
 use Rattle.std.specs.Prelude.{if◌then◌else◌, ◌==◌, ◌&&◌, ◌||◌, codes}
@@ -9,9 +9,9 @@ use Rattle.std.proofs.lemmas.List.{append_assoc}
 use Rattle.kr_yaml.specs.Bytes.{behind, skip, spaces}
 use Rattle.kr_yaml.specs.Data.{Data, null, word}
 use Rattle.kr_yaml.specs.Written.{with_quotes_twice, IsQuoted, in_single, in_double, is_indicator}
-use Rattle.kr_yaml.specs.Written.{IsPlain, NoSpaceBehind, IsScalar, quoted_value, plain_value}
+use Rattle.kr_yaml.specs.Written.{IsPlain, IsScalar, quoted_value, plain_value}
 use Rattle.kr_yaml.specs.Written.{IsPart}
-use Rattle.kr_yaml.specs.Written.{quoted_part, plain_part, is_merge_text, IsKey, quoted_key}
+use Rattle.kr_yaml.specs.Written.{quoted_part, plain_part, IsKey, quoted_key}
 use Rattle.kr_yaml.specs.Written.{plain_key}
 use Rattle.kr_yaml.specs.Lines.{IsTail}
 use Rattle.kr_yaml.specs.inner.Stops.{opens, closes, stops}
@@ -26,7 +26,7 @@ use Rattle.kr_yaml.proofs.Quotes.{behind_cons}
 use Rattle.kr_yaml.proofs.QuotedRead.{single_is, single_reads, double_is, double_reads}
 use Rattle.kr_yaml.proofs.Spaces.{heads, differ, clash, none_of, NoSpaceFront, skip_spaces}
 use Rattle.kr_yaml.proofs.Spaces.{tail_spaces, closes_tail, tail_closes, tail_no_byte}
-use Rattle.kr_yaml.proofs.PlainRead.{PlainSplit, value_read, key_read, flow_read}
+use Rattle.kr_yaml.proofs.PlainRead.{value_read, key_read, flow_read}
 use Rattle.kr_yaml.proofs.PlainRead.{value_reads, key_reads, flow_reads}
 
 -- how a scalar or a key begins

@@ -1,7 +1,7 @@
 -- Spaces at the begin and at the end of bytes, and the tails of lines.
-use Rattle.std.proofs.Common.{◌≡◌, ◌≢◌, ℕ, ◌+◌, Bool, true, false, List, [], ◌∷◌, ◌++◌, reverse}
-use Rattle.std.proofs.Common.{None, Some, Option, refl, sym, ap, ◌∙◌, subst, arith, suc, zero}
-use Rattle.std.specs.Prelude.{if◌then◌else◌, ◌==◌, ◌&&◌, ◌||◌}
+use Rattle.std.proofs.Common.{◌≡◌, ◌≢◌, ℕ, Bool, true, false, List, [], ◌∷◌, ◌++◌, reverse}
+use Rattle.std.proofs.Common.{None, Some, refl, sym, ap, ◌∙◌, subst, arith, suc, zero}
+use Rattle.std.specs.Prelude.{if◌then◌else◌, ◌==◌, ◌&&◌}
 use Rattle.std.proofs.lemmas.List.{append_assoc, append-nil, reverse-append, reverse-reverse}
 use Rattle.kr_yaml.specs.Bytes.{behind, skip, spaces, over}
 use Rattle.kr_yaml.specs.Written.{NoSpaceBehind}

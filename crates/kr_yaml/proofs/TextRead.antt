@@ -6,7 +6,7 @@ use Rattle.std.specs.Str.Lines.{lines}
 use Rattle.kr_base.specs.Numbering.{next_place}
 use Rattle.kr_yaml.specs.Bytes.{is_empty}
 use Rattle.kr_yaml.specs.Lines.{Token, with_line}
-use Rattle.kr_yaml.specs.Texts.{HasTokens, HaveTokens, no_lines, line_without, line_with, TextHas}
+use Rattle.kr_yaml.specs.Texts.{HasTokens, HaveTokens, no_lines, line_without, line_with}
 use Rattle.kr_yaml.specs.Texts.{text_tokens}
 use Rattle.kr_yaml.specs.Reads.{Reads, ReadsText, OnlyTree, IsOnlyTree, NoTree, HasNoTree}
 use Rattle.kr_yaml.specs.Laws.{ReadAsWritten}

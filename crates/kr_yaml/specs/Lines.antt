@@ -1,6 +1,6 @@
 -- The tokens of a line: spaces, a content and a tail. 35 is `#`, 44 is `,`, 45 is `-`, 58 is `:`,
 -- 91, 93 and 123, 125 are brackets and braces.
-use Rattle.std.specs.Prelude.{◌≡◌, ◌≢◌, ℕ, suc, ◌+◌, List, [], ◌∷◌, ◌++◌, map, Option, None, Some}
+use Rattle.std.specs.Prelude.{◌≢◌, ℕ, suc, ◌+◌, List, [], ◌∷◌, ◌++◌, map, Option, None, Some}
 use Rattle.std.specs.Prelude.{Result, Ok, Err}
 use Rattle.kr_yaml.specs.Bytes.{spaces}
 use Rattle.kr_yaml.specs.Data.{Data, list, mapping, items_of, members_of}

@@ -1,6 +1,6 @@
 -- How scalars are written: in quotes or plain. 32 is the space, 34 and 39 are the quotes, 35 is
 -- `#`, 45 is `-`, 58 is `:`, 92 the backslash.
-use Rattle.std.specs.Prelude.{◌≡◌, ◌≢◌, ℕ, ◌==◌, ◌||◌, Bool, true, false, codes}
+use Rattle.std.specs.Prelude.{◌≡◌, ◌≢◌, ℕ, ◌==◌, ◌||◌, Bool, false, codes}
 use Rattle.std.specs.Prelude.{List, [], ◌∷◌, ◌++◌, Option, None, Some}
 use Rattle.std.specs.Prelude.{if◌then◌else◌, option_and_then}
 use Rattle.std.specs.List.{list_all, list_any}
