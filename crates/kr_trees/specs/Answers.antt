@@ -4,9 +4,8 @@ use Rattle.std.specs.Prelude.{MatchOption, Result, Ok, Err, if◌then◌else◌}
 use Rattle.std.specs.Result.{result_ok}
 use Rattle.std.specs.Str.{IsUtf8, bytes_eq}
 use Rattle.hex.specs.Hex.{decode_of}
-use Rattle.kr_yaml.specs.Reads.{Reads}
+use Rattle.kr_yaml.specs.Reads.{ReadsText}
 use Rattle.kr_yaml.specs.Shown.{view}
-use Rattle.kr_yaml.specs.Texts.{text_tokens}
 use Rattle.kr_yaml.specs.declared.tree.Tree.{Tree}
 use Rattle.kr_yaml.specs.declared.yaml_no.YamlNo.{YamlNo}
 use Rattle.kr_yaml.specs.declared.yaml_no.YamlNo.TheVariants.{Outside, Indent, DuplicateKey}
@@ -29,7 +28,7 @@ Prints (Err NoMemory) printed = ⊥
 -- the tree of the text, or its first breach
 abbrev pub TellsText : List ℕ → List ℕ → Type 0
 TellsText text printed =
-    (answer : Result Tree YamlNo) × Reads (text_tokens text) answer × Prints answer printed
+    (answer : Result Tree YamlNo) × ReadsText text answer × Prints answer printed
 
 -- of a document, which may not be a text
 abbrev pub TellsDocument : List ℕ → List ℕ → Type 0
