@@ -207,10 +207,7 @@ fn read_tokens(alloc: Global, text: &str) -> Result<Tree, YamlNo>
     ensures only { IfOk result (λ tree. OnlyTree (text_tokens text.now) (view tree)) }
     ensures none { IfErr result (λ why. NoTree (text_tokens text.now) why) }
 {
-    let progress = match read_lines(alloc, text) {
-        Ok(progress) => progress,
-        Err(why) => return Err(why),
-    };
+    let progress = read_lines(alloc, text)?;
     let standing = match progress {
         Progress::Going(standing) => standing,
         Progress::Broken(why) => return Err(why),
