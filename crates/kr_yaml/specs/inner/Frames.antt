@@ -2,7 +2,7 @@
 use Rattle.std.specs.Prelude.{List, map, Option}
 use Rattle.std.specs.Option.{option_map}
 use Rattle.kr_yaml.specs.Shown.{view, views, member_views}
-use Rattle.kr_yaml.specs.Open.{Frame, items, members, State}
+use Rattle.kr_yaml.specs.inner.Open.{Frame, items, members, State}
 use Rattle.kr_yaml.specs.declared.tree.Tree.{Tree}
 use Rattle.kr_yaml.specs.declared.open.OpenNode.{OpenNode}
 use Rattle.kr_yaml.specs.declared.open.OpenNode.TheVariants.{Items, Members}

@@ -4,7 +4,8 @@ use denote.Ref.{Bor}
 use Rattle.std.specs.Option.{option_map}
 use Rattle.kr_yaml.specs.Data.{Data}
 use Rattle.kr_yaml.specs.Shown.{view, views}
-use Rattle.kr_yaml.specs.Lines.{Token, dash, pair, leaf, Head}
+use Rattle.kr_yaml.specs.Lines.{Token, dash, pair, leaf}
+use Rattle.kr_yaml.specs.inner.LineReading.{Head}
 use Rattle.kr_yaml.specs.declared.tree.Tree.{Tree}
 use Rattle.kr_yaml.specs.declared.token.LineToken.{LineToken}
 use Rattle.kr_yaml.specs.declared.token.LineToken.TheVariants.{Dash, Pair, Leaf}
