@@ -79,6 +79,3 @@ few_keys values i e entries p k m d entry r ok = (bounded values i e entries p k
 
 pub few_plugins : (values : List Value) (i e : ℕ) (entries : List Entry) (p k m : ℕ) (d : Data) (entry : Entry) → Reading values i e entries p k m → entry_of (counts_of p k m) e d ≡ Ok (row_of entry) → m + count_by is_kms entry.providers.0 ≤ 16
 few_plugins values i e entries p k m d entry r ok = (bounded values i e entries p k m d entry r ok).few_plugins
-
-pub reading_few : (values : List Value) (i e : ℕ) (entries : List Entry) (p k m : ℕ) → Reading values i e entries p k m → p ≤ 256
-reading_few values i e entries p k m r = subst (λ n. n ≤ 256) (sym r.patterns_met) r.kept.few_patterns

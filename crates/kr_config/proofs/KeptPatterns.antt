@@ -9,6 +9,7 @@ use Rattle.serde_json.specs.Find.{as_str}
 use Rattle.kr_base.specs.Rules.{is_resource}
 use Rattle.kr_config.specs.declared.pattern.Pattern.{Pattern}
 use Rattle.kr_config.specs.declared.pattern.Pattern.TheVariants.{Exact, Group, All}
+use Rattle.kr_config.specs.declared.refusal.Rule.TheVariants as rule
 use Rattle.kr_config.specs.declared.place.Place.{Place}
 use Rattle.kr_config.specs.Patterns.{group_of, is_group, is_pattern, same, overlap, clash}
 use Rattle.kr_config.specs.Kept.{apart}
@@ -49,7 +50,7 @@ placed counted place before p after k f h =
 pub pattern_kept : (counted entry item : ℕ) (before : List Pattern) (d : Data) (after : List Pattern) → Patterns counted before → pattern_step counted entry item before d ≡ Ok after → Patterns counted after × (1 ≤ length after)
 unfolding pattern_step
 pattern_kept counted entry item before d after k h =
-    let text = some_ok (as_str d) (λ text. option_map_or (place_pattern counted (place_at entry item) before) (pattern_of text) (breach 35 (place_at entry item))) _ after h in
+    let text = some_ok (as_str d) (λ text. option_map_or (place_pattern counted (place_at entry item) before) (pattern_of text) (breach rule.Pattern (place_at entry item))) _ after h in
     let pattern = some_ok (pattern_of text.0) (place_pattern counted (place_at entry item) before) _ after text.2 in
     placed counted (place_at entry item) before pattern.0 after k (form text.0 pattern.0 pattern.1) pattern.2
 

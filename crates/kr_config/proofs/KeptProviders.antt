@@ -11,6 +11,8 @@ use Rattle.base64.specs.Engines.{standard}
 use Rattle.base64.specs.GeneralPurpose.{decode_of}
 use Rattle.kr_base.specs.Rules.{is_name}
 use Rattle.kr_config.specs.declared.who.Who.{Who}
+use Rattle.kr_config.specs.declared.refusal.Rule.TheVariants as rule
+use Rattle.kr_config.specs.declared.refusal.Counted.TheVariants.{Keys, Plugins}
 use Rattle.kr_config.specs.declared.place.Place.{Place}
 use Rattle.kr_config.specs.declared.who.Who.TheVariants.{Identity, Kms}
 use Rattle.kr_config.specs.declared.provider.Cipher.{Cipher}
@@ -60,7 +62,7 @@ placed place before who after h =
 key_placed : (keys plugins : ℕ) (place : Place) (before : List Who) (who : Who) (after : List Who) → Providers keys plugins before → is_provider who ≡ true → is_kms who ≡ false → place_key keys place before who ≡ Ok after → Kept keys plugins after
 unfolding place_key
 key_placed keys plugins place before who after k f n h =
-    let a = and_then_ok (place_provider place before who) (λ new. if nat_lt (keys + count_by is_key before) 64 then Ok new else over_limit 3 64) after h in
+    let a = and_then_ok (place_provider place before who) (λ new. if nat_lt (keys + count_by is_key before) 64 then Ok new else over_limit Keys) after h in
     let b = if_ok (nat_lt (keys + count_by is_key before) 64) (Ok a.0) _ after a.2 in
     let below : keys + count_by is_key before < 64 = grind (arith, b.0) in
     let p = placed place before who a.0 a.1 in
@@ -69,7 +71,7 @@ key_placed keys plugins place before who after k f n h =
 plugin_placed : (keys plugins : ℕ) (place : Place) (before : List Who) (who : Who) (after : List Who) → Providers keys plugins before → is_provider who ≡ true → is_key who ≡ false → place_plugin plugins place before who ≡ Ok after → Kept keys plugins after
 unfolding place_plugin
 plugin_placed keys plugins place before who after k f n h =
-    let a = and_then_ok (place_provider place before who) (λ new. if nat_lt (plugins + count_by is_kms before) 16 then Ok new else over_limit 4 16) after h in
+    let a = and_then_ok (place_provider place before who) (λ new. if nat_lt (plugins + count_by is_kms before) 16 then Ok new else over_limit Plugins) after h in
     let b = if_ok (nat_lt (plugins + count_by is_kms before) 16) (Ok a.0) _ after a.2 in
     let below : plugins + count_by is_kms before < 16 = grind (arith, b.0) in
     let p = placed place before who a.0 a.1 in
@@ -85,15 +87,15 @@ identity_kept keys plugins place before d after k h =
 named : (place : Place) (d : Data) (name : List ℕ) → name_at place d ≡ Ok name → is_name name ≡ true
 unfolding name_at
 named place d name h =
-    let a = some_ok (text_at (codes "name") d) (λ n. if is_name n then Ok n else breach 31 place) _ name h in
+    let a = some_ok (text_at (codes "name") d) (λ n. if is_name n then Ok n else breach rule.Name place) _ name h in
     let b = if_ok (is_name a.0) (Ok a.0) _ name a.2 in
     subst (λ n. is_name n ≡ true) (same_ok a.0 name b.1) b.0
 
 keyed : (place : Place) (d : Data) (secret : List ℕ) → secret_at place d ≡ Ok secret → is_secret secret ≡ true
 unfolding secret_at
 keyed place d secret h =
-    let a = some_ok (text_at (codes "secret") d) (λ text. option_map_or (λ s. if is_secret s then Ok s else breach 34 place) (result_ok (decode_of standard text)) (breach 33 place)) _ secret h in
-    let b = some_ok (result_ok (decode_of standard a.0)) (λ s. if is_secret s then Ok s else breach 34 place) _ secret a.2 in
+    let a = some_ok (text_at (codes "secret") d) (λ text. option_map_or (λ s. if is_secret s then Ok s else breach rule.SecretLength place) (result_ok (decode_of standard text)) (breach rule.Base64 place)) _ secret h in
+    let b = some_ok (result_ok (decode_of standard a.0)) (λ s. if is_secret s then Ok s else breach rule.SecretLength place) _ secret a.2 in
     let c = if_ok (is_secret b.0) (Ok b.0) _ secret b.2 in
     subst (λ s. is_secret s ≡ true) (same_ok b.0 secret c.1) c.0
 
@@ -115,7 +117,7 @@ key_kept keys plugins c place before d after k h =
 pub named_some : (key : List ℕ) (place : Place) (d : Data) (ds : List Data) → named_list key place d ≡ Ok ds → length ds ≡ 0 → ⊥
 unfolding named_list
 named_some key place d ds h z =
-    let a = some_ok (option_and_then as_array (get key d)) (λ items. if length (list_of_items items) == 0 then breach 25 place else Ok (list_of_items items)) _ ds h in
+    let a = some_ok (option_and_then as_array (get key d)) (λ items. if length (list_of_items items) == 0 then breach rule.EmptyList place else Ok (list_of_items items)) _ ds h in
     let b = if_not (length (list_of_items a.0) == 0) _ _ ds a.2 in
     let same = same_ok (list_of_items a.0) ds b.1 in
     let zero_long : length (list_of_items a.0) ≡ 0 = ap length same ∙ z in
@@ -144,7 +146,7 @@ plugin_kept keys plugins place before d after k h =
     plugin_placed keys plugins place before (Kms c.0) after k (named place d c.0 c.1) refl f.2
 
 kind_by : (keys plugins : ℕ) (place : Place) (before after : List Who) (a b c d : Option Data) → Providers keys plugins before
-    → option_map_or (identity_step place before) a (option_map_or (keys_step cipher.Cbc keys place before) b (option_map_or (keys_step cipher.Gcm keys place before) c (option_map_or (plugin_step plugins place before) d (breach 28 place)))) ≡ Ok after
+    → option_map_or (identity_step place before) a (option_map_or (keys_step cipher.Cbc keys place before) b (option_map_or (keys_step cipher.Gcm keys place before) c (option_map_or (plugin_step plugins place before) d (breach rule.Secretbox place)))) ≡ Ok after
     → Kept keys plugins after
 kind_by keys plugins place before after (Some x) b c d k h = identity_kept keys plugins place before x after k h
 kind_by keys plugins place before after None (Some x) c d k h = keys_kept keys plugins cipher.Cbc place before x after k h

@@ -5,6 +5,7 @@ use Rattle.std.specs.List.{list_all, sum_by}
 use Rattle.std.proofs.lemmas.List.Sums.{sum_by-append}
 use Rattle.serde_json.specs.Data.{Data}
 use Rattle.kr_config.specs.Providers.{is_key, is_kms}
+use Rattle.kr_config.specs.declared.refusal.Counted.TheVariants.{Entries}
 use Rattle.kr_config.specs.Kept.{Row, keeps_patterns, keeps_providers, keeps_row, patterns_in, keys_in, kms_in, keeps}
 use Rattle.kr_config.specs.Walk.{over_limit, place_at, start, counts_of, and_then, walk, next_number, is_mapping, has_text, named_list, pattern_step, element_step, entry_of, entry_step, config_in}
 use Rattle.kr_config.proofs.Inversions.{same_ok, and_then_ok, if_ok, both, all_push}
@@ -92,7 +93,7 @@ config_kept d rows h =
     let a = if_ok (is_mapping d) _ _ rows h in
     let b = if_ok (has_text (codes "apiVersion") (codes "apiserver.config.k8s.io/v1") d) _ _ rows a.1 in
     let c = if_ok (has_text (codes "kind") (codes "EncryptionConfiguration") d) _ _ rows b.1 in
-    let f = and_then_ok (named_list (codes "resources") start d) (λ entries. if nat_le (length entries) 64 then walk entry_step 0 [] entries else over_limit 1 64) rows c.1 in
+    let f = and_then_ok (named_list (codes "resources") start d) (λ entries. if nat_le (length entries) 64 then walk entry_step 0 [] entries else over_limit Entries) rows c.1 in
     let g = if_ok (nat_le (length f.0) 64) (walk entry_step 0 [] f.0) _ rows f.2 in
     let w = walk_kept 0 [] f.0 rows (record { forms = refl; few_patterns = omega arith; few_keys = omega arith; few_plugins = omega arith }) g.1 in
     whole rows f.0 w.0 w.1 (named_some (codes "resources") start d f.0 f.1) (low (length f.0) 64 g.0)

@@ -12,10 +12,12 @@ use Rattle.kr_yaml.specs.declared.yaml_no.YamlNo.TheVariants.{Outside, Indent, D
 use Rattle.kr_yaml.proofs.Breaches.{first_stops}
 use Rattle.kr_yaml.proofs.OneAnswer.{one_form, one_answer}
 use Rattle.kr_yaml.proofs.SomeAnswer.{some_answer}
+use Rattle.kr_config.specs.declared.refusal.YamlRule.TheVariants as yaml_rule
 use Rattle.kr_config.specs.declared.refusal.ConfigNo.{ConfigNo}
+use Rattle.kr_config.specs.declared.refusal.ConfigNo.TheVariants.{Yaml}
 use Rattle.kr_config.specs.Kept.{Row}
 use Rattle.kr_config.specs.Walk.{and_then, config_in}
-use Rattle.kr_config.specs.Yaml.{json_of, in_line, IsNumbered, TreeOf}
+use Rattle.kr_config.specs.Yaml.{json_of, IsBreachOf, TreeOf}
 use Rattle.kr_config.specs.Meanings.{begins_json, json_rows, no_text, MeansYaml, TextMeans, MeansBy}
 use Rattle.kr_config.specs.Laws.{OneMeaning, SomeMeaning}
 
@@ -23,7 +25,7 @@ two_trees : (wanted : Result (List (ℕ × Token)) ℕ) (d e : Data) → HasTree
 two_trees (Ok us) d e h k = (one_form (plain us) d e h.shape k.shape h.forms k.forms).0
 two_trees (Err n) d e h k = absurd h
 
-tree_or : (wanted : Result (List (ℕ × Token)) ℕ) (d : Data) (breach : YamlNo) (why : ConfigNo) → HasTree wanted d → Refuses wanted breach → IsNumbered breach why → ⊥
+tree_or : (wanted : Result (List (ℕ × Token)) ℕ) (d : Data) (breach : YamlNo) (why : ConfigNo) → HasTree wanted d → Refuses wanted breach → IsBreachOf breach why → ⊥
 tree_or (Ok us) d (Outside n) why h k i = k
 tree_or (Ok us) d (Indent n) why h k i = first_stops us (Indent n) k d h
 tree_or (Ok us) d (DuplicateKey n) why h k i = first_stops us (DuplicateKey n) k d h
@@ -31,20 +33,20 @@ tree_or (Ok us) d (Deep n) why h k i = first_stops us (Deep n) k d h
 tree_or (Ok us) d NoMemory why h k i = i
 tree_or (Err n) d breach why h k i = h
 
-no_memory : (breach : YamlNo) (why : ConfigNo) → IsNumbered breach why → breach ≡ NoMemory → ⊥
-no_memory breach why i e = subst (λ x. IsNumbered x why) e i
+no_memory : (breach : YamlNo) (why : ConfigNo) → IsBreachOf breach why → breach ≡ NoMemory → ⊥
+no_memory breach why i e = subst (λ x. IsBreachOf x why) e i
 
-one_number : (breach : YamlNo) (why other : ConfigNo) → IsNumbered breach why → IsNumbered breach other → why ≡ other
-one_number (Outside n) why other h k = h ∙ sym k
-one_number (Indent n) why other h k = h ∙ sym k
-one_number (DuplicateKey n) why other h k = h ∙ sym k
-one_number (Deep n) why other h k = h ∙ sym k
-one_number NoMemory why other h k = absurd h
+one_restated : (breach : YamlNo) (why other : ConfigNo) → IsBreachOf breach why → IsBreachOf breach other → why ≡ other
+one_restated (Outside n) why other h k = h ∙ sym k
+one_restated (Indent n) why other h k = h ∙ sym k
+one_restated (DuplicateKey n) why other h k = h ∙ sym k
+one_restated (Deep n) why other h k = h ∙ sym k
+one_restated NoMemory why other h k = absurd h
 
-two_breaches : (wanted : Result (List (ℕ × Token)) ℕ) (x y : YamlNo) (why other : ConfigNo) → Refuses wanted x → Refuses wanted y → IsNumbered x why → IsNumbered y other → why ≡ other
+two_breaches : (wanted : Result (List (ℕ × Token)) ℕ) (x y : YamlNo) (why other : ConfigNo) → Refuses wanted x → Refuses wanted y → IsBreachOf x why → IsBreachOf y other → why ≡ other
 two_breaches wanted x y why other h k i j = elim (one_answer wanted (Err x) (Err y) h k) [
   | inl e ↦ absurd (no_memory x why i e)
-  | inr f ↦ elim f [ inl e ↦ absurd (no_memory y other j e) | inr g ↦ one_number y why other (subst (λ z. IsNumbered z why) g i) j ]
+  | inr f ↦ elim f [ inl e ↦ absurd (no_memory y other j e) | inr g ↦ one_restated y why other (subst (λ z. IsBreachOf z why) g i) j ]
 ]
 
 one_tree : (text : List ℕ) (a b : Result Data ConfigNo) → TreeOf text a → TreeOf text b → a ≡ b
@@ -69,16 +71,16 @@ one_meaning bytes a b h k = one_by (is_utf8 bytes) bytes a b h k
 
 -- and they mean something
 
-numbered : (breach : YamlNo) → breach ≢ NoMemory → (why : ConfigNo) × IsNumbered breach why
-numbered (Outside n) h = (in_line n 1, refl)
-numbered (Indent n) h = (in_line n 2, refl)
-numbered (DuplicateKey n) h = (in_line n 3, refl)
-numbered (Deep n) h = (in_line n 4, refl)
-numbered NoMemory h = absurd (h refl)
+restated : (breach : YamlNo) → breach ≢ NoMemory → (why : ConfigNo) × IsBreachOf breach why
+restated (Outside n) h = (Yaml yaml_rule.Outside n, refl)
+restated (Indent n) h = (Yaml yaml_rule.Indent n, refl)
+restated (DuplicateKey n) h = (Yaml yaml_rule.DuplicateKey n, refl)
+restated (Deep n) h = (Yaml yaml_rule.Deep n, refl)
+restated NoMemory h = absurd (h refl)
 
 some_tree : (text : List ℕ) → Answered (text_tokens text) → (tree : Result Data ConfigNo) × TreeOf text tree
 some_tree text (inl h) = (Ok h.0, h.1)
-some_tree text (inr h) = let n = numbered h.0 h.2 in (Err n.0, (h.0, h.1, n.1))
+some_tree text (inr h) = let n = restated h.0 h.2 in (Err n.0, (h.0, h.1, n.1))
 
 some_text : (is_json : Bool) (text : List ℕ) → (rows : Result (List Row) ConfigNo) × TextMeans is_json text rows
 some_text true text = (json_rows text, refl)

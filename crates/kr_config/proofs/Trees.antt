@@ -7,6 +7,7 @@ use Rattle.std.specs.Prelude.{if◌then◌else◌, option_and_then, Result}
 use Rattle.std.specs.Option.{option_map_or}
 use Rattle.std.proofs.lemmas.List.{drop_all}
 use Rattle.serde_json.specs.Find.{get, as_array}
+use Rattle.kr_config.specs.declared.refusal.Rule.TheVariants as rule
 use Rattle.kr_config.specs.declared.refusal.ConfigNo.{ConfigNo}
 use Rattle.kr_config.specs.declared.place.Place.{Place}
 use Rattle.kr_config.specs.Walk.{list_of_items, named_list, breach, and_then, walk, walk_each, next_number}
@@ -26,9 +27,9 @@ pub named_ok : (key : List ℕ) (place : Place) (d : Data) (values : List Value)
     → named_list key place d ≡ Ok (map view values)
 unfolding named_list
 named_ok key place d values is some =
-    ap (λ o. option_map_or (λ items. if length (list_of_items items) == 0 then breach 25 place else Ok (list_of_items items)) o (breach 22 place)) is
-    ∙ ap (λ l. if length l == 0 then breach 25 place else Ok l) (list_of_view values)
-    ∙ ap (λ b. if b then breach 25 place else Ok (map view values)) (not_empty values some)
+    ap (λ o. option_map_or (λ items. if length (list_of_items items) == 0 then breach rule.EmptyList place else Ok (list_of_items items)) o (breach rule.Form place)) is
+    ∙ ap (λ l. if length l == 0 then breach rule.EmptyList place else Ok l) (list_of_view values)
+    ∙ ap (λ b. if b then breach rule.EmptyList place else Ok (map view values)) (not_empty values some)
 
 -- the steps of a loop over values
 front : {Y : Type 0} (F : List Data → Y) (values : List Value) (k : ℕ) (v : Value) → k < length values → v ≡ get_or values k v → F (map view (drop k values)) ≡ F (view v ∷ map view (drop (k + 1) values))

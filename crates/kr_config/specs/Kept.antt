@@ -4,6 +4,8 @@ use Rattle.std.specs.List.{list_all, flat_map, sum_by}
 use Rattle.kr_config.specs.declared.pattern.Pattern.{Pattern}
 use Rattle.kr_config.specs.declared.who.Who.{Who}
 use Rattle.kr_config.specs.declared.settings.Entry.{Entry}
+use Rattle.kr_config.specs.declared.refusal.Counted.TheVariants.{Entries, Patterns, Keys, Plugins}
+use Rattle.kr_config.specs.Refusals.{limit_of}
 use Rattle.kr_config.specs.Patterns.{is_pattern, clash}
 use Rattle.kr_config.specs.Providers.{is_provider, is_key, is_kms, plugins_among, rivals}
 
@@ -47,5 +49,6 @@ plugins_in rows = flat_map (λ row. plugins_among row.providers) rows
 
 -- 1 to 64 entries, each of which keeps the rules; in all at most 256 patterns, 64 keys and 16 plugins
 unfoldable pub keeps : List Row → Bool
-keeps rows = nat_le 1 (length rows) && nat_le (length rows) 64 && list_all keeps_row rows
-    && nat_le (patterns_in rows) 256 && nat_le (keys_in rows) 64 && nat_le (kms_in rows) 16
+keeps rows = nat_le 1 (length rows) && nat_le (length rows) (limit_of Entries) && list_all keeps_row rows
+    && nat_le (patterns_in rows) (limit_of Patterns) && nat_le (keys_in rows) (limit_of Keys)
+    && nat_le (kms_in rows) (limit_of Plugins)

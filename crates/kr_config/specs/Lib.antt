@@ -1,3 +1,4 @@
+pub mod Refusals
 pub mod Patterns
 pub mod Providers
 pub mod Kept

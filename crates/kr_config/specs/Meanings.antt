@@ -4,9 +4,12 @@ use Rattle.std.specs.Option.{option_map_or}
 use Rattle.std.specs.Str.{is_utf8}
 use Rattle.serde_json.specs.Read.{read}
 use Rattle.kr_yaml.specs.Data.{Data}
+use Rattle.kr_config.specs.declared.refusal.Rule.TheVariants as rule
+use Rattle.kr_config.specs.declared.refusal.YamlRule.TheVariants as yaml_rule
 use Rattle.kr_config.specs.declared.refusal.ConfigNo.{ConfigNo}
+use Rattle.kr_config.specs.declared.refusal.ConfigNo.TheVariants.{Breach, Yaml}
 use Rattle.kr_config.specs.Kept.{Row}
-use Rattle.kr_config.specs.Walk.{breach_at, start, breach, and_then, config_in}
+use Rattle.kr_config.specs.Walk.{start, breach, and_then, config_in}
 use Rattle.kr_config.specs.Yaml.{json_of, TreeOf}
 
 -- the first byte other than space, tab, CR and LF is `{`
@@ -19,7 +22,7 @@ begins_json (byte ∷ bytes) = if is_blank byte then begins_json bytes else (byt
 
 -- a text in JSON, and then the walk over its tree
 unfoldable pub json_rows : List ℕ → Result (List Row) ConfigNo
-json_rows text = option_map_or config_in (read text) (breach 20 start)
+json_rows text = option_map_or config_in (read text) (breach rule.Json start)
 
 -- a text in YAML, and then the same walk over its tree
 abbrev pub MeansYaml : List ℕ → Result (List Row) ConfigNo → Type 0
@@ -32,8 +35,8 @@ TextMeans false text rows = MeansYaml text rows
 
 -- bytes that aren't UTF-8
 abbrev pub no_text : Bool → ConfigNo
-no_text true = breach_at 20 start
-no_text false = record { code = 21; first = 0; second = 5 }
+no_text true = Breach rule.Json start
+no_text false = Yaml yaml_rule.NotUtf8 0
 
 abbrev pub MeansBy : Bool → List ℕ → Result (List Row) ConfigNo → Type 0
 MeansBy true bytes rows = TextMeans (begins_json bytes) bytes rows

@@ -5,7 +5,7 @@ use Rattle.serde_json.specs.Data.{Data}
 use Rattle.kr_yaml.specs.Data as yaml
 use Rattle.kr_yaml.specs.declared.yaml_no.YamlNo.{YamlNo}
 use Rattle.kr_yaml.specs.declared.yaml_no.YamlNo.TheVariants as yaml_no
-use Rattle.kr_config.specs.Yaml.{json_of, IsNumbered, TreeOf}
+use Rattle.kr_config.specs.Yaml.{json_of, IsBreachOf, TreeOf}
 use Rattle.serde_json.specs.View.{view}
 use Rattle.serde_json.specs.declared.value.Value.{Value}
 use Rattle.kr_config.specs.declared.refusal.ConfigNo.{ConfigNo}
@@ -35,9 +35,9 @@ ReadsMeant Meant (Err (No why)) = Meant (Err why)
 ReadsMeant Meant (Err NoMemory) = ⊤
 
 -- a breach of the YAML profile as the configuration's
-abbrev pub Numbers : YamlNo → ConfigErr → Type 0
-Numbers breach (No why) = IsNumbered breach why
-Numbers breach NoMemory = breach ≡ yaml_no.NoMemory
+abbrev pub Restates : YamlNo → ConfigErr → Type 0
+Restates breach (No why) = IsBreachOf breach why
+Restates breach NoMemory = breach ≡ yaml_no.NoMemory
 
 -- the tree of a text in YAML, as a value, or the breach
 abbrev pub ReadsYaml : List ℕ → Result Value ConfigErr → Type 0

@@ -4,9 +4,9 @@ ghost use Rattle.serde_json.specs.View.{view};
 ghost use Rattle.kr_config.specs.Walk.{walk_each, key_step, keys_step, one_if, kinds_of, kind_step, element_step};
 ghost use Rattle.kr_config.specs.Reads.{ReadsInto};
 
-use crate::place::{Counts, Place, breach};
+use crate::place::{Counts, Place};
 use crate::provider::{Cipher, read_identity, read_key, read_plugin};
-use crate::refusal::ConfigErr;
+use crate::refusal::{ConfigErr, Rule};
 use crate::tree::{has, is_mapping, named_list};
 use crate::who::Who;
 use kr_base::List;
@@ -26,14 +26,14 @@ pub fn read_element(
     ensures { ReadsInto (element_step counts place.entry place.item before.old.0 (view value.now)) before.new.0 result }
 {
     if !is_mapping(value) {
-        return Err(ConfigErr::No(breach(22, place)));
+        return Err(ConfigErr::No(Rule::Form.at(place)));
     }
     let kinds = kinds_of(value);
     if kinds == 0 {
-        return Err(ConfigErr::No(breach(26, place)));
+        return Err(ConfigErr::No(Rule::NoProvider.at(place)));
     }
     if kinds > 1 {
-        return Err(ConfigErr::No(breach(27, place)));
+        return Err(ConfigErr::No(Rule::SeveralProviders.at(place)));
     }
     read_kind(alloc, counts, place, before, value)
 }
@@ -78,7 +78,7 @@ fn read_kind(
     if let Some(kms) = value.get("kms") {
         return read_plugin(alloc, counts.plugins, place, before, kms);
     }
-    Err(ConfigErr::No(breach(28, place)))
+    Err(ConfigErr::No(Rule::Secretbox.at(place)))
 }
 
 /// Reads an element of keys.
@@ -94,7 +94,7 @@ fn read_keys(
     ensures { ReadsInto (keys_step cipher counted place before.old.0 (view value.now)) before.new.0 result }
 {
     if !is_mapping(value) {
-        return Err(ConfigErr::No(breach(22, place)));
+        return Err(ConfigErr::No(Rule::Form.at(place)));
     }
     match named_list(value, "keys", place) {
         Ok(keys) => read_each_key(alloc, cipher, counted, place, before, keys),

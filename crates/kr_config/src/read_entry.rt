@@ -1,14 +1,14 @@
 //! Reading an entry.
-ghost use Rattle.std.specs.Prelude.{◌≡◌, ◌≤◌, map, []};
+ghost use Rattle.std.specs.Prelude.{◌≡◌, map, []};
 ghost use Rattle.serde_json.specs.View.{view};
 ghost use Rattle.kr_config.specs.Walk.{walk, pattern_step, element_step, entry_of};
 ghost use Rattle.kr_config.specs.Reads.{ReadsList, ReadsEntry};
 
 use crate::pattern::Pattern;
-use crate::place::{Counts, Place, breach};
+use crate::place::{Counts, Place};
 use crate::read_element::read_element;
 use crate::read_pattern::read_pattern;
-use crate::refusal::ConfigErr;
+use crate::refusal::{ConfigErr, Rule};
 use crate::settings::Entry;
 use crate::tree::{is_mapping, named_list};
 use crate::who::Who;
@@ -24,12 +24,11 @@ pub fn read_entry(
     entry: u32,
     value: &Value,
 ) -> Result<Entry, ConfigErr>
-    requires { counts.patterns ≤ 256 }
     ensures { ReadsEntry (entry_of counts entry (view value.now)) result }
 {
     let place = Place { entry, item: 0 };
     if !is_mapping(value) {
-        return Err(ConfigErr::No(breach(22, place)));
+        return Err(ConfigErr::No(Rule::Form.at(place)));
     }
     let patterns = match named_list(value, "resources", place) {
         Ok(texts) => match read_patterns(alloc, counts.patterns, entry, texts) {
@@ -58,7 +57,6 @@ fn read_patterns(
     entry: u32,
     texts: &[Value],
 ) -> Result<List<Pattern>, ConfigErr>
-    requires { counted ≤ 256 }
     ensures { ReadsList (walk (pattern_step counted entry) 0 [] (map view texts.now)) result }
 {
     let mut patterns = List::new(alloc);

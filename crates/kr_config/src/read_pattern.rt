@@ -1,5 +1,5 @@
 //! Reading a pattern.
-ghost use Rattle.std.specs.Prelude.{◌≡◌, ◌≤◌, IfOk, Some, None, if◌then◌else◌};
+ghost use Rattle.std.specs.Prelude.{◌≡◌, IfOk, Some, None, if◌then◌else◌};
 ghost use Rattle.std.specs.List.{list_any};
 ghost use Rattle.kr_base.specs.Rules.{is_resource};
 ghost use Rattle.kr_config.specs.declared.pattern.Pattern.TheVariants.{Exact};
@@ -9,8 +9,8 @@ ghost use Rattle.kr_config.specs.Walk.{star_pattern, pattern_of, place_pattern, 
 ghost use Rattle.kr_config.specs.Reads.{ReadsInto};
 
 use crate::pattern::Pattern;
-use crate::place::{Place, breach, over_limit};
-use crate::refusal::ConfigErr;
+use crate::place::Place;
+use crate::refusal::{ConfigErr, ConfigNo, Counted, Rule};
 use kr_base::{List, NoMemory, Text, resource_ok};
 use serde_json::Value;
 use std::alloc::Global;
@@ -28,15 +28,14 @@ pub fn read_pattern(
     before: &mut List<Pattern>,
     value: &Value,
 ) -> Result<(), ConfigErr>
-    requires { counted ≤ 256 }
     ensures { ReadsInto (pattern_step counted place.entry place.item before.old.0 (view value.now)) before.new.0 result }
 {
     let Some(text) = value.as_str() else {
-        return Err(ConfigErr::No(breach(22, place)));
+        return Err(ConfigErr::No(Rule::Form.at(place)));
     };
     match pattern_of(alloc, text) {
         Ok(Some(pattern)) => place_pattern(counted, place, before, pattern),
-        Ok(None) => Err(ConfigErr::No(breach(35, place))),
+        Ok(None) => Err(ConfigErr::No(Rule::Pattern.at(place))),
         Err(_) => Err(ConfigErr::NoMemory),
     }
 }
@@ -48,17 +47,16 @@ fn place_pattern(
     before: &mut List<Pattern>,
     pattern: Pattern,
 ) -> Result<(), ConfigErr>
-    requires { counted ≤ 256 }
     ensures { ReadsInto (place_pattern counted place before.old.0 pattern) before.new.0 result }
 {
     if has_same(before.as_slice(), &pattern) {
-        return Err(ConfigErr::No(breach(36, place)));
+        return Err(ConfigErr::No(Rule::SamePattern.at(place)));
     }
     if has_overlap(before.as_slice(), &pattern) {
-        return Err(ConfigErr::No(breach(37, place)));
+        return Err(ConfigErr::No(Rule::Overlap.at(place)));
     }
-    if before.as_slice().len() >= 256 - counted {
-        return Err(ConfigErr::No(over_limit(2, 256)));
+    if !Counted::Patterns.has_room(counted, before.as_slice().len()) {
+        return Err(ConfigErr::No(ConfigNo::Limit(Counted::Patterns)));
     }
     match before.push(pattern) {
         Ok(()) => Ok(()),

@@ -7,9 +7,9 @@ ghost use Rattle.kr_config.specs.Walk.{walk, entry_step, config_in};
 ghost use Rattle.kr_config.specs.Meanings.{begins_json, is_blank, json_rows, MeansYaml, TextMeans, no_text, Means};
 ghost use Rattle.kr_config.specs.Reads.{ReadsEntries, ReadsMeant, ReadsSettings, ReadsJson};
 
-use crate::place::{Counts, breach, over_limit, start};
+use crate::place::{Counts, start};
 use crate::read_entry::read_entry;
-use crate::refusal::{ConfigErr, ConfigNo};
+use crate::refusal::{ConfigErr, ConfigNo, Counted, Rule, YamlRule};
 use crate::settings::{Entry, Settings};
 use crate::tree::{has_text, is_mapping, named_list};
 use crate::who::Who;
@@ -47,13 +47,9 @@ fn no_text(is_json: bool) -> ConfigNo
     ensures { result ≡ no_text is_json }
 {
     if is_json {
-        return breach(20, start());
+        return Rule::Json.at(start());
     }
-    ConfigNo {
-        code: 21,
-        first: 0,
-        second: 5,
-    }
+    ConfigNo::Yaml(YamlRule::NotUtf8, 0)
 }
 
 /// Reads a text in JSON or in YAML.
@@ -73,7 +69,7 @@ fn read_json_text(alloc: Global, text: &str) -> Result<List<Entry>, ConfigErr>
 {
     match read_json(alloc, text) {
         Ok(value) => read_config(alloc, &value),
-        Err(JsonNo::Form) => Err(ConfigErr::No(breach(20, start()))),
+        Err(JsonNo::Form) => Err(ConfigErr::No(Rule::Json.at(start()))),
         Err(JsonNo::NoMemory) => Err(ConfigErr::NoMemory),
     }
 }
@@ -132,25 +128,25 @@ fn read_config(alloc: Global, value: &Value) -> Result<List<Entry>, ConfigErr>
     ensures { ReadsEntries (config_in (view value.now)) result }
 {
     if !is_mapping(value) {
-        return Err(ConfigErr::No(breach(22, start())));
+        return Err(ConfigErr::No(Rule::Form.at(start())));
     }
     if !has_text(value, "apiVersion", "apiserver.config.k8s.io/v1") {
-        return Err(ConfigErr::No(breach(23, start())));
+        return Err(ConfigErr::No(Rule::ApiVersion.at(start())));
     }
     if !has_text(value, "kind", "EncryptionConfiguration") {
-        return Err(ConfigErr::No(breach(24, start())));
+        return Err(ConfigErr::No(Rule::Kind.at(start())));
     }
     let entries = match named_list(value, "resources", start()) {
         Ok(entries) => entries,
         Err(why) => return Err(ConfigErr::No(why)),
     };
-    if entries.len() > 64 {
-        return Err(ConfigErr::No(over_limit(1, 64)));
+    if entries.len() > Counted::Entries.limit() as usize {
+        return Err(ConfigErr::No(ConfigNo::Limit(Counted::Entries)));
     }
     read_entries(alloc, entries)
 }
 
-#[tactic(auto, using(crate::proofs::EntryLoop::reading_begins, crate::proofs::EntryLoop::reading_more, crate::proofs::EntryLoop::reading_stops, crate::proofs::EntryLoop::reading_ends, crate::proofs::EntryLoop::reading_few, crate::proofs::EntryLoop::few_patterns, crate::proofs::EntryLoop::few_keys, crate::proofs::EntryLoop::few_plugins))]
+#[tactic(auto, using(crate::proofs::EntryLoop::reading_begins, crate::proofs::EntryLoop::reading_more, crate::proofs::EntryLoop::reading_stops, crate::proofs::EntryLoop::reading_ends, crate::proofs::EntryLoop::few_patterns, crate::proofs::EntryLoop::few_keys, crate::proofs::EntryLoop::few_plugins))]
 fn read_entries(alloc: Global, values: &[Value]) -> Result<List<Entry>, ConfigErr>
     ensures { ReadsEntries (walk entry_step 0 [] (map view values.now)) result }
 {

@@ -4,11 +4,10 @@ ghost use Rattle.serde_json.specs.Data.{no_members};
 ghost use Rattle.serde_json.specs.View.{view, items_view, members_view};
 ghost use Rattle.kr_yaml.specs.Data.{items_of, members_of};
 ghost use Rattle.kr_yaml.specs.Shown as shown;
-ghost use Rattle.kr_config.specs.Yaml.{json_of, json_items, json_members, in_line};
-ghost use Rattle.kr_config.specs.declared.refusal.ConfigErr.TheVariants.{No};
-ghost use Rattle.kr_config.specs.Reads.{ReadsYaml, Numbers};
+ghost use Rattle.kr_config.specs.Yaml.{json_of, json_items, json_members};
+ghost use Rattle.kr_config.specs.Reads.{ReadsYaml, Restates};
 
-use crate::refusal::{ConfigErr, ConfigNo};
+use crate::refusal::{ConfigErr, ConfigNo, YamlRule};
 use kr_base::NoMemory;
 use kr_yaml::{Member, Tree, YamlNo};
 use serde_json::{Map, Value, put};
@@ -20,7 +19,7 @@ pub fn read_yaml(alloc: Global, text: &str) -> Result<Value, ConfigErr>
 {
     let tree = match kr_yaml::read(alloc, text) {
         Ok(tree) => tree,
-        Err(why) => return Err(numbered(why)),
+        Err(why) => return Err(restate(why)),
     };
     match value_of(alloc, &tree) {
         Ok(value) => Ok(value),
@@ -28,27 +27,20 @@ pub fn read_yaml(alloc: Global, text: &str) -> Result<Value, ConfigErr>
     }
 }
 
-/// A breach of the YAML profile by its number.
-fn numbered(why: YamlNo) -> ConfigErr
-    ensures { Numbers why result }
+/// A breach of the YAML profile, as the configuration's.
+fn restate(why: YamlNo) -> ConfigErr
+    ensures { Restates why result }
 {
     match why {
-        YamlNo::Outside { line } => in_line(line, 1),
-        YamlNo::Indent { line } => in_line(line, 2),
-        YamlNo::DuplicateKey { line } => in_line(line, 3),
-        YamlNo::Deep { line } => in_line(line, 4),
+        YamlNo::Outside { line } => ConfigErr::No(ConfigNo::Yaml(YamlRule::Outside, line)),
+        YamlNo::Indent { line } => ConfigErr::No(ConfigNo::Yaml(YamlRule::Indent, line)),
+        YamlNo::DuplicateKey { line } => ConfigErr::No(ConfigNo::Yaml(
+            YamlRule::DuplicateKey,
+            line,
+        )),
+        YamlNo::Deep { line } => ConfigErr::No(ConfigNo::Yaml(YamlRule::Deep, line)),
         YamlNo::NoMemory => ConfigErr::NoMemory,
     }
-}
-
-fn in_line(line: u32, kind: u32) -> ConfigErr
-    ensures { result ≡ No (in_line line kind) }
-{
-    ConfigErr::No(ConfigNo {
-        code: 21,
-        first: line,
-        second: kind,
-    })
 }
 
 #[cycle(value)]
