@@ -1,5 +1,6 @@
 -- What the bytes of a configuration mean: its entries, or the first breach.
-use Rattle.std.specs.Prelude.{◌≡◌, ℕ, ◌==◌, ◌||◌, Bool, true, false, List, [], ◌∷◌, Result, Err, if◌then◌else◌}
+use Rattle.std.specs.Prelude.{◌≡◌, ℕ, ◌==◌, ◌||◌, Bool, true, false, List, [], ◌∷◌, ⊤, Result, Ok}
+use Rattle.std.specs.Prelude.{Err, if◌then◌else◌}
 use Rattle.std.specs.Option.{option_map_or}
 use Rattle.std.specs.Str.{is_utf8}
 use Rattle.serde_json.specs.Read.{read}
@@ -8,7 +9,10 @@ use Rattle.kr_config.specs.declared.refusal.Rule.TheVariants as rule
 use Rattle.kr_config.specs.declared.refusal.YamlRule.TheVariants as yaml_rule
 use Rattle.kr_config.specs.declared.refusal.ConfigNo.{ConfigNo}
 use Rattle.kr_config.specs.declared.refusal.ConfigNo.TheVariants.{Breach, Yaml}
-use Rattle.kr_config.specs.Kept.{Row}
+use Rattle.kr_config.specs.declared.refusal.ConfigErr.{ConfigErr}
+use Rattle.kr_config.specs.declared.refusal.ConfigErr.TheVariants.{No, NoMemory}
+use Rattle.kr_config.specs.declared.settings.Settings.{Settings}
+use Rattle.kr_config.specs.Kept.{Row, rows_of}
 use Rattle.kr_config.specs.Walk.{start, breach, and_then, config_in}
 use Rattle.kr_config.specs.Yaml.{json_of, TreeOf}
 
@@ -26,7 +30,8 @@ json_rows text = option_map_or config_in (read text) (breach rule.Json start)
 
 -- a text in YAML, and then the same walk over its tree
 abbrev pub MeansYaml : List ℕ → Result (List Row) ConfigNo → Type 0
-MeansYaml text rows = (tree : Result Data ConfigNo) × TreeOf text tree × (and_then tree (λ d. config_in (json_of d)) ≡ rows)
+MeansYaml text rows = (tree : Result Data ConfigNo) × TreeOf text tree
+    × (and_then tree (λ d. config_in (json_of d)) ≡ rows)
 
 -- a text that begins as JSON is JSON, and any other YAML
 abbrev pub TextMeans : Bool → List ℕ → Result (List Row) ConfigNo → Type 0
@@ -44,3 +49,11 @@ MeansBy false bytes rows = Err (no_text (begins_json bytes)) ≡ rows
 
 abbrev pub Means : List ℕ → Result (List Row) ConfigNo → Type 0
 Means bytes rows = MeansBy (is_utf8 bytes) bytes rows
+
+-- the settings of the entries that are meant, or the breach; want of memory may take the place of
+-- either
+abbrev pub ReadsSettings : (Result (List Row) ConfigNo → Type 0) → Result Settings ConfigErr
+    → Type 0
+ReadsSettings Meant (Ok settings) = Meant (Ok (rows_of settings.entries.0))
+ReadsSettings Meant (Err (No why)) = Meant (Err why)
+ReadsSettings Meant (Err NoMemory) = ⊤

@@ -15,8 +15,11 @@ pub struct Place {
 /// How many patterns, keys and plugins the entries so far have.
 #[derive(Clone, Copy, Debug)]
 pub struct Counts {
+    /// Their patterns.
     pub patterns: usize,
+    /// Their keys.
     pub keys: usize,
+    /// Their kms elements.
     pub plugins: usize,
 }
 

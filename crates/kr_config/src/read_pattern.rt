@@ -6,20 +6,17 @@ ghost use Rattle.kr_config.specs.declared.pattern.Pattern.TheVariants.{Exact};
 ghost use Rattle.serde_json.specs.View.{view};
 ghost use Rattle.kr_config.specs.Patterns.{same, overlap, is_group};
 ghost use Rattle.kr_config.specs.Walk.{star_pattern, pattern_of, place_pattern, pattern_step};
-ghost use Rattle.kr_config.specs.Reads.{ReadsInto};
+ghost use Rattle.kr_config.specs.inner.Reads.{ReadsInto};
 
 use crate::pattern::Pattern;
 use crate::place::Place;
 use crate::refusal::{ConfigErr, ConfigNo, Counted, Rule};
-use kr_base::{List, NoMemory, Text, resource_ok};
+use kr_base::{List, NAME_LIMIT, NoMemory, Text, resource_ok};
 use serde_json::Value;
 use std::alloc::Global;
 
-/// The longest group: `*.` before it counts among the 253 bytes.
-const GROUP_LIMIT: usize = 251;
-
-/// Reads the pattern at this place, where earlier entries have `counted` patterns, and puts it behind those that stand before
-/// it.
+/// Reads the pattern at this place, where earlier entries have `counted` patterns, and puts it
+/// behind those that stand before it.
 #[tactic(auto, unfolding(crate::specs::Walk::pattern_step))]
 pub fn read_pattern(
     alloc: Global,
@@ -28,18 +25,19 @@ pub fn read_pattern(
     before: &mut List<Pattern>,
     value: &Value,
 ) -> Result<(), ConfigErr>
-    ensures { ReadsInto (pattern_step counted place.entry place.item before.old.0 (view value.now)) before.new.0 result }
+    ensures { ReadsInto (pattern_step counted place.entry place.item before.old.0 (view value.now))
+        before.new.0 result }
 {
     let Some(text) = value.as_str() else {
         return Err(ConfigErr::No(Rule::Form.at(place)));
     };
-    match pattern_of(alloc, text) {
-        Ok(Some(pattern)) => place_pattern(counted, place, before, pattern),
-        Ok(None) => Err(ConfigErr::No(Rule::Pattern.at(place))),
-        Err(_) => Err(ConfigErr::NoMemory),
+    match pattern_of(alloc, text)? {
+        Some(pattern) => place_pattern(counted, place, before, pattern),
+        None => Err(ConfigErr::No(Rule::Pattern.at(place))),
     }
 }
 
+/// Puts a pattern behind those before it, where it clashes with none and the file has room.
 #[tactic(auto, unfolding(crate::specs::Walk::place_pattern))]
 fn place_pattern(
     counted: usize,
@@ -64,12 +62,14 @@ fn place_pattern(
     }
 }
 
+/// Whether the pattern stands among these.
 fn has_same(before: &[Pattern], pattern: &Pattern) -> bool
     ensures { result ≡ list_any (λ earlier. same earlier pattern.now) before.now }
 {
     before.iter().any(|earlier| earlier.is_same(pattern))
 }
 
+/// Whether it overlaps one of these.
 fn has_overlap(before: &[Pattern], pattern: &Pattern) -> bool
     ensures { result ≡ list_any (λ earlier. overlap earlier pattern.now) before.now }
 {
@@ -102,26 +102,23 @@ fn star_pattern(alloc: Global, group: &str) -> Result<Option<Pattern>, NoMemory>
     if !group_ok(group) {
         return Ok(None);
     }
-    match Text::copy(alloc, group) {
-        Ok(group) => Ok(Some(Pattern::Group(group))),
-        Err(why) => Err(why),
-    }
+    Ok(Some(Pattern::Group(Text::copy(alloc, group)?)))
 }
 
+/// The pattern of one resource, where the text is a resource.
 fn exact_pattern(alloc: Global, text: &str) -> Result<Option<Pattern>, NoMemory>
-    ensures { IfOk result (λ pattern. pattern ≡ (if is_resource text.now then Some (Exact text.now) else None)) }
+    ensures { IfOk result (λ pattern. pattern
+        ≡ (if is_resource text.now then Some (Exact text.now) else None)) }
 {
     if !resource_ok(text) {
         return Ok(None);
     }
-    match Text::copy(alloc, text) {
-        Ok(text) => Ok(Some(Pattern::Exact(text))),
-        Err(why) => Err(why),
-    }
+    Ok(Some(Pattern::Exact(Text::copy(alloc, text)?)))
 }
 
+/// Whether a group is of its form. `*.` before it counts among the bytes.
 fn group_ok(group: &str) -> bool
     ensures { result ≡ is_group group.now }
 {
-    group.is_empty() || (group.len() <= GROUP_LIMIT && resource_ok(group))
+    group.is_empty() || (group.len() <= NAME_LIMIT - 2 && resource_ok(group))
 }

@@ -4,8 +4,10 @@ ghost use Rattle.serde_json.specs.View.{view};
 ghost use Rattle.serde_json.specs.Read.{read};
 ghost use Rattle.kr_config.specs.Providers.{is_key, is_kms};
 ghost use Rattle.kr_config.specs.Walk.{walk, entry_step, config_in};
-ghost use Rattle.kr_config.specs.Meanings.{begins_json, is_blank, json_rows, MeansYaml, TextMeans, no_text, Means};
-ghost use Rattle.kr_config.specs.Reads.{ReadsEntries, ReadsMeant, ReadsSettings, ReadsJson};
+ghost use Rattle.kr_config.specs.Meanings.{begins_json, is_blank, json_rows, MeansYaml, TextMeans};
+ghost use Rattle.kr_config.specs.Meanings.{no_text, Means};
+ghost use Rattle.kr_config.specs.Meanings.{ReadsSettings};
+ghost use Rattle.kr_config.specs.inner.Reads.{ReadsEntries, ReadsMeant, ReadsJson};
 
 use crate::place::{Counts, start};
 use crate::read_entry::read_entry;
@@ -20,9 +22,9 @@ use serde_json::error::Category;
 use std::alloc::Global;
 use std::str;
 
-/// Reads a configuration, in JSON where its first byte other than space, tab, CR and LF is `{`, and else in YAML. Its walk
-/// goes over the whole, the entries in order, and in each the patterns and then the provider elements; the first breach
-/// decides. Members that no rule names are ignored.
+/// Reads a configuration, in JSON where its first byte other than space, tab, CR and LF is `{`, and
+/// else in YAML. Its walk goes over the whole, the entries in order, and in each the patterns and
+/// then the provider elements; the first breach decides. Members that no rule names are ignored.
 #[tactic(auto, using(crate::proofs::Meant::text_kept))]
 pub fn read(alloc: Global, bytes: &[u8]) -> Result<Settings, ConfigErr>
     ensures { ReadsSettings (Means bytes.now) result }
@@ -96,6 +98,7 @@ fn begins_json(bytes: &[u8]) -> bool
     false
 }
 
+/// Whether it is a space, tab, CR or LF.
 fn is_blank(byte: u8) -> bool
     ensures { result ≡ is_blank byte }
 {
@@ -123,6 +126,7 @@ fn read_json(alloc: Global, text: &str) -> Result<Value, JsonNo>
     }
 }
 
+/// Reads the tree of a configuration.
 #[tactic(auto, unfolding(crate::specs::Walk::config_in))]
 fn read_config(alloc: Global, value: &Value) -> Result<List<Entry>, ConfigErr>
     ensures { ReadsEntries (config_in (view value.now)) result }
@@ -136,16 +140,14 @@ fn read_config(alloc: Global, value: &Value) -> Result<List<Entry>, ConfigErr>
     if !has_text(value, "kind", "EncryptionConfiguration") {
         return Err(ConfigErr::No(Rule::Kind.at(start())));
     }
-    let entries = match named_list(value, "resources", start()) {
-        Ok(entries) => entries,
-        Err(why) => return Err(ConfigErr::No(why)),
-    };
+    let entries = named_list(value, "resources", start())?;
     if entries.len() > Counted::Entries.limit() as usize {
         return Err(ConfigErr::No(ConfigNo::Limit(Counted::Entries)));
     }
     read_entries(alloc, entries)
 }
 
+/// Reads the entries in their order, and counts what they have.
 #[tactic(auto, using(crate::proofs::EntryLoop::reading_begins, crate::proofs::EntryLoop::reading_more, crate::proofs::EntryLoop::reading_stops, crate::proofs::EntryLoop::reading_ends, crate::proofs::EntryLoop::few_patterns, crate::proofs::EntryLoop::few_keys, crate::proofs::EntryLoop::few_plugins))]
 fn read_entries(alloc: Global, values: &[Value]) -> Result<List<Entry>, ConfigErr>
     ensures { ReadsEntries (walk entry_step 0 [] (map view values.now)) result }
@@ -177,12 +179,14 @@ fn read_entries(alloc: Global, values: &[Value]) -> Result<List<Entry>, ConfigEr
     Ok(entries)
 }
 
+/// How many keys there are.
 fn keys_in(providers: &[Who]) -> usize
     ensures { result ≡ count_by is_key providers.now }
 {
     providers.iter().filter(|who| who.is_key()).count()
 }
 
+/// How many plugins there are.
 fn plugins_in(providers: &[Who]) -> usize
     ensures { result ≡ count_by is_kms providers.now }
 {

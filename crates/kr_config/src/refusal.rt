@@ -5,6 +5,7 @@ ghost use Rattle.kr_config.specs.Refusals.{code_of_rule, number_of_yaml_rule, nu
 ghost use Rattle.kr_config.specs.Refusals.{limit_of, code_of, first_number, second_number};
 
 use crate::place::Place;
+use kr_base::NoMemory;
 
 /// A rule of a configuration, by what breaks it.
 #[derive(Clone, Copy, Debug, PartialEq, Eq)]
@@ -93,6 +94,26 @@ pub enum ConfigErr {
     No(ConfigNo),
     /// There was no memory.
     NoMemory,
+}
+
+impl From<ConfigNo> for ConfigErr {
+    ghost use Rattle.kr_config.specs.declared.refusal.ConfigErr.TheVariants.{No};
+
+    ghost from_gives = { λ why e. e ≡ No why };
+
+    fn from(why: ConfigNo) -> ConfigErr {
+        ConfigErr::No(why)
+    }
+}
+
+impl From<NoMemory> for ConfigErr {
+    ghost use Rattle.kr_config.specs.declared.refusal.ConfigErr.TheVariants.{NoMemory};
+
+    ghost from_gives = { λ _ e. e ≡ NoMemory };
+
+    fn from(_want: NoMemory) -> ConfigErr {
+        ConfigErr::NoMemory
+    }
 }
 
 impl Rule {

@@ -1,10 +1,10 @@
-//! Looking into the tree that a configuration is: its walk asks of a value only whether it is a text, null, a list or a
-//! mapping. JSON's values are that tree.
+//! Looking into the tree that a configuration is: its walk asks of a value only whether it is a
+//! text, null, a list or a mapping. JSON's values are that tree.
 ghost use Rattle.std.specs.Prelude.{◌≡◌, map};
 ghost use Rattle.std.specs.Option.{option_map};
 ghost use Rattle.serde_json.specs.View.{view};
 ghost use Rattle.kr_config.specs.Walk.{text_at, has_text, is_mapping, has, named_list};
-ghost use Rattle.kr_config.specs.Reads.{Lends};
+ghost use Rattle.kr_config.specs.inner.Reads.{Lends};
 
 use crate::place::Place;
 use crate::refusal::{ConfigNo, Rule};

@@ -1,4 +1,5 @@
--- How a call's answer stands to what is meant: want of memory may take the place of any other answer.
+-- How a call's answer stands to what is meant: want of memory may take the place of any other
+-- answer.
 use Rattle.std.specs.Prelude.{◌≡◌, IsOk, ℕ, ⊤, List, Option, None, Some, Result, Ok, Err, map}
 use denote.Ref.{Bor}
 use Rattle.serde_json.specs.Data.{Data}
@@ -14,7 +15,6 @@ use Rattle.kr_config.specs.declared.refusal.ConfigErr.TheVariants.{No, NoMemory}
 use Rattle.kr_config.specs.declared.reading.JsonNo.{JsonNo}
 use Rattle.kr_config.specs.declared.reading.JsonNo.TheVariants.{Form}
 use Rattle.kr_config.specs.declared.reading.JsonNo.TheVariants as json
-use Rattle.kr_config.specs.declared.settings.Settings.{Settings}
 use Rattle.kr_config.specs.declared.settings.Entry.{Entry}
 use Rattle.kr_config.specs.Kept.{Row, row_of, rows_of}
 
@@ -23,13 +23,9 @@ Reads wanted (Ok x) = wanted ≡ Ok x
 Reads wanted (Err (No why)) = wanted ≡ Err why
 Reads wanted (Err NoMemory) = ⊤
 
--- the settings of entries that are meant, or the breach
-abbrev pub ReadsSettings : (Result (List Row) ConfigNo → Type 0) → Result Settings ConfigErr → Type 0
-ReadsSettings Meant (Ok settings) = Meant (Ok (rows_of settings.entries.0))
-ReadsSettings Meant (Err (No why)) = Meant (Err why)
-ReadsSettings Meant (Err NoMemory) = ⊤
-
-abbrev pub ReadsMeant : (Result (List Row) ConfigNo → Type 0) → Result (List Entry × ℕ) ConfigErr → Type 0
+-- the entries that are meant, or the breach
+abbrev pub ReadsMeant : (Result (List Row) ConfigNo → Type 0) → Result (List Entry × ℕ) ConfigErr
+    → Type 0
 ReadsMeant Meant (Ok entries) = Meant (Ok (rows_of entries.0))
 ReadsMeant Meant (Err (No why)) = Meant (Err why)
 ReadsMeant Meant (Err NoMemory) = ⊤
@@ -46,13 +42,15 @@ ReadsYaml text (Err (No why)) = TreeOf text (Err why)
 ReadsYaml text (Err NoMemory) = ⊤
 
 -- a list that the call went on with is now the one that is meant
-abbrev pub ReadsInto : {T U : Type 0} → Result (List T) ConfigNo → List T → Result U ConfigErr → Type 0
+abbrev pub ReadsInto : {T U : Type 0} → Result (List T) ConfigNo → List T → Result U ConfigErr
+    → Type 0
 ReadsInto wanted new (Ok x) = wanted ≡ Ok new
 ReadsInto wanted new (Err (No why)) = wanted ≡ Err why
 ReadsInto wanted new (Err NoMemory) = ⊤
 
 -- a list, an entry and entries, as what they hold
-abbrev pub ReadsList : {T : Type 0} → Result (List T) ConfigNo → Result (List T × ℕ) ConfigErr → Type 0
+abbrev pub ReadsList : {T : Type 0} → Result (List T) ConfigNo → Result (List T × ℕ) ConfigErr
+    → Type 0
 ReadsList wanted (Ok list) = wanted ≡ Ok list.0
 ReadsList wanted (Err (No why)) = wanted ≡ Err why
 ReadsList wanted (Err NoMemory) = ⊤
