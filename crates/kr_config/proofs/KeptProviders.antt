@@ -52,7 +52,8 @@ push_keeps : (keys plugins : ℕ) (before : List Who) (who : Who) → Providers 
     → (is_kms who ≡ true → plugins + count_by is_kms before < 16)
     → Kept keys plugins (before ++ who ∷ [])
 push_keeps keys plugins before who k f r key kms =
-    let long : length (before ++ who ∷ []) ≡ length before + 1 = length-append before (who ∷ []) in (
+    let one = who ∷ [] in
+    let long : length (before ++ one) ≡ length before + 1 = length-append before one in (
       record {
         forms = all_push is_provider before who k.forms f;
         stand = apart_push rivals before who k.stand (none_any (λ w. rivals w who) before r);

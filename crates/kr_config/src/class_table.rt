@@ -64,14 +64,8 @@ impl ClassTable {
             → IsTableOf (added ++ rows_of settings.now.entries.0 ∷ []) self.new) }
         ensures err { OnErr result (self.new ≡ self.old) }
     {
-        let mut fresh = match fresh_classes(self.alloc, settings.entries.as_slice()) {
-            Ok(fresh) => fresh,
-            Err(why) => return Err(why),
-        };
-        match self.classes.append(&mut fresh) {
-            Ok(()) => {}
-            Err(_) => return Err(NoMemory),
-        }
+        let mut fresh = fresh_classes(self.alloc, settings.entries.as_slice())?;
+        self.classes.append(&mut fresh)?;
         put_in_order(&mut self.classes);
         Ok(())
     }

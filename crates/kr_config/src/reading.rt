@@ -80,10 +80,8 @@ fn read_json_text(alloc: Global, text: &str) -> Result<List<Entry>, ConfigErr>
 fn read_yaml_text(alloc: Global, text: &str) -> Result<List<Entry>, ConfigErr>
     ensures { ReadsMeant (MeansYaml text.now) result }
 {
-    match read_yaml(alloc, text) {
-        Ok(value) => read_config(alloc, &value),
-        Err(why) => Err(why),
-    }
+    let value = read_yaml(alloc, text)?;
+    read_config(alloc, &value)
 }
 
 /// Whether the first byte other than space, tab, CR and LF is `{`.
@@ -163,10 +161,7 @@ fn read_entries(alloc: Global, values: &[Value]) -> Result<List<Entry>, ConfigEr
             keys,
             plugins,
         };
-        let entry = match read_entry(alloc, counts, number, value) {
-            Ok(entry) => entry,
-            Err(why) => return Err(why),
-        };
+        let entry = read_entry(alloc, counts, number, value)?;
         patterns += entry.patterns.as_slice().len();
         keys += keys_in(entry.providers.as_slice());
         plugins += plugins_in(entry.providers.as_slice());

@@ -14,10 +14,10 @@ returns-clause-ok c = λ added table.
     let items = c.self.inside.classes.items in
     let new = c.put_in_order.new.classes.items in
     let rows = classes_in (rows_of c.args.settings.now.entries.0) in
-    let appended : c.append.new.self.items ≡ items ++ c.in-Ok.fresh.items = search rules in
+    let appended : c.append.new.self.items ≡ items ++ c.in_ok-fresh.fresh.items = search rules in
     let moved : c.append.new.self.items ≡ items ++ Rest ∷ rows =
     appended ∙ ap (λ l. items ++ l)
-    (c.in-Ok.ensures ∙ ap (λ l. Rest ∷ classes_in (rows_of l)) c.as_slice.ensures) in
+    (c.in_ok-fresh.ensures ∙ ap (λ l. Rest ∷ classes_in (rows_of l)) c.as_slice.ensures) in
     let same : (class : Class) → Contains new class ↔ Contains (items ++ Rest ∷ rows) class =
     subst (λ l. (class : Class) → Contains new class ↔ Contains l class) moved
     c.put_in_order.ensures.members in
@@ -33,10 +33,10 @@ invariant_of-self-2 c =
     let items = c.self.inside.classes.items in
     let new = c.put_in_order.new.classes.items in
     let rows = classes_in (rows_of c.args.settings.now.entries.0) in
-    let appended : c.append.new.self.items ≡ items ++ c.in-Ok.fresh.items = search rules in
+    let appended : c.append.new.self.items ≡ items ++ c.in_ok-fresh.fresh.items = search rules in
     let moved : c.append.new.self.items ≡ items ++ Rest ∷ rows =
     appended ∙ ap (λ l. items ++ l)
-    (c.in-Ok.ensures ∙ ap (λ l. Rest ∷ classes_in (rows_of l)) c.as_slice.ensures) in
+    (c.in_ok-fresh.ensures ∙ ap (λ l. Rest ∷ classes_in (rows_of l)) c.as_slice.ensures) in
     let same : (class : Class) → Contains new class ↔ Contains (items ++ Rest ∷ rows) class =
     subst (λ l. (class : Class) → Contains new class ↔ Contains l class) moved
     c.put_in_order.ensures.members in
