@@ -1,6 +1,7 @@
 -- The last row of each path, and the index of them.
 use Rattle.std.proofs.Common.{◌≡◌, ℕ, ◌+◌, Bool, true, false, cond, List, [], ◌∷◌, ◌++◌, length, Option, None, Some, is_some, refl, sym, ◌∙◌, ap, subst, arith, inl, inr, ◌⊎◌}
 use Rattle.std.specs.Str.{bytes_eq}
+use Rattle.kr_store.specs.declared.format.Format.{Format}
 use Rattle.kr_store.specs.declared.rows.Change.{Change}
 use Rattle.kr_store.specs.declared.rows.Change.TheVariants.{Put, Delete}
 use Rattle.kr_store.specs.declared.rows.LogRow.{LogRow}
@@ -24,15 +25,15 @@ latest_other k [] line path e = rw e refl
 latest_other k (row ∷ rows) line path e = rw (latest_other (k + 1) rows line path e) refl
 
 added_at : (old new : Index) (k : ℕ) (path q : List ℕ) (change : Change) → AddsAs old new k path (kind_of change) → bytes_eq path q ≡ true → StandsAt k change (live_at new q) (gone_at new q)
-added_at old new k path q (Put resource stored) a e = a.0 q ∙ ap (λ b. cond b (Some k) (live_at old q)) e
+added_at old new k path q (Put resource stored check) a e = a.0 q ∙ ap (λ b. cond b (Some k) (live_at old q)) e
 added_at old new k path q Delete a e = (a.0 q ∙ ap (λ b. cond b None (live_at old q)) e, a.1 q ∙ ap (λ b. cond b (Some k) (gone_at old q)) e)
 
 kept_live : (old new : Index) (k : ℕ) (path q : List ℕ) (change : Change) → AddsAs old new k path (kind_of change) → bytes_eq path q ≡ false → live_at new q ≡ live_at old q
-kept_live old new k path q (Put resource stored) a e = a.0 q ∙ ap (λ b. cond b (Some k) (live_at old q)) e
+kept_live old new k path q (Put resource stored check) a e = a.0 q ∙ ap (λ b. cond b (Some k) (live_at old q)) e
 kept_live old new k path q Delete a e = a.0 q ∙ ap (λ b. cond b None (live_at old q)) e
 
 kept_gone : (old new : Index) (k : ℕ) (path q : List ℕ) (change : Change) → AddsAs old new k path (kind_of change) → bytes_eq path q ≡ false → gone_at new q ≡ gone_at old q
-kept_gone old new k path q (Put resource stored) a e = a.1 q
+kept_gone old new k path q (Put resource stored check) a e = a.1 q
 kept_gone old new k path q Delete a e = a.1 q ∙ ap (λ b. cond b (Some k) (gone_at old q)) e
 
 pub bool_cases : (b : Bool) → (b ≡ true) ⊎ (b ≡ false)
@@ -53,7 +54,7 @@ adds_indexed rows line old new k e a i q = elim (bool_cases (bytes_eq line.path 
 
 -- the index has a live row where the rows have
 some_at : (k : ℕ) (path : List ℕ) (change : Change) (l g : Option ℕ) → StandsAt k change l g → is_some l ≡ is_some (row_of k path change)
-some_at k path (Put resource stored) l g s = ap is_some s
+some_at k path (Put resource stored check) l g s = ap is_some s
 some_at k path Delete l g s = ap is_some s.0
 
 pub some_live : (found : Option (ℕ × LogRow)) (l g : Option ℕ) → Stands found l g → is_some l ≡ is_some (live_row found)
@@ -65,6 +66,8 @@ allowed rows index (kept.Put row) i = refl
 allowed rows index (kept.Delete path) i = some_live (latest rows path) (live_at index path) (gone_at index path) (i path)
 
 -- a change that may stand there is permitted
-pub change_permitted : (before : List LogRow) (path : List ℕ) (change : Change) → MayChange before path change → may_change before path change ≡ true
-change_permitted before path (Put resource stored) m = refl
-change_permitted before path Delete m = m
+pub change_permitted : (format : Format) (before : List LogRow) (path : List ℕ)
+    (change : Change) → MayChange format before path change
+    → may_change before path change ≡ true
+change_permitted format before path (Put resource stored check) m = refl
+change_permitted format before path Delete m = m

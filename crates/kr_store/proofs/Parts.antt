@@ -1,5 +1,5 @@
 -- What each part of a row reads from the bytes that are written for it.
-use Rattle.std.proofs.Common.{◌≡◌, ℕ, suc, zero, ◌^◌, ◌<◌, ◌≤◌, Bool, true, false, if◌then◌else◌, List, [], ◌∷◌, ◌++◌, length, get_or, Ok, Err, refl, sym, ◌∙◌, ap, subst, arith, nat_lt, nat_le, append_assoc, inl, inr, eq-eqb}
+use Rattle.std.proofs.Common.{◌≡◌, ℕ, suc, zero, ◌^◌, ◌<◌, ◌≤◌, Bool, true, false, if◌then◌else◌, List, [], ◌∷◌, ◌++◌, length, get_or, Option, None, Some, Ok, Err, refl, sym, ◌∙◌, ap, subst, arith, nat_lt, nat_le, append_assoc, inl, inr, eq-eqb}
 use Rattle.std.specs.Int.{w16, w32, w64, to_be_bytes}
 use Rattle.std.proofs.lemmas.Nat.{from_be_bytes-to_be_bytes_2, from_be_bytes-to_be_bytes_4, from_be_bytes-to_be_bytes_8}
 use Rattle.std.proofs.lemmas.Bool.{ne_eqb, cases_lt}
@@ -10,18 +10,20 @@ use Rattle.std.proofs.lemmas.Str.{IsUtf8-from_ascii}
 use Rattle.kr_base.specs.Rules.{IsPath, IsResource, IsLabelByte, is_path, is_resource}
 use Rattle.kr_base.proofs.RuleTests.{path as kr_path, resource as kr_resource}
 use Rattle.kr_base.proofs.Labels.{Parted, labels_parted}
-use Rattle.kr_store.specs.Breaches.{Read, behind, part, number_16, number_32, number_64, sized_part, value_part, path_part, resource_part, kind_part, kind_by, revision_part, head_part, put_part, row_part}
+use Rattle.kr_store.specs.Breaches.{Read, behind, part, number_16, number_32, number_64, sized_part, value_part, path_part, resource_part, kind_part, kind_by, revision_part, head_part, check_part, put_part, row_part}
+use Rattle.kr_store.specs.declared.format.Check.{Check}
+use Rattle.kr_store.specs.declared.format.Format.{Format}
 use Rattle.kr_store.specs.declared.rows.Change.{Change}
 use Rattle.kr_store.specs.declared.rows.Change.TheVariants.{Put, Delete}
 use Rattle.kr_store.specs.declared.rows.LogRow.{LogRow}
-use Rattle.kr_store.specs.Rows.{longest_value, MayChange}
+use Rattle.kr_store.specs.Rows.{longest_value, HasCheck, MayChange}
 use Rattle.kr_store.specs.inner.KeptRows.{IsKeptRow, log_row_of}
 use Rattle.kr_store.specs.declared.kept_row.KeptRow.{KeptRow}
 use Rattle.kr_store.specs.declared.kept_row.KeptRow.TheVariants as kept
 use Rattle.kr_store.specs.inner.Reading.{head_bytes, put_bytes, kept_bytes}
 use Rattle.kr_store.specs.declared.kept_row.Kind.{Kind}
 use Rattle.kr_store.specs.declared.kept_row.Kind.TheVariants as kind
-use Rattle.kr_store.specs.File.{text_bytes, value_bytes, byte_of, row_bytes}
+use Rattle.kr_store.specs.File.{text_bytes, value_bytes, check_bytes, byte_of, row_bytes}
 use Rattle.kr_store.specs.declared.answers.Cause.TheVariants.{Torn, BadRow, Order}
 
 not_below : (m n : ℕ) → n ≤ m → nat_lt m n ≡ false
@@ -141,10 +143,32 @@ reads_head k kind path rest h p =
     ∙ behind_read _ _ _ _ (reads_revision k (text_bytes path ++ rest) h)
     ∙ behind_read _ _ _ _ (reads_path path rest p)
 
-pub reads_put : (resource stored rest : List ℕ) → IsResource resource → length stored ≤ longest_value → put_part (put_bytes (resource, stored) ++ rest) ≡ Ok (Put resource stored, rest)
-reads_put resource stored rest r l =
-    ap put_part (append_assoc (text_bytes resource) (value_bytes stored) rest)
-    ∙ behind_read _ _ _ _ (reads_resource resource (value_bytes stored ++ rest) r)
+pub reads_check : (format : Format) (check : Option Check) (rest : List ℕ)
+    → HasCheck format check → check_part format (check_bytes check ++ rest) ≡ Ok (check, rest)
+reads_check format None rest h = ap (λ (f : Format). check_part f rest) h
+reads_check format (Some check) rest h =
+    ap (λ (f : Format). check_part f (to_be_bytes w64 check.value ++ rest)) h.0
+    ∙ behind_read _ _ _ _ (reads_64 check.value rest h.1)
+
+-- the parts of a put one after another
+pub put_parts : (resource : List ℕ) (check : Option Check) (stored rest : List ℕ)
+    → put_bytes (resource, check, stored) ++ rest
+    ≡ text_bytes resource ++ (check_bytes check ++ (value_bytes stored ++ rest))
+put_parts resource check stored rest =
+    append_assoc (text_bytes resource) (check_bytes check ++ value_bytes stored) rest
+    ∙ ap (λ l. text_bytes resource ++ l)
+    (append_assoc (check_bytes check) (value_bytes stored) rest)
+
+pub reads_put : (format : Format) (resource : List ℕ) (check : Option Check)
+    (stored rest : List ℕ) → IsResource resource → length stored ≤ longest_value
+    → HasCheck format check
+    → put_part format (put_bytes (resource, check, stored) ++ rest)
+    ≡ Ok (Put resource stored check, rest)
+reads_put format resource check stored rest r l h =
+    ap (put_part format) (put_parts resource check stored rest)
+    ∙ behind_read _ _ _ _
+    (reads_resource resource (check_bytes check ++ (value_bytes stored ++ rest)) r)
+    ∙ behind_read _ _ _ _ (reads_check format check (value_bytes stored ++ rest) h)
     ∙ behind_read _ _ _ _ (reads_value stored rest l)
 
 -- a row is its head and what it does
@@ -153,24 +177,37 @@ regroup k kd path more rest =
     ap (λ l. byte_of kd ∷ (l ++ rest)) (sym (append_assoc (to_be_bytes w64 k) (text_bytes path) more))
     ∙ ap (λ l. byte_of kd ∷ l) (append_assoc (to_be_bytes w64 k ++ text_bytes path) more rest)
 
-pub reads_kept : (k : ℕ) (e : KeptRow) (rest : List ℕ) → k < 2 ^ 64 → IsKeptRow k e → row_part k (kept_bytes k e ++ rest) ≡ Ok (log_row_of e, rest)
-reads_kept k (kept.Put row) rest h i =
-    let path = row.path in let resource = row.resource in let stored = row.stored in
-    ap (row_part k) (regroup k kind.Put path (put_bytes (resource, stored)) rest)
-    ∙ behind_read _ _ _ _ (reads_head k kind.Put path (put_bytes (resource, stored) ++ rest) h i.0.0)
-    ∙ behind_read _ _ _ _ (reads_put resource stored rest i.0.1 i.0.2)
-reads_kept k (kept.Delete path) rest h i =
-    ap (row_part k) (regroup k kind.Delete path [] rest)
+pub reads_kept : (format : Format) (k : ℕ) (e : KeptRow) (rest : List ℕ)
+    → k < 2 ^ 64 → IsKeptRow format k e
+    → row_part format k (kept_bytes k e ++ rest) ≡ Ok (log_row_of e, rest)
+reads_kept format k (kept.Put row) rest h i =
+    let path = row.path in
+    let put : List ℕ = put_bytes (row.resource, row.check, row.stored) in
+    ap (row_part format k) (regroup k kind.Put path put rest)
+    ∙ behind_read _ _ _ _ (reads_head k kind.Put path (put ++ rest) h i.0.0)
+    ∙ behind_read _ _ _ _
+    (reads_put format row.resource row.check row.stored rest i.0.1 i.0.2 i.0.3)
+reads_kept format k (kept.Delete path) rest h i =
+    ap (row_part format k) (regroup k kind.Delete path [] rest)
     ∙ behind_read _ _ _ _ (reads_head k kind.Delete path rest h i)
 
-pub reads_row : (k : ℕ) (line : LogRow) (before : List LogRow) (rest : List ℕ) → k < 2 ^ 64 → IsPath line.path → MayChange before line.path line.change → row_part k (row_bytes k line ++ rest) ≡ Ok (line, rest)
-reads_row k line before rest h p m = by line.change m
+abbrev row_with : List ℕ → Change → LogRow
+row_with path change = record { path = path; change = change }
+
+pub reads_row : (format : Format) (k : ℕ) (line : LogRow) (before : List LogRow)
+    (rest : List ℕ) → k < 2 ^ 64 → IsPath line.path
+    → MayChange format before line.path line.change
+    → row_part format k (row_bytes k line ++ rest) ≡ Ok (line, rest)
+reads_row format k line before rest h p m = by line.change m
   where
-    by : (change : Change) → MayChange before line.path change → row_part k (row_bytes k (record { path = line.path; change = change }) ++ rest) ≡ Ok (record { path = line.path; change = change }, rest)
-    by (Put resource stored) m =
-        ap (row_part k) (regroup k kind.Put line.path (put_bytes (resource, stored)) rest)
-        ∙ behind_read _ _ _ _ (reads_head k kind.Put line.path (put_bytes (resource, stored) ++ rest) h p)
-        ∙ behind_read _ _ _ _ (reads_put resource stored rest m.0 m.1)
+    by : (change : Change) → MayChange format before line.path change
+        → row_part format k (row_bytes k (row_with line.path change) ++ rest)
+        ≡ Ok (row_with line.path change, rest)
+    by (Put resource stored check) m =
+        let put : List ℕ = put_bytes (resource, check, stored) in
+        ap (row_part format k) (regroup k kind.Put line.path put rest)
+        ∙ behind_read _ _ _ _ (reads_head k kind.Put line.path (put ++ rest) h p)
+        ∙ behind_read _ _ _ _ (reads_put format resource check stored rest m.0 m.1 m.2)
     by Delete m =
-        ap (row_part k) (regroup k kind.Delete line.path [] rest)
+        ap (row_part format k) (regroup k kind.Delete line.path [] rest)
         ∙ behind_read _ _ _ _ (reads_head k kind.Delete line.path rest h p)

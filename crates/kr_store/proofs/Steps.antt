@@ -10,7 +10,9 @@ use Rattle.kr_base.specs.Told.{Agrees}
 use Rattle.kr_base.specs.Tapes.{ReadsAt}
 use Rattle.kr_store.specs.Breaches.{Read, behind, part}
 use Rattle.kr_store.specs.inner.Reading.{Ahead, Moves, Breaks, Takes, Begins, Gives, IsShort, IsNamed, Names, MayBreak}
-use Rattle.kr_store.specs.File.{magic}
+use Rattle.kr_store.specs.declared.format.Format.{Format}
+use Rattle.kr_store.specs.declared.format.Format.TheVariants.{One, Two}
+use Rattle.kr_store.specs.File.{store_name, magic}
 use Rattle.kr_store.specs.declared.answers.StoreNo.{StoreNo}
 use Rattle.kr_store.specs.declared.answers.StoreNo.TheVariants as no
 use Rattle.kr_store.proofs.Parts.{part_torn}
@@ -194,34 +196,64 @@ untold_magic old u s = record {
   breach = inl (refl, (omega arith, omega arith, refl));
 }
 
-nothing_more : (front rest : List ℕ) → length rest ≡ 0 → front ++ rest ≡ front
+pub nothing_more : (front rest : List ℕ) → length rest ≡ 0 → front ++ rest ≡ front
 nothing_more front [] e = append-nil front
 nothing_more front (x ∷ rest) e = absurd (omega arith)
 
--- where the first 8 bytes of all are as the magic's, those that were read are
-same_front : (front rest : List ℕ) → length front ≤ length magic → take (length magic) (front ++ rest) ≡ take (length (front ++ rest)) magic → front ≡ take (length front) magic
-same_front front rest l same =
-    sym (take-append_seam front rest)
-    ∙ sym (take-take (length front) (length magic) (front ++ rest) l)
-    ∙ ap (take (length front)) same
-    ∙ take-take (length front) (length (front ++ rest)) magic (omega (arith, length-append front rest))
+-- the first bytes of a magic are those of the name
+pub begins_name : (format : Format) (n : ℕ) → n ≤ length store_name
+    → take n store_name ≡ take n (magic format)
+begins_name format n l = take-take n (length store_name) (magic format) l
 
--- the front of the file was read, and isn't the magic
-unnamed : (old new : Ahead) (front : List ℕ) (cause : StoreNo) → Takes old new front → Moves old new → old.place ≡ 0 → 0 < length front → length front ≡ min old.end (length magic)
-    → IsNamed {A = Unit {0}} front (Err cause) → Names {A = Unit {0}} old new (Err cause)
+-- a front of at most 8 bytes begins no magic
+
+neither : (front : List ℕ) → (front ≡ magic One → ⊥) → (front ≡ magic Two → ⊥)
+    → (format : Format) → front ≡ magic format → ⊥
+neither front one two One = one
+neither front one two Two = two
+
+pub other_long : (front : List ℕ) → length store_name < length front
+    → (front ≡ magic One → ⊥) → (front ≡ magic Two → ⊥)
+    → (format : Format) → front ≡ take (length front) (magic format) → ⊥
+other_long front l one two format e =
+    neither front one two format (e ∙ take_all (length front) (magic format) (omega (arith, l)))
+
+pub other_short : (front : List ℕ) → length front ≤ length store_name
+    → (front ≡ take (length front) store_name → ⊥)
+    → (format : Format) → front ≡ take (length front) (magic format) → ⊥
+other_short front l n format e = n (e ∙ sym (begins_name format (length front) l))
+
+-- where the first bytes of all are as the magic's, those that were read are
+same_front : (named front rest : List ℕ) → length front ≤ length named
+    → take (length named) (front ++ rest) ≡ take (length (front ++ rest)) named
+    → front ≡ take (length front) named
+same_front named front rest l same =
+    sym (take-append_seam front rest)
+    ∙ sym (take-take (length front) (length named) (front ++ rest) l)
+    ∙ ap (take (length front)) same
+    ∙ take-take (length front) (length (front ++ rest)) named
+    (omega (arith, length-append front rest))
+
+-- the front of the file was read, and is no magic
+unnamed : (old new : Ahead) (front : List ℕ) (why : StoreNo) → Takes old new front
+    → Moves old new → old.place ≡ 0 → 0 < length front → length front ≡ min old.end 8
+    → IsNamed front (Err why) → Names old new (Err why)
 unnamed old new front no.Magic t m s l e i =
     let some = some_left new.left new.place new.end m.within m.known in record {
       bytes = front ++ some.0;
       agrees = agrees_behind old.left new.left front some.0 t.consumed some.1;
       within = omega (arith, length-append front some.0, t.place, m.end, some.2);
-      breach = λ same. i (same_front front some.0 (omega (arith, e)) same);
+      breach = λ format same.
+          i format (same_front (magic format) front some.0 (omega (arith, e)) same);
     }
 unnamed old new front (no.Torn at) t m s l e i =
-    let some = some_left new.left new.place new.end m.within m.known in record {
+    let some = some_left new.left new.place new.end m.within m.known in
+    let none : length some.0 ≡ 0 = omega (arith, some.2, t.place, m.end, e, i.1) in record {
       bytes = front;
-      agrees = subst (λ b. Agrees old.left b) (nothing_more front some.0 (omega (arith, some.2, t.place, m.end, e, i.2))) (agrees_behind old.left new.left front some.0 t.consumed some.1);
+      agrees = subst (λ b. Agrees old.left b) (nothing_more front some.0 none)
+          (agrees_behind old.left new.left front some.0 t.consumed some.1);
       within = omega (arith, e);
-      breach = inl (i.0, (l, i.2, i.1));
+      breach = inl (i.0, (l, i.1, i.2));
     }
 unnamed old new front (no.BadRow at) t m s l e i = i
 unnamed old new front (no.Order at) t m s l e i = i
@@ -229,6 +261,8 @@ unnamed old new front no.TooLong t m s l e i = i
 unnamed old new front no.Failed t m s l e i = tt
 unnamed old new front no.NoMemory t m s l e i = tt
 
-pub named_by : (old new : Ahead) (front : List ℕ) (result : Result (Unit {0}) StoreNo) → Takes old new front → Moves old new → old.place ≡ 0 → 0 < length front → length front ≡ min old.end (length magic) → IsNamed front result → Names old new result
-named_by old new front (Ok x) t m s l e i = subst (λ b. Takes old new b) i t
-named_by old new front (Err cause) t m s l e i = unnamed old new front cause t m s l e i
+pub named_by : (old new : Ahead) (front : List ℕ) (result : Result Format StoreNo)
+    → Takes old new front → Moves old new → old.place ≡ 0 → 0 < length front
+    → length front ≡ min old.end 8 → IsNamed front result → Names old new result
+named_by old new front (Ok format) t m s l e i = subst (λ b. Takes old new b) i t
+named_by old new front (Err why) t m s l e i = unnamed old new front why t m s l e i
