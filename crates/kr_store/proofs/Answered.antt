@@ -44,27 +44,32 @@ known bytes all i = elim (cases_lt i (length bytes)) [
 ]
 
 -- what was read, and the bytes of which it was read
-pub record Found {A : Type 0} (bytes : List ℕ) (written : A → List ℕ) (rule : A → Type 0) (x : A) (rest : List ℕ) : Type 0 where
+pub record Found {A : Type 0} (bytes : List ℕ) (written : A → List ℕ) (rule : A → Type 0) (x : A)
+    (rest : List ℕ) : Type 0 where
   pub split : bytes ≡ written x ++ rest
   pub ruled : rule x
   pub bytes_are : AreBytes rest
 
 -- a part was read, then the next
-record Both {A B : Type 0} (first : Read A) (next : A → List ℕ → Read B) (y : B) (rest : List ℕ) : Type 0 where
+record Both {A B : Type 0} (first : Read A) (next : A → List ℕ → Read B) (y : B)
+    (rest : List ℕ) : Type 0 where
   pub x : A
   pub mid : List ℕ
   pub first_is : first ≡ Ok (x, mid)
   pub next_is : next x mid ≡ Ok (y, rest)
 
-both : {A B : Type 0} (first : Read A) (next : A → List ℕ → Read B) (y : B) (rest : List ℕ) → behind first next ≡ Ok (y, rest) → Both first next y rest
+both : {A B : Type 0} (first : Read A) (next : A → List ℕ → Read B) (y : B) (rest : List ℕ)
+    → behind first next ≡ Ok (y, rest) → Both first next y rest
 both (Err cause) next y rest e = cc
 both (Ok found) next y rest e = record { x = found.0; mid = found.1; first_is = refl; next_is = e }
 
-kept : {A : Type 0} (holds : Bool) (cause : Cause) (x y : A) (bytes rest : List ℕ) → kept_if holds cause x bytes ≡ Ok (y, rest) → (holds ≡ true) × (x ≡ y) × (bytes ≡ rest)
+kept : {A : Type 0} (holds : Bool) (cause : Cause) (x y : A) (bytes rest : List ℕ)
+    → kept_if holds cause x bytes ≡ Ok (y, rest) → (holds ≡ true) × (x ≡ y) × (bytes ≡ rest)
 kept true cause x y bytes rest e = let s = same_found x y bytes rest _ refl e in (refl, s.0, s.1)
 kept false cause x y bytes rest e = cc
 
-chosen : {A : Type 0} (holds : Bool) (cause : Cause) (read : Read A) (y : A) (rest : List ℕ) → (if holds then read else Err cause) ≡ Ok (y, rest) → (holds ≡ true) × (read ≡ Ok (y, rest))
+chosen : {A : Type 0} (holds : Bool) (cause : Cause) (read : Read A) (y : A) (rest : List ℕ) →
+    (if holds then read else Err cause) ≡ Ok (y, rest) → (holds ≡ true) × (read ≡ Ok (y, rest))
 chosen true cause read y rest e = (refl, e)
 chosen false cause read y rest e = cc
 
@@ -74,41 +79,49 @@ same_bytes bytes = bytes
 abbrev cut_at : Bool → ℕ → List ℕ → Read (List ℕ)
 cut_at short n bytes = if short then Err Torn else Ok (take n bytes, drop n bytes)
 
-part_found : (n : ℕ) (bytes x rest : List ℕ) → AreBytes bytes → part n bytes ≡ Ok (x, rest) → Found bytes same_bytes (λ x. (length x ≡ n) × AreBytes x) x rest
+part_found : (n : ℕ) (bytes x rest : List ℕ) → AreBytes bytes → part n bytes ≡ Ok (x, rest)
+    → Found bytes same_bytes (λ x. (length x ≡ n) × AreBytes x) x rest
 part_found n bytes x rest all e = by (nat_lt (length bytes) n) refl e
   where
     enough : nat_lt (length bytes) n ≡ false → n ≤ length bytes
-    enough f = elim (cases_lt (length bytes) n) [ inl l ↦ (let t = below (length bytes) n l in cc) | inr g ↦ g ]
+    enough f = elim (cases_lt (length bytes) n)
+        [ inl l ↦ (let t = below (length bytes) n l in cc) | inr g ↦ g ]
 
-    by : (short : Bool) → nat_lt (length bytes) n ≡ short → cut_at short n bytes ≡ Ok (x, rest) → Found bytes same_bytes (λ x. (length x ≡ n) × AreBytes x) x rest
+    by : (short : Bool) → nat_lt (length bytes) n ≡ short → cut_at short n bytes ≡ Ok (x, rest)
+        → Found bytes same_bytes (λ x. (length x ≡ n) × AreBytes x) x rest
     by true s e = cc
     by false s e =
         let same = same_found (take n bytes) x (drop n bytes) rest _ refl e in
         subst (λ y. Found bytes same_bytes (λ x. (length x ≡ n) × AreBytes x) y rest) same.0
-        (subst (λ r. Found bytes same_bytes (λ x. (length x ≡ n) × AreBytes x) (take n bytes) r) same.1 (record {
+        (subst (λ r. Found bytes same_bytes (λ x. (length x ≡ n) × AreBytes x)
+        (take n bytes) r) same.1 (record {
           split = sym (take-append-drop n bytes);
           ruled = (length-take-le n bytes (enough s), All-take (λ byte. byte < 256) n bytes all);
           bytes_are = All-drop (λ byte. byte < 256) n bytes all;
         }))
 
-found_16 : (bytes : List ℕ) (n : ℕ) (rest : List ℕ) → AreBytes bytes → number_16 bytes ≡ Ok (n, rest) → Found bytes (to_be_bytes w16) (λ m. Unit {0}) n rest
+found_16 : (bytes : List ℕ) (n : ℕ) (rest : List ℕ) → AreBytes bytes → number_16 bytes ≡ Ok
+    (n, rest) → Found bytes (to_be_bytes w16) (λ m. Unit {0}) n rest
 found_16 bytes n rest all e =
     let b = both (part 2 bytes) (λ number rest. Ok (from_be_bytes w16 number, rest)) n rest e in
     let p = part_found 2 bytes b.x b.mid all b.first_is in
     let same = same_found (from_be_bytes w16 b.x) n b.mid rest _ refl b.next_is in
     record {
-      split = p.split ∙ ap (λ l. l ++ b.mid) (sym (be_bytes_2 b.x n p.ruled.0 (known b.x p.ruled.1) (sym same.0))) ∙ ap (λ l. to_be_bytes w16 n ++ l) same.1;
+      split = p.split ∙ ap (λ l. l ++ b.mid) (sym (be_bytes_2 b.x n p.ruled.0 (known b.x p.ruled.1)
+          (sym same.0))) ∙ ap (λ l. to_be_bytes w16 n ++ l) same.1;
       ruled = tt;
       bytes_are = subst AreBytes same.1 p.bytes_are;
     }
 
-found_32 : (bytes : List ℕ) (n : ℕ) (rest : List ℕ) → AreBytes bytes → number_32 bytes ≡ Ok (n, rest) → Found bytes (to_be_bytes w32) (λ m. Unit {0}) n rest
+found_32 : (bytes : List ℕ) (n : ℕ) (rest : List ℕ) → AreBytes bytes → number_32 bytes ≡ Ok
+    (n, rest) → Found bytes (to_be_bytes w32) (λ m. Unit {0}) n rest
 found_32 bytes n rest all e =
     let b = both (part 4 bytes) (λ number rest. Ok (from_be_bytes w32 number, rest)) n rest e in
     let p = part_found 4 bytes b.x b.mid all b.first_is in
     let same = same_found (from_be_bytes w32 b.x) n b.mid rest _ refl b.next_is in
     record {
-      split = p.split ∙ ap (λ l. l ++ b.mid) (sym (be_bytes_4 b.x n p.ruled.0 (known b.x p.ruled.1) (sym same.0))) ∙ ap (λ l. to_be_bytes w32 n ++ l) same.1;
+      split = p.split ∙ ap (λ l. l ++ b.mid) (sym (be_bytes_4 b.x n p.ruled.0 (known b.x p.ruled.1)
+          (sym same.0))) ∙ ap (λ l. to_be_bytes w32 n ++ l) same.1;
       ruled = tt;
       bytes_are = subst AreBytes same.1 p.bytes_are;
     }
@@ -116,47 +129,58 @@ found_32 bytes n rest all e =
 fits_64 : (b : List ℕ) → ((i : ℕ) → get_or b i 0 < 256) → from_be_bytes w64 b < 2 ^ 64
 fits_64 b k = omega (arith, k 0, k 1, k 2, k 3, k 4, k 5, k 6, k 7)
 
-found_64 : (bytes : List ℕ) (n : ℕ) (rest : List ℕ) → AreBytes bytes → number_64 bytes ≡ Ok (n, rest) → Found bytes (to_be_bytes w64) (λ m. m < 2 ^ 64) n rest
+found_64 : (bytes : List ℕ) (n : ℕ) (rest : List ℕ) → AreBytes bytes → number_64 bytes ≡ Ok
+    (n, rest) → Found bytes (to_be_bytes w64) (λ m. m < 2 ^ 64) n rest
 found_64 bytes n rest all e =
     let b = both (part 8 bytes) (λ number rest. Ok (from_be_bytes w64 number, rest)) n rest e in
     let p = part_found 8 bytes b.x b.mid all b.first_is in
     let same = same_found (from_be_bytes w64 b.x) n b.mid rest _ refl b.next_is in
     record {
-      split = p.split ∙ ap (λ l. l ++ b.mid) (sym (be_bytes_8 b.x n p.ruled.0 (known b.x p.ruled.1) (sym same.0))) ∙ ap (λ l. to_be_bytes w64 n ++ l) same.1;
+      split = p.split ∙ ap (λ l. l ++ b.mid) (sym (be_bytes_8 b.x n p.ruled.0 (known b.x p.ruled.1)
+          (sym same.0))) ∙ ap (λ l. to_be_bytes w64 n ++ l) same.1;
       ruled = subst (λ m. m < 2 ^ 64) same.0 (fits_64 b.x (known b.x p.ruled.1));
       bytes_are = subst AreBytes same.1 p.bytes_are;
     }
 
-found_sized : (most : ℕ) (bytes x rest : List ℕ) → AreBytes bytes → sized_part most bytes ≡ Ok (x, rest) → Found bytes text_bytes (λ y. Unit {0}) x rest
+found_sized : (most : ℕ) (bytes x rest : List ℕ) → AreBytes bytes → sized_part most bytes ≡ Ok
+    (x, rest) → Found bytes text_bytes (λ y. Unit {0}) x rest
 found_sized most bytes x rest all e =
-    let b = both (number_16 bytes) (λ n rest. if nat_le n most then part n rest else Err BadRow) x rest e in
+    let b = both (number_16 bytes)
+    (λ n rest. if nat_le n most then part n rest else Err BadRow) x rest e in
     let n = found_16 bytes b.x b.mid all b.first_is in
     let c = chosen (nat_le b.x most) BadRow (part b.x b.mid) x rest b.next_is in
     let p = part_found b.x b.mid x rest n.bytes_are c.1 in
     record {
-      split = n.split ∙ ap (λ l. to_be_bytes w16 b.x ++ l) p.split ∙ ap (λ m. to_be_bytes w16 m ++ (x ++ rest)) (sym p.ruled.0) ∙ sym (append_assoc (to_be_bytes w16 (length x)) x rest);
+      split = n.split ∙ ap (λ l. to_be_bytes w16 b.x ++ l) p.split ∙ ap (λ m. to_be_bytes w16 m ++
+          (x ++ rest)) (sym p.ruled.0) ∙ sym (append_assoc (to_be_bytes w16 (length x)) x rest);
       ruled = tt;
       bytes_are = p.bytes_are;
     }
 
-found_value : (bytes x rest : List ℕ) → AreBytes bytes → value_part bytes ≡ Ok (x, rest) → Found bytes value_bytes (λ v. length v ≤ longest_value) x rest
+found_value : (bytes x rest : List ℕ) → AreBytes bytes → value_part bytes ≡ Ok (x, rest)
+    → Found bytes value_bytes (λ v. length v ≤ longest_value) x rest
 found_value bytes x rest all e =
-    let b = both (number_32 bytes) (λ n rest. if nat_le n longest_value then part n rest else Err BadRow) x rest e in
+    let b = both (number_32 bytes)
+    (λ n rest. if nat_le n longest_value then part n rest else Err BadRow) x rest e in
     let n = found_32 bytes b.x b.mid all b.first_is in
     let c = chosen (nat_le b.x longest_value) BadRow (part b.x b.mid) x rest b.next_is in
     let p = part_found b.x b.mid x rest n.bytes_are c.1 in
     record {
-      split = n.split ∙ ap (λ l. to_be_bytes w32 b.x ++ l) p.split ∙ ap (λ m. to_be_bytes w32 m ++ (x ++ rest)) (sym p.ruled.0) ∙ sym (append_assoc (to_be_bytes w32 (length x)) x rest);
+      split = n.split ∙ ap (λ l. to_be_bytes w32 b.x ++ l) p.split ∙ ap (λ m. to_be_bytes w32 m ++
+          (x ++ rest)) (sym p.ruled.0) ∙ sym (append_assoc (to_be_bytes w32 (length x)) x rest);
       ruled = small (length x) b.x p.ruled.0 c.0;
       bytes_are = p.bytes_are;
     }
   where
     small : (m n : ℕ) → m ≡ n → nat_le n longest_value ≡ true → m ≤ longest_value
-    small m n e f = elim (cases_lt longest_value n) [ inl l ↦ (let t = above_most n longest_value l in cc) | inr g ↦ omega (arith, e, g) ]
+    small m n e f = elim (cases_lt longest_value n)
+        [ inl l ↦ (let t = above_most n longest_value l in cc) | inr g ↦ omega (arith, e, g) ]
 
-found_path : (bytes x rest : List ℕ) → AreBytes bytes → path_part bytes ≡ Ok (x, rest) → Found bytes text_bytes IsPath x rest
+found_path : (bytes x rest : List ℕ) → AreBytes bytes → path_part bytes ≡ Ok (x, rest)
+    → Found bytes text_bytes IsPath x rest
 found_path bytes x rest all e =
-    let b = both (sized_part 1024 bytes) (λ path rest. kept_if (is_path path) BadRow path rest) x rest e in
+    let b = both (sized_part 1024 bytes) (λ path rest. kept_if
+    (is_path path) BadRow path rest) x rest e in
     let s = found_sized 1024 bytes b.x b.mid all b.first_is in
     let k = kept (is_path b.x) BadRow b.x x b.mid rest b.next_is in
     record {
@@ -165,9 +189,11 @@ found_path bytes x rest all e =
       bytes_are = subst AreBytes k.2 s.bytes_are;
     }
 
-found_resource : (bytes x rest : List ℕ) → AreBytes bytes → resource_part bytes ≡ Ok (x, rest) → Found bytes text_bytes IsResource x rest
+found_resource : (bytes x rest : List ℕ) → AreBytes bytes → resource_part bytes ≡ Ok (x, rest)
+    → Found bytes text_bytes IsResource x rest
 found_resource bytes x rest all e =
-    let b = both (sized_part 253 bytes) (λ resource rest. kept_if (is_resource resource) BadRow resource rest) x rest e in
+    let b = both (sized_part 253 bytes) (λ resource rest. kept_if
+    (is_resource resource) BadRow resource rest) x rest e in
     let s = found_sized 253 bytes b.x b.mid all b.first_is in
     let k = kept (is_resource b.x) BadRow b.x x b.mid rest b.next_is in
     record {
@@ -182,37 +208,47 @@ single (b ∷ []) e = refl
 single (b ∷ (c ∷ x)) e = absurd (omega (arith, e))
 
 abbrev kind_at : Bool → Bool → List ℕ → Read Kind
-kind_at one two mid = if one then Ok (kind.Put, mid) else (if two then Ok (kind.Delete, mid) else Err BadRow)
+kind_at one two mid = if one then Ok (kind.Put, mid) else
+    (if two then Ok (kind.Delete, mid) else Err BadRow)
 
-kind_chosen : (byte : ℕ) (mid : List ℕ) (kd : Kind) (rest : List ℕ) → kind_by byte mid ≡ Ok (kd, rest) → (byte ≡ byte_of kd) × (mid ≡ rest)
+kind_chosen : (byte : ℕ) (mid : List ℕ) (kd : Kind) (rest : List ℕ) → kind_by byte mid ≡ Ok
+    (kd, rest) → (byte ≡ byte_of kd) × (mid ≡ rest)
 kind_chosen byte mid kd rest e = by (eqb byte 1) (eqb byte 2) refl refl e
   where
-    by : (one two : Bool) → eqb byte 1 ≡ one → eqb byte 2 ≡ two → kind_at one two mid ≡ Ok (kd, rest) → (byte ≡ byte_of kd) × (mid ≡ rest)
-    by true two o t e = let s = same_found kind.Put kd mid rest _ refl e in ((Decides-eqb byte 1).0 o ∙ ap byte_of s.0, s.1)
-    by false true o t e = let s = same_found kind.Delete kd mid rest _ refl e in ((Decides-eqb byte 2).0 t ∙ ap byte_of s.0, s.1)
+    by : (one two : Bool) → eqb byte 1 ≡ one → eqb byte 2 ≡ two → kind_at one two mid ≡ Ok
+        (kd, rest) → (byte ≡ byte_of kd) × (mid ≡ rest)
+    by true two o t e = let s = same_found kind.Put kd mid rest _ refl e in
+        ((Decides-eqb byte 1).0 o ∙ ap byte_of s.0, s.1)
+    by false true o t e = let s = same_found kind.Delete kd mid rest _ refl e in
+        ((Decides-eqb byte 2).0 t ∙ ap byte_of s.0, s.1)
     by false false o t e = cc
 
 abbrev kind_bytes : Kind → List ℕ
 kind_bytes kd = byte_of kd ∷ []
 
-found_kind : (bytes : List ℕ) (kd : Kind) (rest : List ℕ) → AreBytes bytes → kind_part bytes ≡ Ok (kd, rest) → Found bytes kind_bytes (λ k. Unit {0}) kd rest
+found_kind : (bytes : List ℕ) (kd : Kind) (rest : List ℕ) → AreBytes bytes → kind_part bytes ≡ Ok
+    (kd, rest) → Found bytes kind_bytes (λ k. Unit {0}) kd rest
 found_kind bytes kd rest all e =
     let b = both (part 1 bytes) (λ byte rest. kind_by (get_or byte 0 0) rest) kd rest e in
     let p = part_found 1 bytes b.x b.mid all b.first_is in
     let c = kind_chosen (get_or b.x 0 0) b.mid kd rest b.next_is in
     record {
-      split = p.split ∙ ap (λ l. l ++ b.mid) (single b.x p.ruled.0) ∙ ap (λ n. n ∷ b.mid) c.0 ∙ ap (λ l. byte_of kd ∷ l) c.1;
+      split = p.split ∙ ap (λ l. l ++ b.mid) (single b.x p.ruled.0) ∙ ap (λ n. n ∷ b.mid) c.0 ∙ ap
+          (λ l. byte_of kd ∷ l) c.1;
       ruled = tt;
       bytes_are = subst AreBytes c.1 p.bytes_are;
     }
 
-found_revision : (k : ℕ) (bytes : List ℕ) (n : ℕ) (rest : List ℕ) → AreBytes bytes → revision_part k bytes ≡ Ok (n, rest) → Found bytes (to_be_bytes w64) (λ n. n ≡ k) n rest
+found_revision : (k : ℕ) (bytes : List ℕ) (n : ℕ) (rest : List ℕ) → AreBytes bytes
+    → revision_part k bytes ≡ Ok (n, rest) → Found bytes (to_be_bytes w64) (λ n. n ≡ k) n rest
 found_revision k bytes n rest all e =
-    let b = both (number_64 bytes) (λ number rest. kept_if (eqb number k) Order number rest) n rest e in
+    let b = both (number_64 bytes) (λ number rest. kept_if
+    (eqb number k) Order number rest) n rest e in
     let s = found_64 bytes b.x b.mid all b.first_is in
     let c = kept (eqb b.x k) Order b.x n b.mid rest b.next_is in
     record {
-      split = s.split ∙ ap (λ m. to_be_bytes w64 m ++ b.mid) c.1 ∙ ap (λ l. to_be_bytes w64 n ++ l) c.2;
+      split = s.split ∙ ap (λ m. to_be_bytes w64 m ++ b.mid) c.1 ∙ ap (λ l. to_be_bytes w64 n
+          ++ l) c.2;
       ruled = sym c.1 ∙ (Decides-eqb b.x k).0 c.0;
       bytes_are = subst AreBytes c.2 s.bytes_are;
     }
@@ -278,22 +314,30 @@ found_change format kind.Delete bytes change rest all e =
 abbrev front_bytes : ℕ → Kind × List ℕ → List ℕ
 front_bytes k head = byte_of head.0 ∷ (to_be_bytes w64 k ++ text_bytes head.1)
 
-found_head : (k : ℕ) (bytes : List ℕ) (head : Kind × List ℕ) (rest : List ℕ) → AreBytes bytes → head_part k bytes ≡ Ok (head, rest) → Found bytes (front_bytes k) (λ h. IsPath h.1) head rest
+found_head : (k : ℕ) (bytes : List ℕ) (head : Kind × List ℕ) (rest : List ℕ) → AreBytes bytes
+    → head_part k bytes ≡ Ok (head, rest) → Found bytes (front_bytes k) (λ h. IsPath h.1) head rest
 found_head k bytes head rest all e =
-    let b = both (kind_part bytes) (λ kind rest. behind (revision_part k rest) (λ _ rest. behind (path_part rest) (λ path rest. Ok ((kind, path), rest)))) head rest e in
+    let b = both (kind_part bytes) (λ kind rest. behind (revision_part k rest) (λ _ rest. behind
+    (path_part rest) (λ path rest. Ok ((kind, path), rest)))) head rest e in
     let kd = found_kind bytes b.x b.mid all b.first_is in
-    let d = both (revision_part k b.mid) (λ _ rest. behind (path_part rest) (λ path rest. Ok ((b.x, path), rest))) head rest b.next_is in
+    let d = both (revision_part k b.mid) (λ _ rest. behind (path_part rest)
+    (λ path rest. Ok ((b.x, path), rest))) head rest b.next_is in
     let n = found_revision k b.mid d.x d.mid kd.bytes_are d.first_is in
     let f = both (path_part d.mid) (λ path rest. Ok ((b.x, path), rest)) head rest d.next_is in
     let p = found_path d.mid f.x f.mid n.bytes_are f.first_is in
     let same = same_found (b.x, f.x) head f.mid rest _ refl f.next_is in
-    subst (λ (h : Kind × List ℕ). Found bytes (front_bytes k) (λ h. IsPath h.1) h rest) same.0 (record {
-      split = kd.split ∙ ap (λ l. byte_of b.x ∷ l) (n.split ∙ ap (λ m. to_be_bytes w64 m ++ d.mid) n.ruled ∙ ap (λ l. to_be_bytes w64 k ++ l) (p.split ∙ ap (λ l. text_bytes f.x ++ l) same.1) ∙ sym (append_assoc (to_be_bytes w64 k) (text_bytes f.x) rest));
+    subst (λ (h : Kind × List ℕ). Found bytes (front_bytes k) (λ h. IsPath h.1) h rest) same.0
+    (record {
+      split = kd.split ∙ ap (λ l. byte_of b.x ∷ l) (n.split ∙ ap (λ m. to_be_bytes w64 m
+          ++ d.mid) n.ruled ∙ ap (λ l. to_be_bytes w64 k ++ l)
+          (p.split ∙ ap (λ l. text_bytes f.x ++ l) same.1) ∙ sym (append_assoc (to_be_bytes w64 k)
+          (text_bytes f.x) rest));
       ruled = p.ruled;
       bytes_are = subst AreBytes same.1 p.bytes_are;
     })
 
-regrouped : (k : ℕ) (kd : Kind) (path more rest : List ℕ) → front_bytes k (kd, path) ++ (more ++ rest) ≡ (byte_of kd ∷ (to_be_bytes w64 k ++ (text_bytes path ++ more))) ++ rest
+regrouped : (k : ℕ) (kd : Kind) (path more rest : List ℕ) → front_bytes k (kd, path) ++
+    (more ++ rest) ≡ (byte_of kd ∷ (to_be_bytes w64 k ++ (text_bytes path ++ more))) ++ rest
 regrouped k kd path more rest =
     ap (λ l. byte_of kd ∷ l) (sym (append_assoc (to_be_bytes w64 k ++ text_bytes path) more rest))
     ∙ ap (λ l. byte_of kd ∷ (l ++ rest)) (append_assoc (to_be_bytes w64 k) (text_bytes path) more)
@@ -366,7 +410,8 @@ broken bytes at BadRow b = inr (no.BadRow at, b)
 broken bytes at Order b = inr (no.Order at, b)
 
 -- these rows were read, and these bytes are left
-record IsReadUpTo (format : Format) (bytes : List ℕ) (before : List LogRow) (rest : List ℕ) : Type 0 where
+record IsReadUpTo (format : Format) (bytes : List ℕ) (before : List LogRow)
+    (rest : List ℕ) : Type 0 where
   pub small : length before + length rest < 2 ^ 63
   pub good : AreRows format before
   pub bytes_are : AreBytes rest

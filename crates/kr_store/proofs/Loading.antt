@@ -33,17 +33,20 @@ pub record IsReadTo (first now : Ahead) (format : Format) (rows : List KeptRow) 
   pub good : AreRows format (log_rows_of rows)
   pub indexed : IsIndexOf (log_rows_of rows) index
 
-pub log_rows_more : (rows : List KeptRow) (e : KeptRow) → log_rows_of (rows ++ e ∷ []) ≡ log_rows_of rows ++ log_row_of e ∷ []
+pub log_rows_more : (rows : List KeptRow) (e : KeptRow) → log_rows_of (rows ++ e ∷ [])
+    ≡ log_rows_of rows ++ log_row_of e ∷ []
 log_rows_more rows e = map-append log_row_of rows (e ∷ [])
 
 pub log_rows_length : (rows : List KeptRow) → length (log_rows_of rows) ≡ length rows
 log_rows_length rows = length-map rows log_row_of
 
-rows_more : (k : ℕ) (rows : List LogRow) (line : LogRow) → rows_bytes k (rows ++ line ∷ []) ≡ rows_bytes k rows ++ row_bytes (k + length rows) line
+rows_more : (k : ℕ) (rows : List LogRow) (line : LogRow) → rows_bytes k (rows ++ line ∷ [])
+    ≡ rows_bytes k rows ++ row_bytes (k + length rows) line
 rows_more k [] line = append-nil (row_bytes k line) ∙ ap (λ n. row_bytes n line) (omega arith)
 rows_more k (row ∷ rows) line =
     ap (λ l. row_bytes k row ++ l) (rows_more (k + 1) rows line)
-    ∙ sym (append_assoc (row_bytes k row) (rows_bytes (k + 1) rows) (row_bytes (k + 1 + length rows) line))
+    ∙ sym (append_assoc (row_bytes k row) (rows_bytes (k + 1) rows)
+    (row_bytes (k + 1 + length rows) line))
     ∙ ap (λ n. (row_bytes k row ++ rows_bytes (k + 1) rows) ++ row_bytes n line) (omega arith)
 
 pub file_more : (format : Format) (rows : List LogRow) (line : LogRow) (k : ℕ)
@@ -57,7 +60,12 @@ file_more format rows line k e =
 -- each row has a byte at least
 pub rows_long : (k : ℕ) (rows : List LogRow) → length rows ≤ length (rows_bytes k rows)
 rows_long k [] = omega arith
-rows_long k (row ∷ rows) = omega (arith, length-append (row_bytes k row) (rows_bytes (k + 1) rows), rows_long (k + 1) rows)
+rows_long k (row ∷ rows) = omega (
+  arith,
+  length-append (row_bytes k row)
+      (rows_bytes (k + 1) rows),
+  rows_long (k + 1) rows,
+)
 
 pub kept_rows_more : (format : Format) (k : ℕ) (rows : List KeptRow) (e : KeptRow) (n : ℕ)
     → n ≡ k + length rows → AreKeptRows format k rows → IsKeptRow format n e
@@ -114,7 +122,8 @@ loading_more first now next format rows index after e k l is small m t i a d =
     let line : LogRow = log_row_of e in
     let more : k ≡ length lines + 1 = omega (arith, log_rows_length rows) in
     let both : log_rows_of (rows ++ e ∷ []) ≡ lines ++ line ∷ [] = log_rows_more rows e in
-    let follow = follows format lines k e more small i (sym (allowed lines index e l.indexed) ∙ a) in
+    let follow = follows format lines k e more small i (sym (allowed lines index e l.indexed)
+    ∙ a) in
     record {
       moves = moves_both first now next l.moves m;
       takes = subst (λ b. Takes first next b)

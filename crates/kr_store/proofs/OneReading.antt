@@ -22,7 +22,12 @@ rows_once : (format : Format) (k : ℕ) (before rows others : List LogRow)
     → rows_bytes k rows ≡ rows_bytes k others → rows ≡ others
 rows_once format k before [] [] is f g e = refl
 rows_once format k before [] (other ∷ others) is f g e =
-    absurd (omega (arith, ap length e, length-append (row_bytes k other) (rows_bytes (k + 1) others)))
+    absurd (omega (
+      arith,
+      ap length e,
+      length-append (row_bytes k other)
+          (rows_bytes (k + 1) others),
+    ))
 rows_once format k before (row ∷ rows) [] is f g e =
     absurd (omega (arith, ap length e, length-append (row_bytes k row) (rows_bytes (k + 1) rows)))
 rows_once format k before (row ∷ rows) (other ∷ others) is f g e =
@@ -31,7 +36,8 @@ rows_once format k before (row ∷ rows) (other ∷ others) is f g e =
     ≡ Ok (other, rows_bytes (k + 1) others) =
     subst (λ l. row_part format k l ≡ Ok (other, rows_bytes (k + 1) others)) (sym e)
     (row_read format k before other (rows_bytes (k + 1) others) is g.0) in
-    let same = same_found row other (rows_bytes (k + 1) rows) (rows_bytes (k + 1) others) _ mine theirs in
+    let same = same_found row other (rows_bytes (k + 1) rows)
+    (rows_bytes (k + 1) others) _ mine theirs in
     let first : row ≡ other = same.0 in
     let rest : rows ≡ others = rows_once format (k + 1) (before ++ row ∷ []) rows others
     (omega (arith, length-append before (row ∷ []))) f.1
@@ -54,7 +60,8 @@ file_once bytes format other rows others f g = elim f.1 [
   | inr same ↦ elim g.1 [
     | inl nothing ↦ absurd (nothing_long format rows bytes nothing.2 same)
     | inr also ↦
-        let once = magic_once format other (rows_bytes 1 rows) (rows_bytes 1 others) (sym same ∙ also) in (
+        let once = magic_once format other (rows_bytes 1 rows) (rows_bytes 1 others)
+        (sym same ∙ also) in (
           once.0,
           rows_once format 1 [] rows others refl f.0
               (subst (λ (z : Format). AllFollow z [] others) (sym once.0) g.0) once.1,
@@ -62,37 +69,59 @@ file_once bytes format other rows others f g = elim f.1 [
   ]
 ]
 
-ok_not_err : (read : Read LogRow) (found : LogRow × List ℕ) (cause : Cause) → read ≡ Ok found → read ≡ Err cause → ⊥
+ok_not_err : (read : Read LogRow) (found : LogRow × List ℕ) (cause : Cause) → read ≡ Ok found
+    → read ≡ Err cause → ⊥
 ok_not_err read found cause e f = cc
 
-err_once : (read : Read LogRow) (cause other : Cause) → read ≡ Err cause → read ≡ Err other → cause ≡ other
+err_once : (read : Read LogRow) (cause other : Cause) → read ≡ Err cause → read ≡ Err other → cause
+    ≡ other
 err_once read cause other e f = cc
 
 -- where rows end and something breaks
-stop_once : (format : Format) (k : ℕ) (before rows others : List LogRow) (rest more : List ℕ) (cause other : Cause) → k ≡ length before + 1 → AllFollow format before rows → AllFollow format before others
-    → next_row format (before ++ rows) rest ≡ Err cause → next_row format (before ++ others) more ≡ Err other → rows_bytes k rows ++ rest ≡ rows_bytes k others ++ more → (rows ≡ others) × (rest ≡ more)
+stop_once : (format : Format) (k : ℕ) (before rows others : List LogRow) (rest more : List ℕ)
+    (cause other : Cause) → k ≡ length before + 1 → AllFollow format before rows
+    → AllFollow format before others
+    → next_row format (before ++ rows) rest ≡ Err cause → next_row format (before ++ others) more
+    ≡ Err other → rows_bytes k rows ++ rest ≡ rows_bytes k others ++ more → (rows ≡ others) ×
+    (rest ≡ more)
 stop_once format k before [] [] rest more cause other is f g b d e = (refl, e)
 stop_once format k before [] (o ∷ others) rest more cause other is f g b d e =
-    let split : rest ≡ row_bytes k o ++ (rows_bytes (k + 1) others ++ more) = e ∙ append_assoc (row_bytes k o) (rows_bytes (k + 1) others) more in
+    let split : rest ≡ row_bytes k o ++ (rows_bytes (k + 1) others ++ more) = e ∙ append_assoc
+    (row_bytes k o) (rows_bytes (k + 1) others) more in
     absurd (ok_not_err (next_row format before rest) (o, rows_bytes (k + 1) others ++ more) cause
-    (subst (λ l. next_row format before l ≡ Ok (o, rows_bytes (k + 1) others ++ more)) (sym split) (found_next format k before o (rows_bytes (k + 1) others ++ more) is g.0))
+    (subst (λ l. next_row format before l ≡ Ok (o, rows_bytes (k + 1) others ++ more)) (sym split)
+    (found_next format k before o (rows_bytes (k + 1) others ++ more) is g.0))
     (subst (λ (l : List LogRow). next_row format l rest ≡ Err cause) (append-nil before) b))
 stop_once format k before (r ∷ rows) [] rest more cause other is f g b d e =
-    let split : more ≡ row_bytes k r ++ (rows_bytes (k + 1) rows ++ rest) = sym e ∙ append_assoc (row_bytes k r) (rows_bytes (k + 1) rows) rest in
+    let split : more ≡ row_bytes k r ++ (rows_bytes (k + 1) rows ++ rest) = sym e ∙ append_assoc
+    (row_bytes k r) (rows_bytes (k + 1) rows) rest in
     absurd (ok_not_err (next_row format before more) (r, rows_bytes (k + 1) rows ++ rest) other
-    (subst (λ l. next_row format before l ≡ Ok (r, rows_bytes (k + 1) rows ++ rest)) (sym split) (found_next format k before r (rows_bytes (k + 1) rows ++ rest) is f.0))
+    (subst (λ l. next_row format before l ≡ Ok (r, rows_bytes (k + 1) rows ++ rest)) (sym split)
+    (found_next format k before r (rows_bytes (k + 1) rows ++ rest) is f.0))
     (subst (λ (l : List LogRow). next_row format l more ≡ Err other) (append-nil before) d))
 stop_once format k before (r ∷ rows) (o ∷ others) rest more cause other is f g b d e =
-    let ends : row_bytes k r ++ (rows_bytes (k + 1) rows ++ rest) ≡ row_bytes k o ++ (rows_bytes (k + 1) others ++ more) = sym (append_assoc (row_bytes k r) (rows_bytes (k + 1) rows) rest) ∙ e ∙ append_assoc (row_bytes k o) (rows_bytes (k + 1) others) more in
-    let mine : row_part format k (row_bytes k r ++ (rows_bytes (k + 1) rows ++ rest)) ≡ Ok (r, rows_bytes (k + 1) rows ++ rest) = row_read format k before r (rows_bytes (k + 1) rows ++ rest) is f.0 in
-    let theirs : row_part format k (row_bytes k r ++ (rows_bytes (k + 1) rows ++ rest)) ≡ Ok (o, rows_bytes (k + 1) others ++ more) =
-    subst (λ l. row_part format k l ≡ Ok (o, rows_bytes (k + 1) others ++ more)) (sym ends) (row_read format k before o (rows_bytes (k + 1) others ++ more) is g.0) in
-    let same = same_found r o (rows_bytes (k + 1) rows ++ rest) (rows_bytes (k + 1) others ++ more) _ mine theirs in
+    let ends : row_bytes k r ++ (rows_bytes (k + 1) rows ++ rest) ≡ row_bytes k o ++
+    (rows_bytes (k + 1) others ++ more) = sym (append_assoc (row_bytes k r)
+    (rows_bytes (k + 1) rows) rest) ∙ e ∙ append_assoc (row_bytes k o)
+    (rows_bytes (k + 1) others) more in
+    let mine : row_part format k (row_bytes k r ++ (rows_bytes (k + 1) rows ++ rest)) ≡ Ok
+    (r, rows_bytes (k + 1) rows ++ rest) = row_read format k before r (rows_bytes (k + 1) rows
+    ++ rest) is f.0 in
+    let theirs : row_part format k (row_bytes k r ++ (rows_bytes (k + 1) rows ++ rest)) ≡ Ok
+    (o, rows_bytes (k + 1) others ++ more) =
+    subst (λ l. row_part format k l ≡ Ok (o, rows_bytes (k + 1) others ++ more)) (sym ends)
+    (row_read format k before o (rows_bytes (k + 1) others ++ more) is g.0) in
+    let same = same_found r o (rows_bytes (k + 1) rows ++ rest) (rows_bytes (k + 1) others
+    ++ more) _ mine theirs in
     let first : r ≡ o = same.0 in
-    let tail = stop_once format (k + 1) (before ++ r ∷ []) rows others rest more cause other (omega (arith, length-append before (r ∷ []))) f.1
+    let tail = stop_once format (k + 1) (before ++ r ∷ []) rows others rest more cause other
+    (omega (arith, length-append before (r ∷ []))) f.1
     (subst (λ (l : LogRow). AllFollow format (before ++ l ∷ []) others) (sym first) g.1)
-    (subst (λ (l : List LogRow). next_row format l rest ≡ Err cause) (sym (append_assoc before (r ∷ []) rows)) b)
-    (subst (λ (l : List LogRow). next_row format l more ≡ Err other) (ap (λ (l : LogRow). before ++ (l ∷ others)) (sym first) ∙ sym (append_assoc before (r ∷ []) others)) d) same.1 in
+    (subst (λ (l : List LogRow). next_row format l rest ≡ Err cause)
+    (sym (append_assoc before (r ∷ []) rows)) b)
+    (subst (λ (l : List LogRow). next_row format l more ≡ Err other)
+    (ap (λ (l : LogRow). before ++ (l ∷ others)) (sym first) ∙ sym (append_assoc before
+    (r ∷ []) others)) d) same.1 in
     let rows_same : rows ≡ others = tail.0 in
     (cc, tail.1)
 
@@ -112,7 +141,8 @@ breaks_once bytes at to cause other b d =
           ∙ ap (λ (z : Format). length (file_bytes z d.rows)) once.0 ∙ sym d.place,
       err_once (next_row b.format b.rows b.rest) cause other b.breaks
           (subst (λ l. next_row b.format b.rows l ≡ Err other) (sym same.1)
-          (subst (λ (r : List LogRow). next_row b.format r d.rest ≡ Err other) (sym same.0) breaks)),
+          (subst (λ (r : List LogRow). next_row b.format r d.rest ≡ Err other)
+          (sym same.0) breaks)),
     )
 
 long_before : (bytes : List ℕ) (at : ℕ) (cause : Cause) → BreaksAt bytes at cause

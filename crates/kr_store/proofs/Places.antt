@@ -58,7 +58,8 @@ found_in n (x ∷ rows) path found e =
           path_is = s.path_is;
         })
     by None r (inl b) again =
-        let same : (n, x) ≡ found = same_Some (n, x) found (sym (no_later n x rows path true r b) ∙ e) in
+        let same : (n, x) ≡ found = same_Some (n, x) found (sym (no_later n x rows path true r b)
+        ∙ e) in
         subst (λ (z : ℕ × LogRow). StandsIn n (x ∷ rows) path z) same (record {
           first = omega arith;
           item = ap (λ i. slice_get (x ∷ rows) i) (let z : n - n ≡ 0 = omega arith in z);
@@ -175,7 +176,8 @@ pub lends_put : (format : Format) (rows : List KeptRow) (k : ℕ) (row : Row) �
 lends_put format rows k row l all e =
     let is : 1 + (k - 1) ≡ k = omega (arith, l) in
     let put : LogRow = log_row_of (kept.Put row) in
-    at_next (log_rows_of rows) k (k - 1) put (omega (arith, l)) (log_at rows (k - 1) (kept.Put row) e)
+    at_next (log_rows_of rows) k (k - 1) put (omega (arith, l)) (log_at rows (k - 1)
+    (kept.Put row) e)
     ∙ sym (row_shared format k (kept.Put row)
     (subst (λ i. IsKeptRow format i (kept.Put row)) is
     (kept_rule format 1 rows (k - 1) (kept.Put row) all e)))

@@ -25,7 +25,8 @@ abbrev pub found_or : {A : Type 0} → A × List ℕ → Read A → A × List �
 found_or d (Ok x) = x
 found_or d (Err cause) = d
 
-pub same_found : {A : Type 0} (a b : A) (xs ys : List ℕ) (r : Read A) → r ≡ Ok (a, xs) → r ≡ Ok (b, ys) → (a ≡ b) × (xs ≡ ys)
+pub same_found : {A : Type 0} (a b : A) (xs ys : List ℕ) (r : Read A) → r ≡ Ok (a, xs) → r ≡ Ok
+    (b, ys) → (a ≡ b) × (xs ≡ ys)
 same_found {A} a b xs ys r p q =
     let e : ok_of (a, xs) ≡ ok_of (b, ys) = sym p ∙ q in
     let f : (a, xs) ≡ (b, ys) = ap (found_or (a, xs)) e in
@@ -55,7 +56,8 @@ pub found_next : (format : Format) (k : ℕ) (before : List LogRow) (line : LogR
     → next_row format before (row_bytes k line ++ rest) ≡ Ok (line, rest)
 found_next format k before line rest is m =
     subst (λ n. next_row format before (row_bytes n line ++ rest) ≡ Ok (line, rest)) (sym is)
-    (ap (λ r. behind r (λ line rest. kept_if (may_change before line.path line.change) BadRow line rest))
+    (ap (λ r. behind r (λ line rest. kept_if
+    (may_change before line.path line.change) BadRow line rest))
     (row_read format (length before + 1) before line rest refl m)
     ∙ ap (λ b. kept_if b BadRow line rest)
     (change_permitted format before line.path line.change m.change))
@@ -88,7 +90,8 @@ clash format k before (row ∷ rows) (other ∷ others) rest cause is f g n b e 
     subst (λ l. row_part format k l ≡ Ok (other, rows_bytes (k + 1) others))
     (e ∙ append_assoc (row_bytes k row) (rows_bytes (k + 1) rows) rest)
     (row_read format k before other (rows_bytes (k + 1) others) is g.0) in
-    let same = same_found row other (rows_bytes (k + 1) rows ++ rest) (rows_bytes (k + 1) others) _ mine theirs in
+    let same = same_found row other (rows_bytes (k + 1) rows ++ rest)
+    (rows_bytes (k + 1) others) _ mine theirs in
     clash format (k + 1) (before ++ row ∷ []) rows others rest cause
     (omega (arith, length-append before (row ∷ []))) f.1
     (subst (λ (l : LogRow). AllFollow format (before ++ l ∷ []) others) (sym same.0) g.1) n
@@ -127,7 +130,8 @@ other_no_file : (bytes : List ℕ) (format : Format) → IsOther format bytes
     → (rows : List LogRow) → IsFile format rows bytes → ⊥
 other_no_file bytes format d rows f = elim f.1 [
   | inl none ↦
-      d (subst (λ b. take (length (magic format)) b ≡ take (length b) (magic format)) (sym none.2) refl)
+      d (subst (λ b. take (length (magic format)) b ≡ take (length b) (magic format))
+      (sym none.2) refl)
   | inr same ↦
       let long : length (magic format) ≤ length bytes =
       omega (arith, ap length same, length-append (magic format) (rows_bytes 1 rows)) in
@@ -164,6 +168,7 @@ load_refused first limit no.Failed tape l b = tt
 load_refused first limit no.NoMemory tape l b = tt
 
 -- a tape that is longer than the limit
-pub too_long : (told : Option (List ℕ)) (limit n : ℕ) → IfSome told (λ bytes. n ≡ length bytes) → limit < n → (bytes : List ℕ) × Agrees told bytes × (limit < length bytes)
+pub too_long : (told : Option (List ℕ)) (limit n : ℕ) → IfSome told (λ bytes. n ≡ length bytes)
+    → limit < n → (bytes : List ℕ) × Agrees told bytes × (limit < length bytes)
 too_long None limit n e l = (replicate n 0, tt, omega (arith, length-replicate {A = ℕ} n 0))
 too_long (Some held) limit n e l = (held, refl, omega arith)

@@ -31,14 +31,17 @@ pub record IsShared (rows : List KeptRow) (path : List ℕ) (revision : ℕ) : T
   pub shares : (d : KeptRow)
       → shared_row (get_or rows (revision - 1) d) ≡ live (log_rows_of rows) path
 
-by_change : (k revision : ℕ) (change : Change) (l g : Option ℕ) → StandsAt k change l g → l ≡ Some revision → k ≡ revision
-by_change k revision (Put resource stored check) l g s e = let x : Some k ≡ Some revision = sym s ∙ e in cc
+by_change : (k revision : ℕ) (change : Change) (l g : Option ℕ) → StandsAt k change l g → l
+    ≡ Some revision → k ≡ revision
+by_change k revision (Put resource stored check) l g s e = let x : Some k ≡ Some revision = sym s
+    ∙ e in cc
 by_change k revision Delete l g s e = let x : None ≡ Some revision = sym s.0 ∙ e in cc
 
 pub shared_at : (format : Format) (rows : List KeptRow) (index : Index) (path : List ℕ)
     (revision : ℕ) → AreKeptRows format 1 rows → IsIndexOf (log_rows_of rows) index
     → live_at index path ≡ Some revision → IsShared rows path revision
-shared_at format rows index path revision all i e = by (latest (log_rows_of rows) path) refl (i path)
+shared_at format rows index path revision all i e = by (latest (log_rows_of rows) path) refl
+    (i path)
   where
     by : (found : Option (ℕ × LogRow)) → latest (log_rows_of rows) path ≡ found
         → Stands found (live_at index path) (gone_at index path) → IsShared rows path revision
@@ -59,16 +62,20 @@ shared_at format rows index path revision all i e = by (latest (log_rows_of rows
               ∙ ap (λ n. row_of n found.1.path found.1.change) is ∙ sym (ap live_row r);
         }
 
-pub not_live : (rows : List LogRow) (index : Index) (q : List ℕ) → IsIndexOf rows index → live_at index q ≡ None → IsSome (live rows q) → ⊥
-not_live rows index q i e s = let x : false ≡ true = sym (ap is_some e) ∙ some_live (latest rows q) (live_at index q) (gone_at index q) (i q) ∙ s in cc
+pub not_live : (rows : List LogRow) (index : Index) (q : List ℕ) → IsIndexOf rows index
+    → live_at index q ≡ None → IsSome (live rows q) → ⊥
+not_live rows index q i e s = let x : false ≡ true = sym (ap is_some e) ∙ some_live (latest rows q)
+    (live_at index q) (gone_at index q) (i q) ∙ s in cc
 
 -- what was shared is what the index leads to
-pub shares_it : {E : Type 0} (r : Result (Option Row) E) (rows : List KeptRow) (k : ℕ) (target : Option Row) → IfOk r (λ found. (d : KeptRow) → found ≡ shared_row (get_or rows k d))
+pub shares_it : {E : Type 0} (r : Result (Option Row) E) (rows : List KeptRow) (k : ℕ)
+    (target : Option Row) → IfOk r (λ found. (d : KeptRow) → found ≡ shared_row (get_or rows k d))
     → ((d : KeptRow) → shared_row (get_or rows k d) ≡ target) → IfOk r (λ found. found ≡ target)
 shares_it (Ok found) rows k target h t = h (kept.Delete []) ∙ t (kept.Delete [])
 shares_it (Err e) rows k target h t = tt
 
-pub shares_next : {E : Type 0} (r : Result (Option Row) E) (lines : List LogRow) (path : List ℕ) (target : Option Row) → IfOk r (λ found. found ≡ target)
+pub shares_next : {E : Type 0} (r : Result (Option Row) E) (lines : List LogRow) (path : List ℕ)
+    (target : Option Row) → IfOk r (λ found. found ≡ target)
     → IsNext lines path target → IfOk r (λ found. IsNext lines path found)
 shares_next (Ok found) lines path target h n = subst (λ t. IsNext lines path t) (sym h) n
 shares_next (Err e) lines path target h n = tt
@@ -164,7 +171,8 @@ pub replaces_by : (old new : Kept) (path : List ℕ) (revision : ℕ) (stored : 
     → Puts old new (put_of path resource stored (check_in old.format check)) result
     → Replaces old new path revision stored check result
 replaces_by old new path revision stored check resource row result l e p =
-    by result (subst (λ r. Puts old new (put_of path r stored (check_in old.format check)) result) (sym e) p)
+    by result (subst (λ r. Puts old new (put_of path r stored (check_in old.format check)) result)
+    (sym e) p)
   where
     by : (result : Result ℕ PutNo) → Puts old new (put_over old row path stored check) result
         → Replaces old new path revision stored check result

@@ -66,39 +66,54 @@ needed_is format rows index limit log line k e s is ends =
     ∙ ap (λ n. n + length (behind_end format n k line)) (sym (ends ∙ s.end))
 
 -- the tape after an append
-told_more : (told : Option (List ℕ)) (file rest_bytes : List ℕ) (end : ℕ) (now : Option (List ℕ)) (torn : Bool) → end ≡ length file
-    → IfSome told (λ held. (rest : List ℕ) × (held ≡ file ++ rest) × (torn ≡ false → rest ≡ [])) → now ≡ option_map (λ held. take end held ++ rest_bytes) told
+told_more : (told : Option (List ℕ)) (file rest_bytes : List ℕ) (end : ℕ) (now : Option (List ℕ))
+    (torn : Bool) → end ≡ length file
+    → IfSome told (λ held. (rest : List ℕ) × (held ≡ file ++ rest) × (torn ≡ false → rest ≡ []))
+    → now ≡ option_map (λ held. take end held ++ rest_bytes) told
     → IfSome now (λ held. held ≡ file ++ rest_bytes)
-told_more None file more end now torn e t n = subst (λ o. IfSome o (λ held. held ≡ file ++ more)) (sym n) tt
+told_more None file more end now torn e t n = subst (λ o. IfSome o (λ held. held ≡ file ++ more))
+    (sym n) tt
 told_more (Some held) file more end now torn e t n =
     subst (λ o. IfSome o (λ held. held ≡ file ++ more)) (sym n)
-    (ap (λ l. l ++ more) (ap (take end) t.1 ∙ ap (λ m. take m (file ++ t.0)) e ∙ take-append_seam file t.0))
+    (ap (λ l. l ++ more) (ap (take end) t.1 ∙ ap (λ m. take m (file ++ t.0)) e
+    ∙ take-append_seam file t.0))
 
-told_whole : (now : Option (List ℕ)) (file whole : List ℕ) (torn : Bool) → IfSome now (λ held. held ≡ file) → file ≡ whole → IfSome now (λ held. (rest : List ℕ) × (held ≡ whole ++ rest) × (torn ≡ false → rest ≡ []))
+told_whole : (now : Option (List ℕ)) (file whole : List ℕ) (torn : Bool) → IfSome now
+    (λ held. held ≡ file) → file ≡ whole → IfSome now (λ held. (rest : List ℕ) ×
+    (held ≡ whole ++ rest) × (torn ≡ false → rest ≡ []))
 told_whole None file whole torn t e = tt
 told_whole (Some held) file whole torn t e = ([], t ∙ e ∙ sym (append-nil whole), λ _. refl)
 
-told_torn : (now : Option (List ℕ)) (file more : List ℕ) (torn : Bool) → torn ≡ true → IfSome now (λ held. held ≡ file ++ more) → IfSome now (λ held. (rest : List ℕ) × (held ≡ file ++ rest) × (torn ≡ false → rest ≡ []))
+told_torn : (now : Option (List ℕ)) (file more : List ℕ) (torn : Bool) → torn ≡ true → IfSome now
+    (λ held. held ≡ file ++ more) → IfSome now (λ held. (rest : List ℕ) × (held ≡ file ++ rest) ×
+    (torn ≡ false → rest ≡ []))
 told_torn None file more torn e t = tt
 told_torn (Some held) file more torn e t = (more, t, λ f. let x : true ≡ false = sym e ∙ f in cc)
 
 -- the index after a write that failed
-live_stands : (found : Option (ℕ × LogRow)) (l g h : Option ℕ) → IsSome (live_row found) → Stands found l g → Stands found l h
+live_stands : (found : Option (ℕ × LogRow)) (l g h : Option ℕ) → IsSome (live_row found)
+    → Stands found l g → Stands found l h
 live_stands None l g h s t = cc
 live_stands (Some found) l g h s t = by found.1.change s t
   where
-    by : (change : Change) → IsSome (row_of found.0 found.1.path change) → StandsAt found.0 change l g → StandsAt found.0 change l h
+    by : (change : Change) → IsSome (row_of found.0 found.1.path change)
+        → StandsAt found.0 change l g → StandsAt found.0 change l h
     by (Put resource stored check) s t = t
     by Delete s t = cc
 
-pub stays_put : (rows : List LogRow) (before after : Index) → Same before after → IsIndexOf rows before → IsIndexOf rows after
-stays_put rows before after same i q = stands_as (latest rows q) (live_at after q) (live_at before q) (gone_at after q) (gone_at before q) (same.0 q) (same.1 q) (i q)
+pub stays_put : (rows : List LogRow) (before after : Index) → Same before after
+    → IsIndexOf rows before → IsIndexOf rows after
+stays_put rows before after same i q = stands_as (latest rows q) (live_at after q)
+    (live_at before q) (gone_at after q) (gone_at before q) (same.0 q) (same.1 q) (i q)
 
-pub stays_deleted : (rows : List LogRow) (path : List ℕ) (before after : Index) → IsSome (live rows path) → SameBut before after path → IsIndexOf rows before → IsIndexOf rows after
+pub stays_deleted : (rows : List LogRow) (path : List ℕ) (before after : Index) → IsSome
+    (live rows path) → SameBut before after path → IsIndexOf rows before → IsIndexOf rows after
 stays_deleted rows path before after s same i q = elim (bool_cases (bytes_eq path q)) [
-  | inl here ↦ live_stands (latest rows q) (live_at after q) (gone_at before q) (gone_at after q) (subst (λ p. IsSome (live rows p)) ((bytes_eq-Decides path q).0 here) s)
+  | inl here ↦ live_stands (latest rows q) (live_at after q) (gone_at before q) (gone_at after q)
+      (subst (λ p. IsSome (live rows p)) ((bytes_eq-Decides path q).0 here) s)
       (subst (λ l. Stands (latest rows q) l (gone_at before q)) (sym (same.0 q)) (i q))
-  | inr other ↦ stands_as (latest rows q) (live_at after q) (live_at before q) (gone_at after q) (gone_at before q) (same.0 q) (same.1 q other) (i q)
+  | inr other ↦ stands_as (latest rows q) (live_at after q) (live_at before q) (gone_at after q)
+      (gone_at before q) (same.0 q) (same.1 q other) (i q)
 ]
 
 -- whatever row was to be written, the index stands for the same rows
@@ -243,8 +258,10 @@ wrote_at format rows index limit log now s line row e n k i v ends size fits sam
     })
 
 -- the index has a live row, so the rows have
-pub was_live : (rows : List LogRow) (index : Index) (path : List ℕ) (k : ℕ) → IsIndexOf rows index → live_at index path ≡ Some k → IsSome (live rows path)
-was_live rows index path k i e = sym (some_live (latest rows path) (live_at index path) (gone_at index path) (i path)) ∙ ap is_some e
+pub was_live : (rows : List LogRow) (index : Index) (path : List ℕ) (k : ℕ) → IsIndexOf rows index
+    → live_at index path ≡ Some k → IsSome (live rows path)
+was_live rows index path k i e = sym (some_live (latest rows path) (live_at index path)
+    (gone_at index path) (i path)) ∙ ap is_some e
 
 pub live_seen : (format : Format) (rows : List KeptRow) (limit : ℕ) (log : Tail) (s : Kept)
     (index : Index) (path : List ℕ) (k : ℕ) → kept_of format rows limit log ≡ s

@@ -1,3 +1,4 @@
+-- Answers of one_breach.
 use Rattle.kr_store.proofs.OneReading.{breach_once}
 use Rattle.kr_store.proofs.Refusals.{no_file}
 use Rattle.kr_store.proofs.laws.one_breach.Goals as goal

@@ -1,3 +1,4 @@
+-- Answers of one_row.
 use Rattle.kr_store.proofs.Places.{row_stays, live_at_revision}
 use Rattle.kr_store.proofs.laws.one_row.Goals as goal
 

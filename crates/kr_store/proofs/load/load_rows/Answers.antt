@@ -1,3 +1,4 @@
+-- Answers of load_rows.
 use Rattle.std.proofs.Common.{List, length, ◌+◌, Err, subst, sym, ◌∙◌, arith, ap}
 use Rattle.kr_store.specs.declared.answers.StoreNo.{StoreNo}
 use Rattle.kr_store.specs.declared.format.Format.TheVariants.{Two}

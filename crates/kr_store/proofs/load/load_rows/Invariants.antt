@@ -1,3 +1,4 @@
+-- The loop of load_rows.
 use Rattle.std.proofs.Common.{◌-◌}
 use Rattle.kr_store.proofs.Loading.{IsReadTo}
 use Rattle.kr_store.proofs.load.load_rows.Given as goal

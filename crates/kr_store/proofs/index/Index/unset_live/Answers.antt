@@ -1,3 +1,4 @@
+-- Answers of Index::unset_live.
 use Rattle.std.proofs.Common.{refl, None}
 use Rattle.std.proofs.lemmas.Map.Text.{btree_map_updates_text}
 use Rattle.kr_store.proofs.index.Index.unset_live.Goals as goal

@@ -1,3 +1,4 @@
+-- Answers of Reader::kind.
 use Rattle.kr_store.proofs.Parts.{bad_kind}
 use Rattle.kr_store.proofs.Steps.{breaks_here}
 use Rattle.kr_store.proofs.reader.Reader.kind.Goals as goal

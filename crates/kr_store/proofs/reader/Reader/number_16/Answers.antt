@@ -1,3 +1,4 @@
+-- Answers of Reader::number_16.
 use Rattle.std.proofs.Common.{sym, subst}
 use Rattle.std.proofs.lemmas.Nat.{be_bytes_2}
 use Rattle.kr_store.specs.inner.Reading.{Takes}

@@ -1,3 +1,4 @@
+-- Answers of Reader::number_32.
 use Rattle.std.proofs.Common.{sym, subst}
 use Rattle.std.proofs.lemmas.Nat.{be_bytes_4}
 use Rattle.kr_store.specs.inner.Reading.{Takes}

@@ -1,3 +1,4 @@
+-- Answers of Reader::number_64.
 use Rattle.std.proofs.Common.{sym, subst}
 use Rattle.std.proofs.lemmas.Nat.{be_bytes_8}
 use Rattle.kr_store.specs.inner.Reading.{Takes}

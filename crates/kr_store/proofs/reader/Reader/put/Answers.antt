@@ -1,3 +1,4 @@
+-- Answers of Reader::put.
 use Rattle.std.proofs.Common.{ℕ, List, Option, Ok}
 use Rattle.kr_store.specs.declared.format.Check.{Check}
 use Rattle.kr_store.specs.declared.format.Format.{Format}

@@ -1,3 +1,4 @@
+-- Answers of Reader::revision.
 use Rattle.kr_store.proofs.Parts.{bad_revision}
 use Rattle.kr_store.proofs.Steps.{breaks_here}
 use Rattle.kr_store.proofs.reader.Reader.revision.Goals as goal

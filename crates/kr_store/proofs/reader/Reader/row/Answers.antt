@@ -1,3 +1,4 @@
+-- Answers of Reader::row.
 use Rattle.std.proofs.Common.{ℕ, List, Ok, Err, subst, sym}
 use Rattle.kr_store.specs.Breaches.{Read, behind, head_part, change_part, put_part}
 use Rattle.kr_store.specs.declared.format.Format.{Format}

@@ -1,3 +1,4 @@
+-- Answers of Reader::value.
 use Rattle.std.proofs.Common.{if◌then◌else◌, Err, nat_le, subst, sym}
 use Rattle.kr_store.specs.Breaches.{number_32, part}
 use Rattle.kr_store.specs.Rows.{longest_value}
@@ -14,4 +15,6 @@ returns-then-n-gt-LONGEST_VALUE-clause-read g c = breaks_here _ c.number_32.new.
 
 pub returns-in-Err-part-clause-read : goal.returns-in-Err-part-clause-read
 returns-in-Err-part-clause-read g c = stops_behind _ c.number_32.new.self c.part.new.self _ number_32 (λ n rest. if nat_le n longest_value then part n rest else Err BadRow) c.in-Ok.n items_of value_bytes c.in-Err-part.stop c.in-Ok.ensures.read c.number_32.ensures.advances.moves (λ rest. reads_32 c.in-Ok.n rest c.in-Ok.ensures.fits)
-    (subst (λ b. Gives c.number_32.new.self c.part.new.self items_of (λ rest. if b then part c.in-Ok.n rest else Err BadRow) (Err c.in-Err-part.stop)) (sym (at_most c.in-Ok.n longest_value c.if-n-gt-LONGEST_VALUE.false)) c.in-Err-part.ensures.read)
+    (subst (λ b. Gives c.number_32.new.self c.part.new.self items_of
+    (λ rest. if b then part c.in-Ok.n rest else Err BadRow) (Err c.in-Err-part.stop))
+    (sym (at_most c.in-Ok.n longest_value c.if-n-gt-LONGEST_VALUE.false)) c.in-Err-part.ensures.read)

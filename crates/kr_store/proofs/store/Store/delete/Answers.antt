@@ -1,3 +1,4 @@
+-- Answers of Store::delete.
 use Rattle.std.proofs.Common.{sym, ◌∙◌}
 use Rattle.kr_store.proofs.Shared.{deletes_by}
 use Rattle.kr_store.proofs.Written.{live_seen}
@@ -13,7 +14,8 @@ pub returns-in-Ok : goal.returns-in-Ok
 returns-in-Ok g c =
     let r = c.self.inside in (
       live_seen r.format r.rows.0 r.limit r.log c.args.self.now r.index c.args.path.now
-          c.in-Some._live c.self.view_is c.self.invariant.indexed (sym c.live.ensures ∙ c.in-Some.is),
+          c.in-Some._live c.self.view_is c.self.invariant.indexed (sym c.live.ensures
+          ∙ c.in-Some.is),
       c.in-Ok.ensures,
     )
 

@@ -1,3 +1,4 @@
+-- Answers of Store::get.
 use Rattle.std.proofs.Common.{List, length, ◌-◌, get_or, IfOk, IfSome, subst, sym, ap, ◌∙◌, arith}
 use Rattle.kr_store.specs.declared.kept_row.KeptRow.{KeptRow}
 use Rattle.kr_store.specs.Rows.{live, IsRow}

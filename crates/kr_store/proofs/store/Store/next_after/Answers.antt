@@ -1,3 +1,4 @@
+-- Answers of Store::next_after.
 use Rattle.std.proofs.Common.{List, length, ◌-◌, get_or, IfOk, IfSome, ◌≡◌, subst, sym, ap, ◌∙◌, arith}
 use Rattle.std.specs.Ordering.{nat_cmp}
 use Rattle.std.specs.declared.cmp.Ordering.TheVariants.{Less}
@@ -31,7 +32,8 @@ returns-in-Some-clause-next g c =
     let s = shared_at r.format r.rows.0 r.index n.0 c.in-Some.revision
     c.self.invariant.kept_rows c.self.invariant.indexed n.2 in
     let key = c.in_ok-key.ensures in
-    shares_next c.share.result c.args.self.now.rows c.args.path.now (live (log_rows_of r.rows.0) n.0)
+    shares_next c.share.result c.args.self.now.rows c.args.path.now
+    (live (log_rows_of r.rows.0) n.0)
     (shares_it c.share.result c.as_slice.result.now (c.in-Some.revision - 1)
     (live (log_rows_of r.rows.0) n.0) c.share.ensures
     (λ d. ap (λ (l : List KeptRow). shared_row (get_or l (c.in-Some.revision - 1) d))

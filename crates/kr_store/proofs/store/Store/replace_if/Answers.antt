@@ -1,3 +1,4 @@
+-- Answers of Store::replace_if.
 use Rattle.std.proofs.Common.{◌≡◌, List, [], length, ◌-◌, get_or, Option, IfSome, is_some, subst, sym, ap, ◌∙◌, arith}
 use Rattle.kr_base.specs.Rules.{IsResource}
 use Rattle.kr_store.specs.declared.format.Check.{Check}
