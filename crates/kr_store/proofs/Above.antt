@@ -34,12 +34,12 @@ to_false true h = absurd (h refl)
 to_false false h = refl
 
 -- a path above p isn't one that p is not below
-apart : (p q k : List ℕ) → compare p q ≡ Less → is_lt (compare p k) ≡ false → is_eq (compare q k)
-    ≡ false
+apart : (p q k : List ℕ) → compare p q ≡ Less → is_lt (compare p k) ≡ false
+    → is_eq (compare q k) ≡ false
 apart p q k l n = to_false (is_eq (compare q k)) (λ e.
     let same : q ≡ k = (bytes_eq-Decides q k).0 (sym (is_eq-slice_cmp q k) ∙ e) in
-    let x : false ≡ true = sym n ∙ ap (λ z. is_lt (compare p z)) (sym same) ∙ less_lt
-    (compare p q) l in cc)
+    let x : false ≡ true = sym n ∙ ap (λ z. is_lt (compare p z)) (sym same)
+    ∙ less_lt (compare p q) l in cc)
 
 same_at : (k : List ℕ) → is_eq (compare k k) ≡ true
 same_at k = is_eq-slice_cmp k k ∙ (bytes_eq-Decides k k).1 refl
@@ -64,9 +64,9 @@ module _ {K : Type 0} (b : K → List ℕ) where
   none_above p [] f q l = refl
   none_above p (e ∷ es) f q l = by (bool_cases (is_lt (compare p (b e.0)))) (none_above p es)
     where
-      by : (is_lt (compare p (b e.0)) ≡ true) ⊎ (is_lt (compare p (b e.0)) ≡ false) →
-          (filter (above p) es ≡ [] → (q : List ℕ) → compare p q ≡ Less → lookup (at q) es ≡ None)
-          → lookup (at q) (e ∷ es) ≡ None
+      by : (is_lt (compare p (b e.0)) ≡ true) ⊎ (is_lt (compare p (b e.0)) ≡ false)
+          → (filter (above p) es ≡ [] → (q : List ℕ) → compare p q ≡ Less
+          → lookup (at q) es ≡ None) → lookup (at q) (e ∷ es) ≡ None
       by (inl t) again = let x : e ∷ filter (above p) es ≡ [] = sym
           (ap (λ z. cond (z && not false) (e ∷ filter (above p) es) (filter (above p) es)) t)
           ∙ f in cc
@@ -80,16 +80,16 @@ module _ {K : Type 0} (b : K → List ℕ) where
   pub record IsFirst (p : List ℕ) (es : List (K × ℕ)) (first : K × ℕ) : Type 0 where
     pub above_it : compare p (b first.0) ≡ Less
     pub has : lookup (at (b first.0)) es ≡ Some first.1
-    pub least : (q : List ℕ) → compare p q ≡ Less → compare q (b first.0) ≡ Less → lookup (at q) es
-        ≡ None
+    pub least : (q : List ℕ) → compare p q ≡ Less → compare q (b first.0) ≡ Less
+        → lookup (at q) es ≡ None
 
   abbrev head_or : K × ℕ → List (K × ℕ) → K × ℕ
   head_or d [] = d
   head_or d (x ∷ xs) = x
 
   pub first_above : (p : List ℕ) (es : List (K × ℕ)) (first : K × ℕ) (rest : List (K × ℕ))
-      → IsStrictlySortedBy (λ x y. compare (b x) (b y)) (keys_of es) → filter (above p) es
-      ≡ first ∷ rest → IsFirst p es first
+      → IsStrictlySortedBy (λ x y. compare (b x) (b y)) (keys_of es)
+      → filter (above p) es ≡ first ∷ rest → IsFirst p es first
   unfolding IsStrictlySortedBy
   first_above p [] first rest s f = cc
   first_above p (e ∷ es) first rest s f = by (bool_cases (is_lt (compare p (b e.0)))) s
@@ -97,8 +97,8 @@ module _ {K : Type 0} (b : K → List ℕ) where
     where
       by : (is_lt (compare p (b e.0)) ≡ true) ⊎ (is_lt (compare p (b e.0)) ≡ false)
           → IsStrictlySortedBy (λ x y. compare (b x) (b y)) (keys_of (e ∷ es))
-          → (IsStrictlySortedBy (λ x y. compare (b x) (b y)) (keys_of es) → filter (above p) es
-          ≡ first ∷ rest → IsFirst p es first) → IsFirst p (e ∷ es) first
+          → (IsStrictlySortedBy (λ x y. compare (b x) (b y)) (keys_of es)
+          → filter (above p) es ≡ first ∷ rest → IsFirst p es first) → IsFirst p (e ∷ es) first
       by (inl t) s again =
           let x : e ∷ filter (above p) es ≡ first ∷ rest = sym
           (ap (λ z. cond (z && not false) (e ∷ filter (above p) es) (filter (above p) es)) t)
@@ -117,8 +117,8 @@ module _ {K : Type 0} (b : K → List ℕ) where
           let i = again s.1 x in
           record {
             above_it = i.above_it;
-            has = ap (λ z. cond z (Some e.1) (lookup (at (b first.0)) es)) (apart p (b first.0)
-                (b e.0) i.above_it n) ∙ i.has;
+            has = ap (λ z. cond z (Some e.1) (lookup (at (b first.0)) es))
+                (apart p (b first.0) (b e.0) i.above_it n) ∙ i.has;
             least = λ q l m. ap (λ z. cond z (Some e.1) (lookup (at q) es)) (apart p q (b e.0) l n)
                 ∙ i.least q l m;
           }

@@ -68,8 +68,8 @@ kept : {A : Type 0} (holds : Bool) (cause : Cause) (x y : A) (bytes rest : List 
 kept true cause x y bytes rest e = let s = same_found x y bytes rest _ refl e in (refl, s.0, s.1)
 kept false cause x y bytes rest e = cc
 
-chosen : {A : Type 0} (holds : Bool) (cause : Cause) (read : Read A) (y : A) (rest : List ℕ) →
-    (if holds then read else Err cause) ≡ Ok (y, rest) → (holds ≡ true) × (read ≡ Ok (y, rest))
+chosen : {A : Type 0} (holds : Bool) (cause : Cause) (read : Read A) (y : A) (rest : List ℕ)
+    → (if holds then read else Err cause) ≡ Ok (y, rest) → (holds ≡ true) × (read ≡ Ok (y, rest))
 chosen true cause read y rest e = (refl, e)
 chosen false cause read y rest e = cc
 
@@ -93,8 +93,8 @@ part_found n bytes x rest all e = by (nat_lt (length bytes) n) refl e
     by false s e =
         let same = same_found (take n bytes) x (drop n bytes) rest _ refl e in
         subst (λ y. Found bytes same_bytes (λ x. (length x ≡ n) × AreBytes x) y rest) same.0
-        (subst (λ r. Found bytes same_bytes (λ x. (length x ≡ n) × AreBytes x)
-        (take n bytes) r) same.1 (record {
+        (subst (λ r. Found bytes same_bytes (λ x. (length x ≡ n) × AreBytes x) (take n bytes) r)
+        same.1 (record {
           split = sym (take-append-drop n bytes);
           ruled = (length-take-le n bytes (enough s), All-take (λ byte. byte < 256) n bytes all);
           bytes_are = All-drop (λ byte. byte < 256) n bytes all;
@@ -145,14 +145,15 @@ found_64 bytes n rest all e =
 found_sized : (most : ℕ) (bytes x rest : List ℕ) → AreBytes bytes → sized_part most bytes ≡ Ok
     (x, rest) → Found bytes text_bytes (λ y. Unit {0}) x rest
 found_sized most bytes x rest all e =
-    let b = both (number_16 bytes)
-    (λ n rest. if nat_le n most then part n rest else Err BadRow) x rest e in
+    let b = both (number_16 bytes) (λ n rest. if nat_le n most then part n rest else Err BadRow) x
+    rest e in
     let n = found_16 bytes b.x b.mid all b.first_is in
     let c = chosen (nat_le b.x most) BadRow (part b.x b.mid) x rest b.next_is in
     let p = part_found b.x b.mid x rest n.bytes_are c.1 in
     record {
-      split = n.split ∙ ap (λ l. to_be_bytes w16 b.x ++ l) p.split ∙ ap (λ m. to_be_bytes w16 m ++
-          (x ++ rest)) (sym p.ruled.0) ∙ sym (append_assoc (to_be_bytes w16 (length x)) x rest);
+      split = n.split ∙ ap (λ l. to_be_bytes w16 b.x ++ l) p.split
+          ∙ ap (λ m. to_be_bytes w16 m ++ (x ++ rest)) (sym p.ruled.0)
+          ∙ sym (append_assoc (to_be_bytes w16 (length x)) x rest);
       ruled = tt;
       bytes_are = p.bytes_are;
     }
@@ -160,14 +161,15 @@ found_sized most bytes x rest all e =
 found_value : (bytes x rest : List ℕ) → AreBytes bytes → value_part bytes ≡ Ok (x, rest)
     → Found bytes value_bytes (λ v. length v ≤ longest_value) x rest
 found_value bytes x rest all e =
-    let b = both (number_32 bytes)
-    (λ n rest. if nat_le n longest_value then part n rest else Err BadRow) x rest e in
+    let b = both (number_32 bytes) (λ n rest. if nat_le n longest_value then part n rest else Err
+    BadRow) x rest e in
     let n = found_32 bytes b.x b.mid all b.first_is in
     let c = chosen (nat_le b.x longest_value) BadRow (part b.x b.mid) x rest b.next_is in
     let p = part_found b.x b.mid x rest n.bytes_are c.1 in
     record {
-      split = n.split ∙ ap (λ l. to_be_bytes w32 b.x ++ l) p.split ∙ ap (λ m. to_be_bytes w32 m ++
-          (x ++ rest)) (sym p.ruled.0) ∙ sym (append_assoc (to_be_bytes w32 (length x)) x rest);
+      split = n.split ∙ ap (λ l. to_be_bytes w32 b.x ++ l) p.split
+          ∙ ap (λ m. to_be_bytes w32 m ++ (x ++ rest)) (sym p.ruled.0)
+          ∙ sym (append_assoc (to_be_bytes w32 (length x)) x rest);
       ruled = small (length x) b.x p.ruled.0 c.0;
       bytes_are = p.bytes_are;
     }
@@ -179,8 +181,8 @@ found_value bytes x rest all e =
 found_path : (bytes x rest : List ℕ) → AreBytes bytes → path_part bytes ≡ Ok (x, rest)
     → Found bytes text_bytes IsPath x rest
 found_path bytes x rest all e =
-    let b = both (sized_part 1024 bytes) (λ path rest. kept_if
-    (is_path path) BadRow path rest) x rest e in
+    let b = both (sized_part 1024 bytes) (λ path rest. kept_if (is_path path) BadRow path rest) x
+    rest e in
     let s = found_sized 1024 bytes b.x b.mid all b.first_is in
     let k = kept (is_path b.x) BadRow b.x x b.mid rest b.next_is in
     record {
@@ -233,8 +235,8 @@ found_kind bytes kd rest all e =
     let p = part_found 1 bytes b.x b.mid all b.first_is in
     let c = kind_chosen (get_or b.x 0 0) b.mid kd rest b.next_is in
     record {
-      split = p.split ∙ ap (λ l. l ++ b.mid) (single b.x p.ruled.0) ∙ ap (λ n. n ∷ b.mid) c.0 ∙ ap
-          (λ l. byte_of kd ∷ l) c.1;
+      split = p.split ∙ ap (λ l. l ++ b.mid) (single b.x p.ruled.0) ∙ ap (λ n. n ∷ b.mid) c.0
+          ∙ ap (λ l. byte_of kd ∷ l) c.1;
       ruled = tt;
       bytes_are = subst AreBytes c.1 p.bytes_are;
     }
@@ -242,13 +244,13 @@ found_kind bytes kd rest all e =
 found_revision : (k : ℕ) (bytes : List ℕ) (n : ℕ) (rest : List ℕ) → AreBytes bytes
     → revision_part k bytes ≡ Ok (n, rest) → Found bytes (to_be_bytes w64) (λ n. n ≡ k) n rest
 found_revision k bytes n rest all e =
-    let b = both (number_64 bytes) (λ number rest. kept_if
-    (eqb number k) Order number rest) n rest e in
+    let b = both (number_64 bytes) (λ number rest. kept_if (eqb number k) Order number rest) n rest
+    e in
     let s = found_64 bytes b.x b.mid all b.first_is in
     let c = kept (eqb b.x k) Order b.x n b.mid rest b.next_is in
     record {
-      split = s.split ∙ ap (λ m. to_be_bytes w64 m ++ b.mid) c.1 ∙ ap (λ l. to_be_bytes w64 n
-          ++ l) c.2;
+      split = s.split ∙ ap (λ m. to_be_bytes w64 m ++ b.mid) c.1
+          ∙ ap (λ l. to_be_bytes w64 n ++ l) c.2;
       ruled = sym c.1 ∙ (Decides-eqb b.x k).0 c.0;
       bytes_are = subst AreBytes c.2 s.bytes_are;
     }
@@ -317,8 +319,8 @@ front_bytes k head = byte_of head.0 ∷ (to_be_bytes w64 k ++ text_bytes head.1)
 found_head : (k : ℕ) (bytes : List ℕ) (head : Kind × List ℕ) (rest : List ℕ) → AreBytes bytes
     → head_part k bytes ≡ Ok (head, rest) → Found bytes (front_bytes k) (λ h. IsPath h.1) head rest
 found_head k bytes head rest all e =
-    let b = both (kind_part bytes) (λ kind rest. behind (revision_part k rest) (λ _ rest. behind
-    (path_part rest) (λ path rest. Ok ((kind, path), rest)))) head rest e in
+    let b = both (kind_part bytes) (λ kind rest. behind (revision_part k rest)
+    (λ _ rest. behind (path_part rest) (λ path rest. Ok ((kind, path), rest)))) head rest e in
     let kd = found_kind bytes b.x b.mid all b.first_is in
     let d = both (revision_part k b.mid) (λ _ rest. behind (path_part rest)
     (λ path rest. Ok ((b.x, path), rest))) head rest b.next_is in
@@ -328,10 +330,10 @@ found_head k bytes head rest all e =
     let same = same_found (b.x, f.x) head f.mid rest _ refl f.next_is in
     subst (λ (h : Kind × List ℕ). Found bytes (front_bytes k) (λ h. IsPath h.1) h rest) same.0
     (record {
-      split = kd.split ∙ ap (λ l. byte_of b.x ∷ l) (n.split ∙ ap (λ m. to_be_bytes w64 m
-          ++ d.mid) n.ruled ∙ ap (λ l. to_be_bytes w64 k ++ l)
-          (p.split ∙ ap (λ l. text_bytes f.x ++ l) same.1) ∙ sym (append_assoc (to_be_bytes w64 k)
-          (text_bytes f.x) rest));
+      split = kd.split ∙ ap (λ l. byte_of b.x ∷ l)
+          (n.split ∙ ap (λ m. to_be_bytes w64 m ++ d.mid) n.ruled
+          ∙ ap (λ l. to_be_bytes w64 k ++ l) (p.split ∙ ap (λ l. text_bytes f.x ++ l) same.1)
+          ∙ sym (append_assoc (to_be_bytes w64 k) (text_bytes f.x) rest));
       ruled = p.ruled;
       bytes_are = subst AreBytes same.1 p.bytes_are;
     })

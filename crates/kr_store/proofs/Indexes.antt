@@ -24,25 +24,25 @@ latest_here k (row ∷ rows) line path e = rw (latest_here (k + 1) rows line pat
 
 -- and changes nothing at others
 latest_other : (k : ℕ) (rows : List LogRow) (line : LogRow) (path : List ℕ)
-    → bytes_eq line.path path ≡ false → latest_from k (rows ++ line ∷ []) path
-    ≡ latest_from k rows path
+    → bytes_eq line.path path ≡ false → latest_from k (rows ++ line ∷ []) path ≡ latest_from k rows
+    path
 latest_other k [] line path e = rw e refl
 latest_other k (row ∷ rows) line path e = rw (latest_other (k + 1) rows line path e) refl
 
 added_at : (old new : Index) (k : ℕ) (path q : List ℕ) (change : Change) → AddsAs old new k path
     (kind_of change) → bytes_eq path q ≡ true → StandsAt k change (live_at new q) (gone_at new q)
-added_at old new k path q (Put resource stored check) a e = a.0 q ∙ ap (λ b. cond b (Some k)
-    (live_at old q)) e
+added_at old new k path q (Put resource stored check) a e = a.0 q
+    ∙ ap (λ b. cond b (Some k) (live_at old q)) e
 added_at old new k path q Delete a e = (
   a.0 q ∙ ap (λ b. cond b None (live_at old q)) e,
-  a.1 q ∙ ap
-      (λ b. cond b (Some k) (gone_at old q)) e,
+  a.1 q
+      ∙ ap (λ b. cond b (Some k) (gone_at old q)) e,
 )
 
 kept_live : (old new : Index) (k : ℕ) (path q : List ℕ) (change : Change) → AddsAs old new k path
     (kind_of change) → bytes_eq path q ≡ false → live_at new q ≡ live_at old q
-kept_live old new k path q (Put resource stored check) a e = a.0 q ∙ ap (λ b. cond b (Some k)
-    (live_at old q)) e
+kept_live old new k path q (Put resource stored check) a e = a.0 q
+    ∙ ap (λ b. cond b (Some k) (live_at old q)) e
 kept_live old new k path q Delete a e = a.0 q ∙ ap (λ b. cond b None (live_at old q)) e
 
 kept_gone : (old new : Index) (k : ℕ) (path q : List ℕ) (change : Change) → AddsAs old new k path
@@ -60,8 +60,9 @@ stands_as found l m g h e f s = subst (λ x. Stands found x g) (sym e)
     (subst (λ y. Stands found m y) (sym f) s)
 
 -- a row was added to the index
-pub adds_indexed : (rows : List LogRow) (line : LogRow) (old new : Index) (k : ℕ) → k
-    ≡ length rows + 1 → Adds old new k line → IsIndexOf rows old → IsIndexOf (rows ++ line ∷ []) new
+pub adds_indexed : (rows : List LogRow) (line : LogRow) (old new : Index) (k : ℕ)
+    → k ≡ length rows + 1 → Adds old new k line → IsIndexOf rows old
+    → IsIndexOf (rows ++ line ∷ []) new
 adds_indexed rows line old new k e a i q = elim (bool_cases (bytes_eq line.path q)) [
   | inl same ↦ subst (λ found. Stands found (live_at new q) (gone_at new q))
       (sym (latest_here 1 rows line q same ∙ ap (λ n. Some (n, line)) (omega arith)))
@@ -79,8 +80,8 @@ some_at : (k : ℕ) (path : List ℕ) (change : Change) (l g : Option ℕ) → S
 some_at k path (Put resource stored check) l g s = ap is_some s
 some_at k path Delete l g s = ap is_some s.0
 
-pub some_live : (found : Option (ℕ × LogRow)) (l g : Option ℕ) → Stands found l g → is_some l
-    ≡ is_some (live_row found)
+pub some_live : (found : Option (ℕ × LogRow)) (l g : Option ℕ) → Stands found l g
+    → is_some l ≡ is_some (live_row found)
 some_live None l g s = ap is_some s.0
 some_live (Some found) l g s = some_at found.0 found.1.path found.1.change l g s
 

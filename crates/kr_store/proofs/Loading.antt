@@ -33,15 +33,15 @@ pub record IsReadTo (first now : Ahead) (format : Format) (rows : List KeptRow) 
   pub good : AreRows format (log_rows_of rows)
   pub indexed : IsIndexOf (log_rows_of rows) index
 
-pub log_rows_more : (rows : List KeptRow) (e : KeptRow) → log_rows_of (rows ++ e ∷ [])
-    ≡ log_rows_of rows ++ log_row_of e ∷ []
+pub log_rows_more : (rows : List KeptRow) (e : KeptRow)
+    → log_rows_of (rows ++ e ∷ []) ≡ log_rows_of rows ++ log_row_of e ∷ []
 log_rows_more rows e = map-append log_row_of rows (e ∷ [])
 
 pub log_rows_length : (rows : List KeptRow) → length (log_rows_of rows) ≡ length rows
 log_rows_length rows = length-map rows log_row_of
 
-rows_more : (k : ℕ) (rows : List LogRow) (line : LogRow) → rows_bytes k (rows ++ line ∷ [])
-    ≡ rows_bytes k rows ++ row_bytes (k + length rows) line
+rows_more : (k : ℕ) (rows : List LogRow) (line : LogRow) → rows_bytes k
+    (rows ++ line ∷ []) ≡ rows_bytes k rows ++ row_bytes (k + length rows) line
 rows_more k [] line = append-nil (row_bytes k line) ∙ ap (λ n. row_bytes n line) (omega arith)
 rows_more k (row ∷ rows) line =
     ap (λ l. row_bytes k row ++ l) (rows_more (k + 1) rows line)

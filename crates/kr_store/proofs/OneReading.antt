@@ -36,8 +36,8 @@ rows_once format k before (row ∷ rows) (other ∷ others) is f g e =
     ≡ Ok (other, rows_bytes (k + 1) others) =
     subst (λ l. row_part format k l ≡ Ok (other, rows_bytes (k + 1) others)) (sym e)
     (row_read format k before other (rows_bytes (k + 1) others) is g.0) in
-    let same = same_found row other (rows_bytes (k + 1) rows)
-    (rows_bytes (k + 1) others) _ mine theirs in
+    let same = same_found row other (rows_bytes (k + 1) rows) (rows_bytes (k + 1) others) _ mine
+    theirs in
     let first : row ≡ other = same.0 in
     let rest : rows ≡ others = rows_once format (k + 1) (before ++ row ∷ []) rows others
     (omega (arith, length-append before (row ∷ []))) f.1
@@ -73,8 +73,8 @@ ok_not_err : (read : Read LogRow) (found : LogRow × List ℕ) (cause : Cause) �
     → read ≡ Err cause → ⊥
 ok_not_err read found cause e f = cc
 
-err_once : (read : Read LogRow) (cause other : Cause) → read ≡ Err cause → read ≡ Err other → cause
-    ≡ other
+err_once : (read : Read LogRow) (cause other : Cause) → read ≡ Err cause → read ≡ Err other
+    → cause ≡ other
 err_once read cause other e f = cc
 
 -- where rows end and something breaks
@@ -82,8 +82,8 @@ stop_once : (format : Format) (k : ℕ) (before rows others : List LogRow) (rest
     (cause other : Cause) → k ≡ length before + 1 → AllFollow format before rows
     → AllFollow format before others
     → next_row format (before ++ rows) rest ≡ Err cause → next_row format (before ++ others) more
-    ≡ Err other → rows_bytes k rows ++ rest ≡ rows_bytes k others ++ more → (rows ≡ others) ×
-    (rest ≡ more)
+    ≡ Err other → rows_bytes k rows ++ rest ≡ rows_bytes k others ++ more → (rows ≡ others)
+    × (rest ≡ more)
 stop_once format k before [] [] rest more cause other is f g b d e = (refl, e)
 stop_once format k before [] (o ∷ others) rest more cause other is f g b d e =
     let split : rest ≡ row_bytes k o ++ (rows_bytes (k + 1) others ++ more) = e ∙ append_assoc
@@ -105,14 +105,14 @@ stop_once format k before (r ∷ rows) (o ∷ others) rest more cause other is f
     (rows_bytes (k + 1) rows) rest) ∙ e ∙ append_assoc (row_bytes k o)
     (rows_bytes (k + 1) others) more in
     let mine : row_part format k (row_bytes k r ++ (rows_bytes (k + 1) rows ++ rest)) ≡ Ok
-    (r, rows_bytes (k + 1) rows ++ rest) = row_read format k before r (rows_bytes (k + 1) rows
-    ++ rest) is f.0 in
+    (r, rows_bytes (k + 1) rows ++ rest) = row_read format k before r
+    (rows_bytes (k + 1) rows ++ rest) is f.0 in
     let theirs : row_part format k (row_bytes k r ++ (rows_bytes (k + 1) rows ++ rest)) ≡ Ok
     (o, rows_bytes (k + 1) others ++ more) =
     subst (λ l. row_part format k l ≡ Ok (o, rows_bytes (k + 1) others ++ more)) (sym ends)
     (row_read format k before o (rows_bytes (k + 1) others ++ more) is g.0) in
-    let same = same_found r o (rows_bytes (k + 1) rows ++ rest) (rows_bytes (k + 1) others
-    ++ more) _ mine theirs in
+    let same = same_found r o (rows_bytes (k + 1) rows ++ rest) (rows_bytes (k + 1) others ++ more)
+    _ mine theirs in
     let first : r ≡ o = same.0 in
     let tail = stop_once format (k + 1) (before ++ r ∷ []) rows others rest more cause other
     (omega (arith, length-append before (r ∷ []))) f.1
@@ -120,8 +120,8 @@ stop_once format k before (r ∷ rows) (o ∷ others) rest more cause other is f
     (subst (λ (l : List LogRow). next_row format l rest ≡ Err cause)
     (sym (append_assoc before (r ∷ []) rows)) b)
     (subst (λ (l : List LogRow). next_row format l more ≡ Err other)
-    (ap (λ (l : LogRow). before ++ (l ∷ others)) (sym first) ∙ sym (append_assoc before
-    (r ∷ []) others)) d) same.1 in
+    (ap (λ (l : LogRow). before ++ (l ∷ others)) (sym first)
+    ∙ sym (append_assoc before (r ∷ []) others)) d) same.1 in
     let rows_same : rows ≡ others = tail.0 in
     (cc, tail.1)
 

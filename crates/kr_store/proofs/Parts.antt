@@ -56,18 +56,18 @@ behind_read first next x rest e = ap (λ r. behind r next) e
 
 pub reads_16 : (n : ℕ) (rest : List ℕ) → n < 2 ^ 16 → number_16 (to_be_bytes w16 n ++ rest) ≡ Ok
     (n, rest)
-reads_16 n rest h = behind_read _ _ _ _ (part_reads (to_be_bytes w16 n) rest 2 refl) ∙ ap
-    (λ m. Ok (m, rest)) (from_be_bytes-to_be_bytes_2 n h)
+reads_16 n rest h = behind_read _ _ _ _ (part_reads (to_be_bytes w16 n) rest 2 refl)
+    ∙ ap (λ m. Ok (m, rest)) (from_be_bytes-to_be_bytes_2 n h)
 
 pub reads_32 : (n : ℕ) (rest : List ℕ) → n < 2 ^ 32 → number_32 (to_be_bytes w32 n ++ rest) ≡ Ok
     (n, rest)
-reads_32 n rest h = behind_read _ _ _ _ (part_reads (to_be_bytes w32 n) rest 4 refl) ∙ ap
-    (λ m. Ok (m, rest)) (from_be_bytes-to_be_bytes_4 n h)
+reads_32 n rest h = behind_read _ _ _ _ (part_reads (to_be_bytes w32 n) rest 4 refl)
+    ∙ ap (λ m. Ok (m, rest)) (from_be_bytes-to_be_bytes_4 n h)
 
 pub reads_64 : (n : ℕ) (rest : List ℕ) → n < 2 ^ 64 → number_64 (to_be_bytes w64 n ++ rest) ≡ Ok
     (n, rest)
-reads_64 n rest h = behind_read _ _ _ _ (part_reads (to_be_bytes w64 n) rest 8 refl) ∙ ap
-    (λ m. Ok (m, rest)) (from_be_bytes-to_be_bytes_8 n h)
+reads_64 n rest h = behind_read _ _ _ _ (part_reads (to_be_bytes w64 n) rest 8 refl)
+    ∙ ap (λ m. Ok (m, rest)) (from_be_bytes-to_be_bytes_8 n h)
 
 pub reads_sized : (most : ℕ) (text rest : List ℕ) → length text ≤ most → length text < 2 ^ 16
     → sized_part most (text_bytes text ++ rest) ≡ Ok (text, rest)
@@ -78,8 +78,8 @@ reads_sized most text rest h small =
     (at_most (length text) most h)
     ∙ part_reads text rest (length text) refl
 
-pub reads_value : (value rest : List ℕ) → length value ≤ longest_value → value_part
-    (value_bytes value ++ rest) ≡ Ok (value, rest)
+pub reads_value : (value rest : List ℕ) → length value ≤ longest_value
+    → value_part (value_bytes value ++ rest) ≡ Ok (value, rest)
 reads_value value rest h =
     ap value_part (append_assoc (to_be_bytes w32 (length value)) value rest)
     ∙ behind_read _ _ _ _ (reads_32 (length value) (value ++ rest) (omega arith))
@@ -87,30 +87,30 @@ reads_value value rest h =
     (at_most (length value) longest_value h)
     ∙ part_reads value rest (length value) refl
 
-pub bad_kind : (byte rest : List ℕ) → length byte ≡ 1 → (get_or byte 0 0 ≡ 1 → ⊥) →
-    (get_or byte 0 0 ≡ 2 → ⊥) → kind_part (byte ++ rest) ≡ Err BadRow
-bad_kind byte rest l one two = behind_read _ _ _ _ (part_reads byte rest 1 l) ∙ by
-    (get_or byte 0 0) one two
+pub bad_kind : (byte rest : List ℕ) → length byte ≡ 1 → (get_or byte 0 0 ≡ 1 → ⊥)
+    → (get_or byte 0 0 ≡ 2 → ⊥) → kind_part (byte ++ rest) ≡ Err BadRow
+bad_kind byte rest l one two = behind_read _ _ _ _ (part_reads byte rest 1 l)
+    ∙ by (get_or byte 0 0) one two
   where
     by : (k : ℕ) → (k ≡ 1 → ⊥) → (k ≡ 2 → ⊥) → kind_by k rest ≡ Err BadRow
     by k one two = rw (ne_eqb k 1 one, ne_eqb k 2 two) refl
 
 pub bad_revision : (k number : ℕ) (rest : List ℕ) → number < 2 ^ 64 → (number ≡ k → ⊥)
     → revision_part k (to_be_bytes w64 number ++ rest) ≡ Err Order
-bad_revision k number rest h n = behind_read _ _ _ _ (reads_64 number rest h) ∙ rw
-    (ne_eqb number k n) refl
+bad_revision k number rest h n = behind_read _ _ _ _ (reads_64 number rest h)
+    ∙ rw (ne_eqb number k n) refl
 
 pub bad_size : (most n : ℕ) (rest : List ℕ) → n < 2 ^ 16 → most < n → sized_part most
     (to_be_bytes w16 n ++ rest) ≡ Err BadRow
 bad_size most n rest h l = behind_read _ _ _ _ (reads_16 n rest h) ∙ rw (above_most n most l) refl
 
-pub bad_value : (n : ℕ) (rest : List ℕ) → n < 2 ^ 32 → longest_value < n → value_part
-    (to_be_bytes w32 n ++ rest) ≡ Err BadRow
-bad_value n rest h l = behind_read _ _ _ _ (reads_32 n rest h) ∙ rw
-    (above_most n longest_value l) refl
+pub bad_value : (n : ℕ) (rest : List ℕ) → n < 2 ^ 32 → longest_value < n
+    → value_part (to_be_bytes w32 n ++ rest) ≡ Err BadRow
+bad_value n rest h l = behind_read _ _ _ _ (reads_32 n rest h)
+    ∙ rw (above_most n longest_value l) refl
 
-pub bad_path : (path rest : List ℕ) → length path ≤ 1024 → is_path path ≡ false → path_part
-    (text_bytes path ++ rest) ≡ Err BadRow
+pub bad_path : (path rest : List ℕ) → length path ≤ 1024 → is_path path ≡ false
+    → path_part (text_bytes path ++ rest) ≡ Err BadRow
 bad_path path rest l n = behind_read _ _ _ _ (reads_sized 1024 path rest l (omega arith))
     ∙ rw n refl
 
@@ -146,8 +146,9 @@ parted_ascii begun (byte ∷ bytes) (inr p) zero = label_ascii byte p.0
 parted_ascii begun (byte ∷ bytes) (inr p) (suc i) = parted_ascii true bytes p.1 i
 
 pub not_resource : (resource : List ℕ) → (IsUtf8 resource → ⊥) → is_resource resource ≡ false
-not_resource resource h = to_false (is_resource resource) (λ t. h (IsUtf8-from_ascii resource
-    (parted_ascii false resource (labels_parted resource ((kr_resource resource).0 t).1))))
+not_resource resource h = to_false (is_resource resource)
+    (λ t. h (IsUtf8-from_ascii resource (parted_ascii false resource (labels_parted resource
+    ((kr_resource resource).0 t).1))))
 
 -- what is written for each part is read back
 
@@ -156,8 +157,8 @@ pub reads_kind : (kind : Kind) (rest : List ℕ) → kind_part ((byte_of kind �
 reads_kind kind.Put rest = behind_read _ _ _ _ (part_reads (1 ∷ []) rest 1 refl)
 reads_kind kind.Delete rest = behind_read _ _ _ _ (part_reads (2 ∷ []) rest 1 refl)
 
-pub reads_revision : (k : ℕ) (rest : List ℕ) → k < 2 ^ 64 → revision_part k (to_be_bytes w64 k
-    ++ rest) ≡ Ok (k, rest)
+pub reads_revision : (k : ℕ) (rest : List ℕ) → k < 2 ^ 64 → revision_part k
+    (to_be_bytes w64 k ++ rest) ≡ Ok (k, rest)
 reads_revision k rest h = behind_read _ _ _ _ (reads_64 k rest h) ∙ rw (eq-eqb k k refl) refl
 
 pub reads_path : (path rest : List ℕ) → IsPath path → path_part (text_bytes path ++ rest) ≡ Ok
@@ -208,11 +209,12 @@ reads_put format resource check stored rest r l h =
     ∙ behind_read _ _ _ _ (reads_value stored rest l)
 
 -- a row is its head and what it does
-regroup : (k : ℕ) (kd : Kind) (path more rest : List ℕ) → (byte_of kd ∷ (to_be_bytes w64 k ++
-    (text_bytes path ++ more))) ++ rest ≡ head_bytes k (kd, path) ++ (more ++ rest)
+regroup : (k : ℕ) (kd : Kind) (path more rest : List ℕ)
+    → (byte_of kd ∷ (to_be_bytes w64 k ++ (text_bytes path ++ more))) ++ rest ≡ head_bytes k
+    (kd, path) ++ (more ++ rest)
 regroup k kd path more rest =
-    ap (λ l. byte_of kd ∷ (l ++ rest)) (sym (append_assoc (to_be_bytes w64 k)
-    (text_bytes path) more))
+    ap (λ l. byte_of kd ∷ (l ++ rest))
+    (sym (append_assoc (to_be_bytes w64 k) (text_bytes path) more))
     ∙ ap (λ l. byte_of kd ∷ l) (append_assoc (to_be_bytes w64 k ++ text_bytes path) more rest)
 
 pub reads_kept : (format : Format) (k : ℕ) (e : KeptRow) (rest : List ℕ)

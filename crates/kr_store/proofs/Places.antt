@@ -176,8 +176,8 @@ pub lends_put : (format : Format) (rows : List KeptRow) (k : ℕ) (row : Row) �
 lends_put format rows k row l all e =
     let is : 1 + (k - 1) ≡ k = omega (arith, l) in
     let put : LogRow = log_row_of (kept.Put row) in
-    at_next (log_rows_of rows) k (k - 1) put (omega (arith, l)) (log_at rows (k - 1)
-    (kept.Put row) e)
+    at_next (log_rows_of rows) k (k - 1) put (omega (arith, l))
+    (log_at rows (k - 1) (kept.Put row) e)
     ∙ sym (row_shared format k (kept.Put row)
     (subst (λ i. IsKeptRow format i (kept.Put row)) is
     (kept_rule format 1 rows (k - 1) (kept.Put row) all e)))

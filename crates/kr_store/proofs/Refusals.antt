@@ -25,8 +25,8 @@ abbrev pub found_or : {A : Type 0} → A × List ℕ → Read A → A × List �
 found_or d (Ok x) = x
 found_or d (Err cause) = d
 
-pub same_found : {A : Type 0} (a b : A) (xs ys : List ℕ) (r : Read A) → r ≡ Ok (a, xs) → r ≡ Ok
-    (b, ys) → (a ≡ b) × (xs ≡ ys)
+pub same_found : {A : Type 0} (a b : A) (xs ys : List ℕ) (r : Read A) → r ≡ Ok (a, xs)
+    → r ≡ Ok (b, ys) → (a ≡ b) × (xs ≡ ys)
 same_found {A} a b xs ys r p q =
     let e : ok_of (a, xs) ≡ ok_of (b, ys) = sym p ∙ q in
     let f : (a, xs) ≡ (b, ys) = ap (found_or (a, xs)) e in
@@ -56,8 +56,8 @@ pub found_next : (format : Format) (k : ℕ) (before : List LogRow) (line : LogR
     → next_row format before (row_bytes k line ++ rest) ≡ Ok (line, rest)
 found_next format k before line rest is m =
     subst (λ n. next_row format before (row_bytes n line ++ rest) ≡ Ok (line, rest)) (sym is)
-    (ap (λ r. behind r (λ line rest. kept_if
-    (may_change before line.path line.change) BadRow line rest))
+    (ap (λ r. behind r (λ line rest. kept_if (may_change before line.path line.change) BadRow line
+    rest))
     (row_read format (length before + 1) before line rest refl m)
     ∙ ap (λ b. kept_if b BadRow line rest)
     (change_permitted format before line.path line.change m.change))

@@ -31,8 +31,8 @@ pub record IsShared (rows : List KeptRow) (path : List ℕ) (revision : ℕ) : T
   pub shares : (d : KeptRow)
       → shared_row (get_or rows (revision - 1) d) ≡ live (log_rows_of rows) path
 
-by_change : (k revision : ℕ) (change : Change) (l g : Option ℕ) → StandsAt k change l g → l
-    ≡ Some revision → k ≡ revision
+by_change : (k revision : ℕ) (change : Change) (l g : Option ℕ) → StandsAt k change l g
+    → l ≡ Some revision → k ≡ revision
 by_change k revision (Put resource stored check) l g s e = let x : Some k ≡ Some revision = sym s
     ∙ e in cc
 by_change k revision Delete l g s e = let x : None ≡ Some revision = sym s.0 ∙ e in cc

@@ -36,68 +36,76 @@ read_consumes (Some bytes) now place n into same r = subst (λ t. Consumes (Some
     (sym r.1) ∙ ap (λ l. take n into ++ l) (drop-drop n place bytes))
 
 -- nothing was read although the tape doesn't end there: it tells nothing
-pub untold : (told : Option (List ℕ)) (place end : ℕ) (into : List ℕ) → IfSome told
-    (λ bytes. end ≡ length bytes) → place + length into ≤ end → 0 < length into
+pub untold : (told : Option (List ℕ)) (place end : ℕ) (into : List ℕ)
+    → IfSome told (λ bytes. end ≡ length bytes) → place + length into ≤ end → 0 < length into
     → ReadsAt told place 0 into → rest_of place told ≡ None
 untold None place end into e w s r = refl
 untold (Some bytes) place end into e w s r = absurd (omega (arith, r.0))
 
 -- any bytes may be left where none are told; else those that are
 pub any_left : (told : Option (List ℕ)) (place end : ℕ) → IfSome told (λ bytes. end ≡ length bytes)
-    → place ≤ end → (bytes : List ℕ) × Agrees (rest_of place told) bytes ×
-    (place + length bytes ≤ end) × (length bytes ≤ end - place)
+    → place ≤ end → (bytes : List ℕ) × Agrees (rest_of place told) bytes
+    × (place + length bytes ≤ end) × (length bytes ≤ end - place)
 any_left None place end e w = ([], tt, omega arith, omega arith)
 any_left (Some held) place end e w = (
   drop place held,
   refl,
-  omega
-      (arith, length-drop place held),
+  omega (arith, length-drop place held),
   omega (arith, length-drop place held),
 )
 
 -- what a reader is seen as
 abbrev pub seen : Option (List ℕ) → ℕ → ℕ → ℕ → Ahead
-seen told place end count = record
-    { told = told; left = rest_of place told; place = place; end = end; count = count }
+seen told place end count = record {
+  told = told;
+  left = rest_of place told;
+  place = place;
+  end = end;
+  count = count;
+}
 
 -- fewer bytes are left than were asked
-pub torn : (told : Option (List ℕ)) (place end count n : ℕ) → IfSome told
-    (λ bytes. end ≡ length bytes) → place ≤ end → end - place < n → Breaks
-    (seen told place end count) (part n) Torn
+pub torn : (told : Option (List ℕ)) (place end count n : ℕ)
+    → IfSome told (λ bytes. end ≡ length bytes) → place ≤ end → end - place < n
+    → Breaks (seen told place end count) (part n) Torn
 torn told place end count n e w l =
     let any = any_left told place end e w in
     record {
       bytes = any.0;
       agrees = any.1;
       within = any.2;
-      breaks = part_torn any.0 n
-          (omega (arith, any.3));
+      breaks = part_torn any.0 n (omega (arith, any.3));
     }
 
 -- no more is left than up to the end
-pub left_known : (told : Option (List ℕ)) (place end : ℕ) → IfSome told
-    (λ bytes. end ≡ length bytes) → place ≤ end → IfSome (rest_of place told)
+pub left_known : (told : Option (List ℕ)) (place end : ℕ)
+    → IfSome told (λ bytes. end ≡ length bytes) → place ≤ end → IfSome (rest_of place told)
     (λ bytes. place + length bytes ≡ end)
 left_known None place end e w = tt
 left_known (Some held) place end e w = omega (arith, length-drop place held)
 
 -- a reader that hasn't moved
-pub stays : (told : Option (List ℕ)) (place end count : ℕ) → IfSome told
-    (λ bytes. end ≡ length bytes) → place ≤ end → Moves (seen told place end count)
+pub stays : (told : Option (List ℕ)) (place end count : ℕ)
+    → IfSome told (λ bytes. end ≡ length bytes) → place ≤ end → Moves (seen told place end count)
     (seen told place end count)
-stays told place end count e w = record
-    { told = refl; end = refl; within = w; known = left_known told place end e w; later = omega arith }
+stays told place end count e w = record {
+  told = refl;
+  end = refl;
+  within = w;
+  known = left_known told place end e w;
+  later = omega arith;
+}
 
 -- some bytes are left
-pub some_left : (left : Option (List ℕ)) (place end : ℕ) → place ≤ end → IfSome left
-    (λ bytes. place + length bytes ≡ end) → (bytes : List ℕ) × Agrees left bytes ×
-    (place + length bytes ≤ end)
+pub some_left : (left : Option (List ℕ)) (place end : ℕ) → place ≤ end
+    → IfSome left (λ bytes. place + length bytes ≡ end) → (bytes : List ℕ) × Agrees left bytes
+    × (place + length bytes ≤ end)
 some_left None place end w k = ([], tt, omega arith)
 some_left (Some held) place end w k = (held, refl, omega arith)
 
 -- what an untold tape left was untold
-pub untold_first : (a b : Option (List ℕ)) (front : List ℕ) → Consumes a b front → b ≡ None → a
-    ≡ None
+pub untold_first : (a b : Option (List ℕ)) (front : List ℕ) → Consumes a b front → b ≡ None
+    → a ≡ None
 untold_first None b front c u = refl
 untold_first (Some xs) None front c u = absurd c
 untold_first (Some xs) (Some ys) front c u = cc
@@ -105,8 +113,7 @@ untold_first (Some xs) (Some ys) front c u = cc
 pub moves_both : (a b c : Ahead) → Moves a b → Moves b c → Moves a c
 moves_both a b c m n = record {
   told = n.told ∙ m.told;
-  end = n.end
-      ∙ m.end;
+  end = n.end ∙ m.end;
   within = n.within;
   known = n.known;
   later = omega (arith, m.later, n.later);
@@ -134,8 +141,8 @@ breaks_behind old mid front first next x cause t e r b = record {
 
 -- a part was read, and breaks its rule
 pub breaks_here : {B : Type 0} (old mid : Ahead) (front : List ℕ) (reads : List ℕ → Read B)
-    (cause : Cause) → Takes old mid front → Moves old mid → ((rest : List ℕ) → reads
-    (front ++ rest) ≡ Err cause) → Breaks old reads cause
+    (cause : Cause) → Takes old mid front → Moves old mid
+    → ((rest : List ℕ) → reads (front ++ rest) ≡ Err cause) → Breaks old reads cause
 breaks_here old mid front reads cause t m r =
     let some = some_left mid.left mid.place mid.end m.within m.known in
     record {
@@ -147,14 +154,13 @@ breaks_here old mid front reads cause t m r =
 
 -- the first part breaks
 pub breaks_first : {A B : Type 0} (old : Ahead) (first : List ℕ → Read A) (next : A → List ℕ
-    → Read B) (cause : Cause) → Breaks old first cause → Breaks old
-    (λ bytes. behind (first bytes) next) cause
+    → Read B) (cause : Cause) → Breaks old first cause
+    → Breaks old (λ bytes. behind (first bytes) next) cause
 breaks_first old first next cause b = record {
   bytes = b.bytes;
   agrees = b.agrees;
   within = b.within;
-  breaks = ap
-      (λ s. behind s next) b.breaks;
+  breaks = ap (λ s. behind s next) b.breaks;
 }
 
 pub takes_both : (a b c : Ahead) (front more : List ℕ) → Takes a b front → Takes b c more
@@ -171,9 +177,9 @@ pub record Filling (first now : Ahead) (into : List ℕ) (done : ℕ) : Type 0 w
   pub within : done ≤ length into
   pub room : now.place + (length into - done) ≤ now.end
 
-pub filling_begun : (told : Option (List ℕ)) (place end count : ℕ) (into : List ℕ) → IfSome told
-    (λ bytes. end ≡ length bytes) → place ≤ end → length into ≤ end - place → Filling
-    (seen told place end count) (seen told place end count) into 0
+pub filling_begun : (told : Option (List ℕ)) (place end count : ℕ) (into : List ℕ)
+    → IfSome told (λ bytes. end ≡ length bytes) → place ≤ end → length into ≤ end - place
+    → Filling (seen told place end count) (seen told place end count) into 0
 filling_begun told place end count into e w l = record {
   moves = stays told place end count e w;
   takes = record { consumed = Consumes-nil (rest_of place told); place = omega arith };
@@ -198,8 +204,7 @@ filling_more first now next into piece done n f d e k m t = record {
   within = omega (arith, length-append (take done into) piece, length-take-le done into d);
   room = omega (
     arith,
-    length-append
-        (take done into) piece,
+    length-append (take done into) piece,
     length-take-le done into d,
     f.room,
     t.place,
@@ -217,14 +222,14 @@ pub filling_torn : (first now : Ahead) (into : List ℕ) (done n : ℕ) → Fill
     → done < n → now.left ≡ None → Breaks first (part n) Torn
 filling_torn first now into done n f l u = record {
   bytes = take done into;
-  agrees = subst (λ t. Agrees t (take done into)) (sym (untold_first first.left now.left
-      (take done into) f.takes.consumed u)) tt;
+  agrees = subst (λ t. Agrees t (take done into))
+      (sym (untold_first first.left now.left (take done into) f.takes.consumed u)) tt;
   within = omega (arith, f.takes.place, f.moves.end, f.moves.within);
   breaks = part_torn (take done into) n (omega (arith, length-take-le done into f.within));
 }
 
-put_end : (xs zs ys : List ℕ) (a k : ℕ) → length xs ≡ a → length zs ≤ k → put_mid a k (xs ++ zs) ys
-    ≡ xs ++ ys
+put_end : (xs zs ys : List ℕ) (a k : ℕ) → length xs ≡ a → length zs ≤ k
+    → put_mid a k (xs ++ zs) ys ≡ xs ++ ys
 put_end xs zs ys a k size most =
     let front : take a (xs ++ zs) ≡ xs = take_at xs zs a size in
     let rest : drop k (drop a (xs ++ zs)) ≡ [] = ap (drop k) (drop_at xs zs a size)
@@ -249,14 +254,13 @@ rest_length into done = omega (
 )
 
 -- the next part stops, and so does the whole
-pub stops_behind : {A B C D : Type 0} (old mid new : Ahead) (front : List ℕ)
-    (first : List ℕ → Read A) (next : A → List ℕ → Read B) (x : A) (w : C → List ℕ)
-    (v : D → List ℕ) (stop : Stop)
+pub stops_behind : {A B C D : Type 0} (old mid new : Ahead) (front : List ℕ) (first : List ℕ
+    → Read A) (next : A → List ℕ → Read B) (x : A) (w : C → List ℕ) (v : D → List ℕ) (stop : Stop)
     → Takes old mid front → Moves old mid → ((rest : List ℕ) → first (front ++ rest) ≡ Ok
     (x, rest)) → Gives {A = C} {B = B} mid new w (next x) (Err stop)
     → Gives {A = D} {B = B} old new v (λ bytes. behind (first bytes) next) (Err stop)
-stops_behind old mid new front first next x w v
-    (Breach cause) t m r b = breaks_behind old mid front first next x cause t m.end r b
+stops_behind old mid new front first next x w v (Breach cause) t m r b = breaks_behind old mid
+    front first next x cause t m.end r b
 stops_behind old mid new front first next x w v Failed t m r b = tt
 stops_behind old mid new front first next x w v NoMemory t m r b = tt
 
@@ -271,8 +275,8 @@ stops_first old new first next w v NoMemory b = tt
 
 -- a buffer that wasn't filled
 pub short_behind : (first now next : Ahead) (into : List ℕ) (done n : ℕ) (piece : List ℕ)
-    (stop : Stop) → Filling first now into done → Begins now next piece (Err stop) → IsShort
-    {A = Unit {0}} first n (Err stop)
+    (stop : Stop) → Filling first now into done → Begins now next piece (Err stop)
+    → IsShort {A = Unit {0}} first n (Err stop)
 short_behind first now next into done n piece (Breach cause) f b = inr
     (untold_first first.left now.left (take done into) f.takes.consumed b.0)
 short_behind first now next into done n piece Failed f b = tt

@@ -78,15 +78,15 @@ told_more (Some held) file more end now torn e t n =
     (ap (λ l. l ++ more) (ap (take end) t.1 ∙ ap (λ m. take m (file ++ t.0)) e
     ∙ take-append_seam file t.0))
 
-told_whole : (now : Option (List ℕ)) (file whole : List ℕ) (torn : Bool) → IfSome now
-    (λ held. held ≡ file) → file ≡ whole → IfSome now (λ held. (rest : List ℕ) ×
-    (held ≡ whole ++ rest) × (torn ≡ false → rest ≡ []))
+told_whole : (now : Option (List ℕ)) (file whole : List ℕ) (torn : Bool)
+    → IfSome now (λ held. held ≡ file) → file ≡ whole → IfSome now (λ held. (rest : List ℕ)
+    × (held ≡ whole ++ rest) × (torn ≡ false → rest ≡ []))
 told_whole None file whole torn t e = tt
 told_whole (Some held) file whole torn t e = ([], t ∙ e ∙ sym (append-nil whole), λ _. refl)
 
-told_torn : (now : Option (List ℕ)) (file more : List ℕ) (torn : Bool) → torn ≡ true → IfSome now
-    (λ held. held ≡ file ++ more) → IfSome now (λ held. (rest : List ℕ) × (held ≡ file ++ rest) ×
-    (torn ≡ false → rest ≡ []))
+told_torn : (now : Option (List ℕ)) (file more : List ℕ) (torn : Bool) → torn ≡ true
+    → IfSome now (λ held. held ≡ file ++ more) → IfSome now (λ held. (rest : List ℕ)
+    × (held ≡ file ++ rest) × (torn ≡ false → rest ≡ []))
 told_torn None file more torn e t = tt
 told_torn (Some held) file more torn e t = (more, t, λ f. let x : true ≡ false = sym e ∙ f in cc)
 
@@ -106,8 +106,9 @@ pub stays_put : (rows : List LogRow) (before after : Index) → Same before afte
 stays_put rows before after same i q = stands_as (latest rows q) (live_at after q)
     (live_at before q) (gone_at after q) (gone_at before q) (same.0 q) (same.1 q) (i q)
 
-pub stays_deleted : (rows : List LogRow) (path : List ℕ) (before after : Index) → IsSome
-    (live rows path) → SameBut before after path → IsIndexOf rows before → IsIndexOf rows after
+pub stays_deleted : (rows : List LogRow) (path : List ℕ) (before after : Index)
+    → IsSome (live rows path) → SameBut before after path → IsIndexOf rows before
+    → IsIndexOf rows after
 stays_deleted rows path before after s same i q = elim (bool_cases (bytes_eq path q)) [
   | inl here ↦ live_stands (latest rows q) (live_at after q) (gone_at before q) (gone_at after q)
       (subst (λ p. IsSome (live rows p)) ((bytes_eq-Decides path q).0 here) s)

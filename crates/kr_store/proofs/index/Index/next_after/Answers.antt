@@ -13,6 +13,7 @@ pub returns : goal.returns
 returns c =
     let first = first_above string_bytes
     (string_bytes c.args.path.now) c.args.self.now.live.entries
-    (c.in-Some.found.0.now, c.in-Some.found.1.now) c.next.new.self c.range-above.ensures.ordered
-    (sym (c.range-above.ensures.between tt) ∙ c.in-Some.ensures.steps) in
+    (c.in-Some.found.0.now, c.in-Some.found.1.now) c.next.new.self
+    c.range-above.ensures.ordered (sym (c.range-above.ensures.between tt)
+    ∙ c.in-Some.ensures.steps) in
     (string_bytes c.in-Some.found.0.now, first.above_it, first.has, first.least)

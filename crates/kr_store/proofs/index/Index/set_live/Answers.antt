@@ -6,8 +6,7 @@ use Rattle.kr_store.proofs.index.Index.set_live.Goals as goal
 
 pub returns-clause-ok : goal.returns-clause-ok
 returns-clause-ok c = (
-  btree_map_updates_text
-      (string_bytes c.args.key) c.args.self.now.live c.insert.new.self
-      (Some c.args.revision) c.in-Ok.ensures.updates,
+  btree_map_updates_text (string_bytes c.args.key) c.args.self.now.live
+      c.insert.new.self (Some c.args.revision) c.in-Ok.ensures.updates,
   λ q. refl,
 )

@@ -35,4 +35,5 @@ returns-in-Err-path-clause-read g c = let k = c.args.revision in
     c.in-Ok-revision.ensures.read c.revision.ensures.advances.moves
     (λ rest. reads_revision k rest c.ranges.revision.fits)
     (stops_first c.revision.new.self c.path.new.self path_part
-    (λ path rest. Ok ((c.in-Ok.kind, path), rest)) text_bytes text_bytes c.in-Err-path.stop c.in-Err-path.ensures.read))
+    (λ path rest. Ok ((c.in-Ok.kind, path), rest)) text_bytes text_bytes c.in-Err-path.stop
+    c.in-Err-path.ensures.read))

@@ -17,7 +17,9 @@ returns-then-used-self-clause-read g c =
     subst (λ (a : Ahead). (0 < n) × (n ≤ length into) × Takes a
     (seen told (r.place + n) r.end count) (take n into)) c.self.view_is
     (hands_on told told r.place r.end count count r.start r.filled n
-    (length c.args.into.now) r.ahead.items c.deref.result.now into refl i.2 c.if-used-self.true i.5 c.deref.ensures.value i.6 c.requires.some c.hand_out-n.auto.into c.hand_out-n.ensures.count c.hand_out-n.ensures.same)
+    (length c.args.into.now) r.ahead.items c.deref.result.now into refl i.2 c.if-used-self.true
+    i.5 c.deref.ensures.value i.6 c.requires.some c.hand_out-n.auto.into
+    c.hand_out-n.ensures.count c.hand_out-n.ensures.same)
 
 pub returns-then-into-len-clause-read : goal.returns-then-into-len-clause-read
 returns-then-into-len-clause-read g c =
@@ -47,6 +49,9 @@ returns-clause-read g c =
     subst (λ (a : Ahead). (0 < n) × (n ≤ length into) × Takes a
     (seen (told now) (r.place + n) r.end (count now)) (take n into)) c.self.view_is
     (hands_first (told r.tape) (told now) r.place r.end (count r.tape)
-    (count now) c.in-Ok-read_at.n n
-    (length c.args.into.now) c.read_at-2.new.into c.deref-2.result.now into c.in-Ok-read_at.ensures.same c.if-found-eq0.false c.in-Ok-read_at.ensures.bound.0 (c.deref-2.ensures.value ∙ take_at c.read_at-2.new.into _ _ (c.read_at-2.auto.into ∙ c.deref_mut.ensures.len)) c.in-Ok-read_at.ensures.bytes
-    c.requires.some c.hand_out-n-2.auto.into c.hand_out-n-2.ensures.count c.hand_out-n-2.ensures.same)
+    (count now) c.in-Ok-read_at.n n (length c.args.into.now) c.read_at-2.new.into
+    c.deref-2.result.now into c.in-Ok-read_at.ensures.same c.if-found-eq0.false
+    c.in-Ok-read_at.ensures.bound.0 (c.deref-2.ensures.value ∙ take_at c.read_at-2.new.into _ _
+    (c.read_at-2.auto.into ∙ c.deref_mut.ensures.len)) c.in-Ok-read_at.ensures.bytes
+    c.requires.some c.hand_out-n-2.auto.into c.hand_out-n-2.ensures.count
+    c.hand_out-n-2.ensures.same)
