@@ -14,35 +14,8 @@ use Rattle.kr_store.specs.Rows.{AllFollow}
 use Rattle.kr_store.specs.File.{magic, row_bytes, rows_bytes, file_bytes, IsFile}
 use Rattle.kr_store.specs.Breaches.{Read, row_part, next_row, BreaksAt, IsTornMagic, IsOther, IsBreach}
 use Rattle.kr_store.specs.inner.Reading.{no_at}
-use Rattle.kr_store.proofs.Refusals.{same_found, row_read, found_next, magic_once}
+use Rattle.kr_store.proofs.Refusals.{stop_once, magic_once}
 use Rattle.kr_store.proofs.Steps.{begins_name}
-
-rows_once : (format : Format) (k : ℕ) (before rows others : List LogRow)
-    → k ≡ length before + 1 → AllFollow format before rows → AllFollow format before others
-    → rows_bytes k rows ≡ rows_bytes k others → rows ≡ others
-rows_once format k before [] [] is f g e = refl
-rows_once format k before [] (other ∷ others) is f g e =
-    absurd (omega (
-      arith,
-      ap length e,
-      length-append (row_bytes k other)
-          (rows_bytes (k + 1) others),
-    ))
-rows_once format k before (row ∷ rows) [] is f g e =
-    absurd (omega (arith, ap length e, length-append (row_bytes k row) (rows_bytes (k + 1) rows)))
-rows_once format k before (row ∷ rows) (other ∷ others) is f g e =
-    let mine = row_read format k before row (rows_bytes (k + 1) rows) is f.0 in
-    let theirs : row_part format k (row_bytes k row ++ rows_bytes (k + 1) rows)
-    ≡ Ok (other, rows_bytes (k + 1) others) =
-    subst (λ l. row_part format k l ≡ Ok (other, rows_bytes (k + 1) others)) (sym e)
-    (row_read format k before other (rows_bytes (k + 1) others) is g.0) in
-    let same = same_found row other (rows_bytes (k + 1) rows) (rows_bytes (k + 1) others) _ mine
-    theirs in
-    let first : row ≡ other = same.0 in
-    let rest : rows ≡ others = rows_once format (k + 1) (before ++ row ∷ []) rows others
-    (omega (arith, length-append before (row ∷ []))) f.1
-    (subst (λ (l : LogRow). AllFollow format (before ++ l ∷ []) others) (sym first) g.1) same.1 in
-    cc
 
 nothing_long : (format : Format) (rows : List LogRow) (bytes : List ℕ)
     → bytes ≡ [] → bytes ≡ file_bytes format rows → ⊥
@@ -63,67 +36,16 @@ file_once bytes format other rows others f g = elim f.1 [
         let once = magic_once format other (rows_bytes 1 rows) (rows_bytes 1 others)
         (sym same ∙ also) in (
           once.0,
-          rows_once format 1 [] rows others refl f.0
-              (subst (λ (z : Format). AllFollow z [] others) (sym once.0) g.0) once.1,
+          (stop_once format 1 [] rows others [] [] Torn Torn refl f.0
+              (subst (λ (z : Format). AllFollow z [] others) (sym once.0) g.0) refl refl
+              (ap (λ l. l ++ []) once.1)).0,
         )
   ]
 ]
 
-ok_not_err : (read : Read LogRow) (found : LogRow × List ℕ) (cause : Cause) → read ≡ Ok found
-    → read ≡ Err cause → ⊥
-ok_not_err read found cause e f = cc
-
 err_once : (read : Read LogRow) (cause other : Cause) → read ≡ Err cause → read ≡ Err other
     → cause ≡ other
 err_once read cause other e f = cc
-
--- where rows end and something breaks
-stop_once : (format : Format) (k : ℕ) (before rows others : List LogRow) (rest more : List ℕ)
-    (cause other : Cause) → k ≡ length before + 1 → AllFollow format before rows
-    → AllFollow format before others
-    → next_row format (before ++ rows) rest ≡ Err cause → next_row format (before ++ others) more
-    ≡ Err other → rows_bytes k rows ++ rest ≡ rows_bytes k others ++ more → (rows ≡ others)
-    × (rest ≡ more)
-stop_once format k before [] [] rest more cause other is f g b d e = (refl, e)
-stop_once format k before [] (o ∷ others) rest more cause other is f g b d e =
-    let split : rest ≡ row_bytes k o ++ (rows_bytes (k + 1) others ++ more) = e ∙ append_assoc
-    (row_bytes k o) (rows_bytes (k + 1) others) more in
-    absurd (ok_not_err (next_row format before rest) (o, rows_bytes (k + 1) others ++ more) cause
-    (subst (λ l. next_row format before l ≡ Ok (o, rows_bytes (k + 1) others ++ more)) (sym split)
-    (found_next format k before o (rows_bytes (k + 1) others ++ more) is g.0))
-    (subst (λ (l : List LogRow). next_row format l rest ≡ Err cause) (append-nil before) b))
-stop_once format k before (r ∷ rows) [] rest more cause other is f g b d e =
-    let split : more ≡ row_bytes k r ++ (rows_bytes (k + 1) rows ++ rest) = sym e ∙ append_assoc
-    (row_bytes k r) (rows_bytes (k + 1) rows) rest in
-    absurd (ok_not_err (next_row format before more) (r, rows_bytes (k + 1) rows ++ rest) other
-    (subst (λ l. next_row format before l ≡ Ok (r, rows_bytes (k + 1) rows ++ rest)) (sym split)
-    (found_next format k before r (rows_bytes (k + 1) rows ++ rest) is f.0))
-    (subst (λ (l : List LogRow). next_row format l more ≡ Err other) (append-nil before) d))
-stop_once format k before (r ∷ rows) (o ∷ others) rest more cause other is f g b d e =
-    let ends : row_bytes k r ++ (rows_bytes (k + 1) rows ++ rest) ≡ row_bytes k o ++
-    (rows_bytes (k + 1) others ++ more) = sym (append_assoc (row_bytes k r)
-    (rows_bytes (k + 1) rows) rest) ∙ e ∙ append_assoc (row_bytes k o)
-    (rows_bytes (k + 1) others) more in
-    let mine : row_part format k (row_bytes k r ++ (rows_bytes (k + 1) rows ++ rest)) ≡ Ok
-    (r, rows_bytes (k + 1) rows ++ rest) = row_read format k before r
-    (rows_bytes (k + 1) rows ++ rest) is f.0 in
-    let theirs : row_part format k (row_bytes k r ++ (rows_bytes (k + 1) rows ++ rest)) ≡ Ok
-    (o, rows_bytes (k + 1) others ++ more) =
-    subst (λ l. row_part format k l ≡ Ok (o, rows_bytes (k + 1) others ++ more)) (sym ends)
-    (row_read format k before o (rows_bytes (k + 1) others ++ more) is g.0) in
-    let same = same_found r o (rows_bytes (k + 1) rows ++ rest) (rows_bytes (k + 1) others ++ more)
-    _ mine theirs in
-    let first : r ≡ o = same.0 in
-    let tail = stop_once format (k + 1) (before ++ r ∷ []) rows others rest more cause other
-    (omega (arith, length-append before (r ∷ []))) f.1
-    (subst (λ (l : LogRow). AllFollow format (before ++ l ∷ []) others) (sym first) g.1)
-    (subst (λ (l : List LogRow). next_row format l rest ≡ Err cause)
-    (sym (append_assoc before (r ∷ []) rows)) b)
-    (subst (λ (l : List LogRow). next_row format l more ≡ Err other)
-    (ap (λ (l : LogRow). before ++ (l ∷ others)) (sym first)
-    ∙ sym (append_assoc before (r ∷ []) others)) d) same.1 in
-    let rows_same : rows ≡ others = tail.0 in
-    (cc, tail.1)
 
 breaks_once : (bytes : List ℕ) (at to : ℕ) (cause other : Cause) → BreaksAt bytes at cause
     → BreaksAt bytes to other → (at ≡ to) × (cause ≡ other)

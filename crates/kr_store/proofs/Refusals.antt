@@ -62,41 +62,57 @@ found_next format k before line rest is m =
     ∙ ap (λ b. kept_if b BadRow line rest)
     (change_permitted format before line.path line.change m.change))
 
--- rows that are followed by something that breaks aren't the front of other rows
-clash : (format : Format) (k : ℕ) (before rows others : List LogRow) (rest : List ℕ)
-    (cause : Cause) → k ≡ length before + 1 → AllFollow format before rows
-    → AllFollow format before others → (rest ≡ [] → ⊥)
-    → next_row format (before ++ rows) rest ≡ Err cause
-    → rows_bytes k others ≡ rows_bytes k rows ++ rest → ⊥
-clash format k before [] [] rest cause is f g n b e = n (sym e)
-clash format k before [] (other ∷ others) rest cause is f g n b e =
-    let more : List ℕ = rows_bytes (k + 1) others in
-    let found : next_row format before rest ≡ Ok (other, more) =
-    subst (λ l. next_row format before l ≡ Ok (other, more)) e
-    (found_next format k before other more is g.0) in
-    let none : next_row format before rest ≡ Err cause =
-    subst (λ l. next_row format l rest ≡ Err cause) (append-nil before) b in
-    cc
-clash format k before (row ∷ rows) [] rest cause is f g n b e = absurd (omega (
-  arith,
-  ap length e,
-  length-append (row_bytes k row ++ rows_bytes (k + 1) rows) rest,
-  length-append (row_bytes k row) (rows_bytes (k + 1) rows),
-))
-clash format k before (row ∷ rows) (other ∷ others) rest cause is f g n b e =
-    let mine = row_read format k before row (rows_bytes (k + 1) rows ++ rest) is f.0 in
-    let theirs : row_part format k (row_bytes k row ++ (rows_bytes (k + 1) rows ++ rest))
-    ≡ Ok (other, rows_bytes (k + 1) others) =
-    subst (λ l. row_part format k l ≡ Ok (other, rows_bytes (k + 1) others))
-    (e ∙ append_assoc (row_bytes k row) (rows_bytes (k + 1) rows) rest)
-    (row_read format k before other (rows_bytes (k + 1) others) is g.0) in
-    let same = same_found row other (rows_bytes (k + 1) rows ++ rest)
-    (rows_bytes (k + 1) others) _ mine theirs in
-    clash format (k + 1) (before ++ row ∷ []) rows others rest cause
-    (omega (arith, length-append before (row ∷ []))) f.1
-    (subst (λ (l : LogRow). AllFollow format (before ++ l ∷ []) others) (sym same.0) g.1) n
-    (subst (λ l. next_row format l rest ≡ Err cause) (sym (append_assoc before (row ∷ []) rows)) b)
-    (sym same.1)
+ok_not_err : (read : Read LogRow) (found : LogRow × List ℕ) (cause : Cause) → read ≡ Ok found
+    → read ≡ Err cause → ⊥
+ok_not_err read found cause e f = cc
+
+-- where rows end and something breaks
+pub stop_once : (format : Format) (k : ℕ) (before rows others : List LogRow) (rest more : List ℕ)
+    (cause other : Cause) → k ≡ length before + 1 → AllFollow format before rows
+    → AllFollow format before others
+    → next_row format (before ++ rows) rest ≡ Err cause → next_row format (before ++ others) more
+    ≡ Err other → rows_bytes k rows ++ rest ≡ rows_bytes k others ++ more → (rows ≡ others)
+    × (rest ≡ more)
+stop_once format k before [] [] rest more cause other is f g b d e = (refl, e)
+stop_once format k before [] (o ∷ others) rest more cause other is f g b d e =
+    let split : rest ≡ row_bytes k o ++ (rows_bytes (k + 1) others ++ more) = e ∙ append_assoc
+    (row_bytes k o) (rows_bytes (k + 1) others) more in
+    absurd (ok_not_err (next_row format before rest) (o, rows_bytes (k + 1) others ++ more) cause
+    (subst (λ l. next_row format before l ≡ Ok (o, rows_bytes (k + 1) others ++ more)) (sym split)
+    (found_next format k before o (rows_bytes (k + 1) others ++ more) is g.0))
+    (subst (λ (l : List LogRow). next_row format l rest ≡ Err cause) (append-nil before) b))
+stop_once format k before (r ∷ rows) [] rest more cause other is f g b d e =
+    let split : more ≡ row_bytes k r ++ (rows_bytes (k + 1) rows ++ rest) = sym e ∙ append_assoc
+    (row_bytes k r) (rows_bytes (k + 1) rows) rest in
+    absurd (ok_not_err (next_row format before more) (r, rows_bytes (k + 1) rows ++ rest) other
+    (subst (λ l. next_row format before l ≡ Ok (r, rows_bytes (k + 1) rows ++ rest)) (sym split)
+    (found_next format k before r (rows_bytes (k + 1) rows ++ rest) is f.0))
+    (subst (λ (l : List LogRow). next_row format l more ≡ Err other) (append-nil before) d))
+stop_once format k before (r ∷ rows) (o ∷ others) rest more cause other is f g b d e =
+    let ends : row_bytes k r ++ (rows_bytes (k + 1) rows ++ rest) ≡ row_bytes k o ++
+    (rows_bytes (k + 1) others ++ more) = sym (append_assoc (row_bytes k r)
+    (rows_bytes (k + 1) rows) rest) ∙ e ∙ append_assoc (row_bytes k o)
+    (rows_bytes (k + 1) others) more in
+    let mine : row_part format k (row_bytes k r ++ (rows_bytes (k + 1) rows ++ rest)) ≡ Ok
+    (r, rows_bytes (k + 1) rows ++ rest) = row_read format k before r
+    (rows_bytes (k + 1) rows ++ rest) is f.0 in
+    let theirs : row_part format k (row_bytes k r ++ (rows_bytes (k + 1) rows ++ rest)) ≡ Ok
+    (o, rows_bytes (k + 1) others ++ more) =
+    subst (λ l. row_part format k l ≡ Ok (o, rows_bytes (k + 1) others ++ more)) (sym ends)
+    (row_read format k before o (rows_bytes (k + 1) others ++ more) is g.0) in
+    let same = same_found r o (rows_bytes (k + 1) rows ++ rest) (rows_bytes (k + 1) others ++ more)
+    _ mine theirs in
+    let first : r ≡ o = same.0 in
+    let tail = stop_once format (k + 1) (before ++ r ∷ []) rows others rest more cause other
+    (omega (arith, length-append before (r ∷ []))) f.1
+    (subst (λ (l : LogRow). AllFollow format (before ++ l ∷ []) others) (sym first) g.1)
+    (subst (λ (l : List LogRow). next_row format l rest ≡ Err cause)
+    (sym (append_assoc before (r ∷ []) rows)) b)
+    (subst (λ (l : List LogRow). next_row format l more ≡ Err other)
+    (ap (λ (l : LogRow). before ++ (l ∷ others)) (sym first)
+    ∙ sym (append_assoc before (r ∷ []) others)) d) same.1 in
+    let rows_same : rows ≡ others = tail.0 in
+    (cc, tail.1)
 
 breaks_no_file : (bytes : List ℕ) (at : ℕ) (cause : Cause) → BreaksAt bytes at cause
     → (format : Format) (rows : List LogRow) → IsFile format rows bytes → ⊥
@@ -110,8 +126,10 @@ breaks_no_file bytes at cause b format rows f = elim f.1 [
   | inr same ↦
       let once = magic_once format b.format (rows_bytes 1 rows) (rows_bytes 1 b.rows ++ b.rest)
       (sym same ∙ b.split ∙ append_assoc (magic b.format) (rows_bytes 1 b.rows) b.rest) in
-      clash b.format 1 [] b.rows rows b.rest cause refl b.good
-      (subst (λ (z : Format). AllFollow z [] rows) once.0 f.0) b.more b.breaks once.1
+      b.more
+      (stop_once b.format 1 [] b.rows rows b.rest [] cause Torn refl b.good
+      (subst (λ (z : Format). AllFollow z [] rows) once.0 f.0) b.breaks refl
+      (sym once.1 ∙ sym (append-nil (rows_bytes 1 rows)))).1
 ]
 
 torn_no_file : (bytes : List ℕ) → IsTornMagic bytes → (format : Format) (rows : List LogRow)
