@@ -23,7 +23,7 @@ use Rattle.kr_store.specs.declared.answers.Cause.TheVariants.{Torn, BadRow, Orde
 use Rattle.kr_store.specs.declared.answers.StoreNo.{StoreNo}
 use Rattle.kr_store.specs.declared.answers.StoreNo.TheVariants as no
 use Rattle.kr_store.specs.Rows.{longest_value, HasCheck, MayChange, MayFollow, AreRows}
-use Rattle.kr_store.specs.File.{magic, text_bytes, value_bytes, check_bytes, byte_of, kind_of, change_bytes, row_bytes, rows_bytes, file_bytes, IsFile}
+use Rattle.kr_store.specs.File.{magic, text_bytes, value_bytes, check_bytes, byte_of, kind_of, change_bytes, row_bytes, file_bytes, IsFile}
 use Rattle.kr_store.specs.Breaches.{Read, behind, part, kept_if, number_16, number_32, number_64, sized_part, path_part, resource_part, value_part, kind_by, kind_part, revision_part, check_part, put_part, change_part, head_part, row_part, next_row, may_change, BreaksAt, IsOther, IsBreach}
 use Rattle.kr_store.specs.inner.KeptRows.{IsChange}
 use Rattle.kr_store.proofs.Parts.{above_most, put_parts}

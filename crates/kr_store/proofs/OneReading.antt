@@ -1,6 +1,6 @@
 -- Bytes are the file of one list of rows, or have one breach.
-use Rattle.std.proofs.Common.{◌≡◌, ℕ, ◌+◌, ◌<◌, ◌≤◌, ◌⊎◌, List, [], ◌∷◌, ◌++◌, length, take, Ok, Err, refl, sym, ◌∙◌, ap, subst, arith, length-append, append_assoc, inl, inr}
-use Rattle.std.proofs.lemmas.List.{take_all, append-nil}
+use Rattle.std.proofs.Common.{◌≡◌, ℕ, ◌≤◌, ◌⊎◌, List, [], ◌++◌, length, take, Err, refl, sym, ◌∙◌, ap, subst, arith, length-append, append_assoc, inl, inr}
+use Rattle.std.proofs.lemmas.List.{take_all}
 use Rattle.std.proofs.Math.Seq.{take-append_seam}
 use Rattle.kr_store.specs.declared.format.Format.{Format}
 use Rattle.kr_store.specs.declared.format.Format.TheVariants.{One}
@@ -11,8 +11,8 @@ use Rattle.kr_store.specs.declared.answers.Stop.TheVariants.{Breach}
 use Rattle.kr_store.specs.declared.answers.StoreNo.{StoreNo}
 use Rattle.kr_store.specs.declared.answers.StoreNo.TheVariants as no
 use Rattle.kr_store.specs.Rows.{AllFollow}
-use Rattle.kr_store.specs.File.{magic, row_bytes, rows_bytes, file_bytes, IsFile}
-use Rattle.kr_store.specs.Breaches.{Read, row_part, next_row, BreaksAt, IsTornMagic, IsOther, IsBreach}
+use Rattle.kr_store.specs.File.{magic, rows_bytes, file_bytes, IsFile}
+use Rattle.kr_store.specs.Breaches.{Read, next_row, BreaksAt, IsTornMagic, IsOther, IsBreach}
 use Rattle.kr_store.specs.inner.Reading.{no_at}
 use Rattle.kr_store.proofs.Refusals.{stop_once, magic_once}
 use Rattle.kr_store.proofs.Steps.{begins_name}

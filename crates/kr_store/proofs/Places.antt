@@ -3,7 +3,7 @@ use Rattle.std.proofs.Common.{◌≡◌, ℕ, suc, zero, ◌+◌, ◌-◌, ◌<�
 use Rattle.std.specs.Str.{bytes_eq}
 use Rattle.std.proofs.lemmas.Slice.Eq.{bytes_eq-Decides}
 use Rattle.std.specs.Option.{option_map}
-use Rattle.std.proofs.lemmas.Option.{same_Some, none-some, slice_get-map}
+use Rattle.std.proofs.lemmas.Option.{same_Some, none-some, slice_get-map, slice_get-get_or, slice_get_past}
 use Rattle.kr_store.specs.declared.format.Format.{Format}
 use Rattle.kr_store.specs.declared.rows.Row.{Row}
 use Rattle.kr_store.specs.declared.rows.Change.{Change}
@@ -156,41 +156,50 @@ kept_shared format k row kept_row i =
 
 -- a kept row that is lent
 
-kept_rule : (format : Format) (n : ℕ) (rows : List KeptRow) (j : ℕ) (row : KeptRow)
-    → AreKeptRows format n rows → slice_get rows j ≡ Some row → IsKeptRow format (n + j) row
-kept_rule format n [] j row all e = absurd (none-some row e)
-kept_rule format n (x ∷ rows) zero row all e =
-    subst (λ k. IsKeptRow format k row) (omega arith)
-    (subst (λ (r : KeptRow). IsKeptRow format n r) (same_Some x row e) all.0)
-kept_rule format n (x ∷ rows) (suc j) row all e =
-    subst (λ k. IsKeptRow format k row) (omega arith)
-    (kept_rule format (n + 1) rows j row all.1 e)
+pub kept_rule : (format : Format) (n : ℕ) (rows : List KeptRow) (j : ℕ) (d : KeptRow)
+    → AreKeptRows format n rows → j < length rows → IsKeptRow format (n + j) (get_or rows j d)
+kept_rule format n [] j d all l = absurd (omega arith)
+kept_rule format n (x ∷ rows) zero d all l =
+    subst (λ k. IsKeptRow format k x) (omega arith) all.0
+kept_rule format n (x ∷ rows) (suc j) d all l =
+    subst (λ k. IsKeptRow format k (get_or rows j d)) (omega arith)
+    (kept_rule format (n + 1) rows j d all.1 (omega arith))
 
-log_at : (rows : List KeptRow) (j : ℕ) (row : KeptRow) → slice_get rows j ≡ Some row
-    → slice_get (log_rows_of rows) j ≡ Some (log_row_of row)
-log_at rows j row e = slice_get-map log_row_of rows j ∙ ap (option_map log_row_of) e
+abbrev some_row : LogRow → Option LogRow
+some_row row = Some row
 
-pub lends_put : (format : Format) (rows : List KeptRow) (k : ℕ) (row : Row) → 1 ≤ k
-    → AreKeptRows format 1 rows → slice_get rows (k - 1) ≡ Some (kept.Put row)
-    → row_at (log_rows_of rows) k ≡ Some row
-lends_put format rows k row l all e =
-    let is : 1 + (k - 1) ≡ k = omega (arith, l) in
+log_at : (rows : List KeptRow) (j : ℕ) (d row : KeptRow) → j < length rows
+    → get_or rows j d ≡ row → slice_get (log_rows_of rows) j ≡ Some (log_row_of row)
+log_at rows j d row l e =
+    slice_get-map log_row_of rows j ∙ ap (option_map log_row_of) (slice_get-get_or rows j d l)
+    ∙ ap (λ (r : KeptRow). some_row (log_row_of r)) e
+
+pub lends_put : (format : Format) (rows : List KeptRow) (k : ℕ) (d : KeptRow) (row : Row)
+    → 1 ≤ k → k - 1 < length rows → AreKeptRows format 1 rows
+    → get_or rows (k - 1) d ≡ kept.Put row → row_at (log_rows_of rows) k ≡ Some row
+lends_put format rows k d row l m all e =
     let put : LogRow = log_row_of (kept.Put row) in
+    let is : 1 + (k - 1) ≡ k = omega (arith, l) in
+    let rule : IsKeptRow format (1 + (k - 1)) (kept.Put row) =
+    subst (λ (r : KeptRow). IsKeptRow format (1 + (k - 1)) r) e
+    (kept_rule format 1 rows (k - 1) d all m) in
     at_next (log_rows_of rows) k (k - 1) put (omega (arith, l))
-    (log_at rows (k - 1) (kept.Put row) e)
+    (log_at rows (k - 1) d (kept.Put row) m e)
     ∙ sym (row_shared format k (kept.Put row)
-    (subst (λ i. IsKeptRow format i (kept.Put row)) is
-    (kept_rule format 1 rows (k - 1) (kept.Put row) all e)))
+    (subst (λ i. IsKeptRow format i (kept.Put row)) is rule))
 
-pub lends_delete : (rows : List KeptRow) (k : ℕ) (path : List ℕ) → 1 ≤ k
-    → slice_get rows (k - 1) ≡ Some (kept.Delete path)
+log_row_found : (rows : List LogRow) (k : ℕ) → 1 ≤ k → log_row_at rows k ≡ slice_get rows (k - 1)
+log_row_found rows k l =
+    ap (log_row_at rows) (let s : k ≡ suc (k - 1) = omega (arith, l) in s)
+
+pub lends_delete : (rows : List KeptRow) (k : ℕ) (d : KeptRow) (path : List ℕ) → 1 ≤ k
+    → k - 1 < length rows → get_or rows (k - 1) d ≡ kept.Delete path
     → log_row_at (log_rows_of rows) k ≡ Some (delete_of path)
-lends_delete rows k path l e =
-    ap (log_row_at (log_rows_of rows)) (let s : k ≡ suc (k - 1) = omega (arith, l) in s)
-    ∙ log_at rows (k - 1) (kept.Delete path) e
+lends_delete rows k d path l m e =
+    log_row_found (log_rows_of rows) k l ∙ log_at rows (k - 1) d (kept.Delete path) m e
 
-pub lends_none : (rows : List KeptRow) (k : ℕ) → 1 ≤ k → slice_get rows (k - 1) ≡ None
+pub lends_none : (rows : List KeptRow) (k : ℕ) → 1 ≤ k → length rows ≤ k - 1
     → log_row_at (log_rows_of rows) k ≡ None
-lends_none rows k l e =
-    ap (log_row_at (log_rows_of rows)) (let s : k ≡ suc (k - 1) = omega (arith, l) in s)
-    ∙ slice_get-map log_row_of rows (k - 1) ∙ ap (option_map log_row_of) e
+lends_none rows k l m =
+    log_row_found (log_rows_of rows) k l ∙ slice_get-map log_row_of rows (k - 1)
+    ∙ ap (option_map log_row_of) (slice_get_past rows (k - 1) m)

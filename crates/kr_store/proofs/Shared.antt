@@ -1,5 +1,5 @@
 -- The rows that the index leads to.
-use Rattle.std.proofs.Common.{◌≡◌, ℕ, suc, zero, ◌+◌, ◌-◌, ◌<◌, ◌≤◌, true, false, List, [], ◌∷◌, length, get_or, Option, None, Some, is_some, IsSome, IfSome, IfOk, Result, Ok, Err, refl, sym, ◌∙◌, ap, subst, arith}
+use Rattle.std.proofs.Common.{◌≡◌, ℕ, ◌+◌, ◌-◌, ◌≤◌, true, false, List, [], length, get_or, Option, None, Some, is_some, IsSome, IfSome, IfOk, Result, Ok, Err, refl, sym, ◌∙◌, ap, subst, arith}
 use Rattle.std.specs.Ordering.{nat_cmp}
 use Rattle.std.specs.declared.cmp.Ordering.TheVariants.{Less}
 use Rattle.std.specs.Cmp.Lexicographic.{slice_cmp}
@@ -21,7 +21,7 @@ use Rattle.kr_store.specs.inner.KeptRows.{log_rows_of, shared_row, IsKeptRow, Ar
 use Rattle.kr_store.specs.inner.Index.{IsIndexOf, Stands, StandsAt, live_at, gone_at}
 use Rattle.kr_store.proofs.Indexes.{some_live}
 use Rattle.kr_store.proofs.Loading.{log_rows_length}
-use Rattle.kr_store.proofs.Places.{found_in, kept_at, kept_shared, live_at_revision}
+use Rattle.kr_store.proofs.Places.{found_in, kept_at, kept_shared, kept_rule, live_at_revision}
 use Rattle.kr_store.proofs.Written.{was_live}
 
 -- the live row of a path, by its revision in the index
@@ -116,15 +116,6 @@ pub none_next : (rows : List KeptRow) (index : Index) (path : List ℕ)
     → IsNext (log_rows_of rows) path None
 none_next rows index path i none q s l = not_live (log_rows_of rows) index q i (none q l) s
 
-kept_row_at : (format : Format) (n : ℕ) (rows : List KeptRow) (j : ℕ) (d : KeptRow)
-    → AreKeptRows format n rows → j < length rows → IsKeptRow format (n + j) (get_or rows j d)
-kept_row_at format n [] j d all l = absurd (omega arith)
-kept_row_at format n (e ∷ rows) zero d all l =
-    subst (λ k. IsKeptRow format k e) (omega arith) all.0
-kept_row_at format n (e ∷ rows) (suc j) d all l =
-    subst (λ k. IsKeptRow format k (get_or rows j d)) (omega arith)
-    (kept_row_at format (n + 1) rows j d all.1 (omega arith))
-
 kept_row_rules : (format : Format) (k : ℕ) (e : KeptRow) (row : Row) → IsKeptRow format k e
     → shared_row e ≡ Some row → IsRow format row × (row.revision ≡ k)
 kept_row_rules format k (kept.Put r) row i e =
@@ -153,7 +144,7 @@ put_at format rows index path revision all i e =
     by (Some row) r s h =
         let d : KeptRow = kept.Delete [] in
         let rules = kept_row_rules format (1 + (revision - 1)) (get_or rows (revision - 1) d) row
-        (kept_row_at format 1 rows (revision - 1) d all (omega (arith, h.first, h.last)))
+        (kept_rule format 1 rows (revision - 1) d all (omega (arith, h.first, h.last)))
         (h.shares d ∙ r) in (
           row,
           record {

@@ -1,6 +1,6 @@
 -- The file of a store's rows: nothing, or 8 bytes that name the format and then the rows in order.
 -- Numbers have their highest byte first.
-use Rattle.std.specs.Prelude.{◌≡◌, ℕ, ◌+◌, ◌⊎◌, Bool, if◌then◌else◌, List, [], ◌∷◌, ◌++◌, length, Option, None, Some, codes}
+use Rattle.std.specs.Prelude.{◌≡◌, ℕ, ◌+◌, ◌⊎◌, List, [], ◌∷◌, ◌++◌, length, Option, None, Some, codes}
 use Rattle.std.specs.Int.{w16, w32, w64, to_be_bytes}
 use Rattle.kr_store.specs.declared.format.Check.{Check}
 use Rattle.kr_store.specs.declared.format.Format.{Format}

@@ -11,7 +11,6 @@ use Rattle.kr_store.specs.declared.rows.Row.{Row}
 use Rattle.kr_store.specs.declared.rows.RowRef.{RowRef}
 use Rattle.kr_store.specs.declared.rows.RowRef.TheVariants as lent
 use Rattle.kr_store.specs.declared.rows.LogRow.{LogRow}
-use Rattle.kr_store.specs.declared.rows.Change.TheVariants.{Put}
 use Rattle.kr_store.specs.declared.answers.StoreNo.{StoreNo}
 use Rattle.kr_store.specs.declared.answers.StoreNo.TheVariants as no
 use Rattle.kr_store.specs.declared.answers.PutNo.{PutNo}

@@ -455,6 +455,7 @@ impl<T: Tape> Reader<T> {
         ensures read { Gives self.old self.new check_bytes (check_part format) result }
         ensures rule { IfOk result (λ check. HasCheck format check) }
     {
+        let _ = &self.tape;
         match format {
             Format::One => Ok(None),
             Format::Two => match self.number_64() {

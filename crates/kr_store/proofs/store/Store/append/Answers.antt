@@ -1,5 +1,5 @@
 -- Answers of Store::append.
-use Rattle.std.proofs.Common.{ℕ, List, [], ◌∷◌, length, ◌+◌, ◌++◌, ◌≡◌, subst, sym, ap, ◌∙◌, arith}
+use Rattle.std.proofs.Common.{List, [], ◌∷◌, length, ◌+◌, ◌++◌, ◌≡◌, subst, sym, ap, ◌∙◌, arith}
 use Rattle.kr_store.specs.declared.rows.LogRow.{LogRow}
 use Rattle.kr_store.specs.declared.kept_row.Kind.{Kind}
 use Rattle.kr_store.specs.declared.kept_row.KeptRow.{KeptRow}
