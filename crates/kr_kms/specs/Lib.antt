@@ -4,6 +4,8 @@ pub mod Health
 pub mod Limits
 pub mod MemWorld
 pub mod Outside
+pub mod Replies
+pub mod Requests
 pub mod Seeds
 pub mod Table
 pub mod Truth

@@ -1,3 +1,4 @@
 pub mod Keeping
+pub mod Shapes
 pub mod Statuses
 pub mod Wrapping
