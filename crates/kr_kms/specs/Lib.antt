@@ -1,3 +1,4 @@
+-- The definitions that contracts name.
 pub mod Cache
 pub mod Calls
 pub mod Health

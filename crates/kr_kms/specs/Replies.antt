@@ -1,5 +1,5 @@
--- Replies of a plugin: a line of JSON each. Members that no rule names are ignored, and bytes stand in
--- standard base64 with padding (RFC 4648), read strictly.
+-- Replies of a plugin: a line of JSON each. Members that no rule names are ignored, and bytes stand
+-- in standard base64 with padding (RFC 4648), read strictly.
 use Rattle.std.specs.Prelude.{◌≡◌, ℕ, List, [], codes, if◌then◌else◌, option_and_then, Option, Some, None, Result, Ok, Err, ⊤}
 use Rattle.std.specs.Option.{option_map, option_map_or}
 use Rattle.std.specs.Result.{result_ok}

@@ -1,7 +1,7 @@
 //! Plugins that wrap and unwrap seeds, as the crates above see them: a link to a plugin, what it
 //! answers, and what its type tells of the truth; the lines that a link over pipes asks and reads;
-//! seeds, which links make and a cache keeps; and the world that a command runs in, which gives files
-//! and random sources.
+//! seeds, which links make and a cache keeps; and the world that a command runs in, which gives
+//! files and random sources.
 #![tactic(auto)]
 
 mod cache;
