@@ -27,7 +27,8 @@ put_among cache key seed other kept there =
       | inr put ↦ inr (is_key put.1, put.0)
     ]
   where
-    is_key : (other ≡ key) ⊎ ((w : List ℕ) × Contains cache.entries (other, w) × (key_eq key other ≡ true))
+    is_key : (other ≡ key)
+        ⊎ ((w : List ℕ) × Contains cache.entries (other, w) × (key_eq key other ≡ true))
         → other ≡ key
     is_key (inl same) = same
     is_key (inr e) = sym ((same_key key other).0 e.2)
@@ -40,9 +41,9 @@ module _ {L : Type 0} (truth : Truth) (link : L → Link) where
   copy_opens : (rows : Rows) (key : SeedKey) (seed : List ℕ) (copy : Result (List ℕ) KmsNo)
       → seed_at rows key ≡ Some seed → GivesSeed seed copy → AreOpen truth rows
       → IfOk copy (λ bytes. TellsOf truth key bytes)
-  copy_opens rows key seed (Ok bytes) found gives open =
-      subst (TellsOf truth key) (sym gives) (open key seed (found_there rows key seed found))
-  copy_opens rows key seed (Err why) found gives open = tt
+  copy_opens rows key seed (Ok bytes) found gives known =
+      subst (TellsOf truth key) (sym gives) (known key seed (found_there rows key seed found))
+  copy_opens rows key seed (Err why) found gives known = tt
 
   copy_asks : (old : L) (seed : List ℕ) (copy : Result (List ℕ) KmsNo) → GivesSeed seed copy
       → Asks (link old) copy (link old)
@@ -62,6 +63,7 @@ module _ {L : Type 0} (truth : Truth) (link : L → Link) where
     asks = copy_asks old is.0 copy is.2;
     opens = copy_opens cache.rows key is.0 copy is.1 is.2;
     rows = λ other seed there. inl (among other seed there);
+    still_open = λ known other seed there. known other seed (among other seed there);
     size = size;
     fits = fits;
   }
@@ -73,16 +75,23 @@ module _ {L : Type 0} (truth : Truth) (link : L → Link) where
       seed_at cache.rows key ≡ None
       → Unwraps truth (link old) key_id annotations source result (link new)
       → ((other : SeedKey) (seed : List ℕ) → Contains after.rows (other, seed)
-        → Contains cache.rows (other, seed) ⊎ ((other ≡ key) × (result ≡ Ok seed)))
+      → Contains cache.rows (other, seed) ⊎ ((other ≡ key) × (result ≡ Ok seed)))
       → after.size ≡ cache.size → length after.rows ≤ after.size
       → Fetches truth link old cache key result new after
   gives_answer old new cache after key_id annotations source result none answer rows size fits =
-    record {
-      kept = λ seed found. cc (none, found);
-      asked = λ _. answer;
-      asks = answer.0;
-      opens = λ _. answer.1;
-      rows = rows;
-      size = size;
-      fits = fits;
-    }
+      let key = asked_key (link old).name key_id annotations source in
+      record {
+        kept = λ seed found. cc (none, found);
+        asked = λ _. answer;
+        asks = answer.0;
+        opens = λ _. answer.1;
+        rows = rows;
+        still_open = λ known other seed there. elim (rows other seed there) [
+          | inl before ↦ known other seed before
+          | inr put ↦
+              let Opens : Result (List ℕ) KmsNo → Type 0 = λ r. IfOk r (λ s. TellsOf truth key s) in
+              subst (λ k. TellsOf truth k seed) (sym put.0) (subst Opens put.1 answer.1)
+        ];
+        size = size;
+        fits = fits;
+      }

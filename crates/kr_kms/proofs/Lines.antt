@@ -29,8 +29,8 @@ unfolding IsStrictlySortedBy
 put_behind [] pair more h = refl
 put_behind (first ∷ done) pair more h =
     let above : slice_cmp nat_cmp pair.0 first.0 ≡ Greater =
-      nat_list_cmp_total.antisymm pair.0 first.0
-      ∙ ap ordering_reverse (below_middle first.0 done pair more h.0) in
+    nat_list_cmp_total.antisymm pair.0 first.0
+    ∙ ap ordering_reverse (below_middle first.0 done pair more h.0) in
     rw above (ap (member first.0 (text_of_bytes first.1)) (put_behind done pair more h.1))
 
 pairs_no_float : (pairs : Pairs) → members_have_float (pair_members pairs) ≡ false

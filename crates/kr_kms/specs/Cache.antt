@@ -48,5 +48,6 @@ pub record Fetches {L : Type 0} (truth : Truth) (link : L → Link) (old : L) (c
   -- what is kept was kept before, or is this answer under this key
   pub rows : (other : SeedKey) (seed : List ℕ) → Contains after.rows (other, seed)
       → Contains cache.rows (other, seed) ⊎ ((other ≡ key) × (result ≡ Ok seed))
+  pub still_open : AreOpen truth cache.rows → AreOpen truth after.rows
   pub size : after.size ≡ cache.size
   pub fits : length after.rows ≤ after.size

@@ -6,4 +6,5 @@ use Rattle.kr_kms.proofs.replies.read_pairs.Given as goal
 
 abbrev pub invariant-loop-key : goal.invariant-loop-key
 invariant-loop-key l =
-    pairs_with l.found (members_view l.key-iterator) ≡ pairs_with [] (members_view l.members.entries)
+    pairs_with l.found (members_view l.key-iterator)
+    ≡ pairs_with [] (members_view l.members.entries)

@@ -8,5 +8,5 @@ pub loop-pair-preserved : goal.loop-pair-preserved
 loop-pair-preserved c = below_more _ _ c.loop-pair.invariant (λ d.
     subst (λ (p : List ℕ × List ℕ). IsUtf8 p.0)
     (c.pair-item.is ∙ get_or_default c.args.pairs.now c.loop-pair.pair-index c.pair-item.result d
-      c.loop-pair-test.true)
+    c.loop-pair-test.true)
     (subst IsUtf8 c.as_str-text.ensures c.as_str-text.utf8))
