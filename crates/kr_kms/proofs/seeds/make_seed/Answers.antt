@@ -11,5 +11,5 @@ returns-in-Err-Failed-clause-made g c =
       Rose-later (g.L.Kms.link c.args.link.now).count (g.L.Kms.link c.key_id_of.new.link).count
           (g.L.Kms.link c.wrap_seed.new.link).count c.in-Ok.ensures.same.later
           (c.in-Err-Failed.ensures.asks.failed (ap Err c.in-Err-Failed.field-0-is)),
-      inr ((told.0, told.1, told.2), drawn, size, c.in-Ok-fill.ensures.bytes),
+      inr ((told.0, told.1, told.2), (drawn, size, c.in-Ok-fill.ensures.bytes)),
     )

@@ -10,7 +10,8 @@ pub returns-in-Some : goal.returns-in-Some
 returns-in-Some g c =
     let link = g.L.Kms.link in
     let old = c.args.link.now in
-    let named = λ (name : List ℕ). asked_key name c.args.key_id.now c.args.annotations.now c.args.source.now in
+    let named = λ (name : List ℕ).
+    asked_key name c.args.key_id.now c.args.annotations.now c.args.source.now in
     let same : c.in-Ok.key ≡ named (link old).name = c.in-Ok.ensures ∙ ap named c.name.ensures in
     let copied = c.copy_of.ensures in
     subst (λ key. Fetches g.L.Kms.truth link old c.args.self.now key c.in-Some.kept old
@@ -23,7 +24,8 @@ returns-in-Err g c =
     let link = g.L.Kms.link in
     let old = c.args.link.now in
     let rows = c.args.self.now.rows in
-    let named = λ (name : List ℕ). asked_key name c.args.key_id.now c.args.annotations.now c.args.source.now in
+    let named = λ (name : List ℕ).
+    asked_key name c.args.key_id.now c.args.annotations.now c.args.source.now in
     let same : c.in-Ok.key ≡ named (link old).name = c.in-Ok.ensures ∙ ap named c.name.ensures in
     let none : seed_at rows (named (link old).name) ≡ None =
     subst (λ key. seed_at rows key ≡ None) same c.in_default-copy_of.ensures.found in
@@ -39,7 +41,8 @@ returns g c =
     let old = c.args.link.now in
     let rows = c.args.self.now.rows in
     let seed = c.in-Ok-unwrap_source.seed in
-    let named = λ (name : List ℕ). asked_key name c.args.key_id.now c.args.annotations.now c.args.source.now in
+    let named = λ (name : List ℕ).
+    asked_key name c.args.key_id.now c.args.annotations.now c.args.source.now in
     let same : c.in-Ok.key ≡ named (link old).name = c.in-Ok.ensures ∙ ap named c.name.ensures in
     let none : seed_at rows (named (link old).name) ≡ None =
     subst (λ key. seed_at rows key ≡ None) same c.in_default-copy_of.ensures.found in
