@@ -6,6 +6,7 @@ mod blocks;
 mod cbc;
 mod gcm;
 mod ghash;
+mod mirror;
 pub mod laws;
 
 pub use cbc::{cbc_length, cbc_seal, cbc_unseal};
