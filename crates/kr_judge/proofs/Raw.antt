@@ -14,7 +14,8 @@ use Rattle.kr_config.specs.Nexts.{earlier, comes_after, IsNextClass}
 use Rattle.kr_config.proofs.Nexts.{classes_joined}
 use Rattle.kr_config.proofs.Narrowing.{next_in_table}
 use Rattle.kr_judge.specs.declared.generation.Generation.{Generation}
-use Rattle.kr_judge.specs.Boards.{Taken, generation_of, generations_of, is_live}
+use Rattle.kr_judge.specs.Boards.{GenerationState, is_live}
+use Rattle.kr_judge.specs.inner.Views.{generation_of, generations_of}
 use Rattle.kr_judge.specs.Tables.{table_of}
 use Rattle.kr_judge.specs.Verdicts.{judged_classes}
 use Rattle.kr_judge.proofs.Parts.{take_at_more}
@@ -23,7 +24,7 @@ use Rattle.kr_judge.proofs.Tables.{table_computes}
 abbrev with_rest : List Row → List Class
 with_rest rows = Rest ∷ classes_in rows
 
-abbrev rows_in : List Taken → List (List Row)
+abbrev rows_in : List GenerationState → List (List Row)
 rows_in generations = map (λ generation. generation.rows) (filter is_live generations)
 
 abbrev raw : List Row → List Generation → List Class

@@ -5,13 +5,12 @@ use Rattle.std.specs.List.Sorted.{IsStrictlySortedBy}
 use Rattle.std.specs.Option.{IsSomeAnd}
 use Rattle.std.specs.Ordering.{match_ordering}
 use Rattle.std.specs.Str.{bytes_eq}
-use Rattle.kr_config.specs.Kept.{Row, rows_of}
+use Rattle.kr_config.specs.Kept.{Row}
 use Rattle.kr_config.specs.Nexts.{name_cmp}
 use Rattle.kr_judge.specs.declared.need.Need.{Need}
-use Rattle.kr_judge.specs.declared.generation.Generation.{Generation}
 
 -- settings that a replica took up, by their rows; whether they are its current ones; and how many hold them
-pub record Taken : Type 0 where
+pub record GenerationState : Type 0 where
   pub replica : ℕ
   pub rows : List Row
   pub current : Bool
@@ -19,50 +18,44 @@ pub record Taken : Type 0 where
 
 -- a generation's number is its place; room is for how many generations there is room in all
 pub record BoardState : Type 0 where
-  pub generations : List Taken
+  pub generations : List GenerationState
   pub needs : List Need
   pub proposal : Option Need
   pub room : ℕ
 
-abbrev pub generation_of : Generation → Taken
-generation_of kept = record { replica = kept.replica; rows = rows_of kept.settings.entries.0; current = kept.current; holders = kept.holders }
-
-abbrev pub generations_of : List Generation → List Taken
-generations_of kept = map generation_of kept
-
 -- a generation is live while it is its replica's current one or something holds it
-abbrev pub is_live : Taken → Bool
+abbrev pub is_live : GenerationState → Bool
 is_live generation = generation.current || nat_lt 0 generation.holders
 
 -- the replica's current generation is no longer current
-abbrev pub left_by : ℕ → Taken → Taken
+abbrev pub left_by : ℕ → GenerationState → GenerationState
 left_by replica generation = record generation { current = generation.current && not (generation.replica == replica) }
 
-abbrev pub without_current : ℕ → List Taken → List Taken
+abbrev pub without_current : ℕ → List GenerationState → List GenerationState
 without_current replica generations = map (left_by replica) generations
 
--- whether the replica has a current generation
-abbrev pub is_current_of : ℕ → Taken → Bool
+-- it is the replica's current one
+abbrev pub is_current_of : ℕ → GenerationState → Bool
 is_current_of replica generation = generation.current && (generation.replica == replica)
 
-abbrev pub held_more : Taken → Taken
+abbrev pub held_more : GenerationState → GenerationState
 held_more generation = record generation { holders = generation.holders + 1 }
 
-abbrev pub held_less : Taken → Taken
+abbrev pub held_less : GenerationState → GenerationState
 held_less generation = record generation { holders = generation.holders - 1 }
 
 -- the generation of the number is changed
-abbrev pub changed_at : (Taken → Taken) → ℕ → List Taken → List Taken
+abbrev pub changed_at : (GenerationState → GenerationState) → ℕ → List GenerationState → List GenerationState
 changed_at change number [] = []
 changed_at change zero (generation ∷ generations) = change generation ∷ generations
 changed_at change (suc number) (generation ∷ generations) = generation ∷ changed_at change number generations
 
 -- it is live, and has fewer holders than can be counted
-abbrev pub MayHold : ℕ → List Taken → Type 0
+abbrev pub MayHold : ℕ → List GenerationState → Type 0
 MayHold number generations = IsSomeAnd (slice_get generations number) (λ g. IsTrue (is_live g) × (g.holders + 1 < 2 ^ 32))
 
 -- it is held
-abbrev pub IsHeld : ℕ → List Taken → Type 0
+abbrev pub IsHeld : ℕ → List GenerationState → Type 0
 IsHeld number generations = IsSomeAnd (slice_get generations number) (λ g. 0 < g.holders)
 
 -- needs stand in the order of their paths, one a path
@@ -81,7 +74,7 @@ drop_need [] path = []
 drop_need (own ∷ needs) path = if bytes_eq own.path path then needs else own ∷ drop_need needs path
 
 -- what a proposal leaves
-abbrev pub settled : Bool → List Need → Option Need → List Need
-settled keep needs None = needs
-settled true needs (Some need) = set_need needs need
-settled false needs (Some need) = needs
+abbrev pub settle_need : Bool → List Need → Option Need → List Need
+settle_need keep needs None = needs
+settle_need true needs (Some need) = set_need needs need
+settle_need false needs (Some need) = needs

@@ -2,7 +2,7 @@
 ghost use Rattle.std.specs.Prelude.{◌≡◌, ◌<◌, ◌+◌, ◌^◌, [], ◌∷◌, ◌++◌, length, true, IsTrue, None, Some, IsSome, IfOk, OnOk, OnErr, MatchResult, ◌≢◌};
 ghost use Rattle.std.specs.List.{list_any};
 ghost use Rattle.kr_config.specs.Kept.{rows_of};
-ghost use Rattle.kr_judge.specs.Boards.{without_current, is_current_of, held_more, held_less, changed_at, MayHold, IsHeld, AreByPath, set_need, drop_need, settled};
+ghost use Rattle.kr_judge.specs.Boards.{without_current, is_current_of, held_more, held_less, changed_at, MayHold, IsHeld, AreByPath, set_need, drop_need, settle_need};
 ghost use Rattle.kr_judge.specs.Verdicts.{verdict};
 ghost use Rattle.kr_judge.specs.declared.verdict.Verdict.TheVariants.{Pass};
 
@@ -31,7 +31,8 @@ pub struct Board {
 impl Model for Board {
     ghost use Rattle.std.specs.Prelude.{◌<◌, ◌≤◌, vec_len, vec_capacity, ⊤};
     ghost use Rattle.std.specs.Prelude.{MatchOption};
-    ghost use Rattle.kr_judge.specs.Boards.{BoardState, generations_of, AreByPath};
+    ghost use Rattle.kr_judge.specs.Boards.{BoardState, AreByPath};
+    ghost use Rattle.kr_judge.specs.inner.Views.{generations_of};
 
     ghost Value = { BoardState };
 
@@ -94,7 +95,7 @@ impl Board {
     #[tactic(auto, using(crate::proofs::Needs::sorted_set))]
     pub fn settle(&mut self, keep: bool)
         requires { IsSome self.old.proposal }
-        ensures { self.new ≡ record self.old { needs = settled keep self.old.needs self.old.proposal; proposal = None } }
+        ensures { self.new ≡ record self.old { needs = settle_need keep self.old.needs self.old.proposal; proposal = None } }
     {
         let Some(need) = self.proposal.take() else {
             return;

@@ -1,6 +1,7 @@
 //! Changes of kept generations.
 ghost use Rattle.std.specs.Prelude.{◌≡◌, vec_len, vec_capacity};
-ghost use Rattle.kr_judge.specs.Boards.{generations_of, without_current, held_more, held_less, changed_at, MayHold, IsHeld};
+ghost use Rattle.kr_judge.specs.Boards.{without_current, held_more, held_less, changed_at, MayHold, IsHeld};
+ghost use Rattle.kr_judge.specs.inner.Views.{generations_of};
 
 use crate::generation::Generation;
 

@@ -3,8 +3,8 @@ ghost use Rattle.std.specs.Prelude.{◌≡◌, ◌≢◌, ◌<◌, ◌^◌, leng
 ghost use Rattle.std.specs.Option.{option_map};
 ghost use Rattle.kr_config.specs.Kept.{rows_of};
 ghost use Rattle.kr_config.specs.Nexts.{lent_class};
-ghost use Rattle.kr_judge.specs.Boards.{generations_of};
-ghost use Rattle.kr_judge.specs.Verdicts.{dropped, lost_writers, unread_writers, first, verdict_of};
+ghost use Rattle.kr_judge.specs.inner.Views.{generations_of};
+ghost use Rattle.kr_judge.specs.Verdicts.{dropped_needs, lost_writers, unread_writers, first, verdict_of};
 ghost use Rattle.kr_judge.specs.declared.verdict.Verdict.TheVariants.{Pass, DropsStored, DropsWriter, Unread};
 
 use crate::class_walk::first_unread;
@@ -19,7 +19,7 @@ use std::alloc::Global;
 /// The first need that the new settings don't read.
 #[tactic(auto, using(crate::proofs::Walks::needs_begin, crate::proofs::Walks::need_skips, crate::proofs::Walks::need_found, crate::proofs::Walks::needs_end))]
 pub fn first_dropped<'a>(needs: &'a [Need], settings: &Settings) -> Option<&'a Need>
-    ensures { option_map (λ need. need.now) result ≡ first (dropped (rows_of settings.now.entries.0) needs.now) }
+    ensures { option_map (λ need. need.now) result ≡ first (dropped_needs (rows_of settings.now.entries.0) needs.now) }
 {
     for need in needs {
         if !has(settings.list_for(need.resource.as_str()), &need.who) {
@@ -99,7 +99,7 @@ pub fn drops_writer(
     })
 }
 
-pub fn isnt_read(
+pub fn unread_by(
     alloc: Global,
     generation: u32,
     class: BorrowedClass<'_>,
@@ -137,7 +137,7 @@ pub fn judge(
         None => {}
     }
     match first_unread_writer(generations, replica, settings) {
-        Some((generation, class, who)) => return isnt_read(alloc, generation, class, who),
+        Some((generation, class, who)) => return unread_by(alloc, generation, class, who),
         None => {}
     }
     Ok(Verdict::Pass)
