@@ -1,6 +1,6 @@
 -- The state of a board: the generations of settings, the needs of what is stored, and a proposal.
-use Rattle.std.specs.Prelude.{ℕ, zero, suc, ◌<◌, ◌+◌, ◌^◌, ◌-◌, ◌==◌, ◌&&◌, ◌||◌, nat_lt, not, Bool, true, false, IsTrue, if◌then◌else◌, List, [], ◌∷◌, Option, None, Some, map}
-use Rattle.std.specs.List.{slice_get}
+use Rattle.std.specs.Prelude.{ℕ, zero, suc, ◌<◌, ◌≤◌, ◌+◌, ◌^◌, ◌-◌, ◌==◌, ◌&&◌, ◌||◌, nat_lt, not, Bool, true, false, IsTrue, if◌then◌else◌, List, [], ◌∷◌, length, Option, None, Some, map}
+use Rattle.std.specs.List.{slice_get, filter, find}
 use Rattle.std.specs.List.Sorted.{IsStrictlySortedBy}
 use Rattle.std.specs.Option.{IsSomeAnd}
 use Rattle.std.specs.Ordering.{match_ordering}
@@ -29,7 +29,8 @@ is_live generation = generation.current || nat_lt 0 generation.holders
 
 -- the replica's current generation is no longer current
 abbrev pub left_by : ℕ → GenerationState → GenerationState
-left_by replica generation = record generation { current = generation.current && not (generation.replica == replica) }
+left_by replica generation =
+    record generation { current = generation.current && not (generation.replica == replica) }
 
 abbrev pub without_current : ℕ → List GenerationState → List GenerationState
 without_current replica generations = map (left_by replica) generations
@@ -52,21 +53,34 @@ changed_at change (suc number) (generation ∷ generations) = generation ∷ cha
 
 -- it is live, and has fewer holders than can be counted
 abbrev pub MayHold : ℕ → List GenerationState → Type 0
-MayHold number generations = IsSomeAnd (slice_get generations number) (λ g. IsTrue (is_live g) × (g.holders + 1 < 2 ^ 32))
+MayHold number generations = IsSomeAnd (slice_get generations number)
+    (λ generation. IsTrue (is_live generation) × (generation.holders + 1 < 2 ^ 32))
 
 -- it is held
 abbrev pub IsHeld : ℕ → List GenerationState → Type 0
-IsHeld number generations = IsSomeAnd (slice_get generations number) (λ g. 0 < g.holders)
+IsHeld number generations =
+    IsSomeAnd (slice_get generations number) (λ generation. 0 < generation.holders)
+
+-- a replica has at most one current generation
+abbrev pub HasOneCurrent : List GenerationState → Type 0
+HasOneCurrent generations =
+    (replica : ℕ) → length (filter (is_current_of replica) generations) ≤ 1
 
 -- needs stand in the order of their paths, one a path
 abbrev pub AreByPath : List Need → Type 0
 AreByPath needs = IsStrictlySortedBy name_cmp (map (λ need. need.path) needs)
 
+-- what is needed at the path
+abbrev pub need_at : List Need → List ℕ → Option Need
+need_at needs path = find (λ need. bytes_eq need.path path) needs
+
 -- with this need at its path's place, instead of one that is there
 abbrev pub set_need : List Need → Need → List Need
 set_need [] need = need ∷ []
-set_need (own ∷ needs) need =
-    match_ordering (name_cmp need.path own.path) (need ∷ own ∷ needs) (need ∷ needs) (own ∷ set_need needs need)
+set_need (own ∷ needs) need = match_ordering (name_cmp need.path own.path)
+    (need ∷ own ∷ needs)
+    (need ∷ needs)
+    (own ∷ set_need needs need)
 
 -- without the need of the path
 abbrev pub drop_need : List Need → List ℕ → List Need
