@@ -1,5 +1,5 @@
 -- A replica has at most one current generation.
-use Rattle.std.proofs.Common.{◌≡◌, ℕ, zero, suc, ◌≤◌, ◌+◌, Bool, true, false, List, [], ◌∷◌, ◌++◌, length, refl, ap, subst, sym, arith}
+use Rattle.std.proofs.Common.{◌≡◌, ℕ, zero, suc, ◌≤◌, ◌+◌, Bool, true, false, List, [], ◌∷◌, ◌++◌, length, refl, ap, subst, sym, ◌∙◌, arith}
 use Rattle.std.specs.Prelude.{◌==◌, ◌&&◌, not, cond}
 use Rattle.std.specs.List.{filter}
 use Rattle.std.proofs.lemmas.Bool.Decides.{Decides-eqb}
@@ -12,6 +12,7 @@ abbrev currents : ℕ → List GenerationState → ℕ
 currents replica generations = length (filter (is_current_of replica) generations)
 
 pub one_nil : HasOneCurrent []
+unfolding HasOneCurrent
 one_nil replica = omega arith
 
 fewer : (replica gone : ℕ) (generations : List GenerationState) → currents replica (without_current gone generations) ≤ currents replica generations
@@ -38,21 +39,34 @@ none gone (g ∷ gs) = by g.current (g.replica == gone) (none gone gs)
     by false left h = h
 
 pub one_left : (gone : ℕ) (generations : List GenerationState) → HasOneCurrent generations → HasOneCurrent (without_current gone generations)
+unfolding HasOneCurrent
 one_left gone generations one replica = omega (arith, fewer replica gone generations, one replica)
 
-pub one_added : (replica : ℕ) (generations : List GenerationState) (rows : List Row) → HasOneCurrent generations
-    → HasOneCurrent (without_current replica generations ++ record { replica = replica; rows = rows; current = true; holders = 0 } ∷ [])
-one_added replica generations rows one other = by (replica == other) refl
+with_new : (replica : ℕ) (generations : List GenerationState) (new : GenerationState) (other : ℕ) (v : Bool) → is_current_of other new ≡ v
+    → currents other (without_current replica generations ++ new ∷ []) ≡ currents other (without_current replica generations) + length (cond v (new ∷ []) [])
+with_new replica generations new other v e = ap length (filter-append (is_current_of other) (without_current replica generations) (new ∷ []))
+    ∙ length-append (filter (is_current_of other) (without_current replica generations)) (filter (is_current_of other) (new ∷ []))
+    ∙ ap (λ t. currents other (without_current replica generations) + length (cond t (new ∷ []) [])) e
+
+still_one : (replica : ℕ) (generations : List GenerationState) (new : GenerationState) → new.current ≡ true → new.replica ≡ replica → currents replica generations ≤ 1 → (other : ℕ) → currents other generations ≤ 1
+    → currents other (without_current replica generations ++ new ∷ []) ≤ 1
+still_one replica generations new current own one other less = by (new.replica == other) refl
   where
-    new : GenerationState
-    new = record { replica = replica; rows = rows; current = true; holders = 0 }
-    all : (v : Bool) → (replica == other) ≡ v → currents other (without_current replica generations ++ new ∷ []) ≡ currents other (without_current replica generations) + length (cond v (new ∷ []) [])
-    all v e = ap length (filter-append (is_current_of other) (without_current replica generations) (new ∷ []))
-        ∙ length-append (filter (is_current_of other) (without_current replica generations)) (filter (is_current_of other) (new ∷ []))
-        ∙ ap (λ t. currents other (without_current replica generations) + length (cond t (new ∷ []) [])) e
-    by : (v : Bool) → (replica == other) ≡ v → currents other (without_current replica generations ++ new ∷ []) ≤ 1
-    by true e = omega (arith, all true e, ap length (subst (λ r. filter (is_current_of other) (without_current r generations) ≡ []) (sym ((Decides-eqb replica other).0 e)) (none other generations)))
-    by false e = omega (arith, all false e, fewer other replica generations, one other)
+    is : is_current_of other new ≡ (new.replica == other)
+    is = ap (λ v. v && (new.replica == other)) current
+
+    by : (v : Bool) → (new.replica == other) ≡ v → currents other (without_current replica generations ++ new ∷ []) ≤ 1
+    by true e =
+        let same : replica ≡ other = sym own ∙ (Decides-eqb new.replica other).0 e in
+        let gone : filter (is_current_of other) (without_current replica generations) ≡ [] = subst (λ r. filter (is_current_of other) (without_current r generations) ≡ []) (sym same) (none other generations) in
+        omega (arith, with_new replica generations new other true (is ∙ e), ap length gone)
+    by false e = omega (arith, with_new replica generations new other false (is ∙ e), fewer other replica generations, less)
+
+pub one_added : (replica : ℕ) (generations all : List GenerationState) (rows : List Row) → HasOneCurrent generations
+    → all ≡ without_current replica generations ++ record { replica = replica; rows = rows; current = true; holders = 0 } ∷ [] → HasOneCurrent all
+unfolding HasOneCurrent
+one_added replica generations all rows one is = subst HasOneCurrent (sym is)
+    (λ other. still_one replica generations (record { replica = replica; rows = rows; current = true; holders = 0 }) refl refl (one replica) other (one other))
 
 same_end : (u v : Bool) (x y : GenerationState) (xs ys : List GenerationState) → u ≡ v → length xs ≡ length ys → length (cond u (x ∷ xs) xs) ≡ length (cond v (y ∷ ys) ys)
 same_end true true x y xs ys e h = omega (arith, h)
@@ -67,7 +81,9 @@ changed change replica same zero (g ∷ gs) = same_end (is_current_of replica (c
 changed change replica same (suc number) (g ∷ gs) = same_end (is_current_of replica g) (is_current_of replica g) g g (filter (is_current_of replica) (changed_at change number gs)) (filter (is_current_of replica) gs) refl (changed change replica same number gs)
 
 pub one_held : (number : ℕ) (generations : List GenerationState) → HasOneCurrent generations → HasOneCurrent (changed_at held_more number generations)
+unfolding HasOneCurrent
 one_held number generations one replica = omega (arith, changed held_more replica (λ g. refl) number generations, one replica)
 
 pub one_released : (number : ℕ) (generations : List GenerationState) → HasOneCurrent generations → HasOneCurrent (changed_at held_less number generations)
+unfolding HasOneCurrent
 one_released number generations one replica = omega (arith, changed held_less replica (λ g. refl) number generations, one replica)

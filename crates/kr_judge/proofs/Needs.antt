@@ -160,11 +160,11 @@ unlike a b path h e = by (bytes_eq a path) refl
     by : (v : Bool) → bytes_eq a path ≡ v → v ≡ false
     by false k = refl
     by true k = absurd (
-      let same : a ≡ b = (bytes_eq-Decides a path).0 k ∙ sym ((bytes_eq-Decides b path).0 e) in
-      let greater : name_cmp b b ≡ Greater = subst (λ p. name_cmp p b ≡ Greater) same h in
-      let equal : name_cmp b b ≡ Equal = tied_itself nat_list_cmp_total b in
-      let clash : Equal ≡ Greater = sym equal ∙ greater in cc
-    )
+        let same : a ≡ b = (bytes_eq-Decides a path).0 k ∙ sym ((bytes_eq-Decides b path).0 e) in
+        let greater : name_cmp b b ≡ Greater = subst (λ p. name_cmp p b ≡ Greater) same h in
+        let equal : name_cmp b b ≡ Equal = tied_itself nat_list_cmp_total b in
+        let clash : Equal ≡ Greater = sym equal ∙ greater in cc
+        )
 
 pub set_at : SetAtPath
 set_at [] need path = refl
@@ -198,16 +198,16 @@ none_above path (own ∷ needs) all = ap (λ t. cond t (Some own) (need_at needs
         by : (v : Bool) → bytes_eq b a ≡ v → v ≡ false
         by false k = refl
         by true k = absurd (
-          let less : name_cmp a a ≡ Less = subst (λ p. name_cmp a p ≡ Less) ((bytes_eq-Decides b a).0 k) h in
-          let equal : name_cmp a a ≡ Equal = tied_itself nat_list_cmp_total a in
-          let clash : Equal ≡ Less = sym equal ∙ less in cc
-        )
+            let less : name_cmp a a ≡ Less = subst (λ p. name_cmp a p ≡ Less) ((bytes_eq-Decides b a).0 k) h in
+            let equal : name_cmp a a ≡ Equal = tied_itself nat_list_cmp_total a in
+            let clash : Equal ≡ Less = sym equal ∙ less in cc
+            )
 
 pub drop_at_path : DropAtPath
 unfolding IsStrictlySortedBy
 drop_at_path [] gone path s = by (bytes_eq gone path)
   where
-    by : (v : Bool) → None ≡ (if v then None {Need} else None)
+    by : (v : Bool) → need_at [] path ≡ (if v then None else need_at [] path)
     by true = refl
     by false = refl
 drop_at_path (own ∷ needs) gone path s = by (bytes_eq own.path gone) refl (bytes_eq gone path) refl (bytes_eq own.path path) refl (drop_at_path needs gone path s.1)
@@ -224,8 +224,8 @@ drop_at_path (own ∷ needs) gone path s = by (bytes_eq own.path gone) refl (byt
     by false h v e false k rest = ap (λ t. cond t (Some own) (need_at (drop_need needs gone) path)) k ∙ rest
         ∙ sym (ap (λ o. cond (bytes_eq gone path) None o) (ap (λ t. cond t (Some own) (need_at needs path)) k))
     by false h true e true k rest = absurd (
-      let same : own.path ≡ gone = (bytes_eq-Decides own.path path).0 k ∙ sym ((bytes_eq-Decides gone path).0 e) in
-      let clash : true ≡ false = sym ((bytes_eq-Decides own.path gone).1 same) ∙ h in cc
-    )
+        let same : own.path ≡ gone = (bytes_eq-Decides own.path path).0 k ∙ sym ((bytes_eq-Decides gone path).0 e) in
+        let clash : true ≡ false = sym ((bytes_eq-Decides own.path gone).1 same) ∙ h in cc
+        )
     by false h false e true k rest = ap (λ t. cond t (Some own) (need_at (drop_need needs gone) path)) k
         ∙ sym (ap (λ t. cond t None (need_at (own ∷ needs) path)) e ∙ ap (λ t. cond t (Some own) (need_at needs path)) k)

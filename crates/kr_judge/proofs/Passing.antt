@@ -30,7 +30,7 @@ reads (writer ∷ writers) readers h who e = by (has readers writer) refl h
 
 is_read : (writers readers : List Who) → ReadsWriter writers readers → unread_writer writers readers ≡ None
 is_read [] readers h = refl
-is_read (writer ∷ writers) readers h = ap (λ (v : Bool). if v then None {Who} else Some writer) ((has_members readers writer).1 (h writer refl))
+is_read (writer ∷ writers) readers h = ap (λ (v : Bool). if v then None else Some writer) ((has_members readers writer).1 (h writer refl))
 
 -- at all classes
 abbrev AllRead : List Class → (writing reading : List Row) → Type 0
@@ -120,12 +120,12 @@ nothing_said needs generations replica rows h =
 pub passes_exactly : PassesExactly
 passes_exactly needs generations replica rows = (
   λ h. (
-    let parts = nothing_said needs generations replica rows h in record {
-      stored = stored_read rows needs parts.0;
-      writers = λ other class there of. writers_read replica rows generations parts.1 other there class of;
-      readers = λ other class there of. readers_read replica rows generations parts.2 other there class of;
-    }
-  ),
+      let parts = nothing_said needs generations replica rows h in record {
+        stored = stored_read rows needs parts.0;
+        writers = λ other class there of. writers_read replica rows generations parts.1 other there class of;
+        readers = λ other class there of. readers_read replica rows generations parts.2 other there class of;
+      }
+      ),
   λ fits. sym (passes needs generations replica rows
       (sym (ap first (none_dropped rows needs fits.stored)))
       (sym (ap first (no_writers replica rows generations (λ other there class of. fits.writers other class there of))))

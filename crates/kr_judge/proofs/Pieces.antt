@@ -5,6 +5,12 @@ use Rattle.std.proofs.lemmas.List.{take-append-le, drop_all, length-append}
 use Rattle.std.specs.Io.KnownBytes.{Appends}
 use Rattle.std.proofs.KnownBytes.{Appends-trans}
 use Rattle.kr_base.specs.Streams.{AppendsFront}
+use Rattle.std.specs.Prelude.{codes, decimal, []}
+use Rattle.kr_config.specs.declared.class.Class.{Class}
+use Rattle.kr_config.specs.declared.who.Who.{Who}
+use Rattle.kr_judge.specs.declared.verdict.Verdict.{Verdict}
+use Rattle.kr_judge.specs.declared.verdict.Verdict.TheVariants.{DropsStored, DropsWriter}
+use Rattle.kr_judge.specs.Texts.{who_text, class_text, place_text, verdict_text}
 use Rattle.kr_judge.specs.inner.Pieces.{joined}
 
 -- the first pieces were written, and how many bytes they are in all is left open
@@ -41,3 +47,19 @@ spoke-front {a} {b} {pieces} {i} c d next s h e (n, short, appended) =
 
 pub spoke-all : {a b : Option (List ℕ)} {pieces : List (Bor (List ℕ))} {i faults count : ℕ} → Spoke a b pieces i faults count → length pieces ≤ i → Appends a b (joined pieces)
 spoke-all {a} {b} {pieces} {i} s h = subst (Appends a b) (sym (s.split ∙ ap (λ l. s.written ++ joined l) (drop_all i pieces h) ∙ append-nil s.written)) s.appended
+
+-- the pieces of a verdict's text
+pub stored_pieces : (shown path kind name : List ℕ) (who : Who) → shown ≡ path → kind ++ name ≡ who_text who → codes "drops-stored " ++ (shown ++ (codes " " ++ (kind ++ (name ++ [])))) ≡ verdict_text (DropsStored path who)
+stored_pieces shown path kind name who is named =
+    ap (λ l. codes "drops-stored " ++ (shown ++ (codes " " ++ l))) (ap (λ n. kind ++ n) (append-nil name) ∙ named)
+    ∙ ap (λ p. codes "drops-stored " ++ (p ++ (codes " " ++ who_text who))) is
+
+pub placed_pieces : (reason digits all text kind name : List ℕ) (class : Class) (who : Who) → all ++ text ≡ class_text class → kind ++ name ≡ who_text who
+    → reason ++ (digits ++ (codes " " ++ (all ++ (text ++ (codes " " ++ (kind ++ (name ++ []))))))) ≡ reason ++ place_text digits class who
+placed_pieces reason digits all text kind name class who shown named =
+    ap (λ l. reason ++ (digits ++ (codes " " ++ (all ++ (text ++ (codes " " ++ l)))))) (ap (λ n. kind ++ n) (append-nil name) ∙ named)
+    ∙ ap (λ l. reason ++ (digits ++ (codes " " ++ l))) (sym (append_assoc all text (codes " " ++ who_text who)) ∙ ap (λ t. t ++ (codes " " ++ who_text who)) shown)
+
+pub writer_text : (verdict : Verdict) (generation : ℕ) (class : Class) (who : Who) (digits : List ℕ) → verdict ≡ DropsWriter generation class who → digits ≡ decimal generation
+    → codes "drops-writer " ++ place_text digits class who ≡ verdict_text verdict
+writer_text verdict generation class who digits is named = ap (λ d. codes "drops-writer " ++ place_text d class who) named ∙ sym (ap verdict_text is)

@@ -1,7 +1,7 @@
 -- The classes of some settings in their order are their table, and what comes next in it.
 use Rattle.std.proofs.Common.{◌≡◌, ◌≢◌, zero, suc, Bool, true, false, List, [], ◌∷◌, Option, None, Some, All, Contains, refl, sym, ap, subst, ◌∙◌, ◌⊎◌, inl, inr, arith}
 use Rattle.std.specs.List.{AllByRecursion, filter, flat_map}
-use Rattle.std.specs.Prelude.{cond, IsTrue}
+use Rattle.std.specs.Prelude.{cond, IsTrue, ◌↔◌}
 use Rattle.std.specs.List.Sorted.{IsStrictlySortedBy}
 use Rattle.std.specs.Ordering.{match_ordering, ordering_reverse, is_eq, is_lt}
 use Rattle.std.specs.declared.cmp.Ordering.{Ordering}
@@ -10,14 +10,13 @@ use Rattle.std.proofs.lemmas.Map.Text.{is_eq-slice_cmp}
 use Rattle.std.proofs.lemmas.Slice.Eq.{bytes_eq-Decides}
 use Rattle.std.proofs.lemmas.Cmp.{tied_itself}
 use Rattle.std.specs.BTreeSet.{BTreeSet, insert_key, contains}
-use Rattle.std.specs.Layout.BTreeSet.{btree_set}
 use Rattle.std.proofs.lemmas.Map.Lookups.{btree_set_from_contains}
 use Rattle.std.proofs.lemmas.Map.Views.{btree_set_contains_iff}
 use Rattle.std.proofs.lemmas.List.Elements.{All-head, All-tail}
 use Rattle.kr_config.specs.declared.class.Class.{Class}
 use Rattle.kr_config.specs.declared.class.Class.TheVariants.{Exact, Group, Rest}
 use Rattle.kr_config.specs.Kept.{Row}
-use Rattle.kr_config.specs.Classes.{class_cmp, classes_in}
+use Rattle.kr_config.specs.Classes.{class_cmp, classes_in, IsTableOf}
 use Rattle.kr_config.specs.Nexts.{comes_after, IsNextClass}
 use Rattle.kr_config.proofs.Orders.{class_total}
 use Rattle.kr_judge.specs.Tables.{in_order, table_of}
@@ -115,10 +114,10 @@ one_truth false false h k = refl
 
 one_table : (added : List (List Row)) (one other : List Class) → IsTableOf added one → IsTableOf added other → one ≡ other
 one_table added one other a b =
-    let s : BTreeSet Class = btree_set one in
-    let t : BTreeSet Class = btree_set other in
-    let in_one = λ q. btree_set_contains_iff class_total equal_class s q in
-    let in_other = λ q. btree_set_contains_iff class_total equal_class t q in
+    let s : BTreeSet Class = record { keys = one } in
+    let t : BTreeSet Class = record { keys = other } in
+    let in_one : (q : Class) → IsTrue (contains class_cmp s q) ↔ Contains one q = btree_set_contains_iff class_total equal_class s in
+    let in_other : (q : Class) → IsTrue (contains class_cmp t q) ↔ Contains other q = btree_set_contains_iff class_total equal_class t in
     btree_set_from_contains class_total s t a.ascends b.ascends
     (λ q. one_truth (contains class_cmp s q) (contains class_cmp t q)
     (λ h. (in_other q).1 ((b.members q).1 ((a.members q).0 ((in_one q).0 h))))

@@ -62,7 +62,7 @@ IsHeld number generations =
     IsSomeAnd (slice_get generations number) (λ generation. 0 < generation.holders)
 
 -- a replica has at most one current generation
-abbrev pub HasOneCurrent : List GenerationState → Type 0
+unfoldable pub HasOneCurrent : List GenerationState → Type 0
 HasOneCurrent generations =
     (replica : ℕ) → length (filter (is_current_of replica) generations) ≤ 1
 

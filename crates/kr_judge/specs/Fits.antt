@@ -1,5 +1,5 @@
 -- What new settings of a replica and the others must read.
-use Rattle.std.specs.Prelude.{◌≡◌, ℕ, ◌×◌, List, Contains, Option, Some}
+use Rattle.std.specs.Prelude.{◌≡◌, ℕ, List, Contains, Some}
 use Rattle.kr_config.specs.declared.class.Class.{Class}
 use Rattle.kr_config.specs.declared.who.Who.{Who}
 use Rattle.kr_config.specs.Kept.{Row}

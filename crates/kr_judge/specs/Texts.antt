@@ -20,14 +20,15 @@ class_text (Exact text) = text
 class_text (Group group) = codes "*." ++ group
 class_text Rest = codes "*.*"
 
--- a generation by its number, a class, and a provider
-abbrev pub place_text : ℕ → Class → Who → List ℕ
-place_text generation class who =
-    decimal generation ++ (codes " " ++ (class_text class ++ (codes " " ++ who_text who)))
+-- a generation by its digits, a class, and a provider
+abbrev pub place_text : List ℕ → Class → Who → List ℕ
+place_text digits class who =
+    digits ++ (codes " " ++ (class_text class ++ (codes " " ++ who_text who)))
 
 abbrev pub verdict_text : Verdict → List ℕ
 verdict_text Pass = codes "pass"
 verdict_text (DropsStored path who) = codes "drops-stored " ++ (path ++ (codes " " ++ who_text who))
 verdict_text (DropsWriter generation class who) =
-    codes "drops-writer " ++ place_text generation class who
-verdict_text (Unread generation class who) = codes "unread " ++ place_text generation class who
+    codes "drops-writer " ++ place_text (decimal generation) class who
+verdict_text (Unread generation class who) =
+    codes "unread " ++ place_text (decimal generation) class who

@@ -29,7 +29,7 @@ pub struct Board {
 }
 
 impl Model for Board {
-    ghost use Rattle.std.specs.Prelude.{◌<◌, ◌≤◌, ◌^◌, vec_len, vec_capacity, ⊤};
+    ghost use Rattle.std.specs.Prelude.{◌<◌, ◌≤◌, vec_len, vec_capacity, ⊤};
     ghost use Rattle.std.specs.Prelude.{MatchOption};
     ghost use Rattle.kr_judge.specs.Boards.{BoardState, HasOneCurrent, AreByPath};
     ghost use Rattle.kr_judge.specs.inner.Views.{generations_of};
@@ -45,7 +45,6 @@ impl Model for Board {
 
     ghost invariant = { λ board. AreByPath board.needs.items
         × HasOneCurrent (generations_of board.generations.items)
-        × (vec_len board.generations < 2 ^ 32)
         × (vec_len board.generations ≤ board.room)
         × (board.room ≤ vec_capacity board.generations)
         × MatchOption board.proposal ⊤ (λ _. vec_len board.needs < vec_capacity board.needs) };
@@ -145,13 +144,7 @@ impl Board {
         } }
     {
         let number = self.generations.len() as u32;
-        holding::leave(&mut self.generations, replica);
-        self.generations.push_reserved(Generation {
-            replica,
-            settings,
-            current: true,
-            holders: 0,
-        });
+        holding::add(&mut self.generations, replica, settings);
         number
     }
 
@@ -193,7 +186,10 @@ impl Board {
         ensures by_path { AreByPath self.now.needs }
         ensures one_current { HasOneCurrent self.now.generations }
         ensures fits { length self.now.generations ≤ self.now.room }
-    {}
+    {
+        // Read, so that the check sees the fields.
+        let _room = self.room;
+    }
 
     /// The first reason against new settings of the replica. It looks at the state that taking them up would make.
     pub fn judge(&self, replica: u32, settings: &Settings) -> Result<Verdict, NoMemory>
@@ -201,9 +197,12 @@ impl Board {
             (λ told. told ≡ verdict self.now replica (rows_of settings.now.entries.0))
             (λ _. verdict self.now replica (rows_of settings.now.entries.0) ≢ Pass) }
     {
+        // Read, so that its range is known: there are at most so many generations.
+        let _room = self.room;
+        let generations = self.generations.as_slice();
         judging::judge(
             self.alloc,
-            self.generations.as_slice(),
+            generations,
             self.needs.as_slice(),
             replica,
             settings,

@@ -89,14 +89,19 @@ pub fn judge(
         (λ told. told ≡ verdict_of needs.now (generations_of generations.now) replica (rows_of settings.now.entries.0))
         (λ _. verdict_of needs.now (generations_of generations.now) replica (rows_of settings.now.entries.0) ≢ Pass) }
 {
-    if let Some(need) = first_dropped(needs, settings) {
-        return Verdict::drops_stored(alloc, need.path.as_str(), &need.who);
+    match first_dropped(needs, settings) {
+        Some(need) => return Verdict::drops_stored(alloc, &need.path, &need.who),
+        None => {}
     }
-    if let Some((generation, class, who)) = first_lost_writer(generations, replica, settings) {
-        return Verdict::drops_writer(alloc, generation, class, who);
+    match first_lost_writer(generations, replica, settings) {
+        Some((generation, class, who)) => {
+            return Verdict::drops_writer(alloc, generation, class, who);
+        }
+        None => {}
     }
-    if let Some((generation, class, who)) = first_unread_writer(generations, replica, settings) {
-        return Verdict::unread(alloc, generation, class, who);
+    match first_unread_writer(generations, replica, settings) {
+        Some((generation, class, who)) => return Verdict::unread(alloc, generation, class, who),
+        None => {}
     }
     Ok(Verdict::Pass)
 }

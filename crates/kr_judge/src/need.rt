@@ -15,7 +15,12 @@ pub struct Need {
 
 impl Need {
     /// A need of copies of its parts.
-    pub(crate) fn copy(alloc: Global, path: &str, resource: &str, who: &Who) -> Result<Need, NoMemory>
+    pub(crate) fn copy(
+        alloc: Global,
+        path: &str,
+        resource: &str,
+        who: &Who,
+    ) -> Result<Need, NoMemory>
         ensures { IfOk result (λ need. need ≡ record {
           path = path.now;
           resource = resource.now;

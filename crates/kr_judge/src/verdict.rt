@@ -33,11 +33,11 @@ pub enum Verdict {
 
 impl Verdict {
     /// `DropsStored` of copies of its parts.
-    pub(crate) fn drops_stored(alloc: Global, path: &str, who: &Who) -> Result<Verdict, NoMemory>
+    pub(crate) fn drops_stored(alloc: Global, path: &Text, who: &Who) -> Result<Verdict, NoMemory>
         ensures { IfOk result (λ verdict. verdict ≡ DropsStored path.now who.now) }
     {
         Ok(Verdict::DropsStored {
-            path: Text::copy(alloc, path)?,
+            path: Text::copy(alloc, path.as_str())?,
             who: who.copy(alloc)?,
         })
     }
@@ -82,13 +82,17 @@ impl Verdict {
     {
         match self {
             Verdict::Pass => Ok(Verdict::Pass),
-            Verdict::DropsStored { path, who } => Verdict::drops_stored(alloc, path.as_str(), who),
-            Verdict::DropsWriter { generation, class, who } => {
-                Verdict::drops_writer(alloc, *generation, class.borrowed(), who)
-            }
-            Verdict::Unread { generation, class, who } => {
-                Verdict::unread(alloc, *generation, class.borrowed(), who)
-            }
+            Verdict::DropsStored { path, who } => Verdict::drops_stored(alloc, path, who),
+            Verdict::DropsWriter {
+                generation,
+                class,
+                who,
+            } => { Verdict::drops_writer(alloc, *generation, class.borrowed(), who) }
+            Verdict::Unread {
+                generation,
+                class,
+                who,
+            } => { Verdict::unread(alloc, *generation, class.borrowed(), who) }
         }
     }
 }

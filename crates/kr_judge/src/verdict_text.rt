@@ -3,12 +3,13 @@ ghost use Rattle.std.specs.Prelude.{◌≡◌, ◌++◌, OnOk, OnErr, codes};
 ghost use Rattle.std.specs.Io.KnownBytes.{Appends};
 ghost use Rattle.kr_base.specs.Faults.{IsCounted};
 ghost use Rattle.kr_base.specs.Streams.{AppendsFront};
+ghost use Rattle.kr_judge.specs.declared.verdict.Verdict.TheVariants.{DropsStored};
 ghost use Rattle.kr_judge.specs.Texts.{who_text, class_text, place_text, verdict_text};
 ghost use Rattle.kr_judge.specs.inner.Pieces.{joined};
 
 use crate::verdict::Verdict;
 use itoa::Buffer;
-use kr_base::{Failed, Sink, write_all};
+use kr_base::{Failed, Sink, Text, write_all};
 use kr_config::{Class, Who};
 
 impl Verdict {
@@ -22,43 +23,62 @@ impl Verdict {
     {
         match self {
             Verdict::Pass => write_all(sink, b"pass"),
-            Verdict::DropsStored { path, who } => {
-                let (kind, name) = who_words(who);
-                write_each(sink, &["drops-stored ", path.as_str(), " ", kind, name])
+            Verdict::DropsStored { path, who } => write_stored(sink, path, who),
+            Verdict::DropsWriter {
+                generation,
+                class,
+                who,
+            } => {
+                let mut buffer = Buffer::new();
+                let digits = buffer.format(*generation);
+                write_placed(sink, "drops-writer ", digits, class, who)
             }
-            Verdict::DropsWriter { generation, class, who } => {
-                write_placed(sink, "drops-writer ", *generation, class, who)
-            }
-            Verdict::Unread { generation, class, who } => {
-                write_placed(sink, "unread ", *generation, class, who)
+            Verdict::Unread {
+                generation,
+                class,
+                who,
+            } => {
+                let mut buffer = Buffer::new();
+                let digits = buffer.format(*generation);
+                write_placed(sink, "unread ", digits, class, who)
             }
         }
     }
 }
 
-/// Writes a reason's name, and behind it a generation, a class and a provider.
-fn write_placed<S: Sink>(
-    sink: &mut S,
-    name: &str,
-    generation: u32,
-    class: &Class,
-    who: &Who,
-) -> Result<(), Failed>
-    ensures ok { OnOk result
-        (Appends (S.held sink.old) (S.held sink.new) (name.now ++ place_text generation class.now who.now)) }
-    ensures err { OnErr result
-        (AppendsFront (S.held sink.old) (S.held sink.new) (name.now ++ place_text generation class.now who.now)) }
+/// Writes a reason about what is stored.
+fn write_stored<'a, S: Sink>(sink: &mut S, path: &'a Text, who: &'a Who) -> Result<(), Failed>
+    ensures ok { OnOk result (Appends (S.held sink.old) (S.held sink.new)
+        (verdict_text (DropsStored path.now who.now))) }
+    ensures err { OnErr result (AppendsFront (S.held sink.old) (S.held sink.new)
+        (verdict_text (DropsStored path.now who.now))) }
     ensures cause { IsCounted (S.count sink.old) (S.count sink.new) result }
 {
-    let mut buffer = Buffer::new();
-    let digits = buffer.format(generation);
+    let (kind, name) = who_words(who);
+    write_each(sink, &["drops-stored ", path.as_str(), " ", kind, name])
+}
+
+/// Writes a reason's name, and behind it a generation's digits, a class and a provider.
+fn write_placed<'a, S: Sink>(
+    sink: &mut S,
+    name: &'a str,
+    digits: &'a str,
+    class: &'a Class,
+    who: &'a Who,
+) -> Result<(), Failed>
+    ensures ok { OnOk result (Appends (S.held sink.old) (S.held sink.new)
+        (name.now ++ place_text digits.now class.now who.now)) }
+    ensures err { OnErr result (AppendsFront (S.held sink.old) (S.held sink.new)
+        (name.now ++ place_text digits.now class.now who.now)) }
+    ensures cause { IsCounted (S.count sink.old) (S.count sink.new) result }
+{
     let (all, text) = class_words(class);
     let (kind, key) = who_words(who);
     write_each(sink, &[name, digits, " ", all, text, " ", kind, key])
 }
 
 /// What stands before a class's own text, and that text.
-fn class_words(class: &Class) -> (&'static str, &str)
+fn class_words(class: &Class) -> (&str, &str)
     ensures { result.0.now ++ result.1.now ≡ class_text class.now }
 {
     match class {
@@ -69,7 +89,7 @@ fn class_words(class: &Class) -> (&'static str, &str)
 }
 
 /// A provider's kind, and its name where it has one.
-fn who_words(who: &Who) -> (&'static str, &str)
+fn who_words(who: &Who) -> (&str, &str)
     ensures { result.0.now ++ result.1.now ≡ who_text who.now }
 {
     match who {

@@ -8,12 +8,11 @@ use kr_judge::{Board, Verdict};
 use std::alloc::Global;
 
 /// The first key, another key of its name, and a second key.
-const KEY1: &str =
-    r#"{"aescbc":{"keys":[{"name":"key1","secret":"AAECAwQFBgcICQoLDA0ODw=="}]}}"#;
-const OTHER1: &str =
-    r#"{"aescbc":{"keys":[{"name":"key1","secret":"dGhpcyBpcyBwYXNzd29yZA=="}]}}"#;
-const KEY2: &str =
-    r#"{"aescbc":{"keys":[{"name":"key2","secret":"c2VjcmV0IGlzIHNlY3VyZQ=="}]}}"#;
+const KEY1: &str = r#"{"aescbc":{"keys":[{"name":"key1","secret":"AAECAwQFBgcICQoLDA0ODw=="}]}}"#;
+
+const OTHER1: &str = r#"{"aescbc":{"keys":[{"name":"key1","secret":"dGhpcyBpcyBwYXNzd29yZA=="}]}}"#;
+
+const KEY2: &str = r#"{"aescbc":{"keys":[{"name":"key2","secret":"c2VjcmV0IGlzIHNlY3VyZQ=="}]}}"#;
 
 /// Settings of one entry: a pattern with these keys, and identity behind them.
 fn settings(alloc: Global, pattern: &str, keys: &[&str]) -> Option<Shared<Settings>> {

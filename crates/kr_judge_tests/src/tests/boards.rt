@@ -40,7 +40,15 @@ fn replicas_are_judged(rt: HostRuntime) -> Result<(), Fail> {
     let second = board.add(1, all.both.share()?);
     assert_eq!(rt; first, 0);
     assert_eq!(rt; second, 1);
-    assert!(rt; says(alloc, &board, 0, all.last.get(), "drops-writer 1 secrets aescbc:key1"));
+    assert!(rt;
+        says(
+            alloc,
+            &board,
+            0,
+            all.last.get(),
+            "drops-writer 1 secrets aescbc:key1"
+        )
+    );
     assert!(rt; says(alloc, &board, 0, all.both.get(), "pass"));
     Ok(())
 }
@@ -53,7 +61,15 @@ fn replicas_that_are_out_do_not_count(rt: HostRuntime) -> Result<(), Fail> {
     };
     let mut board = Board::new(alloc, 1)?;
     let _number = board.add(0, all.both.share()?);
-    assert!(rt; says(alloc, &board, 1, all.last.get(), "drops-writer 0 secrets aescbc:key1"));
+    assert!(rt;
+        says(
+            alloc,
+            &board,
+            1,
+            all.last.get(),
+            "drops-writer 0 secrets aescbc:key1"
+        )
+    );
     board.leave(0);
     assert!(rt; says(alloc, &board, 1, all.last.get(), "pass"));
     assert!(rt; says(alloc, &board, 0, all.last.get(), "pass"));
@@ -69,9 +85,25 @@ fn held_generations_count(rt: HostRuntime) -> Result<(), Fail> {
     let mut board = Board::new(alloc, 2)?;
     let _first = board.add(0, all.old.share()?);
     board.hold(0);
-    assert!(rt; says(alloc, &board, 0, all.new.get(), "unread 0 secrets aescbc:key2"));
+    assert!(rt;
+        says(
+            alloc,
+            &board,
+            0,
+            all.new.get(),
+            "unread 0 secrets aescbc:key2"
+        )
+    );
     let _second = board.add(0, all.both.share()?);
-    assert!(rt; says(alloc, &board, 0, all.last.get(), "drops-writer 0 secrets aescbc:key1"));
+    assert!(rt;
+        says(
+            alloc,
+            &board,
+            0,
+            all.last.get(),
+            "drops-writer 0 secrets aescbc:key1"
+        )
+    );
     board.release(0);
     assert!(rt; says(alloc, &board, 0, all.last.get(), "pass"));
     Ok(())
@@ -91,11 +123,35 @@ fn stored_objects_must_be_read(rt: HostRuntime) -> Result<(), Fail> {
     board.set_need("/c", "secrets", key1)?;
     board.set_need("/a", "secrets", key1)?;
     assert!(rt; says(alloc, &board, 0, all.both.get(), "pass"));
-    assert!(rt; says(alloc, &board, 0, all.last.get(), "drops-stored /a aescbc:key1"));
+    assert!(rt;
+        says(
+            alloc,
+            &board,
+            0,
+            all.last.get(),
+            "drops-stored /a aescbc:key1"
+        )
+    );
     board.drop_need("/a");
-    assert!(rt; says(alloc, &board, 0, all.last.get(), "drops-stored /b aescbc:key1"));
+    assert!(rt;
+        says(
+            alloc,
+            &board,
+            0,
+            all.last.get(),
+            "drops-stored /b aescbc:key1"
+        )
+    );
     board.set_need("/b", "secrets", key2)?;
-    assert!(rt; says(alloc, &board, 0, all.last.get(), "drops-stored /c aescbc:key1"));
+    assert!(rt;
+        says(
+            alloc,
+            &board,
+            0,
+            all.last.get(),
+            "drops-stored /c aescbc:key1"
+        )
+    );
     board.drop_need("/c");
     assert!(rt; says(alloc, &board, 0, all.last.get(), "pass"));
     Ok(())
@@ -116,14 +172,38 @@ fn proposals_are_settled(rt: HostRuntime) -> Result<(), Fail> {
     assert!(rt; says(alloc, &board, 0, all.last.get(), "pass"));
     board.propose("/s", "secrets", key1)?;
     board.settle(true);
-    assert!(rt; says(alloc, &board, 0, all.last.get(), "drops-stored /s aescbc:key1"));
+    assert!(rt;
+        says(
+            alloc,
+            &board,
+            0,
+            all.last.get(),
+            "drops-stored /s aescbc:key1"
+        )
+    );
     board.propose("/s", "secrets", key2)?;
     board.settle(false);
-    assert!(rt; says(alloc, &board, 0, all.last.get(), "drops-stored /s aescbc:key1"));
+    assert!(rt;
+        says(
+            alloc,
+            &board,
+            0,
+            all.last.get(),
+            "drops-stored /s aescbc:key1"
+        )
+    );
     board.propose("/s", "secrets", key2)?;
     board.settle(true);
     assert!(rt; says(alloc, &board, 0, all.last.get(), "pass"));
-    assert!(rt; says(alloc, &board, 0, all.old.get(), "drops-stored /s aescbc:key2"));
+    assert!(rt;
+        says(
+            alloc,
+            &board,
+            0,
+            all.old.get(),
+            "drops-stored /s aescbc:key2"
+        )
+    );
     Ok(())
 }
 
@@ -144,7 +224,15 @@ fn reasons_come_in_their_order(rt: HostRuntime) -> Result<(), Fail> {
     board.set_need("/s", "secrets", key1)?;
     assert!(rt; says(alloc, &board, 1, new.get(), "drops-stored /s aescbc:key1"));
     board.drop_need("/s");
-    assert!(rt; says(alloc, &board, 1, new.get(), "drops-writer 0 secrets aescbc:key1"));
+    assert!(rt;
+        says(
+            alloc,
+            &board,
+            1,
+            new.get(),
+            "drops-writer 0 secrets aescbc:key1"
+        )
+    );
     assert!(rt; says(alloc, &board, 0, new.get(), "pass"));
     Ok(())
 }

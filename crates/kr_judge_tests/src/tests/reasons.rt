@@ -15,7 +15,8 @@ fn one(alloc: Global, own: &Shared<Settings>) -> Option<Board> {
 
 /// The verdict on the first keys where another replica has the second, of one pattern.
 fn is_said(alloc: Global, pattern: &str, new: &[&str], old: &[&str], want: &str) -> bool {
-    let (Some(own), Some(new)) = (settings(alloc, pattern, old), settings(alloc, pattern, new)) else {
+    let (Some(own), Some(new)) = (settings(alloc, pattern, old), settings(alloc, pattern, new))
+    else {
         return false;
     };
     match one(alloc, &own) {
@@ -27,17 +28,49 @@ fn is_said(alloc: Global, pattern: &str, new: &[&str], old: &[&str], want: &str)
 #[test]
 fn writers_must_be_read(rt: HostRuntime) {
     let alloc = rt.alloc();
-    assert!(rt; is_said(alloc, "secrets", &[KEY2], &[KEY1, KEY2], "drops-writer 0 secrets aescbc:key1"));
-    assert!(rt; is_said(alloc, "*.apps", &[], &[KEY1], "drops-writer 0 *.apps aescbc:key1"));
+    assert!(rt;
+        is_said(
+            alloc,
+            "secrets",
+            &[KEY2],
+            &[KEY1, KEY2],
+            "drops-writer 0 secrets aescbc:key1"
+        )
+    );
+    assert!(rt;
+        is_said(
+            alloc,
+            "*.apps",
+            &[],
+            &[KEY1],
+            "drops-writer 0 *.apps aescbc:key1"
+        )
+    );
     assert!(rt; is_said(alloc, "*.", &[], &[KEY1], "drops-writer 0 *. aescbc:key1"));
     assert!(rt; is_said(alloc, "*.*", &[], &[KEY1], "drops-writer 0 *.* aescbc:key1"));
-    assert!(rt; is_said(alloc, "secrets", &[OTHER1], &[KEY1], "drops-writer 0 secrets aescbc:key1"));
+    assert!(rt;
+        is_said(
+            alloc,
+            "secrets",
+            &[OTHER1],
+            &[KEY1],
+            "drops-writer 0 secrets aescbc:key1"
+        )
+    );
 }
 
 #[test]
 fn new_writers_must_be_read(rt: HostRuntime) {
     let alloc = rt.alloc();
-    assert!(rt; is_said(alloc, "secrets", &[KEY2, KEY1], &[KEY1], "unread 0 secrets aescbc:key2"));
+    assert!(rt;
+        is_said(
+            alloc,
+            "secrets",
+            &[KEY2, KEY1],
+            &[KEY1],
+            "unread 0 secrets aescbc:key2"
+        )
+    );
     assert!(rt; is_said(alloc, "*.apps", &[KEY1], &[], "unread 0 *.apps aescbc:key1"));
     assert!(rt; is_said(alloc, "*.*", &[KEY1], &[], "unread 0 *.* aescbc:key1"));
     assert!(rt; is_said(alloc, "*.*", &[KEY1, KEY2], &[KEY2, KEY1], "pass"));

@@ -18,4 +18,4 @@ pub returns-in-Some-first_unread_writer : goal.returns-in-Some-first_unread_writ
 returns-in-Some-first_unread_writer c =
     let lost = c.in-Some-first_unread_writer in
     tells_unread c.args.needs.now (generations_of c.args.generations.now) c.args.replica (rows_of c.args.settings.now.entries.0)
-    lost.generation (lent_class lost.class) lost.who.now c.unread_by.result c.in-None.ensures c.in-None-first_lost_writer.ensures lost.ensures c.unread_by.ensures
+    lost.generation (lent_class lost.class) lost.who.now c.unread.result c.in-None.ensures c.in-None-first_lost_writer.ensures lost.ensures c.unread.ensures
