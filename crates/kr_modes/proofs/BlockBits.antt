@@ -89,7 +89,7 @@ reversed-lt (suc k) m n a lt =
     let e : suc m + k ≡ m + suc k = omega arith in
     let grown : a * 2 + n % 2 < 2 ^ suc m = omega (arith, pow-suc 2 m) in
     subst (λ (x : ℕ). reverse_bits_onto k (n / 2) (a * 2 + n % 2) < 2 ^ x) e
-        (reversed-lt k (suc m) (n / 2) (a * 2 + n % 2) grown)
+    (reversed-lt k (suc m) (n / 2) (a * 2 + n % 2) grown)
 
 joined_low_16 : (bytes : List ℕ)
     → from_le_bytes w128 bytes ≡ joined 16 (λ k. slice_index bytes (15 - k))
@@ -103,23 +103,23 @@ unfolding polynomial
 polynomial_of_mirrored block bytes p is e from fits =
     let size : length block ≡ 16 = is.size in
     let cell : (k : ℕ) → k < 16 → slice_index bytes k ≡ reverse_bits w8 (slice_index block k) =
-        λ k lt. ap (λ (xs : List ℕ). slice_index xs k) e
-            ∙ get_or-map (reverse_bits w8) block k 0 0 (omega arith) in
+    λ k lt. ap (λ (xs : List ℕ). slice_index xs k) e
+    ∙ get_or-map (reverse_bits w8) block k 0 0 (omega arith) in
     let byte : (i : ℕ) → slice_index bytes (15 - i) < 256 =
-        λ i. rw (cell (15 - i) (omega arith))
-            (reversed-lt 8 0 (slice_index block (15 - i)) 0 (omega arith)) in
+    λ i. rw (cell (15 - i) (omega arith))
+    (reversed-lt 8 0 (slice_index block (15 - i)) 0 (omega arith)) in
     same_from_bits_below 128 p (polynomial block) fits
-        (reversed-lt 128 0 (from_be_bytes w128 block) 0 (omega arith))
-        (λ j lt.
-            let place : 15 - (16 - 1 - j / 8) ≡ j / 8 = omega arith in
-            let bit : 8 - 1 - j % 8 ≡ 7 - j % 8 = omega arith in
-            ap (λ (x : ℕ). bit_at x j) (from ∙ joined_low_16 bytes)
-            ∙ joined_bit 16 (λ k. slice_index bytes (15 - k)) byte j lt
-            ∙ ap (λ (k : ℕ). bit_at (slice_index bytes k) (j % 8)) place
-            ∙ ap (λ (x : ℕ). bit_at x (j % 8)) (cell (j / 8) (omega arith))
-            ∙ reversed_bit 8 (slice_index block (j / 8)) 0 (j % 8) (omega arith)
-            ∙ ap (bit_at (slice_index block (j / 8))) bit
-            ∙ sym (bit_of_polynomial block j is lt))
+    (reversed-lt 128 0 (from_be_bytes w128 block) 0 (omega arith))
+    (λ j lt.
+    let place : 15 - (16 - 1 - j / 8) ≡ j / 8 = omega arith in
+    let bit : 8 - 1 - j % 8 ≡ 7 - j % 8 = omega arith in
+    ap (λ (x : ℕ). bit_at x j) (from ∙ joined_low_16 bytes)
+    ∙ joined_bit 16 (λ k. slice_index bytes (15 - k)) byte j lt
+    ∙ ap (λ (k : ℕ). bit_at (slice_index bytes k) (j % 8)) place
+    ∙ ap (λ (x : ℕ). bit_at x (j % 8)) (cell (j / 8) (omega arith))
+    ∙ reversed_bit 8 (slice_index block (j / 8)) 0 (j % 8) (omega arith)
+    ∙ ap (bit_at (slice_index block (j / 8))) bit
+    ∙ sym (bit_of_polynomial block j is lt))
 
 -- ---- and back
 

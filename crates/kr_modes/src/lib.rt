@@ -6,8 +6,8 @@ mod blocks;
 mod cbc;
 mod gcm;
 mod ghash;
-mod mirror;
 pub mod laws;
+mod mirror;
 
 pub use cbc::{cbc_length, cbc_seal, cbc_unseal};
 pub use gcm::{gcm_seal, gcm_unseal};
