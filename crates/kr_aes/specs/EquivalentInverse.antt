@@ -31,7 +31,7 @@ after_equivalent_rounds inverse last block zero = add_round_key inverse last blo
 after_equivalent_rounds inverse last block (suc n) =
     add_round_key inverse (last - suc n)
     (inverse_mix_columns (inverse_shift_rows (inverse_sub_bytes
-        (after_equivalent_rounds inverse last block n))))
+    (after_equivalent_rounds inverse last block n))))
 
 -- the block that the schedule's words make of a cipher's block: the last round has no InvMixColumns
 unfoldable pub equivalent_inverse_cipher : List ℕ → Rounds → List ℕ → List ℕ
@@ -44,4 +44,4 @@ equivalent_inverse_cipher inverse rounds block =
 abbrev pub EquivalentIsInverse : Type 0
 EquivalentIsInverse = (words : List ℕ) (rounds : Rounds) (block : List ℕ)
     → equivalent_inverse_cipher (inverse_schedule words rounds) rounds block
-      ≡ inverse_cipher words rounds block
+    ≡ inverse_cipher words rounds block

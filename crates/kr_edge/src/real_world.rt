@@ -87,7 +87,7 @@ impl<'a, F: NamedFiles> World for RealWorld<'a, F> {
 
     ghost told = { λ world.
         real_world (F.told world.files.now) world.load_faults world.open_faults
-            world.dice_faults world.out };
+        world.dice_faults world.out };
 
     fn faults(&self) -> u64 {
         self.load_faults
@@ -119,35 +119,35 @@ impl<'a, F: NamedFiles> World for RealWorld<'a, F> {
         // The random bytes are those of the system's device.
         ensures device { IfOk result (λ dice.
             Holds (F.told self.old.files.now (codes "/dev/urandom"))
-                (F.File.remaining dice.device)) }
+            (F.File.remaining dice.device)) }
 
         // As the trait says.
         ensures ok { IfOk result (λ dice. HandsOut
             (real_world (F.told self.old.files.now) self.old.load_faults self.old.open_faults
-                self.old.dice_faults self.old.out)
+            self.old.dice_faults self.old.out)
             (real_world (F.told self.new.files.now) self.new.load_faults self.new.open_faults
-                self.new.dice_faults self.new.out)
+            self.new.dice_faults self.new.out)
             seat None dice.faults) }
         ensures err { OnErr result (KeepsDice
             (real_world (F.told self.old.files.now) self.old.load_faults self.old.open_faults
-                self.old.dice_faults self.old.out)
+            self.old.dice_faults self.old.out)
             (real_world (F.told self.new.files.now) self.new.load_faults self.new.open_faults
-                self.new.dice_faults self.new.out)) }
+            self.new.dice_faults self.new.out)) }
         ensures refusals { IfErr result
             (λ why. (why ≡ FileNo.Failed) ⊎ (why ≡ FileNo.NoMemory)) }
         ensures failed { IsErrOf result FileNo.Failed
             → Rose self.old.open_faults self.new.open_faults }
         ensures asked { Notes
             (real_world (F.told self.old.files.now) self.old.load_faults self.old.open_faults
-                self.old.dice_faults self.old.out)
+            self.old.dice_faults self.old.out)
             (real_world (F.told self.new.files.now) self.new.load_faults self.new.open_faults
-                self.new.dice_faults self.new.out)
+            self.new.dice_faults self.new.out)
             (Asked.RandomSource seat) result }
         ensures files { KeepsFiles
             (real_world (F.told self.old.files.now) self.old.load_faults self.old.open_faults
-                self.old.dice_faults self.old.out)
+            self.old.dice_faults self.old.out)
             (real_world (F.told self.new.files.now) self.new.load_faults self.new.open_faults
-                self.new.dice_faults self.new.out) }
+            self.new.dice_faults self.new.out) }
         ensures loads { self.new.load_faults ≡ self.old.load_faults }
     {
         let at = seat as usize;

@@ -114,8 +114,7 @@ impl<W: Write> Sink for StdSink<W> {
 /// One read, tried again where it was interrupted.
 fn read_again<R: Read>(reader: &mut R, into: &mut [u8]) -> Result<usize, Failed>
     ensures bound { ReadsAtMost result into.new }
-    ensures bytes {
-        ReadConsumes (R.remaining reader.old) (R.remaining reader.new) result into.new }
+    ensures bytes { ReadConsumes (R.remaining reader.old) (R.remaining reader.new) result into.new }
 {
     for _ in 0..u64::MAX {
         match reader.read(into) {
@@ -133,8 +132,7 @@ fn read_again<R: Read>(reader: &mut R, into: &mut [u8]) -> Result<usize, Failed>
 /// One write of a part of the bytes, tried again where it was interrupted.
 fn write_again<W: Write>(writer: &mut W, bytes: &[u8]) -> Result<usize, Failed>
     ensures bound { WritesAtMost result bytes.now }
-    ensures bytes {
-        WriteAppends (W.contents writer.old) (W.contents writer.new) result bytes.now }
+    ensures bytes { WriteAppends (W.contents writer.old) (W.contents writer.new) result bytes.now }
     ensures progress { IfOk result (λ n. n ≡ 0 → length bytes.now ≡ 0) }
 {
     for _ in 0..u64::MAX {

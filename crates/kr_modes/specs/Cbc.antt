@@ -45,4 +45,4 @@ abbrev pub CbcOpensSealed : Type 0
 CbcOpensSealed = (words : List ℕ) (rounds : Rounds) (iv plain : List ℕ) → IsBlock iv
     → All (λ byte. byte < 256) plain
     → cbc_opened (inverse_cipher words rounds) (iv ++ cbc (cipher words rounds) iv (pad plain))
-      ≡ Ok plain
+    ≡ Ok plain

@@ -61,7 +61,7 @@ gcm_opened encipher nonce aad body =
 abbrev pub GcmOpensSealed : Type 0
 GcmOpensSealed = (words : List ℕ) (rounds : Rounds) (nonce aad plain : List ℕ)
     → gcm_opened (cipher words rounds) nonce aad (gcm (cipher words rounds) nonce aad plain)
-      ≡ Ok plain
+    ≡ Ok plain
 
 -- a sealed value is opened under other associated data exactly where both have one tag
 abbrev pub OpensOnlyUnderOneTag : Type 0

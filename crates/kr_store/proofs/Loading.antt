@@ -100,18 +100,6 @@ follows format rows k (kept.Put row) is small i m =
 follows format rows k (kept.Delete path) is small i m =
     record { revision = omega arith; path = i; change = m }
 
-pub loading_begun : (first mid : Ahead) (format : Format) (index : Index) → first.place ≡ 0
-    → Takes first mid (magic format) → Moves first mid → IsIndexOf [] index
-    → IsReadTo first mid format [] index
-loading_begun first mid format index s t m i = record {
-  moves = m;
-  takes = subst (λ b. Takes first mid b) (sym (append-nil (magic format))) t;
-  start = s;
-  kept_rows = tt;
-  good = tt;
-  indexed = i;
-}
-
 pub loading_more : (first now next : Ahead) (format : Format) (rows : List KeptRow)
     (index after : Index) (e : KeptRow) (k : ℕ) → IsReadTo first now format rows index
     → k ≡ length rows + 1 → k < 2 ^ 64 → Moves now next → Takes now next (kept_bytes k e)

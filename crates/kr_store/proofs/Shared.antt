@@ -110,12 +110,6 @@ next_is rows index path above revision i less at least =
               (least q pq (subst (λ z. slice_cmp nat_cmp q z ≡ Less) same qr)) s',
         )
 
-pub none_next : (rows : List KeptRow) (index : Index) (path : List ℕ)
-    → IsIndexOf (log_rows_of rows) index
-    → ((q : List ℕ) → slice_cmp nat_cmp path q ≡ Less → live_at index q ≡ None)
-    → IsNext (log_rows_of rows) path None
-none_next rows index path i none q s l = not_live (log_rows_of rows) index q i (none q l) s
-
 kept_row_rules : (format : Format) (k : ℕ) (e : KeptRow) (row : Row) → IsKeptRow format k e
     → shared_row e ≡ Some row → IsRow format row × (row.revision ≡ k)
 kept_row_rules format k (kept.Put r) row i e =

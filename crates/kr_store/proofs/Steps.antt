@@ -1,17 +1,16 @@
 -- Reading part by part: how one part's answer and the next one's give that of both.
 use Rattle.std.proofs.Common.{◌≡◌, ℕ, ◌+◌, ◌-◌, ◌<◌, ◌≤◌, min, List, [], ◌∷◌, ◌++◌, length, take, drop, Option, None, Some, Result, Ok, Err, IfSome, refl, sym, ◌∙◌, ap, subst, arith, length-append, length-take, length-drop, inl, inr}
-use Rattle.std.proofs.lemmas.List.{append-nil, drop_all, drop_at, take_at, take-append-drop, drop-drop, length-take-le, take_all, take-take}
+use Rattle.std.proofs.lemmas.List.{append-nil, drop_all, drop_at, take_at, take-append-drop, length-take-le, take_all, take-take}
 use borrow.Rule.Slice.PartMut.{put_mid}
 use Rattle.std.proofs.Math.Seq.{take-append-add, take-append_seam}
 use Rattle.std.specs.Option.{option_map}
 use Rattle.std.specs.Io.KnownBytes.{Consumes}
-use Rattle.std.proofs.KnownBytes.{Consumes-trans, Consumes-nil}
+use Rattle.std.proofs.KnownBytes.{Consumes-trans}
 use Rattle.kr_base.specs.Told.{Agrees}
 use Rattle.kr_base.specs.Tapes.{ReadsAt}
 use Rattle.kr_store.specs.Breaches.{Read, behind, part}
 use Rattle.kr_store.specs.inner.Reading.{Ahead, Moves, Breaks, Takes, Begins, Gives, IsShort, IsNamed, Names, MayBreak}
 use Rattle.kr_store.specs.declared.format.Format.{Format}
-use Rattle.kr_store.specs.declared.format.Format.TheVariants.{One, Two}
 use Rattle.kr_store.specs.File.{store_name, magic}
 use Rattle.kr_store.specs.declared.answers.StoreNo.{StoreNo}
 use Rattle.kr_store.specs.declared.answers.StoreNo.TheVariants as no
@@ -24,16 +23,6 @@ use Rattle.kr_store.specs.declared.answers.Cause.TheVariants.{Torn}
 -- the tape's bytes from a place on
 abbrev pub rest_of : ℕ → Option (List ℕ) → Option (List ℕ)
 rest_of place told = option_map (λ bytes. drop place bytes) told
-
--- bytes that were read are gone from those that are left
-pub read_consumes : (told now : Option (List ℕ)) (place n : ℕ) (into : List ℕ) → now ≡ told
-    → ReadsAt told place n into → Consumes (rest_of place told) (rest_of (place + n) now)
-    (take n into)
-read_consumes None now place n into same r = tt
-read_consumes (Some bytes) now place n into same r = subst (λ t. Consumes (Some (drop place bytes))
-    (rest_of (place + n) t) (take n into)) (sym same)
-    (sym (take-append-drop n (drop place bytes)) ∙ ap (λ l. l ++ drop n (drop place bytes))
-    (sym r.1) ∙ ap (λ l. take n into ++ l) (drop-drop n place bytes))
 
 -- nothing was read although the tape doesn't end there: it tells nothing
 pub untold : (told : Option (List ℕ)) (place end : ℕ) (into : List ℕ)
@@ -177,16 +166,6 @@ pub record Filling (first now : Ahead) (into : List ℕ) (done : ℕ) : Type 0 w
   pub within : done ≤ length into
   pub room : now.place + (length into - done) ≤ now.end
 
-pub filling_begun : (told : Option (List ℕ)) (place end count : ℕ) (into : List ℕ)
-    → IfSome told (λ bytes. end ≡ length bytes) → place ≤ end → length into ≤ end - place
-    → Filling (seen told place end count) (seen told place end count) into 0
-filling_begun told place end count into e w l = record {
-  moves = stays told place end count e w;
-  takes = record { consumed = Consumes-nil (rest_of place told); place = omega arith };
-  within = omega arith;
-  room = omega arith;
-}
-
 take_two : (into piece : List ℕ) (done n : ℕ) → done ≤ length into → take (done + n)
     (take done into ++ piece) ≡ take done into ++ take n piece
 take_two into piece done n d = ap (λ k. take (k + n) (take done into ++ piece))
@@ -216,17 +195,6 @@ filling_more first now next into piece done n f d e k m t = record {
 pub filled : (first now : Ahead) (into : List ℕ) (done : ℕ) → Filling first now into done
     → length into ≤ done → Takes first now into
 filled first now into done f l = subst (λ b. Takes first now b) (take_all done into l) f.takes
-
--- the tape doesn't tell what it holds, so it may end here
-pub filling_torn : (first now : Ahead) (into : List ℕ) (done n : ℕ) → Filling first now into done
-    → done < n → now.left ≡ None → Breaks first (part n) Torn
-filling_torn first now into done n f l u = record {
-  bytes = take done into;
-  agrees = subst (λ t. Agrees t (take done into))
-      (sym (untold_first first.left now.left (take done into) f.takes.consumed u)) tt;
-  within = omega (arith, f.takes.place, f.moves.end, f.moves.within);
-  breaks = part_torn (take done into) n (omega (arith, length-take-le done into f.within));
-}
 
 put_end : (xs zs ys : List ℕ) (a k : ℕ) → length xs ≡ a → length zs ≤ k
     → put_mid a k (xs ++ zs) ys ≡ xs ++ ys
@@ -300,19 +268,7 @@ pub begins_name : (format : Format) (n : ℕ) → n ≤ length store_name
     → take n store_name ≡ take n (magic format)
 begins_name format n l = take-take n (length store_name) (magic format) l
 
--- a front of at most 8 bytes begins no magic
-
-neither : (front : List ℕ) → (front ≡ magic One → ⊥) → (front ≡ magic Two → ⊥)
-    → (format : Format) → front ≡ magic format → ⊥
-neither front one two One = one
-neither front one two Two = two
-
-pub other_long : (front : List ℕ) → length store_name < length front
-    → (front ≡ magic One → ⊥) → (front ≡ magic Two → ⊥)
-    → (format : Format) → front ≡ take (length front) (magic format) → ⊥
-other_long front l one two format e =
-    neither front one two format (e ∙ take_all (length front) (magic format) (omega (arith, l)))
-
+-- a front that isn't that of the name begins no magic
 pub other_short : (front : List ℕ) → length front ≤ length store_name
     → (front ≡ take (length front) store_name → ⊥)
     → (format : Format) → front ≡ take (length front) (magic format) → ⊥

@@ -7,13 +7,11 @@ use Rattle.std.specs.Option.{option_map}
 use Rattle.std.specs.Str.{bytes_eq}
 use Rattle.std.proofs.lemmas.Slice.Eq.{bytes_eq-Decides}
 use Rattle.kr_base.specs.Faults.{Rose}
-use Rattle.kr_store.specs.declared.format.Check.{Check}
 use Rattle.kr_store.specs.declared.format.Format.{Format}
-use Rattle.kr_store.specs.declared.format.Format.TheVariants.{One, Two}
 use Rattle.kr_store.specs.declared.rows.Change.{Change}
 use Rattle.kr_store.specs.declared.rows.Change.TheVariants.{Put, Delete}
 use Rattle.kr_store.specs.declared.rows.LogRow.{LogRow}
-use Rattle.kr_store.specs.Rows.{latest, live, live_row, row_of, HasCheck, check_in, MayChange, MayFollow}
+use Rattle.kr_store.specs.Rows.{latest, live, live_row, row_of, MayChange, MayFollow}
 use Rattle.kr_store.specs.inner.KeptRows.{log_row_of, log_rows_of, IsKeptRow, IsChange}
 use Rattle.kr_store.specs.File.{kind_of, magic, row_bytes, rows_bytes, file_bytes, IsFile}
 use Rattle.kr_store.specs.inner.Log.{Tail, Tears, Extends}
@@ -132,12 +130,6 @@ pub change_rules : (format : Format) (rows : List LogRow) (path : List ℕ) (cha
     → MayChange format rows path change → IsChange format change
 change_rules format rows path (Put resource stored check) m = m
 change_rules format rows path Delete m = tt
-
--- what a format keeps of a check is what its puts have
-pub check_kept : (format : Format) (check : Check) → check.value < 2 ^ 64
-    → HasCheck format (check_in format check)
-check_kept One check small = refl
-check_kept Two check small = (refl, small)
 
 pub store_failed : (format : Format) (rows : List KeptRow) (before after : Index) (limit : ℕ)
     (log now : Tail) → IsStore format rows before limit log → Tears log now

@@ -33,10 +33,7 @@ pub(crate) fn load_rows<T: Tape>(alloc: Global, reader: &mut Reader<T>) -> Resul
             index,
         });
     }
-    let format = match reader.magic() {
-        Ok(format) => format,
-        Err(no) => return Err(no),
-    };
+    let format = reader.magic()?;
     while !reader.is_at_end() {
         let at = reader.place();
         let revision = rows.as_slice().len() as u64 + 1;

@@ -261,13 +261,9 @@ impl<T: Tape> Reader<T> {
         ensures fits { IfOk result (λ n. n < 2 ^ 16) }
     {
         let mut bytes = [0; 2];
-        match self.fill(&mut bytes) {
-            Ok(()) => {
-                known(&bytes);
-                Ok(u16::from_be_bytes(bytes))
-            }
-            Err(stop) => Err(stop),
-        }
+        self.fill(&mut bytes)?;
+        known(&bytes);
+        Ok(u16::from_be_bytes(bytes))
     }
 
     /// A number of 4 bytes, the highest first.
@@ -277,13 +273,9 @@ impl<T: Tape> Reader<T> {
         ensures fits { IfOk result (λ n. n < 2 ^ 32) }
     {
         let mut bytes = [0; 4];
-        match self.fill(&mut bytes) {
-            Ok(()) => {
-                known(&bytes);
-                Ok(u32::from_be_bytes(bytes))
-            }
-            Err(stop) => Err(stop),
-        }
+        self.fill(&mut bytes)?;
+        known(&bytes);
+        Ok(u32::from_be_bytes(bytes))
     }
 
     /// A number of 8 bytes, the highest first.
@@ -293,13 +285,9 @@ impl<T: Tape> Reader<T> {
         ensures fits { IfOk result (λ n. n < 2 ^ 64) }
     {
         let mut bytes = [0; 8];
-        match self.fill(&mut bytes) {
-            Ok(()) => {
-                known(&bytes);
-                Ok(u64::from_be_bytes(bytes))
-            }
-            Err(stop) => Err(stop),
-        }
+        self.fill(&mut bytes)?;
+        known(&bytes);
+        Ok(u64::from_be_bytes(bytes))
     }
 
     /// The next n bytes.
@@ -327,10 +315,7 @@ impl<T: Tape> Reader<T> {
         ensures read { Gives self.old self.new sized_bytes (sized_part most) result }
         ensures length { IfOk result (λ bytes. length bytes.items ≤ most) }
     {
-        let n = match self.number_16() {
-            Ok(n) => n,
-            Err(stop) => return Err(stop),
-        };
+        let n = self.number_16()?;
         if n > most {
             return Err(Stop::Breach(Cause::BadRow));
         }
@@ -346,10 +331,7 @@ impl<T: Tape> Reader<T> {
         ensures read { Gives self.old self.new value_bytes value_part result }
         ensures length { IfOk result (λ value. length value ≤ longest_value) }
     {
-        let n = match self.number_32() {
-            Ok(n) => n,
-            Err(stop) => return Err(stop),
-        };
+        let n = self.number_32()?;
         if n > LONGEST_VALUE {
             return Err(Stop::Breach(Cause::BadRow));
         }
@@ -365,10 +347,7 @@ impl<T: Tape> Reader<T> {
         ensures read { Gives self.old self.new text_bytes path_part result }
         ensures rule { IfOk result (λ path. IsPath path) }
     {
-        let bytes = match self.sized(alloc, LONGEST_PATH) {
-            Ok(bytes) => bytes,
-            Err(stop) => return Err(stop),
-        };
+        let bytes = self.sized(alloc, LONGEST_PATH)?;
         let Ok(text) = String::from_utf8(bytes) else {
             return Err(Stop::Breach(Cause::BadRow));
         };
@@ -384,10 +363,7 @@ impl<T: Tape> Reader<T> {
         ensures read { Gives self.old self.new text_bytes resource_part result }
         ensures rule { IfOk result (λ resource. IsResource resource) }
     {
-        let bytes = match self.sized(alloc, LONGEST_RESOURCE) {
-            Ok(bytes) => bytes,
-            Err(stop) => return Err(stop),
-        };
+        let bytes = self.sized(alloc, LONGEST_RESOURCE)?;
         let Ok(text) = String::from_utf8(bytes) else {
             return Err(Stop::Breach(Cause::BadRow));
         };
@@ -403,10 +379,7 @@ impl<T: Tape> Reader<T> {
         ensures read { Gives self.old self.new (λ kind. byte_of kind ∷ []) kind_part result }
     {
         let mut byte = [0; 1];
-        match self.fill(&mut byte) {
-            Ok(()) => {}
-            Err(stop) => return Err(stop),
-        }
+        self.fill(&mut byte)?;
         match kind_of(byte[0]) {
             Some(kind) => Ok(kind),
             None => Err(Stop::Breach(Cause::BadRow)),
@@ -419,10 +392,7 @@ impl<T: Tape> Reader<T> {
         ensures read { Gives self.old self.new
             (λ _. to_be_bytes w64 revision) (revision_part revision) result }
     {
-        let found = match self.number_64() {
-            Ok(found) => found,
-            Err(stop) => return Err(stop),
-        };
+        let found = self.number_64()?;
         if found != revision {
             return Err(Stop::Breach(Cause::Order));
         }
@@ -435,10 +405,7 @@ impl<T: Tape> Reader<T> {
         ensures read { Gives self.old self.new (head_bytes revision) (head_part revision) result }
         ensures rule { IfOk result (λ head. IsPath head.1) }
     {
-        let kind = match self.kind() {
-            Ok(kind) => kind,
-            Err(stop) => return Err(stop),
-        };
+        let kind = self.kind()?;
         match self.revision(revision) {
             Ok(()) => {}
             Err(stop) => return Err(stop),
@@ -473,10 +440,7 @@ impl<T: Tape> Reader<T> {
         ensures check { IfOk result (λ put. HasCheck format put.1) }
         ensures length { IfOk result (λ put. length put.2 ≤ longest_value) }
     {
-        let resource = match self.resource(alloc) {
-            Ok(resource) => resource,
-            Err(stop) => return Err(stop),
-        };
+        let resource = self.resource(alloc)?;
         let check = match self.check(format) {
             Ok(check) => check,
             Err(stop) => return Err(stop),

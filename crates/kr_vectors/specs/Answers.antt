@@ -45,4 +45,4 @@ ComesTo (Cipher key operation) outcome =
 ComesTo (Hmac key message) outcome = Tells outcome (Ok (hmac key.bytes.items message.bytes.items))
 ComesTo (Hkdf key expansion) outcome =
     Tells outcome
-        (Ok (hkdf_expand key.bytes.items expansion.info.items (from_be_bytes w16 expansion.size)))
+    (Ok (hkdf_expand key.bytes.items expansion.info.items (from_be_bytes w16 expansion.size)))

@@ -31,7 +31,7 @@ the_empty = ([], 0)
 
 abbrev fields : Former {0}
 fields = via (vec.the_former this Global) Inside (λ X a. a.items) (λ X v. record { items = v })
-  (λ X a. refl) (λ X v. refl)
+    (λ X a. refl) (λ X v. refl)
 
 module _ (R S : RattleType) (h : R.Denot → S.Denot) where
   pub the_places : Alike R S h
@@ -42,7 +42,7 @@ module _ (R S : RattleType) (h : R.Denot → S.Denot) where
       (λ u p q. refl) (λ u p q. refl) (λ u e. tt) (λ u e. tt)
       (over (I.the_row R)) (over (I.the_row S))
       (struct_places (I.the_type R) (I.the_type S) (vec.mapped h, tt) _ (λ d. refl) refl
-        (laid _ _ _ (vec.the_places heap.the_row ghosts R S h a), tt))
+      (laid _ _ _ (vec.the_places heap.the_row ghosts R S h a), tt))
 
   pub the_codes_placed : Recodes R S h
       → Recodes (C.the_row R) (C.the_row S) ((the_former this).map R.Denot S.Denot h)

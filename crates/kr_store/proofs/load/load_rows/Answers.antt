@@ -18,55 +18,56 @@ returns-then-is_at_end-clause-loads g c =
     (nothing_loaded c.args.reader.now c.new-index.result c.is_at_end.ensures.moves c.requires
     (c.is_at_end.ensures.at.0 c.if-is_at_end.true) c.new-index.ensures)
 
-pub returns-in-Err-row-clause-loads : goal.returns-in-Err-row-clause-loads
-returns-in-Err-row-clause-loads g c =
+pub returns-in-Err-clause-loads : goal.returns-in-Err-clause-loads
+returns-in-Err-clause-loads g c =
     let l = c.loop-alloc in
     let k = length c.as_slice.result.now + 1 in
     subst (λ (no : StoreNo). LoadsRows c.args.reader.now (Err no)) (sym c.no_at.ensures)
-    (row_stops c.args.reader.now l.reader c.row.new.self c.in-Ok.format l.rows.0 l.index k
-    (kept_bytes k) c.in-Err-row.stop c.place-at.result l.invariant
+    (row_stops c.args.reader.now l.reader c.row.new.self c.in_ok-format.format l.rows.0 l.index k
+    (kept_bytes k) c.in-Err.stop c.place-at.result l.invariant
     (ap (λ (l : List KeptRow). length l + 1) c.as_slice.ensures)
     (λ e. let t = c.is_at_end-in-loop-alloc.ensures.at.1 e in let f = c.loop-alloc-test.true in cc)
-    c.place-at.ensures c.in-Err-row.ensures.read)
+    c.place-at.ensures c.in-Err.ensures.read)
 
 pub returns-then-not-allows-clause-loads : goal.returns-then-not-allows-clause-loads
 returns-then-not-allows-clause-loads g c =
     let l = c.loop-alloc in
     let k = length c.as_slice.result.now + 1 in
-    row_refused c.args.reader.now l.reader c.row.new.self c.in-Ok.format l.rows.0 l.index
-    c.in-Ok-row.row k c.place-at.result l.invariant
+    row_refused c.args.reader.now l.reader c.row.new.self c.in_ok-format.format l.rows.0 l.index
+    c.in-Ok.row k c.place-at.result l.invariant
     (ap (λ (l : List KeptRow). length l + 1) c.as_slice.ensures)
     (omega (
       arith,
       c.place-at.type_inv,
       c.place-at.ensures,
       ap (λ (l : List KeptRow). length l) c.as_slice.ensures,
-      rows_before c.args.reader.now l.reader c.in-Ok.format l.rows.0 l.index l.invariant,
+      rows_before c.args.reader.now l.reader c.in_ok-format.format l.rows.0 l.index l.invariant,
     ))
-    c.place-at.ensures c.in-Ok-row.ensures.read c.row.ensures.advances.moves
-    c.in-Ok-row.ensures.rule (sym c.allows.ensures ∙ c.if-not-allows.true)
+    c.place-at.ensures c.in-Ok.ensures.read c.row.ensures.advances.moves
+    c.in-Ok.ensures.rule (sym c.allows.ensures ∙ c.if-not-allows.true)
 
 pub loop-alloc-preserved : goal.loop-alloc-preserved
 loop-alloc-preserved g c =
     let l = c.loop-alloc in
     let k = length c.as_slice.result.now + 1 in
-    subst (λ (rows : List KeptRow). IsReadTo c.args.reader.now c.row.new.self c.in-Ok.format rows
+    subst (λ (rows : List KeptRow). IsReadTo c.args.reader.now c.row.new.self c.in_ok-format.format
+    rows
     c.note.new.self) (sym c.in-Ok-push.ensures.ok)
-    (loading_more c.args.reader.now l.reader c.row.new.self c.in-Ok.format l.rows.0 l.index
-    c.note.new.self c.in-Ok-row.row k l.invariant
+    (loading_more c.args.reader.now l.reader c.row.new.self c.in_ok-format.format l.rows.0 l.index
+    c.note.new.self c.in-Ok.row k l.invariant
     (ap (λ (l : List KeptRow). length l + 1) c.as_slice.ensures)
     (omega (
       arith,
       c.place-at.type_inv,
       c.place-at.ensures,
       ap (λ (l : List KeptRow). length l) c.as_slice.ensures,
-      rows_before c.args.reader.now l.reader c.in-Ok.format l.rows.0 l.index l.invariant,
+      rows_before c.args.reader.now l.reader c.in_ok-format.format l.rows.0 l.index l.invariant,
     ))
-    c.row.ensures.advances.moves c.in-Ok-row.ensures.read c.in-Ok-row.ensures.rule
+    c.row.ensures.advances.moves c.in-Ok.ensures.read c.in-Ok.ensures.rule
     (sym c.allows.ensures ∙ c.if-not-allows.false) c.in-Ok-note.ensures)
 
 pub returns-clause-loads : goal.returns-clause-loads
 returns-clause-loads g c =
     let l = c.loop-alloc in
-    loading_ended c.args.reader.now l.reader c.in-Ok.format l.rows.0 l.index l.invariant
+    loading_ended c.args.reader.now l.reader c.in_ok-format.format l.rows.0 l.index l.invariant
     (c.is_at_end-in-loop-alloc.ensures.at.0 c.loop-alloc-test.false)

@@ -20,28 +20,30 @@ abbrev behind_resource : Format → List ℕ → List ℕ → Read Change
 behind_resource format resource rest =
     behind (check_part format rest) (behind_check resource)
 
-pub returns-in-Err-check-clause-read : goal.returns-in-Err-check-clause-read
-returns-in-Err-check-clause-read g c =
+pub returns-in-Err-clause-read : goal.returns-in-Err-clause-read
+returns-in-Err-clause-read g c =
     let format = c.args.format in
-    let resource = c.in-Ok.resource in
+    let resource = c.in_ok-resource.resource in
     stops_behind _ c.resource.new.self c.check.new.self _ resource_part (behind_resource format)
-    resource check_bytes put_bytes c.in-Err-check.stop c.in-Ok.ensures.read
-    c.resource.ensures.advances.moves (λ rest. reads_resource resource rest c.in-Ok.ensures.rule)
+    resource check_bytes put_bytes c.in-Err.stop c.in_ok-resource.ensures.read
+    c.resource.ensures.advances.moves
+    (λ rest. reads_resource resource rest c.in_ok-resource.ensures.rule)
     (stops_first c.resource.new.self c.check.new.self (check_part format) (behind_check resource)
-    check_bytes check_bytes c.in-Err-check.stop c.in-Err-check.ensures.read)
+    check_bytes check_bytes c.in-Err.stop c.in-Err.ensures.read)
 
 pub returns-in-Err-value-clause-read : goal.returns-in-Err-value-clause-read
 returns-in-Err-value-clause-read g c =
     let format = c.args.format in
-    let resource = c.in-Ok.resource in
-    let check = c.in-Ok-check.check in
+    let resource = c.in_ok-resource.resource in
+    let check = c.in-Ok.check in
     stops_behind _ c.resource.new.self c.value.new.self _ resource_part (behind_resource format)
-    resource value_bytes put_bytes c.in-Err-value.stop c.in-Ok.ensures.read
-    c.resource.ensures.advances.moves (λ rest. reads_resource resource rest c.in-Ok.ensures.rule)
+    resource value_bytes put_bytes c.in-Err-value.stop c.in_ok-resource.ensures.read
+    c.resource.ensures.advances.moves
+    (λ rest. reads_resource resource rest c.in_ok-resource.ensures.rule)
     (stops_behind c.resource.new.self c.check.new.self c.value.new.self _ (check_part format)
     (behind_check resource) check value_bytes value_bytes c.in-Err-value.stop
-    c.in-Ok-check.ensures.read c.check.ensures.advances.moves
-    (λ rest. reads_check format check rest c.in-Ok-check.ensures.rule)
+    c.in-Ok.ensures.read c.check.ensures.advances.moves
+    (λ rest. reads_check format check rest c.in-Ok.ensures.rule)
     (stops_first c.check.new.self c.value.new.self value_part
     (λ stored rest. Ok (Put resource stored check, rest)) value_bytes value_bytes
     c.in-Err-value.stop c.in-Err-value.ensures.read))

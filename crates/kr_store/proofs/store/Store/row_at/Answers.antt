@@ -41,5 +41,9 @@ returns-in-None g c =
     let r = c.self.inside in
     ap (λ (s : Kept). log_row_at s.rows c.args.revision) (sym c.self.view_is)
     ∙ lends_none r.rows.0 c.args.revision (omega (arith, c.if-revision-eq0.false))
-    (omega (arith, c.in-None.ensures.lookup.3, ap (λ (l : List KeptRow). length l)
-        c.as_slice.ensures))
+    (omega (
+      arith,
+      c.in-None.ensures.lookup.3,
+      ap (λ (l : List KeptRow). length l)
+          c.as_slice.ensures,
+    ))
