@@ -1,16 +1,18 @@
 -- A published configuration: settings with one wrapped seed for each plugin that they name.
-use Rattle.std.specs.Prelude.{◌≡◌, ℕ, ◌≤◌, ◌↔◌, Bool, true, false, IsTrue, List, length, map, All, Contains, find, Option}
+use Rattle.std.specs.Prelude.{◌≡◌, ℕ, ◌≤◌, ◌↔◌, Bool, true, false, IsTrue, List, length, map, All, Contains, find, Option, Some, ⊤}
 use Rattle.std.specs.List.{list_all, list_any}
 use Rattle.std.specs.List.Sorted.{IsStrictlySortedBy}
 use Rattle.std.specs.Ordering.{nat_cmp}
 use Rattle.std.specs.Cmp.Lexicographic.{slice_cmp}
 use Rattle.std.specs.Str.{bytes_eq}
 use Rattle.kr_config.specs.declared.who.Who.{Who}
+use Rattle.kr_config.specs.declared.who.Who.TheVariants.{Identity, Aescbc, Aesgcm, Kms}
 use Rattle.kr_config.specs.Kept.{Row, keeps, plugins_in}
 use Rattle.kr_config.specs.Lists.{list_of}
 use Rattle.kr_config.specs.Providers.{is_kms, is_provider}
 use Rattle.kr_kms.specs.declared.seeds.SeedRow.{SeedRow}
 use Rattle.kr_kms.specs.Seeds.{IsSeedRow}
+use Rattle.kr_kms.specs.Truth.{Opens, key_of}
 use Rattle.kr_provider.specs.Readers.{writer_of}
 
 -- the entries of the settings, and the seeds
@@ -34,6 +36,14 @@ pub record IsPublished (p : Publication) : Type 0 where
 -- the seed of a plugin
 abbrev pub seed_of : List ℕ → List SeedRow → Option SeedRow
 seed_of name seeds = find (λ row. bytes_eq row.name name) seeds
+
+-- the wrapped source of a plugin's seed opens to the seed
+abbrev pub SeedOpens : Opens → List SeedRow → Who → Type 0
+SeedOpens opens seeds Identity = ⊤
+SeedOpens opens seeds (Aescbc name secret) = ⊤
+SeedOpens opens seeds (Aesgcm name secret) = ⊤
+SeedOpens opens seeds (Kms name) =
+    (row : SeedRow) → seed_of name seeds ≡ Some row → opens (key_of row) ≡ Some row.seed
 
 -- the providers of a resource, and the one that writes
 abbrev pub list_at : Publication → List ℕ → List Who

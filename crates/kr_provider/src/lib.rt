@@ -4,6 +4,7 @@
 
 mod adopted;
 mod bench;
+mod check;
 mod key_pages;
 pub mod laws;
 mod links;
@@ -16,6 +17,7 @@ mod sealing;
 mod unsealing;
 
 pub use bench::Bench;
+pub use check::check_of;
 pub use kr_base::Shared;
 pub use links::Links;
 pub use published::{Published, names_plugin, publish};
