@@ -19,7 +19,7 @@ pub enum OpenNo {
 pub trait NamedFiles {
     type File: Read + Send + Drop;
 
-    // A file by its name: none where it isn't told; else absent, or its bytes.
+    /// A file by its name: none where it isn't told; else absent, or its bytes.
     ghost told: { Self → List ℕ → Option (Option (List ℕ)) };
 
     fn open(&self, name: &str) -> Result<Self::File, OpenNo>
@@ -33,6 +33,7 @@ pub struct SystemFiles<'a, R> {
 }
 
 impl<'a, R> SystemFiles<'a, R> {
+    /// The files that this runtime opens.
     pub fn new(rt: &'a R) -> SystemFiles<'a, R> {
         SystemFiles { rt }
     }

@@ -9,7 +9,7 @@ ghost use Rattle.kmsrest.specs.RealWorld.{real_world};
 
 use crate::files::{NamedFiles, OpenNo};
 use crate::streams::StdSource;
-use kr_base::{Bytes, Dice, Failed, ReadNo, read_all};
+use kr_base::{Bytes, Dice, Failed, FaultCount, ReadNo, read_all};
 use kr_kms::TablePlugin;
 use kr_top::{FileNo, World};
 use std::alloc::Global;
@@ -34,7 +34,8 @@ impl<R: Read> Dice for DeviceDice<R> {
 
     fn fill(&mut self, into: &mut [u8]) -> Result<(), Failed>
         // The whole buffer is the next of the device.
-        ensures drawn { OnOk result (Consumes (R.remaining self.old.device) (R.remaining self.new.device) into.new) }
+        ensures drawn { OnOk result
+            (Consumes (R.remaining self.old.device) (R.remaining self.new.device) into.new) }
 
         // As the trait says.
         ensures bytes { MatchResult result (λ _. Consumes None None into.new) (λ _. Keeps None None) }
@@ -58,8 +59,8 @@ impl<R: Read> Dice for DeviceDice<R> {
 #[derive(Drop)]
 pub struct RealWorld<'a, F> {
     files: &'a F,
-    load_faults: u64,
-    open_faults: u64,
+    load_faults: FaultCount,
+    open_faults: FaultCount,
     dice_faults: [u64; SEATS],
     out: [u64; SEATS],
 }
@@ -69,8 +70,8 @@ impl<'a, F: NamedFiles> RealWorld<'a, F> {
     pub fn new(files: &'a F) -> RealWorld<'a, F> {
         RealWorld {
             files,
-            load_faults: 0,
-            open_faults: 0,
+            load_faults: FaultCount::new(),
+            open_faults: FaultCount::new(),
             dice_faults: [0; SEATS],
             out: [0; SEATS],
         }
@@ -83,10 +84,13 @@ impl<'a, F: NamedFiles> World for RealWorld<'a, F> {
     // No call hands out a link.
     type Link = TablePlugin;
 
-    ghost told = { λ world. real_world (F.told world.files.now) world.load_faults world.open_faults world.dice_faults world.out };
+    ghost told = { λ world. real_world
+        (F.told world.files.now) world.load_faults world.open_faults world.dice_faults world.out };
 
     fn faults(&self) -> u64 {
-        self.load_faults.saturating_add(self.open_faults)
+        self.load_faults
+            .count()
+            .saturating_add(self.open_faults.count())
     }
 
     fn load(&mut self, alloc: Global, name: &str, limit: u64) -> Result<Bytes, FileNo> {
@@ -94,7 +98,7 @@ impl<'a, F: NamedFiles> World for RealWorld<'a, F> {
             Ok(file) => file,
             Err(OpenNo::Absent) => return Err(FileNo::Absent),
             Err(OpenNo::Failed) => {
-                self.load_faults = self.load_faults.saturating_add(1);
+                self.load_faults.rise();
                 return Err(FileNo::Failed);
             }
         };
@@ -103,7 +107,7 @@ impl<'a, F: NamedFiles> World for RealWorld<'a, F> {
             Err(ReadNo::TooLong) => Err(FileNo::TooLong),
             Err(ReadNo::NoMemory) => Err(FileNo::NoMemory),
             Err(ReadNo::Failed) => {
-                self.load_faults = self.load_faults.saturating_add(1);
+                self.load_faults.rise();
                 Err(FileNo::Failed)
             }
         }
@@ -111,30 +115,40 @@ impl<'a, F: NamedFiles> World for RealWorld<'a, F> {
 
     fn dice(&mut self, _alloc: Global, seat: u32) -> Result<DeviceDice<F::File>, FileNo>
         // The random bytes are those of the system's device.
-        ensures device { IfOk result (λ dice. Holds (F.told self.old.files.now (codes "/dev/urandom")) (F.File.remaining dice.device)) }
+        ensures device { IfOk result (λ dice. Holds
+            (F.told self.old.files.now (codes "/dev/urandom"))
+            (F.File.remaining dice.device)) }
 
         // As the trait says.
         ensures ok { IfOk result (λ dice. HandsOut
-            (real_world (F.told self.old.files.now) self.old.load_faults self.old.open_faults self.old.dice_faults self.old.out)
-            (real_world (F.told self.new.files.now) self.new.load_faults self.new.open_faults self.new.dice_faults self.new.out)
+            (real_world (F.told self.old.files.now)
+            self.old.load_faults self.old.open_faults self.old.dice_faults self.old.out)
+            (real_world (F.told self.new.files.now)
+            self.new.load_faults self.new.open_faults self.new.dice_faults self.new.out)
             seat None dice.faults) }
         ensures err { OnErr result (KeepsDice
-            (real_world (F.told self.old.files.now) self.old.load_faults self.old.open_faults self.old.dice_faults self.old.out)
-            (real_world (F.told self.new.files.now) self.new.load_faults self.new.open_faults self.new.dice_faults self.new.out)) }
+            (real_world (F.told self.old.files.now)
+            self.old.load_faults self.old.open_faults self.old.dice_faults self.old.out)
+            (real_world (F.told self.new.files.now)
+            self.new.load_faults self.new.open_faults self.new.dice_faults self.new.out)) }
         ensures refusals { IfErr result (λ why. (why ≡ FileNo.Failed) ⊎ (why ≡ FileNo.NoMemory)) }
         ensures failed { IsErrOf result FileNo.Failed → Rose self.old.open_faults self.new.open_faults }
         ensures asked { Notes
-            (real_world (F.told self.old.files.now) self.old.load_faults self.old.open_faults self.old.dice_faults self.old.out)
-            (real_world (F.told self.new.files.now) self.new.load_faults self.new.open_faults self.new.dice_faults self.new.out)
+            (real_world (F.told self.old.files.now)
+            self.old.load_faults self.old.open_faults self.old.dice_faults self.old.out)
+            (real_world (F.told self.new.files.now)
+            self.new.load_faults self.new.open_faults self.new.dice_faults self.new.out)
             (Asked.RandomSource seat) result }
         ensures files { KeepsFiles
-            (real_world (F.told self.old.files.now) self.old.load_faults self.old.open_faults self.old.dice_faults self.old.out)
-            (real_world (F.told self.new.files.now) self.new.load_faults self.new.open_faults self.new.dice_faults self.new.out) }
+            (real_world (F.told self.old.files.now)
+            self.old.load_faults self.old.open_faults self.old.dice_faults self.old.out)
+            (real_world (F.told self.new.files.now)
+            self.new.load_faults self.new.open_faults self.new.dice_faults self.new.out) }
         ensures loads { self.new.load_faults ≡ self.old.load_faults }
     {
         let at = seat as usize;
         if at >= SEATS || self.out[at] == u64::MAX {
-            self.open_faults = self.open_faults.saturating_add(1);
+            self.open_faults.rise();
             return Err(FileNo::Failed);
         }
         match self.files.open(RANDOM_DEVICE) {
@@ -146,7 +160,7 @@ impl<'a, F: NamedFiles> World for RealWorld<'a, F> {
                 })
             }
             Err(_) => {
-                self.open_faults = self.open_faults.saturating_add(1);
+                self.open_faults.rise();
                 Err(FileNo::Failed)
             }
         }

@@ -35,11 +35,15 @@ impl<R: Read> Source for StdSource<R> {
 
     fn read(&mut self, into: &mut [u8]) -> Result<usize, Failed>
         // A read that fails counts once, any other not at all.
-        ensures once { MatchResult result (λ _. self.new.faults ≡ self.old.faults) (λ _. self.new.faults ≡ next_number self.old.faults) }
+        ensures once { MatchResult result
+            (λ _. self.new.faults ≡ self.old.faults)
+            (λ _. self.new.faults ≡ next_number self.old.faults) }
 
         // As the trait says.
         ensures bound { ReadsAtMost result into.new }
-        ensures bytes { ReadConsumes (R.remaining self.old.reader) (R.remaining self.new.reader) result into.new }
+        ensures bytes { ReadConsumes
+            (R.remaining self.old.reader) (R.remaining self.new.reader)
+            result into.new }
         ensures cause { IsCounted self.old.faults self.new.faults result }
     {
         match read_again(&mut self.reader, into) {
@@ -56,7 +60,8 @@ impl<R: Read> Source for StdSource<R> {
     }
 }
 
-/// A stream that is written to. A write that takes nothing of a piece is a fault; one that was interrupted is tried again.
+/// A stream that is written to. A write that takes nothing of a piece is a fault; one that was
+/// interrupted is tried again.
 #[derive(Drop)]
 pub struct StdSink<W> {
     writer: W,
@@ -83,11 +88,15 @@ impl<W: Write> Sink for StdSink<W> {
 
     fn write(&mut self, bytes: &[u8]) -> Result<usize, Failed>
         // A write that fails counts once, any other not at all.
-        ensures once { MatchResult result (λ _. self.new.faults ≡ self.old.faults) (λ _. self.new.faults ≡ next_number self.old.faults) }
+        ensures once { MatchResult result
+            (λ _. self.new.faults ≡ self.old.faults)
+            (λ _. self.new.faults ≡ next_number self.old.faults) }
 
         // As the trait says.
         ensures bound { WritesAtMost result bytes.now }
-        ensures bytes { WriteAppends (W.contents self.old.writer) (W.contents self.new.writer) result bytes.now }
+        ensures bytes { WriteAppends
+            (W.contents self.old.writer) (W.contents self.new.writer)
+            result bytes.now }
         ensures progress { IfOk result (λ n. n ≡ 0 → length bytes.now ≡ 0) }
         ensures cause { IsCounted self.old.faults self.new.faults result }
     {
@@ -108,7 +117,9 @@ impl<W: Write> Sink for StdSink<W> {
 /// One read, tried again where it was interrupted.
 fn read_again<R: Read>(reader: &mut R, into: &mut [u8]) -> Result<usize, Failed>
     ensures bound { ReadsAtMost result into.new }
-    ensures bytes { ReadConsumes (R.remaining reader.old) (R.remaining reader.new) result into.new }
+    ensures bytes { ReadConsumes
+        (R.remaining reader.old) (R.remaining reader.new)
+        result into.new }
 {
     for _ in 0..u64::MAX {
         match reader.read(into) {
@@ -126,7 +137,9 @@ fn read_again<R: Read>(reader: &mut R, into: &mut [u8]) -> Result<usize, Failed>
 /// One write of a part of the bytes, tried again where it was interrupted.
 fn write_again<W: Write>(writer: &mut W, bytes: &[u8]) -> Result<usize, Failed>
     ensures bound { WritesAtMost result bytes.now }
-    ensures bytes { WriteAppends (W.contents writer.old) (W.contents writer.new) result bytes.now }
+    ensures bytes { WriteAppends
+        (W.contents writer.old) (W.contents writer.new)
+        result bytes.now }
     ensures progress { IfOk result (λ n. n ≡ 0 → length bytes.now ≡ 0) }
 {
     for _ in 0..u64::MAX {
