@@ -56,13 +56,14 @@ impl World for FailingWorld {
 
     // It tells nothing of its files, since a load may fail.
     ghost told = { λ world. record {
-        file = λ name. None;
-        asked = Some world.asked.items;
-        load_faults = world.load_faults;
-        open_faults = world.open_faults;
-        dice = λ seat. (⟦<MemWorld<TablePlugin> as World>⟧.told world.inner).dice seat;
-        dice_faults = λ seat. (⟦<MemWorld<TablePlugin> as World>⟧.told world.inner).dice_faults seat;
-        out = λ seat. (⟦<MemWorld<TablePlugin> as World>⟧.told world.inner).out seat } };
+      file = λ name. None;
+      asked = Some world.asked.items;
+      load_faults = world.load_faults;
+      open_faults = world.open_faults;
+      dice = λ seat. (⟦<MemWorld<TablePlugin> as World>⟧.told world.inner).dice seat;
+      dice_faults = λ seat. (⟦<MemWorld<TablePlugin> as World>⟧.told world.inner).dice_faults seat;
+      out = λ seat. (⟦<MemWorld<TablePlugin> as World>⟧.told world.inner).out seat;
+    } };
 
     fn faults(&self) -> u64 {
         self.load_faults

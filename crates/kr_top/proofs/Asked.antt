@@ -16,12 +16,11 @@ use Rattle.kr_words.specs.declared.name.OptionName.{OptionName}
 use Rattle.kr_words.specs.declared.name.OptionName.TheVariants.{Path}
 use Rattle.kr_words.proofs.Values.{value_some, value_rule}
 use Rattle.kr_words.proofs.Meanings.{mean_one}
-use Rattle.kr_top.specs.Command.{Command, check, of_object, command_of, Asks, AskNothing, AskBadly}
+use Rattle.kr_top.specs.Command.{Command, check, of_object, command_of, AskNothing, AskBadly}
 use Rattle.kr_top.specs.Commands.{steps}
-use Rattle.kr_top.specs.Steps.{Point, gives}
+use Rattle.kr_top.specs.Steps.{Point}
 use Rattle.kr_top.specs.Ran.{Around, Receipt, IsIdle, IsHome, Stays, left_of, Reaches, Comes, Answers}
 use Rattle.kr_top.specs.inner.Phases.{Performs, Writes}
-use Rattle.kr_top.specs.declared.refusal.BadWords.{BadWords}
 use Rattle.kr_top.specs.declared.refusal.BadWords.TheVariants.{Usage}
 use Rattle.kr_top.specs.declared.refusal.Stop.{Stop}
 use Rattle.kr_top.specs.declared.refusal.Stop.TheVariants.{Words, Refused, Fault, NoMemory}

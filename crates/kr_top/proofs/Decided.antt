@@ -1,5 +1,5 @@
 -- The last step of a command over what is told decides its status.
-use Rattle.std.proofs.Common.{◌≡◌, ℕ, ◌<◌, ◌≤◌, ◌⊎◌, List, Option, None, Some, Result, Ok, Err, refl, sym, ◌∙◌, ap, subst, inl, inr, arith}
+use Rattle.std.proofs.Common.{◌≡◌, ℕ, ◌<◌, ◌≤◌, List, Option, None, Some, Result, Ok, Err, refl, sym, ◌∙◌, ap, subst, inl, inr, arith}
 use Rattle.std.specs.Prelude.{IfSome, IsSomeAnd, codes}
 use Rattle.std.specs.Io.KnownBytes.{Appends}
 use Rattle.kr_words.specs.Grammar.{replicas_of, IsWithinSize}
@@ -9,7 +9,7 @@ use Rattle.kr_words.proofs.Meanings.{mean_one}
 use Rattle.kr_top.specs.Command.{Command, command_of, Asks, AskBadly}
 use Rattle.kr_top.specs.Commands.{steps}
 use Rattle.kr_top.specs.Message.{status_of, line_of}
-use Rattle.kr_top.specs.Steps.{Point, refuses, gives, Goes}
+use Rattle.kr_top.specs.Steps.{Point, Goes}
 use Rattle.kr_top.specs.Ran.{Around, Receipt, Comes, left_of, Answers, Tells, IsTelling, WouldCome, end_at, IsDecided}
 use Rattle.kr_top.specs.declared.refusal.BadWords.{BadWords}
 use Rattle.kr_top.specs.declared.refusal.BadWords.TheVariants.{Usage, Replicas, Size}
@@ -17,7 +17,7 @@ use Rattle.kr_top.specs.declared.refusal.Stop.{Stop}
 use Rattle.kr_top.specs.declared.refusal.Stop.TheVariants.{Words, Refused, Fault, NoMemory}
 use Rattle.kr_top.specs.declared.refusal.Done.{Done}
 use Rattle.kr_top.specs.declared.refusal.Outcome.{Outcome}
-use Rattle.kr_top.proofs.OnePoint.{Alike, one_point}
+use Rattle.kr_top.proofs.OnePoint.{one_point}
 use Rattle.kr_top.proofs.Readings.{asks_something}
 use Rattle.kr_top.proofs.Settled.{settled}
 
@@ -65,7 +65,7 @@ decided_by : (words : List (List ℕ)) (old new : Around) (output errors : Recei
     → IsDecided words old errors status
 decided_by words old new output errors status (Ok done) (made, comes, is, whole) t command point m asks tells would at =
     let same = same_end point m (Ok done) asks tells would comes at
-        (ap (λ d. Some (Ok d)) (sym is)) in
+    (ap (λ d. Some (Ok d)) (sym is)) in
     inl (subst (λ r. (status ≡ status_of r) × Appends errors.old errors.new (line_of r)) (sym same) t)
 decided_by words old new output errors status (Err (Words why)) a t command point m asks tells would at =
     absurd (no_stop why asks a.0)

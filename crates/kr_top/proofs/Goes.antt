@@ -10,7 +10,7 @@ use Rattle.kr_base.proofs.Counting.{Rose-later}
 use Rattle.kr_kms.specs.Outside.{Outside, noted, KeepsFiles, KeepsDice, HandsOut, TakesBack}
 use Rattle.kr_kms.specs.declared.world.Asked.{Asked}
 use Rattle.kr_kms.specs.declared.world.Asked.TheVariants.{File, RandomSource}
-use Rattle.kr_config.specs.Kept.{Row, rows_of}
+use Rattle.kr_config.specs.Kept.{rows_of}
 use Rattle.kr_config.specs.declared.settings.Settings.{Settings}
 use Rattle.kr_top.specs.Commands.{by_result, configuration, silently, tell, inspection}
 use Rattle.kr_top.specs.Configuration.{Entries}

@@ -1,13 +1,12 @@
 -- What readers take from the relation of a call, whose result decides the status.
-use Rattle.std.proofs.Common.{◌≡◌, ℕ, ◌+◌, ◌-◌, ◌^◌, ◌≤◌, ◌⊎◌, min, List, length, take, take_all, Option, Some, Bool, true, false, Result, Ok, Err, refl, sym, ◌∙◌, ap, subst, inl, inr, arith}
+use Rattle.std.proofs.Common.{◌≡◌, ℕ, ◌+◌, ◌-◌, ◌^◌, ◌≤◌, ◌⊎◌, min, List, length, take_all, Option, Bool, true, false, Result, Ok, Err, refl, sym, ◌∙◌, ap, subst, inl, inr, arith}
 use Rattle.std.specs.Prelude.{◌==◌, if◌then◌else◌}
 use Rattle.std.specs.Io.KnownBytes.{Appends}
 use Rattle.kr_base.specs.Faults.{Rose}
 use Rattle.kr_base.specs.Streams.{AppendsFront}
-use Rattle.kr_words.proofs.Meanings.{mean_one}
-use Rattle.kr_top.specs.Command.{Command, Asks, AskNothing, AskReplicas, AskSize, command_of}
+use Rattle.kr_top.specs.Command.{Command, Asks, AskNothing, AskReplicas, AskSize}
 use Rattle.kr_top.specs.Message.{status_of, status_of_done, status_of_refusal, line_of, done_line}
-use Rattle.kr_top.specs.Steps.{Call, loading, reading, opening, drawing, Point, gives}
+use Rattle.kr_top.specs.Steps.{Call, loading, reading, opening, drawing, gives}
 use Rattle.kr_top.specs.Ran.{Around, Receipt, IsIdle, IsHome, faults_at, count_at, IsUntouched, Comes, Answers, Tells, IsUsage, FailsAt, FailsToWrite, IsCaused, RefusesWith, GivesWith, IsRefused, IsDone, IsWritten}
 use Rattle.kr_top.specs.declared.refusal.BadWords.TheVariants.{Usage, Replicas, Size}
 use Rattle.kr_top.specs.declared.refusal.Refusal.{Refusal}

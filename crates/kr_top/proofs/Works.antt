@@ -1,6 +1,6 @@
 -- The point that the steps of a bench come to, by what it made of the bytes.
 use Rattle.std.proofs.Common.{◌≡◌, ◌≢◌, ℕ, ◌≤◌, List, [], ◌∷◌, length, Bool, true, false, Option, None, Some, Result, Ok, Err, refl, sym, ◌∙◌, ap, subst, inl, inr, arith}
-use Rattle.std.specs.Prelude.{IsSome, IfSome, nat_lt, if◌then◌else◌}
+use Rattle.std.specs.Prelude.{IfSome, nat_lt, if◌then◌else◌}
 use Rattle.std.specs.Io.KnownBytes.{Consumes, Keeps}
 use Rattle.kr_base.specs.Limits.{data_limit}
 use Rattle.kr_config.specs.declared.who.Who.{Who}
@@ -16,19 +16,15 @@ use Rattle.kr_provider.specs.declared.refusal.SealNo.{SealNo}
 use Rattle.kr_provider.specs.declared.refusal.SealNo.TheVariants as seal
 use Rattle.kr_provider.specs.declared.refusal.UnsealNo.{UnsealNo}
 use Rattle.kr_provider.specs.declared.refusal.UnsealNo.TheVariants as unseal
-use Rattle.kr_provider.specs.declared.refusal.ValueNo.{ValueNo}
 use Rattle.kr_provider.specs.declared.refusal.ValueNo.TheVariants.{LooksEncrypted}
 use Rattle.kr_top.specs.Commands.{silently, value_steps, sealing, freshness, reading_steps, unsealing, working, limit_of}
 use Rattle.kr_top.specs.declared.convert.Direction.{Direction}
 use Rattle.kr_top.specs.declared.convert.Direction.TheVariants.{Encrypt, Decrypt}
-use Rattle.kr_top.specs.Steps.{Steps, draw, give, refuse, Goes, Left, with_dice, Point, awaits, drawing, refuses, gives}
+use Rattle.kr_top.specs.Steps.{Steps, draw, give, Goes, Left, with_dice, Point, awaits, drawing, refuses, gives}
 use Rattle.kr_top.specs.inner.Phases.{Draws, Makes, seal_outcome, unseal_outcome}
-use Rattle.kr_top.specs.declared.refusal.Object.TheVariants.{Dice}
 use Rattle.kr_top.specs.declared.refusal.Outcome.{Outcome}
-use Rattle.kr_top.specs.declared.refusal.Refusal.{Refusal}
 use Rattle.kr_top.specs.declared.refusal.Refusal.TheVariants.{Value}
 use Rattle.kr_top.specs.declared.refusal.Stop.{Stop}
-use Rattle.kr_top.specs.declared.refusal.Stop.TheVariants.{Refused, Fault, NoMemory}
 use Rattle.kr_top.proofs.Goes.{keeps_by, keeps_trans, consumes_by}
 
 nothing : (bytes : List ℕ) → length bytes ≡ 0 → bytes ≡ []

@@ -264,7 +264,10 @@ fn write_dice_fault<E: Sink>(errors: &mut E, seat: u32, count: u64) -> Result<()
     let seat = seat_buffer.format(seat);
     let mut buffer = Buffer::new();
     let digits = buffer.format(count);
-    write_each(errors, &["kmsrest: fault ", "dice ", seat, " ", digits, "\n"])
+    write_each(
+        errors,
+        &["kmsrest: fault ", "dice ", seat, " ", digits, "\n"],
+    )
 }
 
 /// Writes the pieces, one behind another.

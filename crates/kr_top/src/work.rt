@@ -149,9 +149,7 @@ fn seal_outcome(sealed: Result<Bytes, SealNo>, faults: u64) -> Result<Outcome, S
             bytes,
             done: Done::Silent,
         }),
-        Err(SealNo::LooksEncrypted) => Err(Stop::Refused(Refusal::Value(
-            ValueNo::LooksEncrypted,
-        ))),
+        Err(SealNo::LooksEncrypted) => Err(Stop::Refused(Refusal::Value(ValueNo::LooksEncrypted))),
         Err(SealNo::TooLarge { length: _length }) => {
             Err(Stop::Refused(Refusal::Value(ValueNo::TooLarge)))
         }

@@ -25,7 +25,6 @@ use Rattle.kr_top.specs.Configuration.{Entries, IsConfiguration}
 use Rattle.kr_top.specs.Ran.{Around, Receipt, IsIdle, IsFault, Stays, Reaches, IsHome}
 use Rattle.kr_top.specs.Steps.{Steps, Goes, Call, Left, with_dice, Point, awaits, amid, drawing, refuses, gives}
 use Rattle.kr_top.specs.declared.refusal.BadWords.TheVariants.{Usage}
-use Rattle.kr_top.specs.declared.refusal.Object.{Object}
 use Rattle.kr_top.specs.declared.refusal.Object.TheVariants.{Input, Output, Files, Dice}
 use Rattle.kr_top.specs.declared.refusal.Outcome.{Outcome}
 use Rattle.kr_top.specs.declared.refusal.Refusal.{Refusal}

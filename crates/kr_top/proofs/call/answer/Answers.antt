@@ -1,4 +1,4 @@
-use Rattle.std.proofs.Common.{refl, inr}
+use Rattle.std.proofs.Common.{refl}
 use Rattle.kr_top.proofs.Asked.{means_nothing, answers}
 use Rattle.kr_top.proofs.call.answer.Goals as goal
 

@@ -1,8 +1,8 @@
 use Rattle.std.proofs.Common.{Ok, Err}
 use Rattle.kr_config.specs.Kept.{rows_of}
-use Rattle.kr_top.specs.Commands.{configuration, limit_of, long_input, working}
+use Rattle.kr_top.specs.Commands.{configuration, working}
 use Rattle.kr_top.specs.Configuration.{without_plugin}
-use Rattle.kr_top.specs.Steps.{take_input, borrow_dice, give, and_then}
+use Rattle.kr_top.specs.Steps.{take_input, borrow_dice, give}
 use Rattle.kr_top.proofs.Goes.{configures, takes, goes_on, stops, by_bytes}
 use Rattle.kr_top.proofs.convert.convert.Goals as goal
 

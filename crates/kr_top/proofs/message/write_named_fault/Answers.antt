@@ -1,4 +1,4 @@
-use Rattle.std.proofs.Common.{◌++◌, OnOk, OnErr, subst, codes, decimal}
+use Rattle.std.proofs.Common.{◌++◌, OnOk, OnErr, subst, codes}
 use Rattle.std.specs.Io.KnownBytes.{Appends}
 use Rattle.kr_base.specs.Streams.{AppendsFront}
 use Rattle.kr_top.proofs.message.write_named_fault.Goals as goal
