@@ -63,18 +63,25 @@ decided_by : (words : List (List ℕ)) (old new : Around) (output errors : Recei
     (r : Result Done Stop) → Answers words old new output r
     → (status ≡ status_of r) × Appends errors.old errors.new (line_of r)
     → IsDecided words old errors status
-decided_by words old new output errors status (Ok done) (made, comes, is, whole) t command point m asks tells would at =
+decided_by words old new output errors status (Ok done)
+    (made, comes, is, whole) t command point m asks tells would at =
     let same = same_end point m (Ok done) asks tells would comes at
     (ap (λ d. Some (Ok d)) (sym is)) in
-    inl (subst (λ r. (status ≡ status_of r) × Appends errors.old errors.new (line_of r)) (sym same) t)
-decided_by words old new output errors status (Err (Words why)) a t command point m asks tells would at =
+    inl (subst (λ r. (status ≡ status_of r) × Appends errors.old errors.new (line_of r))
+    (sym same) t)
+decided_by words old new output errors status
+    (Err (Words why)) a t command point m asks tells would at =
     absurd (no_stop why asks a.0)
-decided_by words old new output errors status (Err (Refused why)) (comes, idle) t command point m asks tells would at =
+decided_by words old new output errors status (Err (Refused why))
+    (comes, idle) t command point m asks tells would at =
     let same = same_end point m (Err (Refused why)) asks tells would comes at refl in
-    inl (subst (λ r. (status ≡ status_of r) × Appends errors.old errors.new (line_of r)) (sym same) t)
-decided_by words old new output errors status (Err (Fault object count)) a t command point m asks tells would at =
+    inl (subst (λ r. (status ≡ status_of r) × Appends errors.old errors.new (line_of r))
+    (sym same) t)
+decided_by words old new output errors status
+    (Err (Fault object count)) a t command point m asks tells would at =
     inr (inl t.0)
-decided_by words old new output errors status (Err NoMemory) a t command point m asks tells would at =
+decided_by words old new output errors status
+    (Err NoMemory) a t command point m asks tells would at =
     inr (inr t.0)
 
 pub decided : (words : List (List ℕ)) (old new : Around) (output errors : Receipt) (status : ℕ)

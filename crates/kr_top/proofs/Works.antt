@@ -95,12 +95,14 @@ none_marked true marked plain m = refl
 none_marked false true plain m = refl
 none_marked false false plain m = absurd (cc)
 
-module _ {D : Type 0} (left : D → Option (List ℕ)) (count : D → ℕ) (old new : D) (path bytes : List ℕ) where
+module _ {D : Type 0} (left : D → Option (List ℕ)) (count : D → ℕ) (old new : D)
+    (path bytes : List ℕ) where
   kept : new ≡ old → Keeps (left old) (left new)
   kept e = keeps_by _ _ (ap left e)
 
   seal_makes : (who : Who) (seeds : List SeedRow) (result : Result (List ℕ) SealNo)
-      → length bytes ≤ data_limit → seeds ≡ [] → Seals left count seeds who path bytes old new result
+      → length bytes ≤ data_limit → seeds ≡ []
+      → Seals left count seeds who path bytes old new result
       → Makes (sealing who path bytes) (left old) (left new) (count old) (count new)
       (seal_outcome (count new) result)
   seal_makes who seeds (Ok value) fits bare (drawn, all, is, c, same) =
@@ -110,7 +112,8 @@ module _ {D : Type 0} (left : D → Option (List ℕ)) (count : D → ℕ) (old 
       absurd (omega (arith, fits, large))
   seal_makes who seeds (Err seal.LooksEncrypted) fits bare (short, e, marked, same) =
       let none = none_marked (nat_lt data_limit (length bytes)) (is_marked bytes) bytes marked in
-      subst (λ w. Draws (sealing w path bytes) (left old) (left new) (refuses (Value LooksEncrypted)))
+      subst (λ w. Draws (sealing w path bytes) (left old) (left new)
+      (refuses (Value LooksEncrypted)))
       (sym e) (at_once (kept same) (λ l. subst
       (λ r. Goes (refuses (Value LooksEncrypted)) l (value_steps r) l) (sym none) (refl, refl)))
   seal_makes who seeds (Err seal.DiceFailed) fits bare (short, draws, rose, k) =
@@ -135,17 +138,20 @@ module _ {D : Type 0} (left : D → Option (List ℕ)) (count : D → ℕ) (old 
   unseal_makes list seeds (Err unseal.NoMemory) bare same read = kept same
 
 -- what a bench that adopted a publication made in a direction, once its random source is back
-module _ {D : Type 0} (left : D → Option (List ℕ)) (count : D → ℕ) (resource path bytes : List ℕ) where
+module _ {D : Type 0} (left : D → Option (List ℕ)) (count : D → ℕ)
+    (resource path bytes : List ℕ) where
   abbrev MakesBy : Direction → (old new : D) → Result Outcome Stop → Publication → Type 0
   MakesBy direction old new made p = Makes (working direction resource path p.rows bytes)
       (left old) (left new) (count old) (count new) made
 
-  pub seal_made : (published : Option Publication) (direction : Direction) (old mid new : D) (faults : ℕ)
+  pub seal_made : (published : Option Publication) (direction : Direction) (old mid new : D)
+      (faults : ℕ)
       (result : Result (List ℕ) SealNo) (made : Result Outcome Stop)
       → direction ≡ Encrypt → length bytes ≤ limit_of direction → new ≡ mid
       → faults ≡ count new → made ≡ seal_outcome faults result
       → IfSome published (λ p. p.seeds ≡ [])
-      → IfSome published (λ p. Seals left count p.seeds (writer_at p resource) path bytes old mid result)
+      → IfSome published
+      (λ p. Seals left count p.seeds (writer_at p resource) path bytes old mid result)
       → IfSome published (MakesBy direction old new made)
   seal_made None direction old mid new faults result made e fits back f m bare s = tt
   seal_made (Some p) direction old mid new faults result made e fits back f m bare s =

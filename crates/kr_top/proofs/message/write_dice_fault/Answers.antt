@@ -11,7 +11,8 @@ returns-clause-ok g c = subst
     c.format-seat.ensures.text (subst
     (λ d. OnOk c.write_each.result
     (Appends (g.E.Sink.held c.args.errors.now) (g.E.Sink.held c.write_each.new.errors)
-    (codes "kmsrest: fault dice " ++ (c.format-seat.result.now ++ (codes " " ++ (d ++ codes "\n"))))))
+    (codes "kmsrest: fault dice "
+    ++ (c.format-seat.result.now ++ (codes " " ++ (d ++ codes "\n"))))))
     c.format-digits.ensures.text c.write_each.ensures.ok)
 
 pub returns-clause-err : goal.returns-clause-err
@@ -22,5 +23,6 @@ returns-clause-err g c = subst
     c.format-seat.ensures.text (subst
     (λ d. OnErr c.write_each.result
     (AppendsFront (g.E.Sink.held c.args.errors.now) (g.E.Sink.held c.write_each.new.errors)
-    (codes "kmsrest: fault dice " ++ (c.format-seat.result.now ++ (codes " " ++ (d ++ codes "\n"))))))
+    (codes "kmsrest: fault dice "
+    ++ (c.format-seat.result.now ++ (codes " " ++ (d ++ codes "\n"))))))
     c.format-digits.ensures.text c.write_each.ensures.err)
