@@ -5,12 +5,7 @@ use Rattle.std.proofs.lemmas.List.{take-append-le, drop_all, length-append}
 use Rattle.std.specs.Io.KnownBytes.{Appends}
 use Rattle.std.proofs.KnownBytes.{Appends-trans}
 use Rattle.kr_base.specs.Streams.{AppendsFront}
-use Rattle.std.specs.Prelude.{codes, decimal}
-use Rattle.kr_config.specs.declared.refusal.ConfigNo.{ConfigNo}
-use Rattle.std.specs.Prelude.{if◌then◌else◌}
-use Rattle.std.proofs.lemmas.Bool.Decides.{Decides-eqb}
 use Rattle.kr_top.specs.inner.Phases.{whole}
-use Rattle.kr_top.specs.Message.{counted_text, configuration_line}
 
 -- the first pieces were written, and how many bytes they are in all is left open
 pub record Spoke (before now : Option (List ℕ)) (pieces : List (Bor (List ℕ)))
@@ -69,19 +64,3 @@ spoke-all {a} {b} {pieces} {i} s h =
     subst (Appends a b)
     (sym (s.split ∙ ap (λ l. s.written ++ whole l) (drop_all i pieces h) ∙ append-nil s.written))
     s.appended
-
--- the pieces of the line of a limit of configurations
-pub limit_pieces : (why : ConfigNo) (which digits : List ℕ) → why.code ≡ 39
-    → which ≡ counted_text why.first → digits ≡ decimal why.second
-    → codes "kmsrest: limit "
-    ++ (which ++ (codes " " ++ (digits ++ codes "\n"))) ≡ configuration_line why
-limit_pieces why which digits code named numbered =
-    ap (λ w. codes "kmsrest: limit " ++ (w ++ (codes " " ++ (digits ++ codes "\n")))) named
-    ∙ ap (λ d. codes "kmsrest: limit "
-    ++ (counted_text why.first ++ (codes " " ++ (d ++ codes "\n")))) numbered
-    ∙ ap (λ q. if q then codes "kmsrest: limit "
-    ++ (counted_text why.first ++ (codes " " ++ (decimal why.second ++ codes "\n")))
-    else codes "kmsrest: text "
-    ++ (decimal why.code
-    ++ (codes " " ++ (decimal why.first ++ (codes " " ++ (decimal why.second ++ codes "\n"))))))
-    (sym ((Decides-eqb why.code 39).1 code))

@@ -5,7 +5,9 @@ use Rattle.std.specs.Io.KnownBytes.{Appends}
 use Rattle.kr_base.specs.Faults.{Rose}
 use Rattle.kr_base.specs.Streams.{AppendsFront}
 use Rattle.kr_top.specs.Command.{Command, Asks, AskNothing, AskReplicas, AskSize}
-use Rattle.kr_top.specs.Message.{status_of, status_of_done, status_of_refusal, line_of, done_line}
+use Rattle.kr_config.specs.declared.refusal.ConfigNo.{ConfigNo}
+use Rattle.kr_config.specs.declared.refusal.ConfigNo.TheVariants as config
+use Rattle.kr_top.specs.Message.{status_of, status_of_done, status_of_configuration, status_of_refusal, line_of, done_line}
 use Rattle.kr_top.specs.Steps.{Call, loading, reading, opening, drawing, gives}
 use Rattle.kr_top.specs.Ran.{Around, Receipt, IsIdle, IsHome, faults_at, count_at, IsUntouched, Comes, Answers, Tells, IsUsage, FailsAt, FailsToWrite, IsCaused, RefusesWith, GivesWith, IsRefused, IsDone, IsWritten}
 use Rattle.kr_top.specs.declared.refusal.BadWords.TheVariants.{Usage, Replicas, Size}
@@ -23,13 +25,14 @@ use Rattle.kr_top.specs.declared.refusal.Outcome.{Outcome}
 abbrev Statuses : ℕ → Type 0
 Statuses n = (n ≡ 1) ⊎ (n ≡ 3) ⊎ (n ≡ 6)
 
-text_or_limit : (q : Bool) → Statuses (if q then 6 else 3)
-text_or_limit true = inr (inr refl)
-text_or_limit false = inr (inl refl)
+status_of_why : (why : ConfigNo) → Statuses (status_of_configuration why)
+status_of_why (config.Breach broken place) = inr (inl refl)
+status_of_why (config.Yaml broken line) = inr (inl refl)
+status_of_why (config.Limit counted) = inr (inr refl)
 
 status_in : (why : Refusal) → Statuses (status_of_refusal why)
 status_in (Absent name) = inr (inl refl)
-status_in (Configuration why) = text_or_limit (why.code == 39)
+status_in (Configuration why) = status_of_why why
 status_in NotServed = inr (inl refl)
 status_in (Limit which) = inr (inr refl)
 status_in (Value number) = inl refl

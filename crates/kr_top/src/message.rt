@@ -3,18 +3,16 @@ ghost use Rattle.std.specs.Prelude.{◌≡◌, ◌≤◌, ◌++◌, OnOk, OnErr,
 ghost use Rattle.std.specs.Io.KnownBytes.{Appends};
 ghost use Rattle.kr_base.specs.Faults.{IsCounted};
 ghost use Rattle.kr_base.specs.Streams.{AppendsFront};
-ghost use Rattle.kr_top.specs.Message.{status_of, status_of_words, status_of_refusal, status_of_done, words_line, limit_line, refusal_line, done_line, counted_text, configuration_line, fault_line, line_of};
+ghost use Rattle.kr_top.specs.Message.{status_of, status_of_words, status_of_configuration, status_of_refusal, status_of_done};
+ghost use Rattle.kr_top.specs.Message.{words_line, limit_line, refusal_line, done_line, counted_text, too_many_line, breach_line, configuration_line, fault_line, line_of};
 ghost use Rattle.kr_top.specs.Ran.{receipt, Tells};
 ghost use Rattle.kr_top.specs.inner.Phases.{whole};
 
 use crate::refusal::{BadWords, Done, Limit, Object, Refusal, Stop};
 use itoa::Buffer;
 use kr_base::{Failed, Sink, write_all};
-use kr_config::ConfigNo;
+use kr_config::{ConfigNo, Counted};
 use kr_provider::ValueNo;
-
-/// The number of the limit of a configuration among its codes.
-const LIMIT_PASSED: u8 = 39;
 
 fn status_of_words(why: BadWords) -> u8
     ensures { result ≡ status_of_words why }
@@ -36,6 +34,16 @@ fn status_of_done(done: Done) -> u8
     }
 }
 
+fn status_of_configuration(why: ConfigNo) -> u8
+    ensures { result ≡ status_of_configuration why }
+{
+    match why {
+        ConfigNo::Breach(_, _) => 3,
+        ConfigNo::Yaml(_, _) => 3,
+        ConfigNo::Limit(_) => 6,
+    }
+}
+
 fn status_of_refusal(why: &Refusal) -> u8
     ensures { result ≡ status_of_refusal why.now }
 {
@@ -44,7 +52,7 @@ fn status_of_refusal(why: &Refusal) -> u8
         Refusal::Placed(_, _) => 1,
         Refusal::Absent(_) => 3,
         Refusal::NotServed => 3,
-        Refusal::Configuration(why) => { if why.code == LIMIT_PASSED { 6 } else { 3 } }
+        Refusal::Configuration(why) => status_of_configuration(*why),
         Refusal::Limit(_) => 6,
     }
 }
@@ -182,7 +190,7 @@ fn write_placed<E: Sink>(errors: &mut E, why: ValueNo, at: u64) -> Result<(), Fa
     )
 }
 
-/// Writes the line of a configuration's breach.
+/// Writes the line of what a configuration breaks.
 fn write_configuration<E: Sink>(errors: &mut E, why: ConfigNo) -> Result<(), Failed>
     ensures ok { OnOk result
         (Appends (E.held errors.old) (E.held errors.new) (configuration_line why)) }
@@ -190,39 +198,58 @@ fn write_configuration<E: Sink>(errors: &mut E, why: ConfigNo) -> Result<(), Fai
         (AppendsFront (E.held errors.old) (E.held errors.new) (configuration_line why)) }
     ensures cause { IsCounted (E.count errors.old) (E.count errors.new) result }
 {
-    let mut second_buffer = Buffer::new();
-    let second = second_buffer.format(why.second);
-    if why.code == LIMIT_PASSED {
-        return write_each(
-            errors,
-            &[
-                "kmsrest: limit ",
-                counted_text(why.first),
-                " ",
-                second,
-                "\n",
-            ],
-        );
+    match why {
+        ConfigNo::Breach(_, _) => write_breach(errors, why),
+        ConfigNo::Yaml(_, _) => write_breach(errors, why),
+        ConfigNo::Limit(counted) => write_too_many(errors, counted),
     }
+}
+
+/// Writes the line of a breach with its code and numbers.
+fn write_breach<E: Sink>(errors: &mut E, why: ConfigNo) -> Result<(), Failed>
+    ensures ok { OnOk result
+        (Appends (E.held errors.old) (E.held errors.new) (breach_line why)) }
+    ensures err { OnErr result
+        (AppendsFront (E.held errors.old) (E.held errors.new) (breach_line why)) }
+    ensures cause { IsCounted (E.count errors.old) (E.count errors.new) result }
+{
     let mut code_buffer = Buffer::new();
-    let code = code_buffer.format(why.code);
+    let code = code_buffer.format(why.code());
     let mut first_buffer = Buffer::new();
-    let first = first_buffer.format(why.first);
+    let first = first_buffer.format(why.first_number());
+    let mut second_buffer = Buffer::new();
+    let second = second_buffer.format(why.second_number());
     write_each(
         errors,
         &["kmsrest: text ", code, " ", first, " ", second, "\n"],
     )
 }
 
-/// What a configuration has too many of.
-fn counted_text(which: u32) -> &'static str
-    ensures { result.now ≡ counted_text which }
+/// Writes the line of a limit that a configuration passes.
+fn write_too_many<E: Sink>(errors: &mut E, counted: Counted) -> Result<(), Failed>
+    ensures ok { OnOk result
+        (Appends (E.held errors.old) (E.held errors.new) (too_many_line counted)) }
+    ensures err { OnErr result
+        (AppendsFront (E.held errors.old) (E.held errors.new) (too_many_line counted)) }
+    ensures cause { IsCounted (E.count errors.old) (E.count errors.new) result }
 {
-    match which {
-        1 => "entries",
-        2 => "patterns",
-        3 => "keys",
-        _ => "kms",
+    let mut buffer = Buffer::new();
+    let limit = buffer.format(counted.limit());
+    write_each(
+        errors,
+        &["kmsrest: limit ", counted_text(counted), " ", limit, "\n"],
+    )
+}
+
+/// What a configuration has too many of.
+fn counted_text(counted: Counted) -> &'static str
+    ensures { result.now ≡ counted_text counted }
+{
+    match counted {
+        Counted::Entries => "entries",
+        Counted::Patterns => "patterns",
+        Counted::Keys => "keys",
+        Counted::Plugins => "kms",
     }
 }
 
