@@ -1,4 +1,6 @@
+-- The definitions that contracts cite.
 pub mod BenchState
+pub mod Checks
 pub mod Ciphers
 pub mod Envelopes
 pub mod KeyPages

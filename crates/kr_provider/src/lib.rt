@@ -1,8 +1,10 @@
-//! Providers at work: what an object's data is sealed as for a resource, and what a stored value reads as.
+//! Providers at work: what an object's data are sealed as for a resource, and what a stored value
+//! reads as.
 #![tactic(auto)]
 
 mod adopted;
 mod bench;
+mod check;
 mod key_pages;
 pub mod laws;
 mod links;
@@ -15,6 +17,7 @@ mod sealing;
 mod unsealing;
 
 pub use bench::Bench;
+pub use check::check_of;
 pub use kr_base::Shared;
 pub use links::Links;
 pub use published::{Published, names_plugin, publish};

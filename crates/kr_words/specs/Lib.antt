@@ -1,3 +1,4 @@
+-- The definitions of kr_words, in reading order.
 pub mod Options
 pub mod Names
 pub mod Numerals

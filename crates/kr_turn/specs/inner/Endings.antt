@@ -8,7 +8,7 @@ use Rattle.kr_turn.specs.declared.view.Stage.TheVariants.{Idle}
 use Rattle.kr_turn.specs.declared.view.Terms.{Terms}
 use Rattle.kr_turn.specs.declared.view.Part.{Part}
 use Rattle.kr_turn.specs.declared.view.View.{View}
-use Rattle.kr_turn.specs.Lines.{of_seat, Stands}
+use Rattle.kr_base.specs.Lines.{of_seat, Stands}
 
 -- each seat of the turn is this one, or ended in it
 abbrev pub Covers : {L G : Type 0} → Terms G → View L G → Type 0
@@ -43,7 +43,7 @@ part_in seat = record {
 }
 
 -- the token of the first seat, in which all the others ended but for those that are left
-pub record Gathered {S L G : Type 0} (first : Place S L G) (all left : List (Place S L G))
+pub record IsGathered {S L G : Type 0} (first : Place S L G) (all left : List (Place S L G))
     (m : Me (Option S) (View L G)) : Type 0 where
   pub rests : m.0.stage ≡ Idle
   pub bare : m.1 ≡ []
