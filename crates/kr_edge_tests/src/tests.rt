@@ -20,22 +20,33 @@ enum Turn {
 /// numbers from 0 on.
 #[derive(Drop)]
 struct Double {
-    turns: &'static [Turn],
+    turns: Vec<Turn>,
+    at: usize,
     next: u8,
     taken: Vec<u8>,
 }
 
 impl Double {
+    fn new(alloc: Global, turns: &[Turn]) -> Option<Double> {
+        let mut all = Vec::new(alloc);
+        all.extend_from_slice(turns).ok()?;
+        Some(Double {
+            turns: all,
+            at: 0,
+            next: 0,
+            taken: Vec::new(alloc),
+        })
+    }
+
     /// How many of the bytes the next call moves.
     fn turn(&mut self, most: usize) -> io::Result<usize> {
-        let Some((first, rest)) = self.turns.split_first() else {
-            return Ok(0);
-        };
-        self.turns = rest;
-        match first {
-            Turn::Stops => Err(ErrorKind::Interrupted.into()),
-            Turn::Breaks => Err(ErrorKind::BrokenPipe.into()),
-            Turn::Moves(count) => Ok((*count).min(most)),
+        let at = self.at;
+        self.at = at.saturating_add(1);
+        match self.turns.get(at) {
+            None => Ok(0),
+            Some(Turn::Stops) => Err(ErrorKind::Interrupted.into()),
+            Some(Turn::Breaks) => Err(ErrorKind::BrokenPipe.into()),
+            Some(Turn::Moves(count)) => Ok((*count).min(most)),
         }
     }
 }
@@ -65,17 +76,17 @@ impl Write for &mut Double {
 
 #[test]
 fn a_read_that_stops_is_tried_again(rt: HostRuntime) -> Result<(), Fail> {
-    let mut double = Double {
-        turns: &[
+    let mut double = Double::new(
+        rt.alloc(),
+        &[
             Turn::Stops,
             Turn::Moves(3),
             Turn::Stops,
             Turn::Stops,
             Turn::Moves(2),
         ],
-        next: 0,
-        taken: Vec::new(rt.alloc()),
-    };
+    )
+    .ok_or("memory")?;
     let mut source = StdSource::new(&mut double);
     let all = read_all(rt.alloc(), &mut source, 100);
     assert_eq!(rt; source.faults(), 0);
@@ -88,11 +99,9 @@ fn a_read_that_stops_is_tried_again(rt: HostRuntime) -> Result<(), Fail> {
 
 #[test]
 fn a_read_that_breaks_off_is_a_fault(rt: HostRuntime) -> Result<(), Fail> {
-    let mut double = Double {
-        turns: &[Turn::Moves(3), Turn::Breaks, Turn::Moves(2)],
-        next: 0,
-        taken: Vec::new(rt.alloc()),
-    };
+    let mut double = Double::new(rt.alloc(), &[Turn::Moves(3), Turn::Breaks, Turn::Moves(2)]).ok_or(
+        "memory",
+    )?;
     let mut source = StdSource::new(&mut double);
     let all = read_all(rt.alloc(), &mut source, 100);
     assert_eq!(rt; source.faults(), 1);
@@ -102,17 +111,17 @@ fn a_read_that_breaks_off_is_a_fault(rt: HostRuntime) -> Result<(), Fail> {
 
 #[test]
 fn a_write_that_stops_or_takes_little_goes_on(rt: HostRuntime) -> Result<(), Fail> {
-    let mut double = Double {
-        turns: &[
+    let mut double = Double::new(
+        rt.alloc(),
+        &[
             Turn::Stops,
             Turn::Moves(2),
             Turn::Moves(1),
             Turn::Stops,
             Turn::Moves(9),
         ],
-        next: 0,
-        taken: Vec::new(rt.alloc()),
-    };
+    )
+    .ok_or("memory")?;
     let mut sink = StdSink::new(&mut double);
     let written = write_all(&mut sink, b"hello!").is_ok();
     let faults = sink.faults();
@@ -123,11 +132,9 @@ fn a_write_that_stops_or_takes_little_goes_on(rt: HostRuntime) -> Result<(), Fai
 }
 
 /// Whether a write of `hello` fails, once, behind its first two bytes.
-fn fails_behind_two(alloc: Global, turns: &'static [Turn]) -> bool {
-    let mut double = Double {
-        turns,
-        next: 0,
-        taken: Vec::new(alloc),
+fn fails_behind_two(alloc: Global, turns: &[Turn]) -> bool {
+    let Some(mut double) = Double::new(alloc, turns) else {
+        return false;
     };
     let mut sink = StdSink::new(&mut double);
     let failed = write_all(&mut sink, b"hello").is_err() && sink.faults() == 1;
