@@ -11,21 +11,41 @@ refuted : (b : Bool) (P : Type 0) → Decides b P → (P → ⊥) → b ≡ fals
 refuted true P d n = absurd (n (d.0 refl))
 refuted false P d n = refl
 
-pub not_begun : (start bytes : List ℕ) → ((rest : List ℕ) → bytes ≢ start ++ rest) → begins start bytes ≡ false
+pub not_begun : (start bytes : List ℕ) → ((rest : List ℕ) → bytes ≢ start ++ rest)
+    → begins start bytes ≡ false
 not_begun start bytes h = refuted _ _ (begins_is start bytes) (λ b. h b.0 b.1)
 
-pub begun : (start bytes rest : List ℕ) → bytes ≡ start ++ rest → (begins start bytes ≡ true) × (rest ≡ drop (length start) bytes)
-begun start bytes rest e = ((begins_is start bytes).1 (rest, e), sym (ap (drop (length start)) e ∙ drop-append_seam start rest))
+pub begun : (start bytes rest : List ℕ) → bytes ≡ start ++ rest
+    → (begins start bytes ≡ true) × (rest ≡ drop (length start) bytes)
+begun start bytes rest e = (
+  (begins_is start bytes).1 (rest, e),
+  sym
+      (ap (drop (length start)) e ∙ drop-append_seam start rest),
+)
 
-pub without_head : (kind : Kind) (name bytes : List ℕ) → ((rest : List ℕ) → bytes ≢ head kind ++ rest) → begins (prefix kind name) bytes ≡ false
-without_head kind name bytes h = not_begun (prefix kind name) bytes (λ rest e. h (name ++ 0x3A ∷ rest) (e ∙ headed kind name rest))
+pub without_head : (kind : Kind) (name bytes : List ℕ)
+    → ((rest : List ℕ) → bytes ≢ head kind ++ rest) → begins (prefix kind name) bytes ≡ false
+without_head kind name bytes h = not_begun (prefix kind name) bytes
+    (λ rest e. h (name ++ 0x3A ∷ rest) (e ∙ headed kind name rest))
 
-pub without_name : (kind : Kind) (name bytes named : List ℕ) → bytes ≡ head kind ++ named → ((rest : List ℕ) → named ≢ name ++ rest) → begins (prefix kind name) bytes ≡ false
-without_name kind name bytes named is h = not_begun (prefix kind name) bytes (λ rest e. h (0x3A ∷ rest) (append_cancel_left (head kind) named (name ++ 0x3A ∷ rest) (sym is ∙ e ∙ headed kind name rest)))
+pub without_name : (kind : Kind) (name bytes named : List ℕ) → bytes ≡ head kind ++ named
+    → ((rest : List ℕ) → named ≢ name ++ rest) → begins (prefix kind name) bytes ≡ false
+without_name kind name bytes named is h = not_begun (prefix kind name) bytes
+    (λ rest e. h (0x3A ∷ rest) (append_cancel_left (head kind) named (name ++ 0x3A ∷ rest)
+    (sym is ∙ e ∙ headed kind name rest)))
 
-pub without_colon : (kind : Kind) (name bytes named ended : List ℕ) → bytes ≡ head kind ++ named → named ≡ name ++ ended → ((rest : List ℕ) → ended ≢ 0x3A ∷ rest) → begins (prefix kind name) bytes ≡ false
-without_colon kind name bytes named ended is then h = not_begun (prefix kind name) bytes (λ rest e. h rest (append_cancel_left name ended (0x3A ∷ rest) (sym then ∙ append_cancel_left (head kind) named (name ++ 0x3A ∷ rest) (sym is ∙ e ∙ headed kind name rest))))
+pub without_colon : (kind : Kind) (name bytes named ended : List ℕ) → bytes ≡ head kind ++ named
+    → named ≡ name ++ ended → ((rest : List ℕ) → ended ≢ 0x3A ∷ rest)
+    → begins (prefix kind name) bytes ≡ false
+without_colon kind name bytes named ended is then h =
+    not_begun (prefix kind name) bytes (λ rest e.
+    h rest (append_cancel_left name ended (0x3A ∷ rest)
+    (sym then ∙ append_cancel_left (head kind) named (name ++ 0x3A ∷ rest)
+    (sym is ∙ e ∙ headed kind name rest))))
 
-pub with_prefix : (kind : Kind) (name bytes named ended rest : List ℕ) → bytes ≡ head kind ++ named → named ≡ name ++ ended → ended ≡ 0x3A ∷ rest → (begins (prefix kind name) bytes ≡ true) × (rest ≡ drop (length (prefix kind name)) bytes)
+pub with_prefix : (kind : Kind) (name bytes named ended rest : List ℕ) → bytes ≡ head kind ++ named
+    → named ≡ name ++ ended → ended ≡ 0x3A ∷ rest
+    → (begins (prefix kind name) bytes ≡ true) × (rest ≡ drop (length (prefix kind name)) bytes)
 with_prefix kind name bytes named ended rest is then last =
-    begun (prefix kind name) bytes rest (is ∙ ap (λ l. head kind ++ l) (then ∙ ap (λ l. name ++ l) last) ∙ sym (headed kind name rest))
+    begun (prefix kind name) bytes rest (is ∙ ap (λ l. head kind ++ l)
+    (then ∙ ap (λ l. name ++ l) last) ∙ sym (headed kind name rest))

@@ -8,8 +8,10 @@ use Rattle.kr_provider.specs.declared.refusal.ValueNo.TheVariants as value
 use Rattle.kr_provider.specs.Reading.{gcm_reading, body_reading, refused}
 
 -- a body without a whole nonce is too short
-pub short_body : (key path body : List ℕ) → length body < 12 → gcm_reading key path body ≡ refused value.Short
+pub short_body : (key path body : List ℕ) → length body < 12
+    → gcm_reading key path body ≡ refused value.Short
 unfolding gcm_opened
 short_body key path body h =
     let none : length (drop 12 body) ≡ 0 = length-drop 12 body ∙ omega arith in
-    ap (λ n. body_reading (if nat_lt n 16 then Err Short else ok_or (ungcm (cipher_under key) (take 12 body) path (drop 12 body)) BadTag)) none
+    ap (λ n. body_reading (if nat_lt n 16 then Err Short else ok_or
+    (ungcm (cipher_under key) (take 12 body) path (drop 12 body)) BadTag)) none

@@ -9,19 +9,30 @@ use Rattle.kr_kms.specs.declared.seeds.SeedRow.{SeedRow}
 use Rattle.kr_provider.specs.Sealing.{sealed_by, value_by}
 
 front : (xs ys : List ℕ) (n : ℕ) → n ≡ length xs → take n (xs ++ ys) ≡ xs
-front xs ys n e = ap (λ k. take k (xs ++ ys)) e ∙ take-append-le (length xs) xs ys (omega arith) ∙ take-length xs
+front xs ys n e = ap (λ k. take k (xs ++ ys)) e ∙ take-append-le (length xs) xs ys (omega arith)
+    ∙ take-length xs
 
-pub filled : (result new now items prefix sealed : List ℕ) (count len room : ℕ) → result ≡ take count (new ++ drop (length new) items) → length new ≡ length now → now ≡ items → count ≡ length items → len ≡ count
-    → items ≡ prefix ++ replicate room 0 → new ≡ take (len - room) now ++ sealed → result ≡ prefix ++ sealed
+pub filled : (result new now items prefix sealed : List ℕ) (count len room : ℕ)
+    → result ≡ take count (new ++ drop (length new) items) → length new ≡ length now → now ≡ items
+    → count ≡ length items → len ≡ count
+    → items ≡ prefix ++ replicate room 0 → new ≡ take (len - room) now ++ sealed
+    → result ≡ prefix ++ sealed
 filled result new now items prefix sealed count len room r long same counted all made n =
-    let sizes : length items ≡ length prefix + room = ap length made ∙ length-append prefix (replicate room 0) ∙ ap (λ k. length prefix + k) (length-replicate room 0) in
+    let sizes : length items ≡ length prefix + room = ap length made
+    ∙ length-append prefix (replicate room 0)
+    ∙ ap (λ k. length prefix + k) (length-replicate room 0) in
     r ∙ front new (drop (length new) items) count (counted ∙ sym (long ∙ ap length same)) ∙ n
     ∙ ap (λ l. take (len - room) l ++ sealed) (same ∙ made)
-    ∙ ap (λ l. l ++ sealed) (front prefix (replicate room 0) (len - room) (omega (arith, sizes, counted, all)))
+    ∙ ap (λ l. l ++ sealed) (front prefix (replicate room 0) (len - room)
+    (omega (arith, sizes, counted, all)))
 
 not_above : (n m : ℕ) → n ≤ m → nat_lt m n ≡ false
 not_above n m h = grind (arith, nat_tests)
 
 -- where the data aren't too large, the value is the provider's
-pub sealed_fits : (seeds : List SeedRow) (who : Who) (path plain drawn : List ℕ) → length plain ≤ 2097152 → sealed_by seeds who path plain drawn ≡ value_by seeds who path plain drawn
-sealed_fits seeds who path plain drawn h = ap (λ (b : Bool). if b then None else value_by seeds who path plain drawn) (not_above (length plain) 2097152 h)
+pub sealed_fits : (seeds : List SeedRow) (who : Who) (path plain drawn : List ℕ)
+    → length plain ≤ 2097152 → sealed_by seeds who path plain drawn
+    ≡ value_by seeds who path plain drawn
+sealed_fits seeds who path plain drawn h = ap
+    (λ (b : Bool). if b then None else value_by seeds who path plain drawn)
+    (not_above (length plain) 2097152 h)

@@ -19,7 +19,7 @@ use Rattle.kr_config.specs.Lists.{first_list, list_of}
 use Rattle.kr_config.specs.Patterns.{matches}
 use Rattle.kr_config.specs.Providers.{is_key, is_provider, is_secret}
 use Rattle.kr_pages.specs.Pool.{words_of}
-use Rattle.kr_provider.specs.KeyPages.{HoldKeys, KeyPages, held, secret_of, secrets_among, secrets_in}
+use Rattle.kr_provider.specs.KeyPages.{HoldKeys, KeyPages, words_out, secret_of, secrets_among, secrets_in}
 use Rattle.kr_provider.specs.Readers.{writer_of}
 use Rattle.kr_provider.specs.inner.Scan.{AreAmong, HasWords, IsAmong, place_from}
 use Rattle.kr_provider.proofs.Booleans.{and_left, and_right, or_left}
@@ -27,7 +27,8 @@ use Rattle.kr_provider.proofs.Lists.{of_row}
 
 -- ---- what is left of a list behind an item
 
-pub rows_more : (entries : List Entry) (i : ℕ) (e : Entry) → i < length entries → e ≡ get_or entries i e → rows_of (drop i entries) ≡ row_of e ∷ rows_of (drop (i + 1) entries)
+pub rows_more : (entries : List Entry) (i : ℕ) (e : Entry) → i < length entries
+    → e ≡ get_or entries i e → rows_of (drop i entries) ≡ row_of e ∷ rows_of (drop (i + 1) entries)
 rows_more entries i e h is = ap rows_of (drop-cons entries i e h)
     ∙ ap (λ x. row_of x ∷ rows_of (drop (suc i) entries)) (sym is)
     ∙ ap (λ k. row_of e ∷ rows_of (drop k entries)) (sym (add-one i))
@@ -35,7 +36,8 @@ rows_more entries i e h is = ap rows_of (drop-cons entries i e h)
 pub rows_end : (entries : List Entry) (i : ℕ) → length entries ≤ i → rows_of (drop i entries) ≡ []
 rows_end entries i h = ap rows_of (drop_all i entries h)
 
-pub whos_more : (providers : List Who) (i : ℕ) (who : Who) → i < length providers → who ≡ get_or providers i who → drop i providers ≡ who ∷ drop (i + 1) providers
+pub whos_more : (providers : List Who) (i : ℕ) (who : Who) → i < length providers
+    → who ≡ get_or providers i who → drop i providers ≡ who ∷ drop (i + 1) providers
 whos_more providers i who h is = drop-cons providers i who h
     ∙ ap (λ w. w ∷ drop (suc i) providers) (sym is)
     ∙ ap (λ k. who ∷ drop k providers) (sym (add-one i))
@@ -45,61 +47,85 @@ whos_more providers i who h is = drop-cons providers i who h
 one_more : (n : ℕ) → suc n ≡ 1 + n
 one_more n = omega arith
 
-secrets_first : (who : Who) (rest : List Who) → length (secrets_among (who ∷ rest)) ≡ cond (is_key who) (1 + length (secrets_among rest)) (length (secrets_among rest))
+secrets_first : (who : Who) (rest : List Who)
+    → length (secrets_among (who ∷ rest)) ≡ cond (is_key who) (1 + length (secrets_among rest))
+    (length (secrets_among rest))
 secrets_first Identity rest = refl
 secrets_first (Aescbc name secret) rest = one_more (length (secrets_among rest))
 secrets_first (Aesgcm name secret) rest = one_more (length (secrets_among rest))
 secrets_first (Kms name) rest = refl
 
-pub secrets_count : (providers : List Who) → length (secrets_among providers) ≡ count_by is_key providers
-secrets_count providers = is_count_by (λ l. length (secrets_among l)) is_key refl secrets_first providers
+pub secrets_count : (providers : List Who) → length (secrets_among providers)
+    ≡ count_by is_key providers
+secrets_count providers = is_count_by (λ l. length (secrets_among l)) is_key refl secrets_first
+    providers
 
 pub secrets_counted : (rows : List Row) → length (secrets_in rows) ≡ keys_in rows
-secrets_counted rows = is_sum_by (λ l. length (secrets_in l)) (λ row. count_by is_key row.providers) refl
-    (λ row rest. length-append (secrets_among row.providers) (secrets_in rest) ∙ ap (λ n. n + length (secrets_in rest)) (secrets_count row.providers)) rows
+secrets_counted rows = is_sum_by (λ l. length (secrets_in l))
+    (λ row. count_by is_key row.providers) refl
+    (λ row rest. length-append (secrets_among row.providers) (secrets_in rest)
+    ∙ ap (λ n. n + length (secrets_in rest)) (secrets_count row.providers)) rows
 
 -- ---- keys of their rules
 
 secret_length : (secret : List ℕ) → is_secret secret ≡ true → IsKeyLength (length secret)
 secret_length secret e = grind (arith, nat_tests)
 
-pub key_length : (who : Who) (secret : List ℕ) → is_provider who ≡ true → secret_of who ≡ secret ∷ [] → IsKeyLength (length secret)
+pub key_length : (who : Who) (secret : List ℕ) → is_provider who ≡ true
+    → secret_of who ≡ secret ∷ [] → IsKeyLength (length secret)
 key_length Identity secret e s = absurd (cc)
-key_length (Aescbc name own) secret e s = let same : own ≡ secret = cc in subst (λ t. IsKeyLength (length t)) same (secret_length own (and_right _ _ e))
-key_length (Aesgcm name own) secret e s = let same : own ≡ secret = cc in subst (λ t. IsKeyLength (length t)) same (secret_length own (and_right _ _ e))
+key_length (Aescbc name own) secret e s = let same : own ≡ secret = cc in
+    subst (λ t. IsKeyLength (length t)) same (secret_length own (and_right _ _ e))
+key_length (Aesgcm name own) secret e s = let same : own ≡ secret = cc in
+    subst (λ t. IsKeyLength (length t)) same (secret_length own (and_right _ _ e))
 key_length (Kms name) secret e s = absurd (cc)
 
-pub row_at : (entries : List Entry) (i : ℕ) (e : Entry) → list_all keeps_row (rows_of entries) ≡ true → i < length entries → e ≡ get_or entries i e → list_all is_provider e.providers.0 ≡ true
+pub row_at : (entries : List Entry) (i : ℕ) (e : Entry)
+    → list_all keeps_row (rows_of entries) ≡ true → i < length entries → e ≡ get_or entries i e
+    → list_all is_provider e.providers.0 ≡ true
 row_at [] i e rules h is = absurd (omega (arith, h))
-row_at (x ∷ xs) zero e rules h is = let each = and_left (keeps_row (row_of x)) (list_all keeps_row (rows_of xs)) rules in subst (λ (y : Entry). list_all is_provider y.providers.0 ≡ true) (sym is) (of_row (row_of x) each).providers
-row_at (x ∷ xs) (suc i) e rules h is = row_at xs i e (and_right (keeps_row (row_of x)) (list_all keeps_row (rows_of xs)) rules) (omega (arith, h)) is
+row_at (x ∷ xs) zero e rules h is = let each =
+    and_left (keeps_row (row_of x)) (list_all keeps_row (rows_of xs)) rules in
+    subst (λ (y : Entry). list_all is_provider y.providers.0 ≡ true) (sym is)
+    (of_row (row_of x) each).providers
+row_at (x ∷ xs) (suc i) e rules h is = row_at xs i e
+    (and_right (keeps_row (row_of x)) (list_all keeps_row (rows_of xs)) rules) (omega (arith, h)) is
 
-pub who_at : (providers : List Who) (i : ℕ) (who : Who) → list_all is_provider providers ≡ true → i < length providers → who ≡ get_or providers i who → is_provider who ≡ true
+pub who_at : (providers : List Who) (i : ℕ) (who : Who) → list_all is_provider providers ≡ true
+    → i < length providers → who ≡ get_or providers i who → is_provider who ≡ true
 who_at [] i who rules h is = absurd (omega (arith, h))
-who_at (x ∷ xs) zero who rules h is = ap is_provider is ∙ and_left (is_provider x) (list_all is_provider xs) rules
-who_at (x ∷ xs) (suc i) who rules h is = who_at xs i who (and_right (is_provider x) (list_all is_provider xs) rules) (omega (arith, h)) is
+who_at (x ∷ xs) zero who rules h is = ap is_provider is
+    ∙ and_left (is_provider x) (list_all is_provider xs) rules
+who_at (x ∷ xs) (suc i) who rules h is = who_at xs i who
+    (and_right (is_provider x) (list_all is_provider xs) rules) (omega (arith, h)) is
 
 -- ---- pages that are filled one after another
 
 -- there is room for what is still to come
-pub room_for : (pages : KeyPages) (first rest : List (List ℕ)) (whole : List (List ℕ)) (n : ℕ) → held pages ++ map padded_schedule (first ++ rest) ≡ whole → length whole ≤ n → length pages.out + length first ≤ n
+pub room_for : (pages : KeyPages) (first rest : List (List ℕ)) (whole : List (List ℕ)) (n : ℕ)
+    → words_out pages ++ map padded_schedule (first ++ rest) ≡ whole → length whole ≤ n
+    → length pages.out + length first ≤ n
 room_for pages first rest whole n e h =
     let a = ap (λ (l : List (List ℕ)). length l) e in
-    let b = length-append (held pages) (map padded_schedule (first ++ rest)) in
+    let b = length-append (words_out pages) (map padded_schedule (first ++ rest)) in
     let c = length-map pages.out (λ number. words_of pages.pool number) in
     let d = length-map (first ++ rest) padded_schedule in
     let f = length-append first rest in
     omega (arith, a, b, c, d, f, h)
 
-pub room_whole : (pages : KeyPages) (secrets : List (List ℕ)) (n : ℕ) → length pages.out + length secrets ≤ n → length (held pages ++ map padded_schedule secrets) ≤ n
+pub room_whole : (pages : KeyPages) (secrets : List (List ℕ)) (n : ℕ)
+    → length pages.out + length secrets ≤ n → length
+    (words_out pages ++ map padded_schedule secrets) ≤ n
 room_whole pages secrets n h =
-    let b = length-append (held pages) (map padded_schedule secrets) in
+    let b = length-append (words_out pages) (map padded_schedule secrets) in
     let c = length-map pages.out (λ number. words_of pages.pool number) in
     let d = length-map secrets padded_schedule in
     omega (arith, b, c, d, h)
 
 -- what was to come first is held
-pub filled_more : (now next : List (List ℕ)) (first rest whole : List (List ℕ)) → next ≡ now ++ map padded_schedule first → now ++ map padded_schedule (first ++ rest) ≡ whole → next ++ map padded_schedule rest ≡ whole
+pub filled_more : (now next : List (List ℕ)) (first rest whole : List (List ℕ))
+    → next ≡ now ++ map padded_schedule first → now ++ map padded_schedule (first ++ rest) ≡ whole
+    → next ++ map padded_schedule rest ≡ whole
 filled_more now next first rest whole e w =
     ap (λ l. l ++ map padded_schedule rest) e
     ∙ append_assoc now (map padded_schedule first) (map padded_schedule rest)
@@ -112,61 +138,90 @@ only false e = absurd (cc)
 
 -- ---- the place of a secret
 
-pub place_first : (n : ℕ) (first : List ℕ) (rest : List (List ℕ)) (secret : List ℕ) → bytes_eq first secret ≡ true → place_from n (first ∷ rest) secret ≡ Some n
-place_first n first rest secret e = ap (λ (b : Bool). if b then Some n else place_from (suc n) rest secret) e
+pub place_first : (n : ℕ) (first : List ℕ) (rest : List (List ℕ)) (secret : List ℕ)
+    → bytes_eq first secret ≡ true → place_from n (first ∷ rest) secret ≡ Some n
+place_first n first rest secret e = ap (λ (b : Bool).
+    if b then Some n else place_from (suc n) rest secret) e
 
-pub place_later : (n : ℕ) (first : List ℕ) (rest : List (List ℕ)) (secret : List ℕ) → bytes_eq first secret ≡ false → place_from n (first ∷ rest) secret ≡ place_from (n + 1) rest secret
-place_later n first rest secret e = ap (λ (b : Bool). if b then Some n else place_from (suc n) rest secret) e ∙ ap (λ k. place_from k rest secret) (sym (add-one n))
+pub place_later : (n : ℕ) (first : List ℕ) (rest : List (List ℕ)) (secret : List ℕ)
+    → bytes_eq first secret ≡ false → place_from n (first ∷ rest) secret
+    ≡ place_from (n + 1) rest secret
+place_later n first rest secret e = ap (λ (b : Bool).
+    if b then Some n else place_from (suc n) rest secret) e
+    ∙ ap (λ k. place_from k rest secret) (sym (add-one n))
 
-pub step_hit : (who : Who) (n : ℕ) (rest : List (List ℕ)) (secret : List ℕ) → list_any (λ s. bytes_eq s secret) (secret_of who) ≡ true → place_from n (secret_of who ++ rest) secret ≡ Some n
+pub step_hit : (who : Who) (n : ℕ) (rest : List (List ℕ)) (secret : List ℕ)
+    → list_any (λ s. bytes_eq s secret) (secret_of who) ≡ true
+    → place_from n (secret_of who ++ rest) secret ≡ Some n
 step_hit Identity n rest secret e = absurd (cc)
 step_hit (Aescbc name own) n rest secret e = place_first n own rest secret (only _ e)
 step_hit (Aesgcm name own) n rest secret e = place_first n own rest secret (only _ e)
 step_hit (Kms name) n rest secret e = absurd (cc)
 
-pub step_miss : (who : Who) (n : ℕ) (rest : List (List ℕ)) (secret : List ℕ) → list_any (λ s. bytes_eq s secret) (secret_of who) ≡ false → place_from n (secret_of who ++ rest) secret ≡ place_from (n + length (secret_of who)) rest secret
+pub step_miss : (who : Who) (n : ℕ) (rest : List (List ℕ)) (secret : List ℕ)
+    → list_any (λ s. bytes_eq s secret) (secret_of who) ≡ false
+    → place_from n (secret_of who ++ rest) secret
+    ≡ place_from (n + length (secret_of who)) rest secret
 step_miss Identity n rest secret e = ap (λ k. place_from k rest secret) (omega arith)
 step_miss (Aescbc name own) n rest secret e = place_later n own rest secret (or_left _ _ e)
 step_miss (Aesgcm name own) n rest secret e = place_later n own rest secret (or_left _ _ e)
 step_miss (Kms name) n rest secret e = ap (λ k. place_from k rest secret) (omega arith)
 
-pub place_in_first : (n p : ℕ) (xs ys : List (List ℕ)) (secret : List ℕ) → place_from n xs secret ≡ Some p → place_from n (xs ++ ys) secret ≡ Some p
+pub place_in_first : (n p : ℕ) (xs ys : List (List ℕ)) (secret : List ℕ)
+    → place_from n xs secret ≡ Some p → place_from n (xs ++ ys) secret ≡ Some p
 place_in_first n p [] ys secret e = absurd (cc)
-place_in_first n p (x ∷ xs) ys secret e = chosen (bytes_eq x secret) (place_in_first (suc n) p xs ys secret) e
+place_in_first n p (x ∷ xs) ys secret e = chosen (bytes_eq x secret)
+    (place_in_first (suc n) p xs ys secret) e
   where
-    chosen : (b : Bool) → (place_from (suc n) xs secret ≡ Some p → place_from (suc n) (xs ++ ys) secret ≡ Some p)
-        → (if b then Some n else place_from (suc n) xs secret) ≡ Some p → (if b then Some n else place_from (suc n) (xs ++ ys) secret) ≡ Some p
+    chosen : (b : Bool) → (place_from (suc n) xs secret ≡ Some p
+        → place_from (suc n) (xs ++ ys) secret ≡ Some p)
+        → (if b then Some n else place_from (suc n) xs secret) ≡ Some p
+        → (if b then Some n else place_from (suc n) (xs ++ ys) secret) ≡ Some p
     chosen true r e = e
     chosen false r e = r e
 
 shift : (n m : ℕ) → suc n + m ≡ n + suc m
 shift n m = omega arith
 
-pub place_in_rest : (n : ℕ) (xs ys : List (List ℕ)) (secret : List ℕ) → place_from n xs secret ≡ None → place_from n (xs ++ ys) secret ≡ place_from (n + length xs) ys secret
+pub place_in_rest : (n : ℕ) (xs ys : List (List ℕ)) (secret : List ℕ)
+    → place_from n xs secret ≡ None → place_from n (xs ++ ys) secret
+    ≡ place_from (n + length xs) ys secret
 place_in_rest n [] ys secret e = ap (λ k. place_from k ys secret) (omega arith)
-place_in_rest n (x ∷ xs) ys secret e = chosen (bytes_eq x secret) (place_in_rest (suc n) xs ys secret) e
+place_in_rest n (x ∷ xs) ys secret e = chosen (bytes_eq x secret)
+    (place_in_rest (suc n) xs ys secret) e
   where
-    chosen : (b : Bool) → (place_from (suc n) xs secret ≡ None → place_from (suc n) (xs ++ ys) secret ≡ place_from (suc n + length xs) ys secret)
-        → (if b then Some n else place_from (suc n) xs secret) ≡ None → (if b then Some n else place_from (suc n) (xs ++ ys) secret) ≡ place_from (n + suc (length xs)) ys secret
+    chosen : (b : Bool) → (place_from (suc n) xs secret ≡ None
+        → place_from (suc n) (xs ++ ys) secret ≡ place_from (suc n + length xs) ys secret)
+        → (if b then Some n else place_from (suc n) xs secret) ≡ None
+        → (if b then Some n else place_from (suc n) (xs ++ ys) secret)
+        ≡ place_from (n + suc (length xs)) ys secret
     chosen true r e = absurd (cc)
     chosen false r e = r e ∙ ap (λ k. place_from k ys secret) (shift n (length xs))
 
 -- ---- the place of a secret, an entry at a time
 
-rows_split : (entries : List Entry) (i : ℕ) (e : Entry) → i < length entries → e ≡ get_or entries i e → secrets_in (rows_of (drop i entries)) ≡ secrets_among e.providers.0 ++ secrets_in (rows_of (drop (i + 1) entries))
+rows_split : (entries : List Entry) (i : ℕ) (e : Entry) → i < length entries
+    → e ≡ get_or entries i e → secrets_in (rows_of (drop i entries))
+    ≡ secrets_among e.providers.0 ++ secrets_in (rows_of (drop (i + 1) entries))
 rows_split entries i e h is = ap secrets_in (rows_more entries i e h is)
 
-pub scan_counts : (entries : List Entry) (i before : ℕ) (e : Entry) → i < length entries → e ≡ get_or entries i e
-    → before + length (secrets_in (rows_of (drop i entries))) ≡ length (secrets_in (rows_of entries))
-    → before + count_by is_key e.providers.0 + length (secrets_in (rows_of (drop (i + 1) entries))) ≡ length (secrets_in (rows_of entries))
+pub scan_counts : (entries : List Entry) (i before : ℕ) (e : Entry) → i < length entries
+    → e ≡ get_or entries i e
+    → before + length (secrets_in (rows_of (drop i entries)))
+    ≡ length (secrets_in (rows_of entries))
+    → before + count_by is_key e.providers.0 + length (secrets_in (rows_of (drop (i + 1) entries)))
+    ≡ length (secrets_in (rows_of entries))
 scan_counts entries i before e h is inv =
     let a = ap (λ (l : List (List ℕ)). length l) (rows_split entries i e h is) in
-    let b = length-append (secrets_among e.providers.0) (secrets_in (rows_of (drop (i + 1) entries))) in
+    let b = length-append (secrets_among e.providers.0)
+    (secrets_in (rows_of (drop (i + 1) entries))) in
     let c = secrets_count e.providers.0 in
     omega (arith, a, b, c, inv)
 
-pub scan_room : (entries : List Entry) (i before n : ℕ) (e : Entry) → i < length entries → e ≡ get_or entries i e
-    → before + length (secrets_in (rows_of (drop i entries))) ≡ length (secrets_in (rows_of entries)) → keys_in (rows_of entries) ≤ n
+pub scan_room : (entries : List Entry) (i before n : ℕ) (e : Entry) → i < length entries
+    → e ≡ get_or entries i e
+    → before + length (secrets_in (rows_of (drop i entries)))
+    ≡ length (secrets_in (rows_of entries)) → keys_in (rows_of entries) ≤ n
     → before + length (secrets_among e.providers.0) ≤ n
 scan_room entries i before n e h is inv few =
     let a = scan_counts entries i before e h is inv in
@@ -174,26 +229,38 @@ scan_room entries i before n e h is inv few =
     let c = secrets_count e.providers.0 in
     omega (arith, a, b, c, few)
 
-pub scan_found : (entries : List Entry) (i before place : ℕ) (e : Entry) (secret : List ℕ) (whole : Option ℕ) → i < length entries → e ≡ get_or entries i e
-    → place_from before (secrets_in (rows_of (drop i entries))) secret ≡ whole → place_from before (secrets_among e.providers.0) secret ≡ Some place → Some place ≡ whole
+pub scan_found : (entries : List Entry) (i before place : ℕ) (e : Entry) (secret : List ℕ)
+    (whole : Option ℕ) → i < length entries → e ≡ get_or entries i e
+    → place_from before (secrets_in (rows_of (drop i entries))) secret ≡ whole
+    → place_from before (secrets_among e.providers.0) secret ≡ Some place → Some place ≡ whole
 scan_found entries i before place e secret whole h is inv at =
-    sym (ap (λ l. place_from before l secret) (rows_split entries i e h is) ∙ place_in_first before place (secrets_among e.providers.0) (secrets_in (rows_of (drop (i + 1) entries))) secret at) ∙ inv
+    sym (ap (λ l. place_from before l secret) (rows_split entries i e h is)
+    ∙ place_in_first before place (secrets_among e.providers.0)
+    (secrets_in (rows_of (drop (i + 1) entries))) secret at) ∙ inv
 
-pub scan_some : (entries : List Entry) (i before : ℕ) (e : Entry) (secret : List ℕ) (o whole : Option ℕ) → i < length entries → e ≡ get_or entries i e
-    → place_from before (secrets_in (rows_of (drop i entries))) secret ≡ whole → o ≡ place_from before (secrets_among e.providers.0) secret → is_some o ≡ true → o ≡ whole
-scan_some entries i before e secret (Some place) whole h is inv at t = scan_found entries i before place e secret whole h is inv (sym at)
+pub scan_some : (entries : List Entry) (i before : ℕ) (e : Entry) (secret : List ℕ)
+    (o whole : Option ℕ) → i < length entries → e ≡ get_or entries i e
+    → place_from before (secrets_in (rows_of (drop i entries))) secret ≡ whole
+    → o ≡ place_from before (secrets_among e.providers.0) secret → is_some o ≡ true → o ≡ whole
+scan_some entries i before e secret (Some place) whole h is inv at t =
+    scan_found entries i before place e secret whole h is inv (sym at)
 scan_some entries i before e secret None whole h is inv at t = absurd (cc)
 
 pub none_of : (o : Option ℕ) → is_some o ≡ false → o ≡ None
 none_of (Some place) e = absurd (cc)
 none_of None e = refl
 
-pub scan_on : (entries : List Entry) (i before : ℕ) (e : Entry) (secret : List ℕ) (whole : Option ℕ) → i < length entries → e ≡ get_or entries i e
-    → place_from before (secrets_in (rows_of (drop i entries))) secret ≡ whole → place_from before (secrets_among e.providers.0) secret ≡ None
-    → place_from (before + count_by is_key e.providers.0) (secrets_in (rows_of (drop (i + 1) entries))) secret ≡ whole
+pub scan_on : (entries : List Entry) (i before : ℕ) (e : Entry) (secret : List ℕ) (whole : Option ℕ)
+    → i < length entries → e ≡ get_or entries i e
+    → place_from before (secrets_in (rows_of (drop i entries))) secret ≡ whole
+    → place_from before (secrets_among e.providers.0) secret ≡ None
+    → place_from (before + count_by is_key e.providers.0)
+    (secrets_in (rows_of (drop (i + 1) entries))) secret ≡ whole
 scan_on entries i before e secret whole h is inv none =
     let rest = secrets_in (rows_of (drop (i + 1) entries)) in
-    sym (ap (λ l. place_from before l secret) (rows_split entries i e h is) ∙ place_in_rest before (secrets_among e.providers.0) rest secret none ∙ ap (λ n. place_from (before + n) rest secret) (secrets_count e.providers.0)) ∙ inv
+    sym (ap (λ l. place_from before l secret) (rows_split entries i e h is)
+    ∙ place_in_rest before (secrets_among e.providers.0) rest secret none
+    ∙ ap (λ n. place_from (before + n) rest secret) (secrets_count e.providers.0)) ∙ inv
 
 -- a secret that is there has a place
 record Found (n : ℕ) (secrets : List (List ℕ)) (secret : List ℕ) : Type 0 where
@@ -202,11 +269,14 @@ record Found (n : ℕ) (secrets : List (List ℕ)) (secret : List ℕ) : Type 0 
   within : place < length secrets
   same : get_or secrets place [] ≡ secret
 
-found_in : (n : ℕ) (secrets : List (List ℕ)) (secret : List ℕ) → list_any (λ s. bytes_eq s secret) secrets ≡ true → Found n secrets secret
+found_in : (n : ℕ) (secrets : List (List ℕ)) (secret : List ℕ)
+    → list_any (λ s. bytes_eq s secret) secrets ≡ true → Found n secrets secret
 found_in n [] secret e = absurd (cc)
-found_in n (first ∷ rest) secret e = chosen (bytes_eq first secret) refl (found_in (n + 1) rest secret) e
+found_in n (first ∷ rest) secret e = chosen (bytes_eq first secret) refl
+    (found_in (n + 1) rest secret) e
   where
-    chosen : (b : Bool) → bytes_eq first secret ≡ b → (list_any (λ s. bytes_eq s secret) rest ≡ true → Found (n + 1) rest secret)
+    chosen : (b : Bool) → bytes_eq first secret ≡ b
+        → (list_any (λ s. bytes_eq s secret) rest ≡ true → Found (n + 1) rest secret)
         → (b || list_any (λ s. bytes_eq s secret) rest) ≡ true → Found n (first ∷ rest) secret
     chosen true is r h = record {
       place = 0;
@@ -222,23 +292,30 @@ found_in n (first ∷ rest) secret e = chosen (bytes_eq first secret) refl (foun
     }
 
 -- and the page at that place holds its schedule
-pub place_holds : (secrets : List (List ℕ)) (pages : KeyPages) (secret : List ℕ) (place : ℕ) → HoldKeys secrets pages → list_any (λ s. bytes_eq s secret) secrets ≡ true → Some place ≡ place_from 0 secrets secret
-    → (place < length pages.out) × (words_of pages.pool (get_or pages.out place 0) ≡ padded_schedule secret)
+pub place_holds : (secrets : List (List ℕ)) (pages : KeyPages) (secret : List ℕ) (place : ℕ)
+    → HoldKeys secrets pages → list_any (λ s. bytes_eq s secret) secrets ≡ true
+    → Some place ≡ place_from 0 secrets secret
+    → (place < length pages.out) × (words_of pages.pool (get_or pages.out place 0)
+    ≡ padded_schedule secret)
 place_holds secrets pages secret place h a e =
     let f = found_in 0 secrets secret a in
     let at : f.place ≡ place = some_is (sym f.is ∙ sym e) in
-    let long = sym (length-map pages.out (λ number. words_of pages.pool number)) ∙ ap (λ (l : List (List ℕ)). length l) h.held ∙ length-map secrets padded_schedule in
+    let long = sym (length-map pages.out (λ number. words_of pages.pool number))
+    ∙ ap (λ (l : List (List ℕ)). length l) h.held ∙ length-map secrets padded_schedule in
     let within : place < length secrets = (let w = f.within in omega (arith, at, w)) in
     let there : place < length pages.out = omega (arith, long, within) in (
       there,
-      sym (get_or-map (words_of pages.pool) pages.out place 0 [] there) ∙ ap (λ l. get_or l place []) h.held ∙ get_or-map padded_schedule secrets place [] [] within
+      sym (get_or-map (words_of pages.pool) pages.out place 0 [] there)
+          ∙ ap (λ l. get_or l place []) h.held
+          ∙ get_or-map padded_schedule secrets place [] [] within
           ∙ ap padded_schedule (ap (λ k. get_or secrets k []) (sym at) ∙ f.same),
     )
   where
     some_is : {a b : ℕ} → Some (0 + a) ≡ Some b → a ≡ b
     some_is {a} {b} e = let same : 0 + a ≡ b = cc in omega (arith, same)
 
-pub place_some : (secrets : List (List ℕ)) (secret : List ℕ) → list_any (λ s. bytes_eq s secret) secrets ≡ true → None ≡ place_from 0 secrets secret → ⊥
+pub place_some : (secrets : List (List ℕ)) (secret : List ℕ)
+    → list_any (λ s. bytes_eq s secret) secrets ≡ true → None ≡ place_from 0 secrets secret → ⊥
 place_some secrets secret a e = let f = found_in 0 secrets secret a in let is = f.is in cc
 
 -- ---- the provider of a key
@@ -249,16 +326,23 @@ no_words (Aescbc name secret) words e = absurd (cc)
 no_words (Aesgcm name secret) words e = absurd (cc)
 no_words (Kms name) words e = tt
 
-pub its_words : (who : Who) (secret words : List ℕ) → secret_of who ≡ secret ∷ [] → words ≡ padded_schedule secret → HasWords who words
+pub its_words : (who : Who) (secret words : List ℕ) → secret_of who ≡ secret ∷ []
+    → words ≡ padded_schedule secret → HasWords who words
 its_words Identity secret words e w = tt
-its_words (Aescbc name own) secret words e w = let same : secret ≡ own = cc in w ∙ ap padded_schedule same
-its_words (Aesgcm name own) secret words e w = let same : secret ≡ own = cc in w ∙ ap padded_schedule same
+its_words (Aescbc name own) secret words e w = let same : secret ≡ own = cc in
+    w ∙ ap padded_schedule same
+its_words (Aesgcm name own) secret words e w = let same : secret ≡ own = cc in
+    w ∙ ap padded_schedule same
 its_words (Kms name) secret words e w = tt
 
-pub its_secret : (who : Who) (secrets : List (List ℕ)) (secret : List ℕ) → secret_of who ≡ secret ∷ [] → IsAmong secrets who → list_any (λ s. bytes_eq s secret) secrets ≡ true
+pub its_secret : (who : Who) (secrets : List (List ℕ)) (secret : List ℕ)
+    → secret_of who ≡ secret ∷ [] → IsAmong secrets who
+    → list_any (λ s. bytes_eq s secret) secrets ≡ true
 its_secret Identity secrets secret e a = absurd (cc)
-its_secret (Aescbc name own) secrets secret e a = let same : own ≡ secret = cc in subst (λ t. list_any (λ s. bytes_eq s t) secrets ≡ true) same a
-its_secret (Aesgcm name own) secrets secret e a = let same : own ≡ secret = cc in subst (λ t. list_any (λ s. bytes_eq s t) secrets ≡ true) same a
+its_secret (Aescbc name own) secrets secret e a = let same : own ≡ secret = cc in
+    subst (λ t. list_any (λ s. bytes_eq s t) secrets ≡ true) same a
+its_secret (Aesgcm name own) secrets secret e a = let same : own ≡ secret = cc in
+    subst (λ t. list_any (λ s. bytes_eq s t) secrets ≡ true) same a
 its_secret (Kms name) secrets secret e a = absurd (cc)
 
 -- ---- the keys of a list are among those of the settings
@@ -271,25 +355,35 @@ or_first : (a b : Bool) → a ≡ true → (a || b) ≡ true
 or_first true b e = refl
 or_first false b e = absurd (cc)
 
-more_behind : (before secrets : List (List ℕ)) (who : Who) → IsAmong secrets who → IsAmong (before ++ secrets) who
+more_behind : (before secrets : List (List ℕ)) (who : Who) → IsAmong secrets who
+    → IsAmong (before ++ secrets) who
 more_behind before secrets Identity a = tt
-more_behind before secrets (Aescbc name secret) a = list_any-append (λ s. bytes_eq s secret) before secrets ∙ or_true _ _ a
-more_behind before secrets (Aesgcm name secret) a = list_any-append (λ s. bytes_eq s secret) before secrets ∙ or_true _ _ a
+more_behind before secrets (Aescbc name secret) a =
+    list_any-append (λ s. bytes_eq s secret) before secrets ∙ or_true _ _ a
+more_behind before secrets (Aesgcm name secret) a =
+    list_any-append (λ s. bytes_eq s secret) before secrets ∙ or_true _ _ a
 more_behind before secrets (Kms name) a = tt
 
-all_behind : (before secrets : List (List ℕ)) (list : List Who) → AreAmong secrets list → AreAmong (before ++ secrets) list
+all_behind : (before secrets : List (List ℕ)) (list : List Who) → AreAmong secrets list
+    → AreAmong (before ++ secrets) list
 all_behind before secrets [] a = tt
-all_behind before secrets (who ∷ list) a = (more_behind before secrets who a.0, all_behind before secrets list a.1)
+all_behind before secrets (who ∷ list) a =
+    (more_behind before secrets who a.0, all_behind before secrets list a.1)
 
-more_ahead : (secrets behind : List (List ℕ)) (who : Who) → IsAmong secrets who → IsAmong (secrets ++ behind) who
+more_ahead : (secrets behind : List (List ℕ)) (who : Who) → IsAmong secrets who
+    → IsAmong (secrets ++ behind) who
 more_ahead secrets behind Identity a = tt
-more_ahead secrets behind (Aescbc name secret) a = list_any-append (λ s. bytes_eq s secret) secrets behind ∙ or_first _ _ a
-more_ahead secrets behind (Aesgcm name secret) a = list_any-append (λ s. bytes_eq s secret) secrets behind ∙ or_first _ _ a
+more_ahead secrets behind (Aescbc name secret) a =
+    list_any-append (λ s. bytes_eq s secret) secrets behind ∙ or_first _ _ a
+more_ahead secrets behind (Aesgcm name secret) a =
+    list_any-append (λ s. bytes_eq s secret) secrets behind ∙ or_first _ _ a
 more_ahead secrets behind (Kms name) a = tt
 
-all_ahead : (secrets behind : List (List ℕ)) (list : List Who) → AreAmong secrets list → AreAmong (secrets ++ behind) list
+all_ahead : (secrets behind : List (List ℕ)) (list : List Who) → AreAmong secrets list
+    → AreAmong (secrets ++ behind) list
 all_ahead secrets behind [] a = tt
-all_ahead secrets behind (who ∷ list) a = (more_ahead secrets behind who a.0, all_ahead secrets behind list a.1)
+all_ahead secrets behind (who ∷ list) a =
+    (more_ahead secrets behind who a.0, all_ahead secrets behind list a.1)
 
 same_bytes : (secret : List ℕ) → bytes_eq secret secret ≡ true
 same_bytes secret = (bytes_eq-Decides secret secret).1 refl
@@ -302,24 +396,37 @@ own_secret (Kms name) = tt
 
 own_secrets : (list : List Who) → AreAmong (secrets_among list) list
 own_secrets [] = tt
-own_secrets (who ∷ list) = (more_ahead (secret_of who) (secrets_among list) who (own_secret who), all_behind (secret_of who) (secrets_among list) list (own_secrets list))
+own_secrets (who ∷ list) = (
+  more_ahead (secret_of who) (secrets_among list) who
+      (own_secret who),
+  all_behind (secret_of who) (secrets_among list) list (own_secrets list),
+)
 
-first_among : (test : Pattern → Bool) (rows : List Row) → AreAmong (secrets_in rows) (first_list test rows)
+first_among : (test : Pattern → Bool) (rows : List Row)
+    → AreAmong (secrets_in rows) (first_list test rows)
 first_among test [] = (tt, tt)
-first_among test (row ∷ rows) = chosen (list_any test row.patterns) (all_ahead (secrets_among row.providers) (secrets_in rows) row.providers (own_secrets row.providers)) (all_behind (secrets_among row.providers) (secrets_in rows) (first_list test rows) (first_among test rows))
+first_among test (row ∷ rows) = chosen (list_any test row.patterns)
+    (all_ahead (secrets_among row.providers) (secrets_in rows) row.providers
+    (own_secrets row.providers)) (all_behind (secrets_among row.providers) (secrets_in rows)
+    (first_list test rows) (first_among test rows))
   where
-    chosen : (q : Bool) → AreAmong (secrets_in (row ∷ rows)) row.providers → AreAmong (secrets_in (row ∷ rows)) (first_list test rows) → AreAmong (secrets_in (row ∷ rows)) (if q then row.providers else first_list test rows)
+    chosen : (q : Bool) → AreAmong (secrets_in (row ∷ rows)) row.providers
+        → AreAmong (secrets_in (row ∷ rows)) (first_list test rows)
+        → AreAmong (secrets_in (row ∷ rows)) (if q then row.providers else first_list test rows)
     chosen true a b = a
     chosen false a b = b
 
-pub list_among : (rows : List Row) (resource : List ℕ) → AreAmong (secrets_in rows) (list_of rows resource)
+pub list_among : (rows : List Row) (resource : List ℕ)
+    → AreAmong (secrets_in rows) (list_of rows resource)
 list_among rows resource = first_among (λ pattern. matches pattern resource) rows
 
-pub among_at : (secrets : List (List ℕ)) (list : List Who) (i : ℕ) (who : Who) → AreAmong secrets list → i < length list → who ≡ get_or list i who → IsAmong secrets who
+pub among_at : (secrets : List (List ℕ)) (list : List Who) (i : ℕ) (who : Who)
+    → AreAmong secrets list → i < length list → who ≡ get_or list i who → IsAmong secrets who
 among_at secrets [] i who a h is = absurd (omega (arith, h))
 among_at secrets (x ∷ xs) zero who a h is = subst (IsAmong secrets) (sym is) a.0
 among_at secrets (x ∷ xs) (suc i) who a h is = among_at secrets xs i who a.1 (omega (arith, h)) is
 
-pub writer_among : (secrets : List (List ℕ)) (list : List Who) → AreAmong secrets list → IsAmong secrets (writer_of list)
+pub writer_among : (secrets : List (List ℕ)) (list : List Who) → AreAmong secrets list
+    → IsAmong secrets (writer_of list)
 writer_among secrets [] a = tt
 writer_among secrets (who ∷ rest) a = a.0

@@ -1,3 +1,4 @@
+-- The lemmas that several proofs share.
 mod Behind
 mod Bodies
 mod Booleans

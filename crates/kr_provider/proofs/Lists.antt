@@ -1,20 +1,20 @@
 -- The list of a resource, by settings that keep their rules and name no plugin.
 use Rattle.std.proofs.Common.{◌≡◌, ℕ, ◌≤◌, Bool, true, false, List, [], ◌∷◌, ◌++◌, length, map, refl, sym, ◌∙◌, ap, subst, arith, IsTrue, lit≤}
 use Rattle.std.specs.Prelude.{◌&&◌, ◌||◌, if◌then◌else◌, nat_le}
-use Rattle.std.specs.List.{flat_map, list_all, list_any}
+use Rattle.std.specs.List.{list_all, list_any}
 use Rattle.std.specs.List.Sorted.{IsStrictlySortedBy}
 use Rattle.std.proofs.lemmas.Bool.Decides.{nat_tests}
 use Rattle.std.proofs.lemmas.List.Elements.{All-nil}
 use Rattle.kr_config.specs.declared.pattern.Pattern.{Pattern}
 use Rattle.kr_config.specs.declared.who.Who.{Who}
 use Rattle.kr_config.specs.declared.who.Who.TheVariants.{Identity, Aescbc, Aesgcm, Kms}
-use Rattle.kr_config.specs.Kept.{Row, apart, keeps, keeps_row, keeps_patterns, keeps_providers, patterns_in, keys_in, kms_in}
+use Rattle.kr_config.specs.Kept.{Row, apart, keeps, keeps_row, keeps_patterns, keeps_providers, patterns_in, keys_in, kms_in, plugins_in}
 use Rattle.kr_config.specs.Lists.{first_list, list_of}
 use Rattle.kr_config.specs.Patterns.{matches}
-use Rattle.kr_config.specs.Providers.{is_kms, is_provider, rivals}
+use Rattle.kr_config.specs.Providers.{is_kms, is_provider, plugins_among, rivals}
 use Rattle.kr_kms.specs.Seeds.{IsSeedRow}
 use Rattle.kr_kms.specs.declared.seeds.SeedRow.{SeedRow}
-use Rattle.kr_provider.specs.Publication.{IsPublished, ListsNoPlugin, names_plugin, plugin_of, plugins_in}
+use Rattle.kr_provider.specs.Publication.{IsPublished, ListsNoPlugin, names_plugin}
 use Rattle.kr_provider.proofs.Booleans.{and_left, and_right, or_left, or_right}
 
 some_of : (n : ℕ) → nat_le 1 n ≡ true → 1 ≤ n
@@ -29,50 +29,72 @@ pub record Listed (list : List Who) : Type 0 where
 pub of_row : (row : Row) → keeps_row row ≡ true → Listed row.providers
 of_row row e =
     let providers = and_right (keeps_patterns row.patterns) (keeps_providers row.providers) e in
-    let front = and_left (nat_le 1 (length row.providers) && list_all is_provider row.providers) (apart rivals row.providers) providers in
+    let front = and_left (nat_le 1 (length row.providers) && list_all is_provider row.providers)
+    (apart rivals row.providers) providers in
     record {
-      some = some_of (length row.providers) (and_left (nat_le 1 (length row.providers)) (list_all is_provider row.providers) front);
-      providers = and_right (nat_le 1 (length row.providers)) (list_all is_provider row.providers) front;
-      stand = and_right (nat_le 1 (length row.providers) && list_all is_provider row.providers) (apart rivals row.providers) providers;
+      some = some_of (length row.providers) (and_left (nat_le 1 (length row.providers))
+          (list_all is_provider row.providers) front);
+      providers = and_right (nat_le 1 (length row.providers))
+          (list_all is_provider row.providers) front;
+      stand = and_right (nat_le 1 (length row.providers) && list_all is_provider row.providers)
+          (apart rivals row.providers) providers;
     }
 
-first_keeps : (P : List Who → Type 0) (test : Pattern → Bool) (rows : List Row) → P (Identity ∷ []) → ((row : Row) → keeps_row row ≡ true → P row.providers) → list_all keeps_row rows ≡ true → P (first_list test rows)
+first_keeps : (P : List Who → Type 0) (test : Pattern → Bool) (rows : List Row) → P (Identity ∷ [])
+    → ((row : Row) → keeps_row row ≡ true → P row.providers) → list_all keeps_row rows ≡ true
+    → P (first_list test rows)
 first_keeps P test [] one each e = one
-first_keeps P test (row ∷ rows) one each e = chosen (list_any test row.patterns) (each row (and_left (keeps_row row) (list_all keeps_row rows) e)) (first_keeps P test rows one each (and_right (keeps_row row) (list_all keeps_row rows) e))
+first_keeps P test (row ∷ rows) one each e = chosen (list_any test row.patterns)
+    (each row (and_left (keeps_row row) (list_all keeps_row rows) e))
+    (first_keeps P test rows one each (and_right (keeps_row row) (list_all keeps_row rows) e))
   where
-    chosen : (q : Bool) → P row.providers → P (first_list test rows) → P (if q then row.providers else first_list test rows)
+    chosen : (q : Bool) → P row.providers → P (first_list test rows)
+        → P (if q then row.providers else first_list test rows)
     chosen true a b = a
     chosen false a b = b
 
 pub rows_keep : (rows : List Row) → IsTrue (keeps rows) → list_all keeps_row rows ≡ true
 unfolding keeps
 rows_keep rows e =
-    let a = and_left (nat_le 1 (length rows) && nat_le (length rows) 64 && list_all keeps_row rows && nat_le (patterns_in rows) 256 && nat_le (keys_in rows) 64) (nat_le (kms_in rows) 16) e in
-    let b = and_left (nat_le 1 (length rows) && nat_le (length rows) 64 && list_all keeps_row rows && nat_le (patterns_in rows) 256) (nat_le (keys_in rows) 64) a in
-    let c = and_left (nat_le 1 (length rows) && nat_le (length rows) 64 && list_all keeps_row rows) (nat_le (patterns_in rows) 256) b in
+    let a = and_left (nat_le 1 (length rows) && nat_le (length rows) 64 && list_all keeps_row rows
+    && nat_le (patterns_in rows) 256 && nat_le (keys_in rows) 64) (nat_le (kms_in rows) 16) e in
+    let b = and_left (nat_le 1 (length rows) && nat_le (length rows) 64 && list_all keeps_row rows
+    && nat_le (patterns_in rows) 256) (nat_le (keys_in rows) 64) a in
+    let c = and_left (nat_le 1 (length rows) && nat_le (length rows) 64 && list_all keeps_row rows)
+    (nat_le (patterns_in rows) 256) b in
     and_right (nat_le 1 (length rows) && nat_le (length rows) 64) (list_all keeps_row rows) c
 
 pub few_keys : (rows : List Row) → IsTrue (keeps rows) → keys_in rows ≤ 64
 unfolding keeps
 few_keys rows e =
-    let a = and_left (nat_le 1 (length rows) && nat_le (length rows) 64 && list_all keeps_row rows && nat_le (patterns_in rows) 256 && nat_le (keys_in rows) 64) (nat_le (kms_in rows) 16) e in
-    at_most (keys_in rows) (and_right (nat_le 1 (length rows) && nat_le (length rows) 64 && list_all keeps_row rows && nat_le (patterns_in rows) 256) (nat_le (keys_in rows) 64) a)
+    let a = and_left (nat_le 1 (length rows) && nat_le (length rows) 64 && list_all keeps_row rows
+    && nat_le (patterns_in rows) 256 && nat_le (keys_in rows) 64) (nat_le (kms_in rows) 16) e in
+    at_most (keys_in rows) (and_right (nat_le 1 (length rows) && nat_le (length rows) 64
+    && list_all keeps_row rows && nat_le (patterns_in rows) 256) (nat_le (keys_in rows) 64) a)
   where
     at_most : (n : ℕ) → nat_le n 64 ≡ true → n ≤ 64
     at_most n e = grind (arith, nat_tests)
 
-pub listed : (rows : List Row) (resource : List ℕ) → IsTrue (keeps rows) → Listed (list_of rows resource)
-listed rows resource k = first_keeps Listed (λ pattern. matches pattern resource) rows (record { some = lit≤ tt; providers = refl; stand = refl }) of_row (rows_keep rows k)
+pub listed : (rows : List Row) (resource : List ℕ) → IsTrue (keeps rows)
+    → Listed (list_of rows resource)
+listed rows resource k = first_keeps Listed (λ pattern. matches pattern resource) rows
+    (record { some = lit≤ tt; providers = refl; stand = refl }) of_row (rows_keep rows k)
 
-unnamed : (test : Pattern → Bool) (rows : List Row) → names_plugin rows ≡ false → list_any is_kms (first_list test rows) ≡ false
+unnamed : (test : Pattern → Bool) (rows : List Row) → names_plugin rows ≡ false
+    → list_any is_kms (first_list test rows) ≡ false
 unnamed test [] e = refl
-unnamed test (row ∷ rows) e = chosen (list_any test row.patterns) (or_left (list_any is_kms row.providers) (names_plugin rows) e) (unnamed test rows (or_right (list_any is_kms row.providers) (names_plugin rows) e))
+unnamed test (row ∷ rows) e = chosen (list_any test row.patterns)
+    (or_left (list_any is_kms row.providers) (names_plugin rows) e)
+    (unnamed test rows (or_right (list_any is_kms row.providers) (names_plugin rows) e))
   where
-    chosen : (q : Bool) → list_any is_kms row.providers ≡ false → list_any is_kms (first_list test rows) ≡ false → list_any is_kms (if q then row.providers else first_list test rows) ≡ false
+    chosen : (q : Bool) → list_any is_kms row.providers ≡ false
+        → list_any is_kms (first_list test rows) ≡ false
+        → list_any is_kms (if q then row.providers else first_list test rows) ≡ false
     chosen true a b = a
     chosen false a b = b
 
-pub list_keeps : (rows : List Row) (resource : List ℕ) → IsTrue (keeps rows) → names_plugin rows ≡ false → ListsNoPlugin (list_of rows resource)
+pub list_keeps : (rows : List Row) (resource : List ℕ) → IsTrue (keeps rows)
+    → names_plugin rows ≡ false → ListsNoPlugin (list_of rows resource)
 list_keeps rows resource k e = let rules = listed rows resource k in record {
   some = rules.some;
   providers = rules.providers;
@@ -81,7 +103,7 @@ list_keeps rows resource k e = let rules = listed rows resource k in record {
 
 -- ---- settings without plugins are published with no seed
 
-no_name : (list : List Who) → list_any is_kms list ≡ false → flat_map plugin_of list ≡ []
+no_name : (list : List Who) → list_any is_kms list ≡ false → plugins_among list ≡ []
 no_name [] e = refl
 no_name (Identity ∷ list) e = no_name list e
 no_name (Aescbc name secret ∷ list) e = no_name list e
@@ -90,21 +112,29 @@ no_name (Kms name ∷ list) e = absurd (cc)
 
 no_names : (rows : List Row) → names_plugin rows ≡ false → plugins_in rows ≡ []
 no_names [] e = refl
-no_names (row ∷ rows) e = ap (λ l. l ++ plugins_in rows) (no_name row.providers (or_left (list_any is_kms row.providers) (names_plugin rows) e)) ∙ no_names rows (or_right (list_any is_kms row.providers) (names_plugin rows) e)
+no_names (row ∷ rows) e = ap (λ l. l ++ plugins_in rows)
+    (no_name row.providers (or_left (list_any is_kms row.providers) (names_plugin rows) e))
+    ∙ no_names rows (or_right (list_any is_kms row.providers) (names_plugin rows) e)
 
-pub published_without : (rows : List Row) (seeds : List SeedRow) → seeds ≡ [] → IsTrue (keeps rows) → names_plugin rows ≡ false → IsPublished (record { rows = rows; seeds = seeds })
+pub published_without : (rows : List Row) (seeds : List SeedRow) → seeds ≡ [] → IsTrue (keeps rows)
+    → names_plugin rows ≡ false → IsPublished (record { rows = rows; seeds = seeds })
 unfolding IsStrictlySortedBy
 published_without rows seeds none k e =
     let P : List SeedRow → Type 0 = λ l. IsPublished (record { rows = rows; seeds = l }) in
     subst P (sym none) (record {
       kept = k;
       ascend = tt;
-      names = λ name. (λ c. absurd (omega (arith, c.1)), λ c. absurd (omega (arith, c.1, ap (λ (l : List (List ℕ)). length l) (no_names rows e))));
+      names = λ name. (
+        λ c. absurd (omega (arith, c.1)),
+        λ c.
+            absurd (omega (arith, c.1, ap (λ (l : List (List ℕ)). length l) (no_names rows e))),
+      );
       seeds = All-nil IsSeedRow;
     })
 
 -- ---- a test over entries, and over their rows
 
-pub list_any-map : {X Y : Type 0} (f : X → Y) (test : Y → Bool) (xs : List X) → list_any test (map f xs) ≡ list_any (λ x. test (f x)) xs
+pub list_any-map : {X Y : Type 0} (f : X → Y) (test : Y → Bool) (xs : List X)
+    → list_any test (map f xs) ≡ list_any (λ x. test (f x)) xs
 list_any-map f test [] = refl
 list_any-map f test (x ∷ xs) = ap (λ b. test (f x) || b) (list_any-map f test xs)

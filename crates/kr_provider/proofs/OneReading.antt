@@ -17,27 +17,34 @@ use Rattle.kr_provider.specs.Readers.{body_by, is_reader, reader_in}
 use Rattle.kr_provider.specs.Reading.{object_reading, reader_reading}
 use Rattle.kr_provider.proofs.Booleans.{or_left, or_right}
 
-both_answered : (a b : Result EncryptedObject ObjectNo) → a ≢ Err NoMemory → b ≢ Err NoMemory → AreOne a b → a ≡ b
+both_answered : (a b : Result EncryptedObject ObjectNo) → a ≢ Err NoMemory → b ≢ Err NoMemory
+    → AreOne a b → a ≡ b
 both_answered a b n m one = elim one [
   | inl e ↦ absurd (n e)
   | inr more ↦ elim more [ inl e ↦ absurd (m e) | inr e ↦ e ]
 ]
 
-same_reading : (opens : Opens) (reader : Option Who) (path bytes : List ℕ) (e f : Envelope) → HasEnvelope opens reader bytes e → HasEnvelope opens reader bytes f → reader_reading e reader path bytes ≡ reader_reading f reader path bytes
+same_reading : (opens : Opens) (reader : Option Who) (path bytes : List ℕ) (e f : Envelope)
+    → HasEnvelope opens reader bytes e → HasEnvelope opens reader bytes f
+    → reader_reading e reader path bytes ≡ reader_reading f reader path bytes
 same_reading opens None path bytes e f h g = refl
 same_reading opens (Some Identity) path bytes e f h g = refl
 same_reading opens (Some (Aescbc name secret)) path bytes e f h g = refl
 same_reading opens (Some (Aesgcm name secret)) path bytes e f h g = refl
 same_reading opens (Some (Kms name)) path bytes e f h g =
-    let one : e.object ≡ f.object = both_answered e.object f.object h.0.1 g.0.1 (objects.one_reading (body_by (Kms name) bytes) e.object f.object h.0.0 g.0.0) in
-    ap (λ o. object_reading o e.source path) one ∙ ap (λ s. object_reading f.object s path) (h.1 ∙ ap (source_by opens name) one ∙ sym g.1)
+    let one : e.object ≡ f.object = both_answered e.object f.object h.0.1 g.0.1
+    (objects.one_reading (body_by (Kms name) bytes) e.object f.object h.0.0 g.0.0) in
+    ap (λ o. object_reading o e.source path) one
+    ∙ ap (λ s. object_reading f.object s path) (h.1 ∙ ap (source_by opens name) one ∙ sym g.1)
 
 pub one_reading : HasOneReading
-one_reading opens list path bytes a b r s = sym r.2 ∙ same_reading opens (reader_in list bytes) path bytes r.0 s.0 r.1 s.1 ∙ s.2
+one_reading opens list path bytes a b r s = sym r.2
+    ∙ same_reading opens (reader_in list bytes) path bytes r.0 s.0 r.1 s.1 ∙ s.2
 
 -- ---- some unwrapped source
 
-object_there : (opens : Opens) (reader : Option Who) (bytes : List ℕ) (e : Envelope) → HasEnvelope opens reader bytes e → HasObject reader bytes e.object
+object_there : (opens : Opens) (reader : Option Who) (bytes : List ℕ) (e : Envelope)
+    → HasEnvelope opens reader bytes e → HasObject reader bytes e.object
 object_there opens None bytes e h = tt
 object_there opens (Some Identity) bytes e h = tt
 object_there opens (Some (Aescbc name secret)) bytes e h = tt
@@ -45,7 +52,12 @@ object_there opens (Some (Aesgcm name secret)) bytes e h = tt
 object_there opens (Some (Kms name)) bytes e h = h.0
 
 pub somehow : ReadsSomehow
-somehow opens list path bytes reading r = (r.0, object_there opens (reader_in list bytes) bytes r.0 r.1, r.2)
+somehow opens list path bytes reading r = (
+  r.0,
+  object_there opens
+      (reader_in list bytes) bytes r.0 r.1,
+  r.2,
+)
 
 -- ---- no plugin
 
@@ -53,23 +65,28 @@ abbrev IsNoPlugin : Option Who → Type 0
 IsNoPlugin None = ⊤
 IsNoPlugin (Some who) = is_kms who ≡ false
 
-no_plugin : (list : List Who) (bytes : List ℕ) → list_any is_kms list ≡ false → IsNoPlugin (reader_in list bytes)
+no_plugin : (list : List Who) (bytes : List ℕ) → list_any is_kms list ≡ false
+    → IsNoPlugin (reader_in list bytes)
 no_plugin [] bytes e = tt
 no_plugin (who ∷ rest) bytes e =
-    first (is_reader bytes who) (or_left (is_kms who) (list_any is_kms rest) e) (no_plugin rest bytes (or_right (is_kms who) (list_any is_kms rest) e))
+    first (is_reader bytes who) (or_left (is_kms who) (list_any is_kms rest) e)
+    (no_plugin rest bytes (or_right (is_kms who) (list_any is_kms rest) e))
   where
-    first : (b : Bool) → is_kms who ≡ false → IsNoPlugin (find (is_reader bytes) rest) → IsNoPlugin (cond b (Some who) (find (is_reader bytes) rest))
+    first : (b : Bool) → is_kms who ≡ false → IsNoPlugin (find (is_reader bytes) rest)
+        → IsNoPlugin (cond b (Some who) (find (is_reader bytes) rest))
     first true here more = here
     first false here more = more
 
-any_envelope : (reader : Option Who) (path bytes : List ℕ) (e f : Envelope) → IsNoPlugin reader → reader_reading e reader path bytes ≡ reader_reading f reader path bytes
+any_envelope : (reader : Option Who) (path bytes : List ℕ) (e f : Envelope) → IsNoPlugin reader
+    → reader_reading e reader path bytes ≡ reader_reading f reader path bytes
 any_envelope None path bytes e f n = refl
 any_envelope (Some Identity) path bytes e f n = refl
 any_envelope (Some (Aescbc name secret)) path bytes e f n = refl
 any_envelope (Some (Aesgcm name secret)) path bytes e f n = refl
 any_envelope (Some (Kms name)) path bytes e f n = absurd (cc)
 
-has_unknown : (opens : Opens) (reader : Option Who) (bytes : List ℕ) → IsNoPlugin reader → HasEnvelope opens reader bytes unknown
+has_unknown : (opens : Opens) (reader : Option Who) (bytes : List ℕ) → IsNoPlugin reader
+    → HasEnvelope opens reader bytes unknown
 has_unknown opens None bytes n = tt
 has_unknown opens (Some Identity) bytes n = tt
 has_unknown opens (Some (Aescbc name secret)) bytes n = tt

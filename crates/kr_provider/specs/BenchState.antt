@@ -3,7 +3,8 @@ use Rattle.std.specs.Prelude.{◌≡◌, List, Option, Some, None, false, ⊤}
 use Rattle.kr_provider.specs.KeyPages.{KeyPages}
 use Rattle.kr_provider.specs.Publication.{Publication, names_plugin}
 
--- its links, its random source, the configuration that it adopted last, and the pages that its keys have
+-- its links, its random source, the configuration that it adopted last, and the pages that its keys
+-- have
 pub record BenchState (L D : Type 0) : Type 0 where
   pub links : List L
   pub dice : D

@@ -1,4 +1,5 @@
--- What a plugin's value holds behind its prefix: an encrypted object, whose source is a wrapped seed (after KEP-3299).
+-- What a plugin's value holds behind its prefix: an encrypted object, whose source is a wrapped
+-- seed (after KEP-3299).
 -- The layout by which the seed makes the key of one value is our own.
 use Rattle.std.specs.Prelude.{◌≡◌, ◌≢◌, ℕ, List, ◌++◌, take, drop, Option, Some, None, Result, Ok, Err, ⊤}
 use Rattle.kr_modes.specs.Gcm.{gcm}
@@ -26,17 +27,27 @@ gcm_body key path plain nonce = nonce ++ gcm (cipher_under key) nonce path plain
 abbrev pub value_key : (seed info : List ℕ) → List ℕ
 value_key seed info = hkdf_expand seed info 32
 
--- the info, of 32 drawn bytes, and the body under the key that it makes, with a nonce of 12 drawn bytes
+-- the info, of 32 drawn bytes, and the body under the key that it makes, with a nonce of 12 drawn
+-- bytes
 abbrev pub seed_body : (seed path plain drawn : List ℕ) → List ℕ
-seed_body seed path plain drawn = take 32 drawn ++ gcm_body (value_key seed (take 32 drawn)) path plain (drop 32 drawn)
+seed_body seed path plain drawn = take 32 drawn
+    ++ gcm_body (value_key seed (take 32 drawn)) path plain (drop 32 drawn)
 
 -- with what the plugin wants back to unwrap the seed
 abbrev pub object_of : SeedRow → (path plain drawn : List ℕ) → EncryptedObject
-object_of row path plain drawn = record { encrypted = seed_body row.seed path plain drawn; key_id = row.key_id; source = row.source; annotations = row.annotations; kind = Seed }
+object_of row path plain drawn = record {
+  encrypted = seed_body row.seed path plain drawn;
+  key_id =
+      row.key_id;
+  source = row.source;
+  annotations = row.annotations;
+  kind = Seed;
+}
 
 -- ---- reading
 
--- the object of a plugin's value or why there is none, and what its source was unwrapped to, if it was
+-- the object of a plugin's value or why there is none, and what its source was unwrapped to, if it
+-- was
 pub record Envelope : Type 0 where
   pub object : Result EncryptedObject ObjectNo
   pub source : Option (List ℕ)
@@ -47,7 +58,13 @@ unknown = record { object = Err NoMemory; source = None }
 
 -- what names the seed of an object
 abbrev pub seed_key : (name : List ℕ) → EncryptedObject → SeedKey
-seed_key name object = record { name = name; key_id = object.key_id; annotations = object.annotations; source = object.source }
+seed_key name object = record {
+  name = name;
+  key_id = object.key_id;
+  annotations =
+      object.annotations;
+  source = object.source;
+}
 
 abbrev pub source_by : Opens → (name : List ℕ) → Result EncryptedObject ObjectNo → Option (List ℕ)
 source_by opens name (Ok object) = opens (seed_key name object)
@@ -71,7 +88,8 @@ HasEnvelope opens None bytes envelope = ⊤
 HasEnvelope opens (Some Identity) bytes envelope = ⊤
 HasEnvelope opens (Some (Aescbc name secret)) bytes envelope = ⊤
 HasEnvelope opens (Some (Aesgcm name secret)) bytes envelope = ⊤
-HasEnvelope opens (Some (Kms name)) bytes envelope = IsObjectOf name bytes envelope.object × (envelope.source ≡ source_by opens name envelope.object)
+HasEnvelope opens (Some (Kms name)) bytes envelope = IsObjectOf name bytes envelope.object
+    × (envelope.source ≡ source_by opens name envelope.object)
 
 abbrev pub IsEnvelopeOf : Opens → List Who → (bytes : List ℕ) → Envelope → Type 0
 IsEnvelopeOf opens list bytes envelope = HasEnvelope opens (reader_in list bytes) bytes envelope

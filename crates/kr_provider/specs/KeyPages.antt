@@ -1,4 +1,5 @@
--- The pages of a bench: one for each key of the configuration that it adopted, with that key's expansion (FIPS 197).
+-- The pages of a bench: one for each key of the configuration that it adopted, with that key's
+-- expansion (FIPS 197).
 use Rattle.std.specs.Prelude.{◌≡◌, ℕ, ◌<◌, Bool, not, false, List, [], ◌∷◌, All, length, map, nat_eq, replicate, Option, Some, None}
 use Rattle.std.specs.List.{IsDistinct, flat_map, list_any, range_with_len}
 use Rattle.kr_aes.specs.KeyExpansion.{padded_schedule}
@@ -36,19 +37,29 @@ abbrev pub size_of : KeyPages → ℕ
 size_of pages = length pages.pool.pages
 
 -- what the taken pages hold
-abbrev pub held : KeyPages → List (List ℕ)
-held pages = map (λ number. words_of pages.pool number) pages.out
+abbrev pub words_out : KeyPages → List (List ℕ)
+words_out pages = map (λ number. words_of pages.pool number) pages.out
 
 -- so many pages, none of which is taken
 abbrev pub unused : ℕ → KeyPages
-unused size = record { pool = record { pages = replicate size zero_page; free = range_with_len 0 size }; out = [] }
+unused size = record {
+  pool = record {
+    pages = replicate size zero_page;
+    free =
+        range_with_len 0 size;
+  };
+  out = [];
+}
 
--- the pages out are one for each secret, in their order; each holds the secret's schedule and zeros behind it; every other
+-- the pages out are one for each secret, in their order; each holds the secret's schedule and zeros
+-- behind it; every other
 -- page is free and zero
 pub record HoldKeys (secrets : List (List ℕ)) (pages : KeyPages) : Type 0 where
   pub pool : IsPool pages.pool
   pub distinct : IsDistinct nat_eq pages.out
   pub below : All (λ number. number < size_of pages) pages.out
-  pub held : held pages ≡ map padded_schedule secrets
-  pub free : (number : ℕ) → number < size_of pages → is_free pages.pool number ≡ not (list_any (nat_eq number) pages.out)
-  pub others : (number : ℕ) → number < size_of pages → list_any (nat_eq number) pages.out ≡ false → words_of pages.pool number ≡ zero_page
+  pub held : words_out pages ≡ map padded_schedule secrets
+  pub free : (number : ℕ) → number < size_of pages
+      → is_free pages.pool number ≡ not (list_any (nat_eq number) pages.out)
+  pub others : (number : ℕ) → number < size_of pages → list_any (nat_eq number) pages.out ≡ false
+      → words_of pages.pool number ≡ zero_page

@@ -16,31 +16,45 @@ use Rattle.kr_provider.specs.Readers.{reader_in, body_by}
 use Rattle.kr_provider.specs.Reading.{Reading, data_of, refused, unopened, value_reading, HasReading, HasSomeReading}
 use Rattle.kr_provider.specs.Sealing.{IsBytes, IsSealing, draw_size, sealed_by, value_size}
 
--- the envelope is that of a value that was sealed: a plugin's has the object that was written, and its seed
+-- the envelope is that of a value that was sealed: a plugin's has the object that was written, and
+-- its seed
 abbrev pub IsSealedEnvelope : List SeedRow → Who → (path plain drawn : List ℕ) → Envelope → Type 0
 IsSealedEnvelope seeds Identity path plain drawn envelope = ⊤
 IsSealedEnvelope seeds (Aescbc name secret) path plain drawn envelope = ⊤
 IsSealedEnvelope seeds (Aesgcm name secret) path plain drawn envelope = ⊤
-IsSealedEnvelope seeds (Kms name) path plain drawn envelope = (row : SeedRow) × (seed_of name seeds ≡ Some row) × (length row.seed ≡ 32) × (envelope.object ≡ Ok (object_of row path plain drawn)) × (envelope.source ≡ Some row.seed)
+IsSealedEnvelope seeds (Kms name) path plain drawn envelope = (row : SeedRow)
+    × (seed_of name seeds ≡ Some row) × (length row.seed ≡ 32)
+    × (envelope.object ≡ Ok (object_of row path plain drawn)) × (envelope.source ≡ Some row.seed)
 
 -- what a provider sealed reads as the data at that path, by every list that holds the provider
 abbrev pub SealedReads : Type 0
-SealedReads = (seeds : List SeedRow) (list : List Who) (who : Who) (path plain drawn value : List ℕ) (envelope : Envelope)
-    → IsTrue (keeps_providers list) → Contains list who → IsBytes (draw_size who) drawn → All (λ byte. byte < 256) plain
-    → sealed_by seeds who path plain drawn ≡ Some value → IsSealedEnvelope seeds who path plain drawn envelope
+SealedReads = (seeds : List SeedRow) (list : List Who) (who : Who) (path plain drawn value : List ℕ)
+    (envelope : Envelope)
+    → IsTrue (keeps_providers list) → Contains list who → IsBytes (draw_size who) drawn
+    → All (λ byte. byte < 256) plain
+    → sealed_by seeds who path plain drawn ≡ Some value
+    → IsSealedEnvelope seeds who path plain drawn envelope
     → value_reading envelope list path value ≡ data_of plain
 
--- a sealing by a published configuration, each of whose seeds opens, reads as its data and as nothing else
+-- a sealing by a published configuration, each of whose seeds opens, reads as its data and as
+-- nothing else
 abbrev pub SealingReads : Type 0
-SealingReads = (opens : Opens) (p : Publication) (list : List Who) (resource path plain value : List ℕ) (reading : Reading)
-    → IsPublished p → OpenAll opens p.seeds → IsTrue (keeps_providers list) → Contains list (writer_at p resource)
-    → IsSealing p resource path plain value → HasReading opens list path value reading ↔ (reading ≡ data_of plain)
+SealingReads = (opens : Opens) (p : Publication) (list : List Who)
+    (resource path plain value : List ℕ) (reading : Reading)
+    → IsPublished p → OpenAll opens p.seeds → IsTrue (keeps_providers list)
+    → Contains list (writer_at p resource)
+    → IsSealing p resource path plain value → HasReading opens list path value reading
+    ↔ (reading ≡ data_of plain)
 
--- how long a value is that a provider sealed; of a published configuration's values none is longer than what is unsealed
+-- how long a value is that a provider sealed; of a published configuration's values none is longer
+-- than what is unsealed
 pub record SealingIsSized : Type 0 where
-  pub size : (seeds : List SeedRow) (who : Who) (path plain drawn value : List ℕ) → IsBytes (draw_size who) drawn
-      → sealed_by seeds who path plain drawn ≡ Some value → length value ≡ value_size seeds who (length plain)
-  pub few : (p : Publication) (resource path plain value : List ℕ) → IsPublished p → IsSealing p resource path plain value → length value ≤ value_limit
+  pub size : (seeds : List SeedRow) (who : Who) (path plain drawn value : List ℕ)
+      → IsBytes (draw_size who) drawn
+      → sealed_by seeds who path plain drawn ≡ Some value
+      → length value ≡ value_size seeds who (length plain)
+  pub few : (p : Publication) (resource path plain value : List ℕ) → IsPublished p
+      → IsSealing p resource path plain value → length value ≤ value_limit
 
 -- a value has one reading alone
 abbrev pub HasOneReading : Type 0
@@ -49,7 +63,8 @@ HasOneReading = (opens : Opens) (list : List Who) (path bytes : List ℕ) (a b :
 
 -- where a list names no plugin, the truth of plugins doesn't matter
 abbrev pub ReadsWithoutPlugin : Type 0
-ReadsWithoutPlugin = (opens : Opens) (list : List Who) (path bytes : List ℕ) (reading : Reading) → list_any is_kms list ≡ false
+ReadsWithoutPlugin = (opens : Opens) (list : List Who) (path bytes : List ℕ) (reading : Reading)
+    → list_any is_kms list ≡ false
     → HasReading opens list path bytes reading ↔ (value_reading unknown list path bytes ≡ reading)
 
 -- what a value reads as by the truth it reads as with some unwrapped source
@@ -62,10 +77,14 @@ IsData (data_of plain) = ⊤
 IsData (refused why) = ⊥
 IsData unopened = ⊥
 
--- a value of aesgcm reads as data at a path exactly where its last 16 bytes are the tag of that path
+-- a value of aesgcm reads as data at a path exactly where its last 16 bytes are the tag of that
+-- path
 abbrev pub ReadsUnderItsTag : Type 0
-ReadsUnderItsTag = (envelope : Envelope) (list : List Who) (name secret path bytes : List ℕ) → reader_in list bytes ≡ Some (Aesgcm name secret)
+ReadsUnderItsTag = (envelope : Envelope) (list : List Who) (name secret path bytes : List ℕ)
+    → reader_in list bytes ≡ Some (Aesgcm name secret)
     → let body = body_by (Aesgcm name secret) bytes in
     let sealed = drop 12 body in
     let size = length sealed - 16 in
-    IsData (value_reading envelope list path bytes) ↔ ((28 ≤ length body) × (drop size sealed ≡ gcm_tag (cipher_under secret) (take 12 body) path (take size sealed)))
+    IsData (value_reading envelope list path bytes)
+    ↔ ((28 ≤ length body) × (drop size sealed
+    ≡ gcm_tag (cipher_under secret) (take 12 body) path (take size sealed)))

@@ -1,3 +1,4 @@
+-- The definitions that contracts cite.
 pub mod BenchState
 pub mod Ciphers
 pub mod Envelopes

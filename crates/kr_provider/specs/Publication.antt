@@ -1,13 +1,12 @@
 -- A published configuration: settings with one wrapped seed for each plugin that they name.
-use Rattle.std.specs.Prelude.{◌≡◌, ℕ, ◌≤◌, ◌↔◌, Bool, true, false, IsTrue, List, [], ◌∷◌, length, map, All, Contains, find, Option}
-use Rattle.std.specs.List.{flat_map, list_all, list_any}
+use Rattle.std.specs.Prelude.{◌≡◌, ℕ, ◌≤◌, ◌↔◌, Bool, true, false, IsTrue, List, length, map, All, Contains, find, Option}
+use Rattle.std.specs.List.{list_all, list_any}
 use Rattle.std.specs.List.Sorted.{IsStrictlySortedBy}
 use Rattle.std.specs.Ordering.{nat_cmp}
 use Rattle.std.specs.Cmp.Lexicographic.{slice_cmp}
 use Rattle.std.specs.Str.{bytes_eq}
 use Rattle.kr_config.specs.declared.who.Who.{Who}
-use Rattle.kr_config.specs.declared.who.Who.TheVariants.{Identity, Aescbc, Aesgcm, Kms}
-use Rattle.kr_config.specs.Kept.{Row, keeps}
+use Rattle.kr_config.specs.Kept.{Row, keeps, plugins_in}
 use Rattle.kr_config.specs.Lists.{list_of}
 use Rattle.kr_config.specs.Providers.{is_kms, is_provider}
 use Rattle.kr_kms.specs.declared.seeds.SeedRow.{SeedRow}
@@ -19,25 +18,17 @@ pub record Publication : Type 0 where
   pub rows : List Row
   pub seeds : List SeedRow
 
--- the names of the plugins in some entries, in the order of the file
-abbrev pub plugin_of : Who → List (List ℕ)
-plugin_of Identity = []
-plugin_of (Aescbc name secret) = []
-plugin_of (Aesgcm name secret) = []
-plugin_of (Kms name) = name ∷ []
-
-abbrev pub plugins_in : List Row → List (List ℕ)
-plugins_in rows = flat_map (λ row. flat_map plugin_of row.providers) rows
-
--- whether they name any
+-- whether some entries name a plugin
 abbrev pub names_plugin : List Row → Bool
 names_plugin rows = list_any (λ row. list_any is_kms row.providers) rows
 
--- the settings keep their rules, and there is one seed for each plugin that they name, by the bytes of the name
+-- the settings keep their rules, and there is one seed for each plugin that they name, by the bytes
+-- of the name
 pub record IsPublished (p : Publication) : Type 0 where
   pub kept : IsTrue (keeps p.rows)
   pub ascend : IsStrictlySortedBy (slice_cmp nat_cmp) (map (λ row. row.name) p.seeds)
-  pub names : (name : List ℕ) → Contains (map (λ row. row.name) p.seeds) name ↔ Contains (plugins_in p.rows) name
+  pub names : (name : List ℕ) → Contains (map (λ row. row.name) p.seeds) name
+      ↔ Contains (plugins_in p.rows) name
   pub seeds : All IsSeedRow p.seeds
 
 -- the seed of a plugin

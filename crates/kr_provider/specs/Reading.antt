@@ -1,4 +1,5 @@
--- What a stored value reads as, by the providers of a list: data, or the first refusal that applies, or nothing since no
+-- What a stored value reads as, by the providers of a list: data, or the first refusal that
+-- applies, or nothing since no
 -- plugin opened its source.
 use Rattle.std.specs.Prelude.{◌≡◌, ℕ, ◌==◌, ◌||◌, Bool, false, not, if◌then◌else◌, List, take, drop, length, Option, Some, None, Result, Ok, Err, ⊤}
 use Rattle.std.specs.Str.{bytes_eq}
@@ -65,12 +66,14 @@ body_reading (Err why) = body_refusal why
 
 -- a nonce of 12 bytes, then ciphertext and tag with the path as associated data
 abbrev pub gcm_reading : (key path body : List ℕ) → Reading
-gcm_reading key path body = body_reading (gcm_opened (cipher_under key) (take 12 body) path (drop 12 body))
+gcm_reading key path body = body_reading (gcm_opened (cipher_under key) (take 12 body) path
+    (drop 12 body))
 
 -- the info of 32 bytes, then the body under the key that it makes of the seed
 abbrev pub seed_reading : (seed path encrypted : List ℕ) → Reading
 seed_reading seed path encrypted =
-    if length seed == 32 then gcm_reading (value_key seed (take 32 encrypted)) path (drop 32 encrypted) else seed_length
+    if length seed == 32 then gcm_reading (value_key seed (take 32 encrypted)) path
+    (drop 32 encrypted) else seed_length
 
 abbrev pub source_reading : Option (List ℕ) → (path encrypted : List ℕ) → Reading
 source_reading None path encrypted = unopened
@@ -81,7 +84,8 @@ abbrev pub kind_reading : SourceKind → Option (List ℕ) → (path encrypted :
 kind_reading Key source path encrypted = object_refusal object.SourceType
 kind_reading Seed source path encrypted = source_reading source path encrypted
 
-abbrev pub object_reading : Result EncryptedObject ObjectNo → Option (List ℕ) → (path : List ℕ) → Reading
+abbrev pub object_reading : Result EncryptedObject ObjectNo → Option (List ℕ) → (path : List ℕ)
+    → Reading
 object_reading (Ok object) source path = kind_reading object.kind source path object.encrypted
 object_reading (Err why) source path = object_refusal why
 
@@ -90,13 +94,15 @@ object_reading (Err why) source path = object_refusal why
 -- by one provider; the envelope of a plugin's value is handed in
 abbrev pub provider_reading : Envelope → Who → (path body : List ℕ) → Reading
 provider_reading envelope Identity path body = data_of body
-provider_reading envelope (Aescbc name secret) path body = body_reading (cbc_opened (inverse_under secret) body)
+provider_reading envelope (Aescbc name secret) path body =
+    body_reading (cbc_opened (inverse_under secret) body)
 provider_reading envelope (Aesgcm name secret) path body = gcm_reading secret path body
 provider_reading envelope (Kms name) path body = object_reading envelope.object envelope.source path
 
 abbrev pub reader_reading : Envelope → Option Who → (path bytes : List ℕ) → Reading
 reader_reading envelope None path bytes = no_provider
-reader_reading envelope (Some who) path bytes = provider_reading envelope who path (body_by who bytes)
+reader_reading envelope (Some who) path bytes =
+    provider_reading envelope who path (body_by who bytes)
 
 -- by the reader of the list
 abbrev pub value_reading : Envelope → List Who → (path bytes : List ℕ) → Reading
@@ -104,13 +110,17 @@ value_reading envelope list path bytes = reader_reading envelope (reader_in list
 
 -- a value reads so, by what wrapped sources open to
 abbrev pub HasReading : Opens → List Who → (path bytes : List ℕ) → Reading → Type 0
-HasReading opens list path bytes reading = (envelope : Envelope) × IsEnvelopeOf opens list bytes envelope × (value_reading envelope list path bytes ≡ reading)
+HasReading opens list path bytes reading = (envelope : Envelope)
+    × IsEnvelopeOf opens list bytes envelope × (value_reading envelope list path bytes ≡ reading)
 
 -- a value reads so with some unwrapped source, whatever that is
 abbrev pub HasSomeReading : List Who → (path bytes : List ℕ) → Reading → Type 0
-HasSomeReading list path bytes reading = (envelope : Envelope) × HasObject (reader_in list bytes) bytes envelope.object × (value_reading envelope list path bytes ≡ reading)
+HasSomeReading list path bytes reading = (envelope : Envelope)
+    × HasObject (reader_in list bytes) bytes envelope.object
+    × (value_reading envelope list path bytes ≡ reading)
 
--- ---- staleness: another provider than the writer read the value, or it is a plugin whose key id isn't the published one
+-- ---- staleness: another provider than the writer read the value, or it is a plugin whose key id
+-- isn't the published one
 
 abbrev pub has_key_id : Option SeedRow → Result EncryptedObject ObjectNo → Bool
 has_key_id None read = false
@@ -124,13 +134,18 @@ is_rotated envelope seeds (Aesgcm name secret) = false
 is_rotated envelope seeds (Kms name) = not (has_key_id (seed_of name seeds) envelope.object)
 
 abbrev pub is_stale : Envelope → List SeedRow → List Who → (bytes : List ℕ) → Bool
-is_stale envelope seeds list bytes = not (is_reader bytes (writer_of list)) || is_rotated envelope seeds (writer_of list)
+is_stale envelope seeds list bytes = not (is_reader bytes (writer_of list))
+    || is_rotated envelope seeds (writer_of list)
 
 -- ---- calls: each answer comes exactly where it is the reading, but for want of memory
 
-abbrev pub Unseals : Envelope → List SeedRow → List Who → (path bytes : List ℕ) → Result Opened UnsealNo → Type 0
-Unseals envelope seeds list path bytes (Ok opened) = (value_reading envelope list path bytes ≡ data_of opened.plain) × (opened.stale ≡ is_stale envelope seeds list bytes)
-Unseals envelope seeds list path bytes (Err (Refused why)) = value_reading envelope list path bytes ≡ refused why
+abbrev pub Unseals : Envelope → List SeedRow → List Who → (path bytes : List ℕ)
+    → Result Opened UnsealNo → Type 0
+Unseals envelope seeds list path bytes (Ok opened) =
+    (value_reading envelope list path bytes ≡ data_of opened.plain)
+    × (opened.stale ≡ is_stale envelope seeds list bytes)
+Unseals envelope seeds list path bytes (Err (Refused why)) = value_reading envelope list path bytes
+    ≡ refused why
 Unseals envelope seeds list path bytes (Err (PluginFailed name)) = ⊥
 Unseals envelope seeds list path bytes (Err NoMemory) = ⊤
 

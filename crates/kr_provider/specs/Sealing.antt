@@ -32,40 +32,54 @@ IsBytes size bytes = (length bytes ≡ size) × All (λ byte. byte < 256) bytes
 -- the value of the data; identity writes them as they stand, unless they begin as a prefix does
 abbrev pub value_by : List SeedRow → Who → (path plain drawn : List ℕ) → Option (List ℕ)
 value_by seeds Identity path plain drawn = if is_marked plain then None else Some plain
-value_by seeds (Aescbc name secret) path plain drawn = Some (prefix kind.Aescbc name ++ (drawn ++ cbc (cipher_under secret) drawn (pad plain)))
-value_by seeds (Aesgcm name secret) path plain drawn = Some (prefix kind.Aesgcm name ++ gcm_body secret path plain drawn)
-value_by seeds (Kms name) path plain drawn = option_map (λ row. prefix kind.Kms name ++ canonical (object_of row path plain drawn)) (seed_of name seeds)
+value_by seeds (Aescbc name secret) path plain drawn =
+    Some (prefix kind.Aescbc name ++ (drawn ++ cbc (cipher_under secret) drawn (pad plain)))
+value_by seeds (Aesgcm name secret) path plain drawn =
+    Some (prefix kind.Aesgcm name ++ gcm_body secret path plain drawn)
+value_by seeds (Kms name) path plain drawn = option_map
+    (λ row. prefix kind.Kms name ++ canonical (object_of row path plain drawn)) (seed_of name seeds)
 
 -- nothing above the limit of data is sealed
 abbrev pub sealed_by : List SeedRow → Who → (path plain drawn : List ℕ) → Option (List ℕ)
-sealed_by seeds who path plain drawn = if nat_lt data_limit (length plain) then None else value_by seeds who path plain drawn
+sealed_by seeds who path plain drawn = if nat_lt data_limit
+    (length plain) then None else value_by seeds who path plain drawn
 
--- the writer of the resource's list seals
-abbrev pub sealed : Publication → (resource path plain drawn : List ℕ) → Option (List ℕ)
-sealed p resource path plain drawn = sealed_by p.seeds (writer_at p resource) path plain drawn
+-- the value by the writer of the resource's list
+abbrev pub sealing_at : Publication → (resource path plain drawn : List ℕ) → Option (List ℕ)
+sealing_at p resource path plain drawn = sealed_by p.seeds (writer_at p resource) path plain drawn
 
 -- a value is a sealing of the data, which are bytes, where it is that under some random bytes
 pub record IsSealing (p : Publication) (resource path plain value : List ℕ) : Type 0 where
   pub plain_is : All (λ byte. byte < 256) plain
   pub drawn : List ℕ
   pub fits : IsBytes (draw_size (writer_at p resource)) drawn
-  pub is : sealed p resource path plain drawn ≡ Some value
+  pub is : sealing_at p resource path plain drawn ≡ Some value
 
 -- how long a provider's value is, by how many the data are: for a plugin by its seed too
 abbrev pub value_size : List SeedRow → Who → ℕ → ℕ
 value_size seeds Identity size = size
-value_size seeds (Aescbc name secret) size = length (prefix kind.Aescbc name) + (16 + (size + 16 - size % 16))
+value_size seeds (Aescbc name secret) size = length (prefix kind.Aescbc name)
+    + (16 + (size + 16 - size % 16))
 value_size seeds (Aesgcm name secret) size = length (prefix kind.Aesgcm name) + (12 + (size + 16))
-value_size seeds (Kms name) size = option_map_or (λ row. length (prefix kind.Kms name) + (content_size (32 + (12 + (size + 16))) + length (canonical (frame_of (object_of row [] [] []))))) (seed_of name seeds) 0
+value_size seeds (Kms name) size = option_map_or
+    (λ row. length (prefix kind.Kms name) + (content_size (32 + (12 + (size + 16)))
+    + length (canonical (frame_of (object_of row [] [] []))))) (seed_of name seeds) 0
 
--- how a call's answer stands to that: the value is under the drawn bytes, each refusal comes exactly where it applies,
+-- how a call's answer stands to that: the value is under the drawn bytes, each refusal comes
+-- exactly where it applies,
 -- and nothing is drawn for a refusal or for want of memory
 module _ {D : Type 0} (left : D → Option (List ℕ)) (count : D → ℕ) where
-  abbrev pub Seals : List SeedRow → Who → (path plain : List ℕ) → (old new : D) → Result (List ℕ) SealNo → Type 0
-  Seals seeds who path plain old new (Ok value) = (drawn : List ℕ) × IsBytes (draw_size who) drawn × (sealed_by seeds who path plain drawn ≡ Some value) × Consumes (left old) (left new) drawn × (who ≡ Identity → new ≡ old)
-  Seals seeds who path plain old new (Err (TooLarge size)) = (size ≡ length plain) × (data_limit < length plain) × (new ≡ old)
-  Seals seeds who path plain old new (Err LooksEncrypted) = (length plain ≤ data_limit) × (who ≡ Identity) × (is_marked plain ≡ true) × (new ≡ old)
-  Seals seeds who path plain old new (Err DiceFailed) = (length plain ≤ data_limit) × (who ≢ Identity) × Rose (count old) (count new) × Keeps (left old) (left new)
+  abbrev pub Seals : List SeedRow → Who → (path plain : List ℕ) → (old new : D)
+      → Result (List ℕ) SealNo → Type 0
+  Seals seeds who path plain old new (Ok value) = (drawn : List ℕ) × IsBytes (draw_size who) drawn
+      × (sealed_by seeds who path plain drawn ≡ Some value) × Consumes (left old) (left new) drawn
+      × (who ≡ Identity → new ≡ old)
+  Seals seeds who path plain old new (Err (TooLarge size)) = (size ≡ length plain)
+      × (data_limit < length plain) × (new ≡ old)
+  Seals seeds who path plain old new (Err LooksEncrypted) = (length plain ≤ data_limit)
+      × (who ≡ Identity) × (is_marked plain ≡ true) × (new ≡ old)
+  Seals seeds who path plain old new (Err DiceFailed) = (length plain ≤ data_limit)
+      × (who ≢ Identity) × Rose (count old) (count new) × Keeps (left old) (left new)
   Seals seeds who path plain old new (Err NoMemory) = new ≡ old
 
 -- the data as they stand, or the refusal

@@ -5,7 +5,7 @@ ghost use Rattle.std.specs.Str.{bytes_eq};
 ghost use Rattle.kr_aes.specs.KeyExpansion.{padded_schedule};
 ghost use Rattle.kr_config.specs.Kept.{keeps_row, keys_in, rows_of};
 ghost use Rattle.kr_config.specs.Providers.{is_key, is_provider};
-ghost use Rattle.kr_provider.specs.KeyPages.{HoldKeys, held, secret_of, secrets_among, secrets_in, size_of};
+ghost use Rattle.kr_provider.specs.KeyPages.{HoldKeys, words_out, secret_of, secrets_among, secrets_in, size_of};
 ghost use Rattle.kr_provider.specs.inner.Scan.{HasWords, IsAmong, place_from};
 ghost use Rattle.kr_provider.specs.inner.Stack.{IsStack};
 
@@ -28,6 +28,7 @@ pub(crate) fn count_keys(entries: &[Entry]) -> usize
     count
 }
 
+/// How many keys there are among providers.
 fn keys_among(providers: &[Who]) -> usize
     ensures { result ≡ count_by is_key providers.now }
 {
@@ -48,13 +49,16 @@ pub(crate) fn keep_all(entries: &[Entry], pages: &mut KeyPages)
     }
 }
 
+/// Expands each key of these providers into a page.
 fn keep_among(providers: &[Who], pages: &mut KeyPages)
     requires rules { list_all is_provider providers.now ≡ true }
     requires stack { IsStack pages.old }
-    requires room { length pages.old.out + length (secrets_among providers.now) ≤ size_of pages.old }
+    requires room { length pages.old.out + length (secrets_among providers.now)
+        ≤ size_of pages.old }
     ensures stack { IsStack pages.new }
     ensures size { size_of pages.new ≡ size_of pages.old }
-    ensures held { held pages.new ≡ held pages.old ++ map padded_schedule (secrets_among providers.now) }
+    ensures held { words_out pages.new ≡ words_out pages.old
+        ++ map padded_schedule (secrets_among providers.now) }
 {
     for who in providers {
         if let Some(secret) = secret_of(who) {
@@ -137,7 +141,8 @@ fn count_secrets(who: &Who) -> usize
 
 /// The secret of a provider that is a key.
 fn secret_of(who: &Who) -> Option<&Bytes>
-    ensures { MatchOption result (secret_of who.now ≡ []) (λ secret. secret_of who.now ≡ secret.now ∷ []) }
+    ensures { MatchOption result (secret_of who.now ≡ [])
+        (λ secret. secret_of who.now ≡ secret.now ∷ []) }
 {
     match who {
         Who::Identity => None,

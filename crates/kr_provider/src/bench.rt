@@ -26,8 +26,8 @@ use kr_kms::Kms;
 use std::alloc::Global;
 use std::marker::Model;
 
-/// Links, a random source, the configuration that was adopted last, and a page for each of its keys. It can't be dropped:
-/// `close` gives the links and the random source back.
+/// Links, a random source, the configuration that was adopted last, and a page for each of its
+/// keys. It can't be dropped: `close` gives the links and the random source back.
 pub struct Bench<L: Kms, D: Dice> {
     links: Links<L>,
     dice: D,
@@ -41,15 +41,22 @@ impl<L: Kms, D: Dice> Model for Bench<L, D> {
 
     ghost Value = { BenchState L D };
 
-    ghost view = { λ bench. record { links = bench.links; dice = bench.dice; published = bench.published; pages = bench.pages } };
+    ghost view = { λ bench. record {
+      links = bench.links;
+      dice = bench.dice;
+      published =
+          bench.published;
+      pages = bench.pages;
+    } };
 
-    ghost invariant = { λ bench. AsksNoPlugin bench.published × HoldKeys (adopted_secrets bench.published) bench.pages };
+    ghost invariant = { λ bench. AsksNoPlugin bench.published
+        × HoldKeys (adopted_secrets bench.published) bench.pages };
 }
 
 impl<L: Kms, D: Dice> Bench<L, D> {
-    /// A bench that adopted nothing yet. `pages` is how many expanded keys it may keep, for which it makes the room, and
-    /// `cache` how many unwrapped seeds; it keeps no seed. Where there is no memory the links and the random source come
-    /// back.
+    /// A bench that adopted nothing yet. `pages` is how many expanded keys it may keep, for which
+    /// it makes the room, and `cache` how many unwrapped seeds; it keeps no seed. Where there is no
+    /// memory the links and the random source come back.
     pub fn new(
         alloc: Global,
         links: Links<L>,
@@ -58,7 +65,8 @@ impl<L: Kms, D: Dice> Bench<L, D> {
         cache: u32,
     ) -> Result<Bench<L, D>, (NoMemory, Links<L>, D)>
         requires cache { 1 ≤ cache }
-        ensures ok { IfOk result (λ bench. bench ≡ record { links = links; dice = dice; published = None; pages = unused pages }) }
+        ensures ok { IfOk result (λ bench. bench
+            ≡ record { links = links; dice = dice; published = None; pages = unused pages }) }
         ensures returned { IfErr result (λ refused. (refused.1 ≡ links) × (refused.2 ≡ dice)) }
     {
         match KeyPages::new(alloc, pages) {
@@ -72,13 +80,18 @@ impl<L: Kms, D: Dice> Bench<L, D> {
         }
     }
 
-    /// Adopts a published configuration, which names no plugin, in place of the one before: the pages go back, and each
-    /// key is expanded into one. It takes no memory. Where there are more keys than pages nothing changes.
+    /// Adopts a published configuration, which names no plugin, in place of the one before: the
+    /// pages go back, and each key is expanded into one. It takes no memory. Where there are more
+    /// keys than pages nothing changes.
     pub fn adopt(&mut self, published: Shared<Published>) -> Result<(), PagesFull>
         requires no_plugin { names_plugin published.rows ≡ false }
         ensures full { IsErr result ↔ (size_of self.old.pages < keys_in published.rows) }
         ensures unchanged { OnErr result (self.new ≡ self.old) }
-        ensures kept { OnOk result (self.new ≡ record self.old { published = Some published; pages = self.new.pages }) }
+        ensures kept { OnOk result (self.new ≡ record self.old {
+          published = Some published;
+          pages =
+              self.new.pages;
+        }) }
         ensures keys { HoldKeys (adopted_secrets self.new.published) self.new.pages }
         ensures size { size_of self.new.pages ≡ size_of self.old.pages }
     {
@@ -99,7 +112,15 @@ impl<L: Kms, D: Dice> Bench<L, D> {
         self.pages.count()
     }
 
-    /// The value of the data for the resource at the path, which may be empty, by the writer of the resource's list.
+    /// How often the random source failed so far, up to the greatest number.
+    pub fn dice_faults(&self) -> u64
+        ensures { result ≡ D.count self.now.dice }
+    {
+        self.dice.faults()
+    }
+
+    /// The value of the data for the resource at the path, which may be empty, by the writer of the
+    /// resource's list.
     pub fn seal(
         &mut self,
         alloc: Global,
@@ -109,8 +130,11 @@ impl<L: Kms, D: Dice> Bench<L, D> {
     ) -> Result<Bytes, SealNo>
         requires adopted { IsSome self.old.published }
         requires path { length path.now ≤ path_limit }
-        ensures sealed { IfSome self.old.published (λ p. Seals D.left D.count p.seeds (writer_at p resource.now) path.now plain.now self.old.dice self.new.dice result) }
-        ensures sealing { IfSome self.old.published (λ p. IfOk result (λ value. IsSealing p resource.now path.now plain.now value)) }
+        ensures sealed { IfSome self.old.published
+            (λ p. Seals D.left D.count p.seeds
+            (writer_at p resource.now) path.now plain.now self.old.dice self.new.dice result) }
+        ensures sealing { IfSome self.old.published
+            (λ p. IfOk result (λ value. IsSealing p resource.now path.now plain.now value)) }
         ensures size { IfOk result (λ value. length value ≤ value_limit) }
         ensures later { D.count self.old.dice ≤ D.count self.new.dice }
         ensures kept { self.new ≡ record self.old { dice = self.new.dice } }
@@ -129,8 +153,9 @@ impl<L: Kms, D: Dice> Bench<L, D> {
         )
     }
 
-    /// What the stored value of the resource at the path, which may be empty, holds. The first refusal that applies is
-    /// the answer: `NoProvider` where no provider of the list reads it, then those of its body.
+    /// What the stored value of the resource at the path, which may be empty, holds. The first
+    /// refusal that applies is the answer: `NoProvider` where no provider of the list reads it,
+    /// then those of its body.
     pub fn unseal(
         &mut self,
         alloc: Global,
@@ -141,7 +166,8 @@ impl<L: Kms, D: Dice> Bench<L, D> {
         requires adopted { IsSome self.old.published }
         requires path { length path.now ≤ path_limit }
         requires fits { length bytes.now ≤ value_limit }
-        ensures opened { IfSome self.old.published (λ p. (envelope : Envelope) → Unseals envelope p.seeds (list_at p resource.now) path.now bytes.now result) }
+        ensures opened { IfSome self.old.published (λ p. (envelope : Envelope)
+            → Unseals envelope p.seeds (list_at p resource.now) path.now bytes.now result) }
         ensures kept { self.new ≡ self.old }
     {
         let Some(published) = &self.published else {
@@ -165,7 +191,8 @@ impl<L: Kms, D: Dice> Bench<L, D> {
     }
 }
 
-/// The providers of the resource, none of which is a plugin; their keys are among those of the settings.
+/// The providers of the resource, none of which is a plugin; their keys are among those of the
+/// settings.
 fn list_for<'a>(published: &'a Published, resource: &str) -> &'a [Who]
     requires no_plugin { names_plugin published.now.rows ≡ false }
     ensures list { result.now ≡ list_at published.now resource.now }
@@ -175,6 +202,7 @@ fn list_for<'a>(published: &'a Published, resource: &str) -> &'a [Who]
     published.list_for(resource)
 }
 
+/// The value by the writer of the resource's list.
 fn seal_for<D: Dice>(
     alloc: Global,
     published: &Published,
@@ -187,8 +215,10 @@ fn seal_for<D: Dice>(
     requires no_plugin { names_plugin published.now.rows ≡ false }
     requires keys { HoldKeys (secrets_in published.now.rows) pages.now }
     requires path { length path.now ≤ path_limit }
-    ensures sealed { Seals D.left D.count published.now.seeds (writer_at published.now resource.now) path.now plain.now dice.old dice.new result }
-    ensures sealing { IfOk result (λ value. IsSealing published.now resource.now path.now plain.now value) }
+    ensures sealed { Seals D.left D.count published.now.seeds
+        (writer_at published.now resource.now) path.now plain.now dice.old dice.new result }
+    ensures sealing { IfOk result (λ value. IsSealing published.now resource.now path.now plain.now
+        value) }
     ensures size { IfOk result (λ value. length value ≤ value_limit) }
     ensures later { D.count dice.old ≤ D.count dice.new }
 {
@@ -208,6 +238,7 @@ fn writer_of(list: &[Who]) -> &Who
     &list[0]
 }
 
+/// What the value holds by the list of the resource.
 fn unseal_for(
     alloc: Global,
     published: &Published,
@@ -220,7 +251,8 @@ fn unseal_for(
     requires keys { HoldKeys (secrets_in published.now.rows) pages.now }
     requires path { length path.now ≤ path_limit }
     requires fits { length bytes.now ≤ value_limit }
-    ensures { (envelope : Envelope) → Unseals envelope published.now.seeds (list_at published.now resource.now) path.now bytes.now result }
+    ensures { (envelope : Envelope) → Unseals envelope published.now.seeds
+        (list_at published.now resource.now) path.now bytes.now result }
 {
     let list = list_for(published, resource);
     unseal_in(alloc, published.entries(), pages, list, path, bytes)
@@ -241,7 +273,8 @@ fn unseal_in(
     requires list { ListsNoPlugin list.now }
     requires path { length path.now ≤ path_limit }
     requires fits { length bytes.now ≤ value_limit }
-    ensures { (envelope : Envelope) (seeds : List SeedRow) → Unseals envelope seeds list.now path.now bytes.now result }
+    ensures { (envelope : Envelope) (seeds : List SeedRow)
+        → Unseals envelope seeds list.now path.now bytes.now result }
 {
     let Some(place) = reader_of(list, bytes) else {
         return Err(UnsealNo::Refused(ValueNo::NoProvider));
@@ -251,11 +284,9 @@ fn unseal_in(
         unreachable!();
     };
     let words = words_for(entries, pages, reader);
-    match unseal_by(alloc, reader, words, path, body) {
-        Ok(plain) => Ok(Opened {
-            plain,
-            stale: place != 0,
-        }),
-        Err(why) => Err(why),
-    }
+    let plain = unseal_by(alloc, reader, words, path, body)?;
+    Ok(Opened {
+        plain,
+        stale: place != 0,
+    })
 }

@@ -1,9 +1,9 @@
-//! The expanded keys of a bench, each in a page of its pool. A page can't be dropped, so it is given back where the keys
-//! are cleared or ended.
+//! The expanded keys of a bench, each in a page of its pool. A page can't be dropped, so it is
+//! given back where the keys are cleared or ended.
 ghost use Rattle.std.specs.Prelude.{◌≡◌, ◌+◌, ◌<◌, [], ◌∷◌, ◌++◌, length, slice_index_or, IfOk};
 ghost use Rattle.kr_aes.specs.KeyExpansion.{IsKeyLength, padded_schedule};
 ghost use Rattle.kr_pages.specs.Pool.{words_of};
-ghost use Rattle.kr_provider.specs.KeyPages.{held, size_of, unused};
+ghost use Rattle.kr_provider.specs.KeyPages.{words_out, size_of, unused};
 ghost use Rattle.kr_provider.specs.inner.Stack.{IsStack};
 
 use kr_aes::expand;
@@ -70,7 +70,7 @@ impl KeyPages {
         requires room { length self.old.out < size_of self.old }
         ensures stack { IsStack self.new }
         ensures size { size_of self.new ≡ size_of self.old }
-        ensures held { held self.new ≡ held self.old ++ padded_schedule secret.now ∷ [] }
+        ensures held { words_out self.new ≡ words_out self.old ++ padded_schedule secret.now ∷ [] }
     {
         let Ok(page) = self.pool.take() else {
             unreachable!();

@@ -1,4 +1,5 @@
-//! Providers at work: what an object's data is sealed as for a resource, and what a stored value reads as.
+//! Providers at work: what an object's data are sealed as for a resource, and what a stored value
+//! reads as.
 #![tactic(auto)]
 
 mod adopted;

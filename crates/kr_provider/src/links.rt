@@ -9,7 +9,8 @@ use kr_kms::Kms;
 use std::alloc::Global;
 use std::marker::Model;
 
-/// Links to plugins of distinct names, which may be links that can't be dropped. Contracts see the list of them.
+/// Links to plugins of distinct names, which may be links that can't be dropped. Contracts see the
+/// list of them.
 #[derive(Drop)]
 pub struct Links<L: Kms> {
     items: List<L>,
@@ -56,7 +57,8 @@ impl<L: Kms> Links<L> {
 
     /// Takes the last link.
     pub fn take(&mut self) -> Option<L>
-        ensures { MatchOption result ((self.old ≡ []) × (self.new ≡ [])) (λ last. self.old ≡ self.new ++ last ∷ []) }
+        ensures { MatchOption result ((self.old ≡ []) × (self.new ≡ []))
+            (λ last. self.old ≡ self.new ++ last ∷ []) }
     {
         self.items.pop()
     }
@@ -69,6 +71,7 @@ impl<L: Kms> Links<L> {
     }
 }
 
+/// Whether one of the links is to the plugin of this name.
 fn any_named<L: Kms>(links: &[L], name: &str) -> bool
     ensures { result ≡ list_any (λ link. bytes_eq (L.link link).name name.now) links.now }
 {

@@ -6,7 +6,9 @@ use kr_envelope::Kind;
 
 /// What stands behind the prefix of this kind and name, where the bytes begin with it.
 pub(crate) fn behind_prefix<'a>(kind: Kind, name: &str, bytes: &'a [u8]) -> Option<&'a [u8]>
-    ensures { let start = prefix kind name.now in MatchOption result (begins start bytes.now ≡ false) (λ rest. (begins start bytes.now ≡ true) × (rest.now ≡ drop (length start) bytes.now)) }
+    ensures { let start = prefix kind name.now in
+        MatchOption result (begins start bytes.now ≡ false)
+        (λ rest. (begins start bytes.now ≡ true) × (rest.now ≡ drop (length start) bytes.now)) }
 {
     let Some(named) = bytes.strip_prefix(kind.head()) else {
         return None;

@@ -16,7 +16,9 @@ use std::marker::Model;
 /// Settings with one wrapped seed for each plugin that they name, by the bytes of its name.
 #[derive(Drop)]
 pub struct Published {
+    /// The settings, which whoever holds the configuration shares.
     pub settings: Shared<Settings>,
+    /// The seeds with their wrapped sources.
     pub seeds: List<SeedRow>,
 }
 
@@ -26,9 +28,14 @@ impl Model for Published {
 
     ghost Value = { Publication };
 
-    ghost view = { λ published. record { rows = rows_of published.settings.entries.0; seeds = published.seeds.0 } };
+    ghost view = { λ published. record {
+      rows = rows_of published.settings.entries.0;
+      seeds =
+          published.seeds.0;
+    } };
 
-    ghost invariant = { λ published. IsPublished (record { rows = rows_of published.settings.entries.0; seeds = published.seeds.0 }) };
+    ghost invariant = { λ published. IsPublished
+        (record { rows = rows_of published.settings.entries.0; seeds = published.seeds.0 }) };
 }
 
 impl Published {
@@ -76,6 +83,7 @@ pub fn names_plugin(settings: &Settings) -> bool
     any_names(settings.entries.as_slice())
 }
 
+/// Whether one of the entries names a plugin.
 fn any_names(entries: &[Entry]) -> bool
     ensures { result ≡ list_any (λ entry. list_any is_kms entry.providers.0) entries.now }
 {
@@ -84,6 +92,7 @@ fn any_names(entries: &[Entry]) -> bool
         .any(|entry| has_plugin(entry.providers.as_slice()))
 }
 
+/// Whether one of the providers is a plugin.
 fn has_plugin(providers: &[Who]) -> bool
     ensures { result ≡ list_any is_kms providers.now }
 {

@@ -6,24 +6,26 @@ use crate::prefixes::behind_prefix;
 use kr_config::Who;
 use kr_envelope::{Kind, MARK};
 
-/// The place of the provider whose prefix the bytes begin with, or of identity where they don't begin `k8s:enc:`; none
-/// where the list holds no such provider.
+/// The place of the provider whose prefix the bytes begin with, or of identity where they don't
+/// begin `k8s:enc:`; none where the list holds no such provider.
 pub fn reader_of(list: &[Who], bytes: &[u8]) -> Option<usize>
     ensures { result ≡ reader_place list.now bytes.now }
 {
     list.iter().position(|who| reads(who, bytes))
 }
 
+/// Whether the provider reads the value.
 fn reads(who: &Who, bytes: &[u8]) -> bool
     ensures { result ≡ is_reader bytes.now who.now }
 {
     body_of(who, bytes).is_some()
 }
 
-/// What the provider reads: the bytes behind its prefix, for identity all of a value without one. None where the value
-/// is another provider's.
+/// What the provider reads: the bytes behind its prefix, for identity all of a value without one.
+/// None where the value is another provider's.
 pub(crate) fn body_of<'a>(who: &Who, bytes: &'a [u8]) -> Option<&'a [u8]>
-    ensures { MatchOption result (is_reader bytes.now who.now ≡ false) (λ body. (is_reader bytes.now who.now ≡ true) × (body.now ≡ body_by who.now bytes.now)) }
+    ensures { MatchOption result (is_reader bytes.now who.now ≡ false)
+        (λ body. (is_reader bytes.now who.now ≡ true) × (body.now ≡ body_by who.now bytes.now)) }
 {
     match who {
         Who::Identity => bare(bytes),
@@ -33,8 +35,10 @@ pub(crate) fn body_of<'a>(who: &Who, bytes: &'a [u8]) -> Option<&'a [u8]>
     }
 }
 
+/// A value that begins as no prefix does.
 fn bare<'a>(bytes: &'a [u8]) -> Option<&'a [u8]>
-    ensures { MatchOption result (is_reader bytes.now Who.Identity ≡ false) (λ body. (is_reader bytes.now Who.Identity ≡ true) × (body.now ≡ bytes.now)) }
+    ensures { MatchOption result (is_reader bytes.now Who.Identity ≡ false)
+        (λ body. (is_reader bytes.now Who.Identity ≡ true) × (body.now ≡ bytes.now)) }
 {
     if bytes.starts_with(MARK) {
         None

@@ -8,7 +8,8 @@ use kr_kms::Field;
 /// Why data aren't sealed.
 #[derive(Clone, Copy, Debug, PartialEq, Eq)]
 pub enum SealNo {
-    /// Identity would write data that begin as a value of another provider does, which it couldn't read back.
+    /// Identity would write data that begin as a value of another provider does, which it couldn't
+    /// read back.
     LooksEncrypted,
     /// The data have more than 2,097,152 bytes; `length` is how many.
     TooLarge { length: u64 },
@@ -21,6 +22,7 @@ pub enum SealNo {
 /// What a stored value holds.
 #[derive(Debug, Drop)]
 pub struct Opened {
+    /// The data.
     pub plain: Bytes,
     /// Whether it should be written anew: another provider than the list's first read it.
     pub stale: bool,

@@ -31,8 +31,8 @@ const NONCE: usize = 12;
 /// The bytes of a tag.
 const TAG: usize = 16;
 
-/// The value of the data by a provider that is no plugin, whose key's words are given. The memory for it is taken before
-/// the dice is asked.
+/// The value of the data by a provider that is no plugin, whose key's words are given. The memory
+/// for it is taken before the dice is asked.
 pub(crate) fn seal_by<D: Dice>(
     alloc: Global,
     who: &Who,
@@ -45,7 +45,8 @@ pub(crate) fn seal_by<D: Dice>(
     requires no_plugin { is_kms who.now ≡ false }
     requires words { HasWords who.now words.now }
     requires path { length path.now ≤ path_limit }
-    ensures sealed { (seeds : List SeedRow) → Seals D.left D.count seeds who.now path.now plain.now dice.old dice.new result }
+    ensures sealed { (seeds : List SeedRow) → Seals D.left D.count seeds who.now path.now plain.now
+        dice.old dice.new result }
     ensures plain_is { All (λ byte. byte < 256) plain.now }
     ensures later { D.count dice.old ≤ D.count dice.new }
 {
@@ -87,7 +88,9 @@ fn by_aescbc<D: Dice>(
     requires key { IsKeyLength (length secret.now) }
     requires words { words.now ≡ padded_schedule secret.now }
     requires fits { length plain.now ≤ data_limit }
-    ensures sealed { (seeds : List SeedRow) (path : List ℕ) → Seals D.left D.count seeds (Who.Aescbc name.now secret.now) path plain.now dice.old dice.new result }
+    ensures sealed { (seeds : List SeedRow) (path : List ℕ)
+        → Seals D.left D.count seeds (Who.Aescbc name.now secret.now) path plain.now dice.old
+        dice.new result }
     ensures later { D.count dice.old ≤ D.count dice.new }
 {
     let room = IV + cbc_length(plain.len());
@@ -118,7 +121,8 @@ fn by_aesgcm<D: Dice>(
     requires words { words.now ≡ padded_schedule secret.now }
     requires fits { length plain.now ≤ data_limit }
     requires path { length path.now ≤ path_limit }
-    ensures sealed { (seeds : List SeedRow) → Seals D.left D.count seeds (Who.Aesgcm name.now secret.now) path.now plain.now dice.old dice.new result }
+    ensures sealed { (seeds : List SeedRow) → Seals D.left D.count seeds
+        (Who.Aesgcm name.now secret.now) path.now plain.now dice.old dice.new result }
     ensures later { D.count dice.old ≤ D.count dice.new }
 {
     let room = NONCE + plain.len() + TAG;
@@ -137,7 +141,9 @@ fn by_aesgcm<D: Dice>(
 
 /// Fills the buffer with random bytes.
 fn draw<D: Dice>(dice: &mut D, into: &mut [u8]) -> Result<(), Failed>
-    ensures drawn { MatchResult result (λ _. All (λ byte. byte < 256) into.new × Consumes (D.left dice.old) (D.left dice.new) into.new) (λ _. Keeps (D.left dice.old) (D.left dice.new)) }
+    ensures drawn { MatchResult result (λ _. All (λ byte. byte < 256) into.new
+        × Consumes (D.left dice.old) (D.left dice.new) into.new)
+        (λ _. Keeps (D.left dice.old) (D.left dice.new)) }
     ensures cause { IsCounted (D.count dice.old) (D.count dice.new) result }
 {
     dice.fill(into)
@@ -168,8 +174,10 @@ fn write_cbc(
     requires key { IsKeyLength (length secret.now) }
     requires words { words.now ≡ padded_schedule secret.now }
     requires fits { length plain.now ≤ data_limit }
-    requires size { length value.old ≡ start + (16 + (length plain.now + 16 - length plain.now % 16)) }
-    ensures { value.new ≡ take start value.old ++ (iv.now ++ cbc (cipher_under secret.now) iv.now (pad plain.now)) }
+    requires size { length value.old ≡ start + (16
+        + (length plain.now + 16 - length plain.now % 16)) }
+    ensures { value.new ≡ take start value.old
+        ++ (iv.now ++ cbc (cipher_under secret.now) iv.now (pad plain.now)) }
 {
     let rounds = rounds_of(secret.as_slice());
     let (_, room) = value.split_at_mut(start);

@@ -32,7 +32,8 @@ pub(crate) fn unseal_by(
     requires words { HasWords who.now words.now }
     requires path { length path.now ≤ path_limit }
     requires fits { length body.now ≤ value_limit }
-    ensures { (envelope : Envelope) → Gives (provider_reading envelope who.now path.now body.now) result }
+    ensures { (envelope : Envelope) → Gives (provider_reading envelope who.now path.now body.now)
+        result }
 {
     match who {
         Who::Identity => bare(alloc, body),
@@ -44,6 +45,7 @@ pub(crate) fn unseal_by(
     }
 }
 
+/// The data as they stand.
 fn bare(alloc: Global, body: &[u8]) -> Result<Bytes, UnsealNo>
     ensures { Gives (data_of body.now) result }
 {
@@ -53,6 +55,7 @@ fn bare(alloc: Global, body: &[u8]) -> Result<Bytes, UnsealNo>
     }
 }
 
+/// The data of a body of aescbc.
 fn by_aescbc(
     alloc: Global,
     secret: &[u8],
@@ -77,6 +80,7 @@ fn by_aescbc(
     }
 }
 
+/// The data of a body of aesgcm.
 fn by_aesgcm(
     alloc: Global,
     secret: &[u8],

@@ -9,7 +9,8 @@ use Rattle.kr_config.specs.declared.who.Who.TheVariants.{Identity, Aescbc, Aesgc
 -- the first place of the secret, where the first of the list counts as `n`
 abbrev pub place_from : (n : ℕ) → (secrets : List (List ℕ)) → (secret : List ℕ) → Option ℕ
 place_from n [] secret = None
-place_from n (first ∷ rest) secret = if bytes_eq first secret then Some n else place_from (suc n) rest secret
+place_from n (first ∷ rest) secret = if bytes_eq first secret then Some n else place_from
+    (suc n) rest secret
 
 -- the provider's secret, if it has one, is one of these
 abbrev pub IsAmong : List (List ℕ) → Who → Type 0

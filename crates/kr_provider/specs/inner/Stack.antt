@@ -8,4 +8,5 @@ pub record IsStack (pages : KeyPages) : Type 0 where
   pub pool : IsPool pages.pool
   pub count : length pages.pool.free + length pages.out ≡ size_of pages
   pub free : pages.pool.free ≡ range_with_len 0 (length pages.pool.free)
-  pub places : (i d : ℕ) → i < length pages.out → slice_index_or pages.out i d + (i + 1) ≡ size_of pages
+  pub places : (i d : ℕ) → i < length pages.out
+      → slice_index_or pages.out i d + (i + 1) ≡ size_of pages

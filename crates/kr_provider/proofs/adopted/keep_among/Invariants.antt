@@ -1,9 +1,11 @@
+-- `keep_among`: what is kept and what is still to come are the keys of the providers.
 use Rattle.std.proofs.Common.{◌≡◌, ◌++◌, drop, map}
 use Rattle.kr_aes.specs.KeyExpansion.{padded_schedule}
-use Rattle.kr_provider.specs.KeyPages.{held, secrets_among, size_of}
+use Rattle.kr_provider.specs.KeyPages.{words_out, secrets_among, size_of}
 use Rattle.kr_provider.specs.inner.Stack.{IsStack}
 use Rattle.kr_provider.proofs.adopted.keep_among.Given as goal
 
 abbrev pub invariant-loop-who : goal.invariant-loop-who
 invariant-loop-who l = IsStack l.pages × (size_of l.pages ≡ size_of l.initial.pages)
-    × (held l.pages ++ map padded_schedule (secrets_among (drop l.who-index l.providers)) ≡ held l.initial.pages ++ map padded_schedule (secrets_among l.providers))
+    × (words_out l.pages ++ map padded_schedule (secrets_among (drop l.who-index l.providers))
+    ≡ words_out l.initial.pages ++ map padded_schedule (secrets_among l.providers))

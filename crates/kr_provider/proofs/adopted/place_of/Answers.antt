@@ -1,3 +1,4 @@
+-- `place_of`: the first entry with the secret has its first place.
 use Rattle.std.proofs.Common.{◌∙◌, ap, arith, sym}
 use Rattle.kr_config.specs.Kept.{rows_of}
 use Rattle.kr_provider.specs.KeyPages.{secrets_among}
@@ -7,16 +8,23 @@ use Rattle.kr_provider.proofs.adopted.place_of.Goals as goal
 
 pub place_among-place-requires : goal.place_among-place-requires
 place_among-place-requires c =
-    let room = scan_room c.args.entries.now c.loop-entry.entry-index c.loop-entry.before 64 c.entry-item.result c.loop-entry-test.true c.entry-item.is c.loop-entry.invariant.1 c.requires.few in
+    let room = scan_room c.args.entries.now c.loop-entry.entry-index c.loop-entry.before 64
+    c.entry-item.result c.loop-entry-test.true c.entry-item.is c.loop-entry.invariant.1
+    c.requires.few in
     record { few = rw c.as_slice-providers.ensures room }
 
 pub returns-then-is_some : goal.returns-then-is_some
-returns-then-is_some c = scan_some c.args.entries.now c.loop-entry.entry-index c.loop-entry.before c.entry-item.result c.args.secret.now c.place_among-place.result _ c.loop-entry-test.true c.entry-item.is c.loop-entry.invariant.0
-    (rw c.as_slice-providers.ensures at c.place_among-place.ensures) (sym c.is_some.ensures ∙ c.if-is_some.true)
+returns-then-is_some c = scan_some c.args.entries.now c.loop-entry.entry-index c.loop-entry.before
+    c.entry-item.result c.args.secret.now c.place_among-place.result _ c.loop-entry-test.true
+    c.entry-item.is c.loop-entry.invariant.0
+    (rw c.as_slice-providers.ensures at c.place_among-place.ensures)
+    (sym c.is_some.ensures ∙ c.if-is_some.true)
 
 pub overflow_add-before : goal.overflow_add-before
 overflow_add-before c =
-    let room = scan_room c.args.entries.now c.loop-entry.entry-index c.loop-entry.before 64 c.entry-item.result c.loop-entry-test.true c.entry-item.is c.loop-entry.invariant.1 c.requires.few in
+    let room = scan_room c.args.entries.now c.loop-entry.entry-index c.loop-entry.before 64
+    c.entry-item.result c.loop-entry-test.true c.entry-item.is c.loop-entry.invariant.1
+    c.requires.few in
     let keys = rw c.as_slice-providers.ensures at c.keys_among-before.ensures in
     let count = secrets_count c.entry-item.result.providers.0 in
     omega (arith, room, keys, count)
@@ -25,8 +33,11 @@ pub loop-entry-preserved : goal.loop-entry-preserved
 loop-entry-preserved c =
     let inv = c.loop-entry.invariant in
     let keys = rw c.as_slice-providers.ensures at c.keys_among-before.ensures in
-    let none = sym (rw c.as_slice-providers.ensures at c.place_among-place.ensures) ∙ none_of c.place_among-place.result (sym c.is_some.ensures ∙ c.if-is_some.false) in
+    let none = sym (rw c.as_slice-providers.ensures at c.place_among-place.ensures)
+    ∙ none_of c.place_among-place.result (sym c.is_some.ensures ∙ c.if-is_some.false) in
     rw keys (
-      scan_on c.args.entries.now c.loop-entry.entry-index c.loop-entry.before c.entry-item.result c.args.secret.now _ c.loop-entry-test.true c.entry-item.is inv.0 none,
-      scan_counts c.args.entries.now c.loop-entry.entry-index c.loop-entry.before c.entry-item.result c.loop-entry-test.true c.entry-item.is inv.1,
+      scan_on c.args.entries.now c.loop-entry.entry-index c.loop-entry.before c.entry-item.result
+          c.args.secret.now _ c.loop-entry-test.true c.entry-item.is inv.0 none,
+      scan_counts c.args.entries.now c.loop-entry.entry-index c.loop-entry.before
+          c.entry-item.result c.loop-entry-test.true c.entry-item.is inv.1,
     )

@@ -1,3 +1,4 @@
+-- `words_for`: a key of the entries has its page.
 use Rattle.std.proofs.Common.{◌≡◌, ◌∙◌, List, ℕ, sym, true}
 use Rattle.std.specs.List.{list_any}
 use Rattle.std.specs.Str.{bytes_eq}
@@ -9,17 +10,24 @@ use Rattle.kr_provider.proofs.adopted.words_for.Goals as goal
 pub unreachable-requires : goal.unreachable-requires
 unreachable-requires c =
     let secrets = secrets_in (rows_of c.args.entries.now) in
-    place_some secrets c.in-Some.secret.now (its_secret c.args.who.now secrets c.in-Some.secret.now c.in-Some.ensures c.requires.among) (rw c.as_slice.ensures at (sym c.in_default-place_of.is ∙ c.place_of.ensures))
+    place_some secrets c.in-Some.secret.now (its_secret c.args.who.now secrets c.in-Some.secret.now
+    c.in-Some.ensures c.requires.among) (rw c.as_slice.ensures at (sym c.in_default-place_of.is
+    ∙ c.place_of.ensures))
 
 pub words-requires : goal.words-requires
 words-requires c =
     let secrets = secrets_in (rows_of c.args.entries.now) in
-    (place_holds secrets c.args.pages.now c.in-Some.secret.now c.in-Some-place_of.place c.requires.keys (its_secret c.args.who.now secrets c.in-Some.secret.now c.in-Some.ensures c.requires.among)
+    (place_holds secrets c.args.pages.now c.in-Some.secret.now c.in-Some-place_of.place
+    c.requires.keys (its_secret c.args.who.now secrets c.in-Some.secret.now c.in-Some.ensures
+    c.requires.among)
     (rw c.as_slice.ensures at (sym c.in-Some-place_of.is ∙ c.place_of.ensures))).0
 
 pub returns : goal.returns
 returns c =
     let secrets = secrets_in (rows_of c.args.entries.now) in
     its_words c.args.who.now c.in-Some.secret.now c.words.result.now c.in-Some.ensures
-    (c.words.ensures ∙ (place_holds secrets c.args.pages.now c.in-Some.secret.now c.in-Some-place_of.place c.requires.keys (its_secret c.args.who.now secrets c.in-Some.secret.now c.in-Some.ensures c.requires.among)
+    (c.words.ensures
+    ∙ (place_holds secrets c.args.pages.now c.in-Some.secret.now c.in-Some-place_of.place
+    c.requires.keys (its_secret c.args.who.now secrets c.in-Some.secret.now c.in-Some.ensures
+    c.requires.among)
     (rw c.as_slice.ensures at (sym c.in-Some-place_of.is ∙ c.place_of.ensures))).1)

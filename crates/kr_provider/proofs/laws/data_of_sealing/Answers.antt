@@ -1,3 +1,4 @@
+-- The law of sealings.
 use Rattle.kr_provider.proofs.Sealings.{sealing_reads}
 use Rattle.kr_provider.proofs.laws.data_of_sealing.Goals as goal
 

@@ -1,3 +1,4 @@
+-- The law of values without plugins.
 use Rattle.kr_provider.proofs.OneReading as proved
 use Rattle.kr_provider.proofs.laws.reading_without_plugin.Goals as goal
 

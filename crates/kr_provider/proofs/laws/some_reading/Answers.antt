@@ -1,3 +1,4 @@
+-- The law of readings with some unwrapped source.
 use Rattle.kr_provider.proofs.OneReading as proved
 use Rattle.kr_provider.proofs.laws.some_reading.Goals as goal
 

@@ -1,3 +1,4 @@
+-- `Bench::adopt`: the settings have few keys, each of a good length.
 use Rattle.kr_provider.proofs.Lists.{few_keys, rows_keep}
 use Rattle.kr_provider.proofs.bench.Bench.adopt.Goals as goal
 

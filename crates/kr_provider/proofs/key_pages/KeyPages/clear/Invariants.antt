@@ -1,3 +1,4 @@
+-- `KeyPages::clear`: the pages are a stack of one size.
 use Rattle.std.proofs.Common.{◌≡◌, ◌+◌, ◌≤◌, length}
 use Rattle.kr_provider.specs.inner.Stack.{IsStack}
 use Rattle.kr_provider.proofs.key_pages.KeyPages.clear.Given as goal
