@@ -17,11 +17,15 @@ pub record Link : Type 0 where
   pub count : ℕ
   pub status : Option Status
 
--- the name and the told status stay, the count never falls, and it rose where the call failed
-pub record Asks {T : Type 0} (old : Link) (result : Result T KmsNo) (new : Link) : Type 0 where
+-- the same link after some calls: the name and the told status stay, the count never falls
+pub record IsSameLink (old new : Link) : Type 0 where
   pub name : new.name ≡ old.name
   pub status : new.status ≡ old.status
   pub later : old.count ≤ new.count
+
+-- the link is the same after a call, and the count rose where the call failed
+pub record Asks {T : Type 0} (old : Link) (result : Result T KmsNo) (new : Link) : Type 0 where
+  pub same : IsSameLink old new
   pub failed : IsErrOf result Failed → Rose old.count new.count
 
 -- the status is the told one
@@ -30,14 +34,28 @@ Says old result new = Asks old result new × IfOk result (λ status. Agrees old.
 
 -- what names the seed that was wrapped
 abbrev pub key_in : List ℕ → Wrapped → SeedKey
-key_in name wrapped = record { name = name; key_id = wrapped.key_id; annotations = wrapped.annotations; source = wrapped.cipher }
+key_in name wrapped = record {
+  name = name;
+  key_id = wrapped.key_id;
+  annotations = wrapped.annotations;
+  source = wrapped.cipher;
+}
 
 -- what was wrapped opens to the plain bytes, and is within the limits
 abbrev pub Wraps : Truth → Link → List ℕ → Result Wrapped KmsNo → Link → Type 0
-Wraps truth old plain result new =
-    Asks old result new × IfOk result (λ wrapped. TellsOf truth (key_in old.name wrapped) plain × IsWithinLimits wrapped)
+Wraps truth old plain result new = Asks old result new × IfOk result
+    (λ wrapped. TellsOf truth (key_in old.name wrapped) plain × IsWithinLimits wrapped)
+
+-- what names the seed that is asked for
+abbrev pub asked_key : List ℕ → List ℕ → Pairs → List ℕ → SeedKey
+asked_key name key_id annotations source = record {
+  name = name;
+  key_id = key_id;
+  annotations = annotations;
+  source = source;
+}
 
 -- the bytes are those that the source opens to
 abbrev pub Unwraps : Truth → Link → List ℕ → Pairs → List ℕ → Result (List ℕ) KmsNo → Link → Type 0
-Unwraps truth old key_id annotations source result new =
-    Asks old result new × IfOk result (λ bytes. TellsOf truth (record { name = old.name; key_id = key_id; annotations = annotations; source = source }) bytes)
+Unwraps truth old key_id annotations source result new = Asks old result new × IfOk result
+    (λ bytes. TellsOf truth (asked_key old.name key_id annotations source) bytes)

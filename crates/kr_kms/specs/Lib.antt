@@ -1,7 +1,10 @@
+pub mod Cache
 pub mod Calls
+pub mod Health
 pub mod Limits
 pub mod MemWorld
 pub mod Outside
 pub mod Seeds
 pub mod Table
 pub mod Truth
+pub mod inner

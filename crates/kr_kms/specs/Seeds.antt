@@ -1,11 +1,19 @@
 -- Seeds with their wrapped sources.
-use Rattle.std.specs.Prelude.{◌≡◌, ℕ, List, length, All}
-use Rattle.std.specs.Str.{IsUtf8}
+use Rattle.std.specs.Prelude.{◌≡◌, ℕ, ◌&&◌, ◌⊎◌, Bool, List, length, All, Option, Some, None, Result, Ok, Err}
+use Rattle.std.specs.Io.KnownBytes.{Consumes, Keeps}
+use Rattle.std.specs.Str.{IsUtf8, bytes_eq}
+use Rattle.kr_base.specs.Faults.{Rose}
 use Rattle.kr_base.specs.Limits.{IsShort, AreFew}
 use Rattle.kr_base.specs.Pairs.{IsSortedByKey}
+use Rattle.kr_kms.specs.Calls.{Link}
+use Rattle.kr_kms.specs.Health.{HasBreach}
+use Rattle.kr_kms.specs.Truth.{Truth, TellsOf, key_of}
+use Rattle.kr_kms.specs.declared.health.SeedNo.{SeedNo}
+use Rattle.kr_kms.specs.declared.health.SeedNo.TheVariants.{Failed, DiceFailed, Unhealthy, NoMemory}
 use Rattle.kr_kms.specs.declared.seeds.SeedRow.{SeedRow}
 
--- a seed has 32 bytes; its source, key id and annotations are within the limits, and are as their types keep them
+-- a seed has 32 bytes; its source, key id and annotations are within the limits, and are as their
+-- types keep them
 pub record IsSeedRow (row : SeedRow) : Type 0 where
   pub seed : length row.seed ≡ 32
   pub key_id : IsShort row.key_id
@@ -14,3 +22,24 @@ pub record IsSeedRow (row : SeedRow) : Type 0 where
   pub text : IsUtf8 row.key_id
   pub keys : All (λ pair. IsUtf8 pair.0) row.annotations
   pub sorted : IsSortedByKey row.annotations
+
+module _ {D : Type 0} (left : D → Option (List ℕ)) (count : D → ℕ) where
+  -- the bytes of a seed were drawn
+  abbrev pub DrawsSeed : D → D → Type 0
+  DrawsSeed dice after =
+      (drawn : List ℕ) × (length drawn ≡ 32) × Consumes (left dice) (left after) drawn
+
+  -- a seed that was drawn and wrapped once the plugin was healthy, or why there is none: the status
+  -- is asked first, then the seed is drawn, then it is wrapped
+  abbrev pub MakesSeed : Truth → Link → D → Result SeedRow SeedNo → Link → D → Type 0
+  MakesSeed truth old dice (Ok row) new after = HasBreach old None × (row.name ≡ old.name)
+      × IsSeedRow row × TellsOf truth (key_of row) row.seed
+      × Consumes (left dice) (left after) row.seed
+  MakesSeed truth old dice (Err (Unhealthy field text)) new after =
+      HasBreach old (Some (field, text)) × (after ≡ dice)
+  MakesSeed truth old dice (Err DiceFailed) new after = HasBreach old None
+      × Rose (count dice) (count after) × Keeps (left dice) (left after)
+  MakesSeed truth old dice (Err Failed) new after = Rose old.count new.count
+      × ((after ≡ dice) ⊎ (HasBreach old None × DrawsSeed dice after))
+  MakesSeed truth old dice (Err NoMemory) new after =
+      (after ≡ dice) ⊎ (HasBreach old None × DrawsSeed dice after)

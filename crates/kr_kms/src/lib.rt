@@ -1,15 +1,20 @@
-//! Plugins that wrap and unwrap seeds, as the crates above see them: a link to a plugin, what it answers, and what its
-//! type tells of the truth. And the world that a command runs in, which gives files and random sources.
+//! Plugins that wrap and unwrap seeds, as the crates above see them: a link to a plugin, what it
+//! answers, and what its type tells of the truth; seeds, which links make and a cache keeps; and the
+//! world that a command runs in, which gives files and random sources.
 #![tactic(auto)]
 
+mod cache;
+mod health;
 mod mem_world;
 mod plugin;
 mod seeds;
 mod table_plugin;
 mod world;
 
+pub use cache::SeedCache;
+pub use health::{Field, SeedNo, key_id_of};
 pub use mem_world::MemWorld;
-pub use plugin::{Kms, KmsNo, Status, Wrapped};
-pub use seeds::{Field, SeedKey, SeedRow};
+pub use plugin::{Kms, KmsNo, Status, Wrapped, is_within_limits};
+pub use seeds::{SeedKey, SeedRow, make_seed};
 pub use table_plugin::TablePlugin;
 pub use world::{Asked, FileNo, World};

@@ -1,9 +1,10 @@
 //! A link to a plugin, which keeps the keys and wraps short secrets with them.
-ghost use Rattle.std.specs.Prelude.{◌≡◌};
+ghost use Rattle.std.specs.Prelude.{◌≡◌, ◌↔◌, IsTrue};
 ghost use Rattle.kr_kms.specs.Truth.{Truth};
 ghost use Rattle.kr_kms.specs.Calls.{Link, Says, Wraps, Unwraps};
+ghost use Rattle.kr_kms.specs.Limits.{IsWithinLimits};
 
-use kr_base::{Annotations, Bytes, Text};
+use kr_base::{Annotations, Bytes, Text, are_few, is_short};
 use std::alloc::Global;
 
 /// What a plugin says of itself: its version, its health and the id of the key that it wraps with.
@@ -14,13 +15,23 @@ pub struct Status {
     pub key_id: Text,
 }
 
-/// What a plugin made of plain bytes: the wrapped source, the id of its key, and what it wants to see again when it
-/// unwraps.
+/// What a plugin made of plain bytes: the wrapped source, the id of its key, and what it wants to see
+/// again when it unwraps.
 #[derive(Debug, Drop)]
 pub struct Wrapped {
     pub cipher: Bytes,
     pub key_id: Text,
     pub annotations: Annotations,
+}
+
+/// Whether the key id, the source and the annotations are within the limits. A link answers a wrap
+/// that isn't as a fault.
+pub fn is_within_limits(wrapped: &Wrapped) -> bool
+    ensures { IsTrue result ↔ IsWithinLimits wrapped.now }
+{
+    is_short(wrapped.key_id.as_str().as_bytes())
+        && is_short(wrapped.cipher.as_slice())
+        && are_few(wrapped.annotations.pairs())
 }
 
 /// Why a plugin gave no answer.
@@ -51,7 +62,8 @@ pub trait Kms {
     fn status(&mut self, alloc: Global) -> Result<Status, KmsNo>
         ensures { Says (link self.old) result (link self.new) };
 
-    /// Wraps plain bytes with the plugin's current key. An answer that passes a limit of wrapped sources is a fault.
+    /// Wraps plain bytes with the plugin's current key. An answer that passes a limit of wrapped
+    /// sources is a fault.
     fn wrap(&mut self, alloc: Global, plain: &[u8]) -> Result<Wrapped, KmsNo>
         ensures { Wraps truth (link self.old) plain.now result (link self.new) };
 
@@ -63,5 +75,6 @@ pub trait Kms {
         annotations: &Annotations,
         source: &[u8],
     ) -> Result<Bytes, KmsNo>
-        ensures { Unwraps truth (link self.old) key_id.now annotations.now source.now result (link self.new) };
+        ensures { Unwraps truth (link self.old) key_id.now annotations.now source.now result
+            (link self.new) };
 }

@@ -1,10 +1,20 @@
-//! Seeds and what names them.
-ghost use Rattle.std.specs.Prelude.{◌≡◌, IfOk};
+//! Seeds, what names them, and how they are made.
+ghost use Rattle.std.specs.Prelude.{◌≡◌, ◌≤◌, IfOk, IsUtf8, length, All};
+ghost use Rattle.kr_kms.specs.Calls.{IsSameLink, Asks};
+ghost use Rattle.kr_kms.specs.Limits.{IsWithinLimits};
+ghost use Rattle.kr_kms.specs.Seeds.{IsSeedRow, MakesSeed};
+ghost use Rattle.kr_kms.specs.inner.Wrapping.{row_with, IsRowOf};
 
-use kr_base::{Annotations, Bytes, NoMemory, Text};
+use crate::health::{SeedNo, key_id_of};
+use crate::plugin::{Kms, KmsNo, Wrapped};
+use kr_base::{Annotations, Bytes, Dice, NoMemory, Text};
 use std::alloc::Global;
 
-/// What a plugin is told of a wrapped source when it unwraps it, with the plugin's own name. It names one seed.
+/// The bytes of a seed.
+const SEED_SIZE: usize = 32;
+
+/// What a plugin is told of a wrapped source when it unwraps it, with the plugin's own name. It
+/// names one seed.
 #[derive(Debug, Drop, PartialEq, Eq, Hash)]
 pub struct SeedKey {
     pub name: Text,
@@ -31,7 +41,8 @@ impl SeedKey {
     }
 }
 
-/// A seed with its wrapped source: the plugin's name, the id of the key under which it wrapped, its annotations.
+/// A seed with its wrapped source: the plugin's name, the id of the key under which it wrapped, its
+/// annotations.
 #[derive(Debug, Drop)]
 pub struct SeedRow {
     pub name: Text,
@@ -41,13 +52,80 @@ pub struct SeedRow {
     pub seed: Bytes,
 }
 
-/// A part of a plugin's status that can show it unhealthy.
-#[derive(Clone, Copy, Debug, PartialEq, Eq)]
-pub enum Field {
-    /// The version isn't `v2`.
-    Version,
-    /// The health isn't `ok`.
-    Healthz,
-    /// The key id hasn't 1 to 1,024 bytes.
-    KeyId,
+/// Draws a seed and wraps it, once the plugin's status shows it healthy. The row has the key id of
+/// the wrap, which may be a newer one than the status told.
+pub fn make_seed<L: Kms, D: Dice>(
+    alloc: Global,
+    link: &mut L,
+    dice: &mut D,
+) -> Result<SeedRow, SeedNo>
+    ensures same { IsSameLink (L.link link.old) (L.link link.new) }
+    ensures made { MakesSeed D.left D.count L.truth (L.link link.old) dice.old result
+        (L.link link.new) dice.new }
+    ensures later { D.count dice.old ≤ D.count dice.new }
+{
+    match key_id_of(alloc, link) {
+        Ok(_) => {}
+        Err(why) => return Err(why),
+    }
+    let Ok(name) = Text::copy(alloc, link.name()) else {
+        return Err(SeedNo::NoMemory);
+    };
+    let Ok(mut seed) = vec![in alloc; 0; SEED_SIZE] else {
+        return Err(SeedNo::NoMemory);
+    };
+    match dice.fill(seed.as_mut_slice()) {
+        Ok(()) => {}
+        Err(_) => return Err(SeedNo::DiceFailed),
+    }
+    match wrap_seed(alloc, link, name, Bytes::from_vec(seed)) {
+        Ok(row) => Ok(row),
+        Err(KmsNo::Failed) => Err(SeedNo::Failed),
+        Err(KmsNo::NoMemory) => Err(SeedNo::NoMemory),
+    }
+}
+
+/// Wraps a seed by the link to the plugin of this name.
+fn wrap_seed<L: Kms>(alloc: Global, link: &mut L, name: Text, seed: Bytes) -> Result<SeedRow, KmsNo>
+    requires name { name ≡ (L.link link.old).name }
+    requires size { length seed ≡ 32 }
+    ensures asks { Asks (L.link link.old) result (L.link link.new) }
+    ensures row { IfOk result (λ row. IsRowOf L.truth name seed row) }
+{
+    match link.wrap(alloc, seed.as_slice()) {
+        Ok(wrapped) => Ok(row_of(name, wrapped, seed)),
+        Err(why) => Err(why),
+    }
+}
+
+/// Puts a seed beside what a plugin made of it.
+fn row_of(name: Text, wrapped: Wrapped, seed: Bytes) -> SeedRow
+    requires limits { IsWithinLimits wrapped }
+    requires size { length seed ≡ 32 }
+    ensures fields { result ≡ row_with name seed wrapped }
+    ensures row { IsSeedRow result }
+{
+    let Wrapped {
+        cipher,
+        key_id,
+        annotations,
+    } = wrapped;
+    let _text = key_id.as_str();
+    tell_texts(annotations.pairs());
+    SeedRow {
+        name,
+        key_id,
+        annotations,
+        source: cipher,
+        seed,
+    }
+}
+
+/// Tells that the key of each pair is a text.
+fn tell_texts(pairs: &[(Text, Bytes)])
+    ensures { All (λ pair. IsUtf8 pair.0) pairs.now }
+{
+    for pair in pairs {
+        let _text = pair.0.as_str();
+    }
 }

@@ -1,6 +1,6 @@
-//! Plugins: the masks of the one in memory, and its failing calls.
-use kr_base::{Annotations, Bytes, List, NoMemory, Text};
-use kr_kms::{Kms, KmsNo, SeedKey, TablePlugin};
+//! Plugins: the masks of the one in memory, and its failing calls; seeds, and those that are kept.
+use kr_base::{Annotations, Bytes, Dice, List, MemDice, NoMemory, Text};
+use kr_kms::{Field, Kms, KmsNo, SeedCache, SeedKey, SeedNo, TablePlugin, key_id_of, make_seed};
 use std::alloc::Global;
 use std::test::Fail;
 
@@ -91,5 +91,88 @@ fn keys_of_seeds(rt: HostRuntime) -> Result<(), Fail> {
     let copy = first.copy(alloc)?;
     assert!(rt; first == copy);
     assert!(rt; first != other);
+    Ok(())
+}
+
+/// The plugin `p` with this status, and no failing call.
+fn plugin_with(alloc: Global, version: &str, healthz: &str, key_id: &str) -> Option<TablePlugin> {
+    Some(TablePlugin::new(
+        Text::copy(alloc, "p").ok()?,
+        Text::copy(alloc, key_id).ok()?,
+        1,
+        Text::copy(alloc, version).ok()?,
+        Text::copy(alloc, healthz).ok()?,
+        List::new(alloc),
+    ))
+}
+
+/// The part that shows a plugin with this status unhealthy, and what it says.
+fn breach(alloc: Global, version: &str, healthz: &str, key_id: &str) -> Option<(Field, Text)> {
+    let mut link = plugin_with(alloc, version, healthz, key_id)?;
+    match key_id_of(alloc, &mut link) {
+        Err(SeedNo::Unhealthy { field, text }) => Some((field, text)),
+        _ => None,
+    }
+}
+
+// The first part that breaks a rule is told.
+#[test]
+fn unhealthy_by_the_first_part(rt: HostRuntime) -> Result<(), Fail> {
+    let alloc = rt.alloc();
+    let (field, text) = breach(alloc, "v1", "down", "").ok_or("healthy")?;
+    assert!(rt; matches!(field, Field::Version) && text.as_str() == "v1");
+    let (field, text) = breach(alloc, "v2", "down", "").ok_or("healthy")?;
+    assert!(rt; matches!(field, Field::Healthz) && text.as_str() == "down");
+    let (field, text) = breach(alloc, "v2", "ok", "").ok_or("healthy")?;
+    assert!(rt; matches!(field, Field::KeyId) && text.as_str() == "");
+    Ok(())
+}
+
+// 9d is 00 xor the mask under `k1`, as above.
+#[test]
+fn makes_a_seed(rt: HostRuntime) -> Result<(), Fail> {
+    let alloc = rt.alloc();
+    let mut link = plugin_with(alloc, "v2", "ok", "k1").ok_or("memory")?;
+    let zeros = vec![in alloc; 0; 40]?;
+    let mut dice = MemDice::new(Bytes::from_vec(zeros), List::new(alloc));
+    let row = make_seed(alloc, &mut link, &mut dice).ok().ok_or("no seed")?;
+    assert_eq!(rt; row.key_id.as_str(), "k1");
+    assert!(rt; row.seed.as_slice() == [0; 32].as_slice());
+    assert!(rt; row.source.as_slice() == [0x9d; 32].as_slice());
+    // 8 bytes are left, which make no seed.
+    let no = make_seed(alloc, &mut link, &mut dice);
+    assert!(rt; matches!(no, Err(SeedNo::DiceFailed)));
+    assert_eq!(rt; dice.faults(), 1);
+    Ok(())
+}
+
+/// The first byte of what is fetched for a source of 32 bytes 9d under a key id, and whether all
+/// are the same.
+fn fetched(alloc: Global, cache: &mut SeedCache, link: &mut TablePlugin, key_id: &str) -> Option<u8> {
+    let annotations = salted(alloc, &[1]).ok()?;
+    let seed = cache
+        .fetch(link, key_id, &annotations, &[0x9d; 32])
+        .ok()?;
+    let first = *seed.as_slice().first()?;
+    if seed.as_slice().len() == 32 && seed.as_slice().iter().all(|byte| *byte == first) {
+        Some(first)
+    } else {
+        None
+    }
+}
+
+// The third answer is kept from the first: the third call on the link would fail.
+#[test]
+fn fetches_a_kept_seed_without_a_call(rt: HostRuntime) -> Result<(), Fail> {
+    let alloc = rt.alloc();
+    let mut link = plugin(alloc, "k1", &[3]).ok_or("memory")?;
+    let mut cache = SeedCache::new(alloc, 2)?;
+    assert!(rt; fetched(alloc, &mut cache, &mut link, "k1") == Some(0));
+    assert!(rt; fetched(alloc, &mut cache, &mut link, "k2") == Some(3));
+    assert!(rt; fetched(alloc, &mut cache, &mut link, "k1") == Some(0));
+    assert_eq!(rt; link.faults(), 0);
+    // Another key is asked for.
+    assert!(rt; fetched(alloc, &mut cache, &mut link, "k3") == None);
+    assert_eq!(rt; link.faults(), 1);
     Ok(())
 }

@@ -1,0 +1,51 @@
+-- Unwrapped seeds that are kept, and what is fetched through them.
+use Rattle.std.specs.Prelude.{◌≡◌, ℕ, ◌≤◌, ◌&&◌, ◌⊎◌, Bool, List, length, Contains, IfOk, Option, Some, None, Result, Ok, Err, ⊤}
+use Rattle.std.specs.Map.{lookup}
+use Rattle.std.specs.Str.{bytes_eq}
+use Rattle.kr_base.specs.Pairs.{pairs_eq}
+use Rattle.kr_kms.specs.Calls.{Link, Asks, Unwraps}
+use Rattle.kr_kms.specs.Truth.{Truth, TellsOf}
+use Rattle.kr_kms.specs.declared.plugin.KmsNo.{KmsNo}
+use Rattle.kr_kms.specs.declared.plugin.KmsNo.TheVariants.{Failed, NoMemory}
+use Rattle.kr_kms.specs.declared.seeds.SeedKey.{SeedKey}
+
+-- the seeds with what names them, the most recently used first, and how many there may be
+pub record CacheState : Type 0 where
+  pub rows : List (SeedKey × List ℕ)
+  pub size : ℕ
+
+-- whether two keys have the same name, key id, annotations and source
+abbrev pub key_eq : SeedKey → SeedKey → Bool
+key_eq a b = bytes_eq a.name b.name && bytes_eq a.key_id b.key_id
+    && pairs_eq a.annotations b.annotations && bytes_eq a.source b.source
+
+-- the seed that is kept under the key, if one is
+abbrev pub seed_at : List (SeedKey × List ℕ) → SeedKey → Option (List ℕ)
+seed_at rows key = lookup (key_eq key) rows
+
+-- where the truth is told, each kept seed is the one that its key opens to
+abbrev pub AreOpen : Truth → List (SeedKey × List ℕ) → Type 0
+AreOpen truth rows = (key : SeedKey) (seed : List ℕ) → Contains rows (key, seed) → TellsOf truth key seed
+
+-- this seed is given, as far as there is memory for it
+abbrev pub GivesSeed : List ℕ → Result (List ℕ) KmsNo → Type 0
+GivesSeed seed (Ok bytes) = bytes ≡ seed
+GivesSeed seed (Err Failed) = ⊥
+GivesSeed seed (Err NoMemory) = ⊤
+
+-- how a call through the cache answers
+pub record Fetches {L : Type 0} (truth : Truth) (link : L → Link) (old : L) (cache : CacheState)
+    (key : SeedKey) (result : Result (List ℕ) KmsNo) (new : L) (after : CacheState) : Type 0 where
+  -- a kept seed is given, and the link isn't asked
+  pub kept : (seed : List ℕ) → seed_at cache.rows key ≡ Some seed
+      → (new ≡ old) × GivesSeed seed result
+  -- where none is kept, the link unwraps the source, as far as there is memory for the question
+  pub asked : seed_at cache.rows key ≡ None
+      → Unwraps truth (link old) key.key_id key.annotations key.source result (link new)
+  pub asks : Asks (link old) result (link new)
+  pub opens : AreOpen truth cache.rows → IfOk result (λ seed. TellsOf truth key seed)
+  -- what is kept was kept before, or is this answer under this key
+  pub rows : (other : SeedKey) (seed : List ℕ) → Contains after.rows (other, seed)
+      → Contains cache.rows (other, seed) ⊎ ((other ≡ key) × (result ≡ Ok seed))
+  pub size : after.size ≡ cache.size
+  pub fits : length after.rows ≤ after.size

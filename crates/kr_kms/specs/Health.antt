@@ -1,0 +1,40 @@
+-- Whether a plugin is healthy, by the status that it answers (after KEP-3299).
+use Rattle.std.specs.Prelude.{◌≡◌, ℕ, List, codes, if◌then◌else◌, Option, Some, None, Result, Ok, Err, ⊤}
+use Rattle.std.specs.Str.{bytes_eq}
+use Rattle.kr_base.specs.Faults.{Rose}
+use Rattle.kr_base.specs.Limits.{is_short}
+use Rattle.kr_base.specs.Told.{Agrees}
+use Rattle.kr_kms.specs.Calls.{Link}
+use Rattle.kr_kms.specs.declared.plugin.Status.{Status}
+use Rattle.kr_kms.specs.declared.health.Field.{Field}
+use Rattle.kr_kms.specs.declared.health.Field.TheVariants.{Version, Healthz, KeyId}
+use Rattle.kr_kms.specs.declared.health.SeedNo.{SeedNo}
+use Rattle.kr_kms.specs.declared.health.SeedNo.TheVariants.{Failed, DiceFailed, Unhealthy, NoMemory}
+
+-- the first rule that a status breaks, as the part that breaks it and what that says: the version is
+-- `v2`, the health is `ok`, the key id has 1 to 1,024 bytes; none is broken where the plugin is healthy
+abbrev pub breach_in : Status → Option (Field × List ℕ)
+breach_in status = if bytes_eq status.version (codes "v2") then
+    (if bytes_eq status.healthz (codes "ok") then
+    (if is_short status.key_id then None else Some (KeyId, status.key_id))
+    else Some (Healthz, status.healthz))
+    else Some (Version, status.version)
+
+-- some status that agrees with what the link tells breaks this rule first; where the link tells its
+-- status, that one does
+abbrev pub HasBreach : Link → Option (Field × List ℕ) → Type 0
+HasBreach link breach = (status : Status) × Agrees link.status status × (breach_in status ≡ breach)
+
+-- what is told breaks no rule; where nothing is told this says nothing
+abbrev pub MayBeHealthy : Option Status → Type 0
+MayBeHealthy None = ⊤
+MayBeHealthy (Some status) = breach_in status ≡ None
+
+-- the key id of a healthy plugin, or why there is none
+abbrev pub TellsKeyId : Link → Result (List ℕ) SeedNo → Link → Type 0
+TellsKeyId old (Ok key_id) new =
+    (status : Status) × Agrees old.status status × (breach_in status ≡ None) × (status.key_id ≡ key_id)
+TellsKeyId old (Err (Unhealthy field text)) new = HasBreach old (Some (field, text))
+TellsKeyId old (Err Failed) new = Rose old.count new.count
+TellsKeyId old (Err DiceFailed) new = ⊥
+TellsKeyId old (Err NoMemory) new = ⊤

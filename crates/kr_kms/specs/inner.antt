@@ -1,0 +1,3 @@
+pub mod Keeping
+pub mod Statuses
+pub mod Wrapping

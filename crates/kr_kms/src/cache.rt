@@ -1,0 +1,130 @@
+//! Unwrapped seeds that are kept, so that a plugin isn't asked again.
+ghost use Rattle.std.specs.Prelude.{◌≡◌, ◌≤◌, [], IfOk, IfNone, length};
+ghost use Rattle.kr_kms.specs.Cache.{Fetches};
+ghost use Rattle.kr_kms.specs.Calls.{asked_key};
+ghost use Rattle.kr_kms.specs.inner.Keeping.{IsCopyAt, AreAmong, AreAmongWith};
+
+use crate::plugin::{Kms, KmsNo};
+use crate::seeds::SeedKey;
+use kr_base::{Annotations, Bytes, NoMemory, Text};
+use lru::LruCache;
+use std::alloc::Global;
+use std::marker::Model;
+use std::num::NonZeroUsize;
+
+/// Unwrapped seeds, the most recently used; at most as many as it was made for. It is for links of
+/// one type: what its seeds say of the truth is what the links say that it was used with.
+#[derive(Drop)]
+pub struct SeedCache {
+    inner: LruCache<SeedKey, Bytes>,
+}
+
+impl Model for SeedCache {
+    ghost use Rattle.kr_kms.specs.Cache.{CacheState};
+
+    ghost Value = { CacheState };
+
+    ghost view = { λ cache. record { rows = cache.inner.entries; size = cache.inner.cap } };
+}
+
+impl SeedCache {
+    /// An empty cache for so many seeds. Room is taken as seeds come.
+    pub fn new(alloc: Global, size: u32) -> Result<SeedCache, NoMemory>
+        requires { 1 ≤ size }
+        ensures { IfOk result (λ cache. cache ≡ record { rows = []; size = size }) }
+    {
+        let Some(size) = NonZeroUsize::new(size as usize) else {
+            unreachable!();
+        };
+        match LruCache::sparse(alloc, size) {
+            Ok(inner) => Ok(SeedCache { inner }),
+            Err(_) => Err(NoMemory),
+        }
+    }
+
+    /// The seed of a wrapped source of the link's plugin. One that is kept is given without asking
+    /// the link; else the link unwraps it, and it is kept where there is memory for that.
+    pub fn fetch<L: Kms>(
+        &mut self,
+        link: &mut L,
+        key_id: &str,
+        annotations: &Annotations,
+        source: &[u8],
+    ) -> Result<Bytes, KmsNo>
+        ensures { Fetches L.truth L.link link.old self.old
+            (asked_key (L.link link.old).name key_id.now annotations.now source.now)
+            result link.new self.new }
+    {
+        let _fits = self.inner.len();
+        let alloc = *self.inner.allocator();
+        let Ok(key) = key_of(alloc, link.name(), key_id, annotations, source) else {
+            return Err(KmsNo::NoMemory);
+        };
+        if let Some(kept) = self.copy_of(alloc, &key) {
+            return kept;
+        }
+        let seed = match link.unwrap_source(alloc, key_id, annotations, source) {
+            Ok(seed) => seed,
+            Err(why) => return Err(why),
+        };
+        self.keep(alloc, key, &seed);
+        Ok(seed)
+    }
+
+    /// A copy of the seed that is kept under the key, which becomes the most recently used.
+    fn copy_of(&mut self, alloc: Global, key: &SeedKey) -> Option<Result<Bytes, KmsNo>>
+        ensures found { IsCopyAt self.old.rows key.now result }
+        ensures none { IfNone result (self.new ≡ self.old) }
+        ensures rows { AreAmong self.old.rows self.new.rows }
+        ensures size { self.new.size ≡ self.old.size }
+        ensures fits { length self.new.rows ≤ self.new.size }
+    {
+        let _fits = self.inner.len();
+        let Some(seed) = self.inner.peek(key) else {
+            return None;
+        };
+        let copy = Bytes::copy(alloc, seed.as_slice());
+        let _there = self.inner.promote(key);
+        let _still_fits = self.inner.len();
+        match copy {
+            Ok(seed) => Some(Ok(seed)),
+            Err(_) => Some(Err(KmsNo::NoMemory)),
+        }
+    }
+
+    /// Keeps the seed under the key, where there is memory for it.
+    fn keep(&mut self, alloc: Global, key: SeedKey, seed: &Bytes)
+        ensures rows { AreAmongWith self.old.rows key seed.now self.new.rows }
+        ensures size { self.new.size ≡ self.old.size }
+        ensures fits { length self.new.rows ≤ self.new.size }
+    {
+        let _fits = self.inner.len();
+        let Ok(copy) = Bytes::copy(alloc, seed.as_slice()) else {
+            return;
+        };
+        match self.inner.put(key, copy) {
+            Ok(_) => {}
+            Err(_) => {}
+        }
+        let _still_fits = self.inner.len();
+    }
+}
+
+/// What names the seed of a wrapped source.
+fn key_of(
+    alloc: Global,
+    name: &str,
+    key_id: &str,
+    annotations: &Annotations,
+    source: &[u8],
+) -> Result<SeedKey, NoMemory>
+    ensures { IfOk result (λ key. key
+        ≡ asked_key name.now key_id.now annotations.now source.now) }
+{
+    Ok(SeedKey {
+        name: Text::copy(alloc, name)?,
+        key_id: Text::copy(alloc, key_id)?,
+        annotations: annotations.copy(alloc)?,
+        source: Bytes::copy(alloc, source)?,
+    })
+}
