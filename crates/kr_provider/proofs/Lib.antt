@@ -14,3 +14,8 @@ pub mod SealedSizes
 pub mod OneReading
 mod Stacks
 mod Keys
+mod AskedLists
+mod Makings
+mod NameOrder
+pub mod PluginNames
+mod Unsealings

@@ -61,7 +61,7 @@ somehow opens list path bytes reading r = (
 
 -- ---- no plugin
 
-abbrev IsNoPlugin : Option Who → Type 0
+abbrev pub IsNoPlugin : Option Who → Type 0
 IsNoPlugin None = ⊤
 IsNoPlugin (Some who) = is_kms who ≡ false
 
@@ -85,7 +85,7 @@ any_envelope (Some (Aescbc name secret)) path bytes e f n = refl
 any_envelope (Some (Aesgcm name secret)) path bytes e f n = refl
 any_envelope (Some (Kms name)) path bytes e f n = absurd (cc)
 
-has_unknown : (opens : Opens) (reader : Option Who) (bytes : List ℕ) → IsNoPlugin reader
+pub has_unknown : (opens : Opens) (reader : Option Who) (bytes : List ℕ) → IsNoPlugin reader
     → HasEnvelope opens reader bytes unknown
 has_unknown opens None bytes n = tt
 has_unknown opens (Some Identity) bytes n = tt

@@ -11,6 +11,7 @@ use Rattle.kr_modes.specs.Gcm.{gcm, gcm_opened}
 use Rattle.kr_modes.proofs.Sealed.{cbc_opened-cbc, gcm_opened-gcm}
 use Rattle.kr_envelope.specs.declared.prefix.Kind.{Kind}
 use Rattle.kr_envelope.specs.declared.prefix.Kind.TheVariants as kind
+use Rattle.kr_envelope.specs.declared.object.SourceKind.TheVariants.{Seed}
 use Rattle.kr_envelope.specs.Canonical.{canonical}
 use Rattle.kr_envelope.specs.Prefixes.{begins, is_marked, prefix}
 use Rattle.kr_envelope.proofs.Prefixing.{begins_is}
@@ -22,7 +23,7 @@ use Rattle.kr_provider.specs.Envelopes.{Envelope, gcm_body, object_of, seed_body
 use Rattle.kr_provider.specs.Laws.{IsSealedEnvelope, SealedReads}
 use Rattle.kr_provider.specs.Publication.{seed_of}
 use Rattle.kr_provider.specs.Readers.{body_by, is_reader}
-use Rattle.kr_provider.specs.Reading.{data_of, gcm_reading, object_reading, provider_reading, reader_reading, body_reading, seed_length, seed_reading, source_reading}
+use Rattle.kr_provider.specs.Reading.{data_of, gcm_reading, object_reading, provider_reading, reader_reading, body_reading, kind_reading, seed_length, source_reading}
 use Rattle.kr_provider.specs.Sealing.{IsBytes, draw_size, sealed_by, value_by}
 use Rattle.kr_provider.proofs.Rivals.{one_reader}
 
@@ -64,7 +65,7 @@ gcm_reads key path plain nonce size =
     ∙ ap body_reading (gcm_opened-gcm (padded_schedule key) (rounds_under key) nonce path plain)
 
 seed_reads : (seed path plain drawn : List ℕ) → length seed ≡ 32 → length drawn ≡ 44
-    → seed_reading seed path (seed_body seed path plain drawn) ≡ data_of plain
+    → source_reading Seed seed path (seed_body seed path plain drawn) ≡ data_of plain
 seed_reads seed path plain drawn long size =
     let info = take 32 drawn in
     let nonce = drop 32 drawn in
@@ -118,7 +119,7 @@ own_reading seeds (Aesgcm name secret) path plain drawn value envelope b h e s =
     ∙ gcm_reads secret path plain drawn b.0
 own_reading seeds (Kms name) path plain drawn value envelope b h e s =
     ap (λ object. object_reading object envelope.source path) s.3
-    ∙ ap (λ source. source_reading source path (seed_body s.0.seed path plain drawn)) s.4
+    ∙ ap (λ source. kind_reading Seed source path (seed_body s.0.seed path plain drawn)) s.4
     ∙ seed_reads s.0.seed path plain drawn s.2 b.0
 
 pub sealed_reads : SealedReads

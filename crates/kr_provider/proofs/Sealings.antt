@@ -15,10 +15,10 @@ use Rattle.kr_config.specs.declared.who.Who.{Who}
 use Rattle.kr_config.specs.declared.who.Who.TheVariants.{Identity, Aescbc, Aesgcm, Kms}
 use Rattle.kr_kms.specs.Seeds.{IsSeedRow}
 use Rattle.kr_kms.specs.declared.seeds.SeedRow.{SeedRow}
-use Rattle.kr_kms.specs.Truth.{Opens, OpenAll, key_of}
+use Rattle.kr_kms.specs.Truth.{Opens, key_of}
 use Rattle.kr_provider.specs.Envelopes.{Envelope, HasEnvelope, object_of, seed_key, source_by, unknown}
 use Rattle.kr_provider.specs.Laws.{IsSealedEnvelope, SealingReads}
-use Rattle.kr_provider.specs.Publication.{seed_of, writer_at}
+use Rattle.kr_provider.specs.Publication.{SeedOpens, seed_of, writer_at}
 use Rattle.kr_provider.specs.Sealing.{IsBytes, draw_size, value_by}
 use Rattle.kr_provider.proofs.Rivals.{one_reader}
 use Rattle.kr_provider.proofs.SealedReads.{behind, is_read, sealed_reads, value_is}
@@ -31,19 +31,19 @@ answered answer object n (inr e) = absurd (n e)
 
 -- the row that a test finds for a name, and what its wrapped source opens to
 found_opens : (opens : Opens) (seeds : List SeedRow) (name path plain drawn : List ℕ)
-    (row : SeedRow) → OpenAll opens seeds → seed_of name seeds ≡ Some row
+    (row : SeedRow) → SeedOpens opens seeds (Kms name) → seed_of name seeds ≡ Some row
     → source_by opens name (Ok (object_of row path plain drawn)) ≡ Some row.seed
 found_opens opens seeds name path plain drawn row o f =
     let there = found (λ r. bytes_eq r.name name) seeds row f in
     let named : row.name ≡ name = (bytes_eq-Decides row.name name).0 there.0 in
-    let P : SeedRow → Type 0 = λ r. opens (key_of r) ≡ Some r.seed in
     let key : seed_key name (object_of row path plain drawn) ≡ key_of row =
     ap (λ n. seed_key n (object_of row path plain drawn)) (sym named) in
-    ap opens key ∙ of_all P seeds row o there.1
+    ap opens key ∙ o row f
 
 row_envelope : (opens : Opens) (seeds : List SeedRow) (name path plain drawn value : List ℕ)
     (envelope : Envelope) (row : SeedRow)
-    → OpenAll opens seeds → All IsSeedRow seeds → length plain ≤ 2097152 → IsBytes 44 drawn
+    → SeedOpens opens seeds (Kms name) → All IsSeedRow seeds → length plain ≤ 2097152
+    → IsBytes 44 drawn
     → seed_of name seeds ≡ Some row
     → Some (prefix kind.Kms name ++ canonical (object_of row path plain drawn)) ≡ Some value
     → HasEnvelope opens (Some (Kms name)) value envelope
@@ -73,7 +73,8 @@ Held opens seeds who path plain drawn value = (envelope : Envelope)
 
 row_held : (opens : Opens) (seeds : List SeedRow) (name path plain drawn value : List ℕ)
     (row : SeedRow)
-    → OpenAll opens seeds → All IsSeedRow seeds → length plain ≤ 2097152 → IsBytes 44 drawn
+    → SeedOpens opens seeds (Kms name) → All IsSeedRow seeds → length plain ≤ 2097152
+    → IsBytes 44 drawn
     → seed_of name seeds ≡ Some row
     → Some (prefix kind.Kms name ++ canonical (object_of row path plain drawn)) ≡ Some value
     → Held opens seeds (Kms name) path plain drawn value
@@ -96,7 +97,7 @@ row_held opens seeds name path plain drawn value row o a fits b f e =
 
 envelope_of : (opens : Opens) (seeds : List SeedRow) (who : Who) (path plain drawn value : List ℕ)
     (envelope : Envelope)
-    → OpenAll opens seeds → All IsSeedRow seeds → length plain ≤ 2097152
+    → SeedOpens opens seeds who → All IsSeedRow seeds → length plain ≤ 2097152
     → IsBytes (draw_size who) drawn → value_by seeds who path plain drawn ≡ Some value
     → HasEnvelope opens (Some who) value envelope
     → IsSealedEnvelope seeds who path plain drawn envelope
@@ -114,7 +115,7 @@ envelope_of opens seeds (Kms name) path plain drawn value envelope o a fits b e 
         fits b f e h
 
 held_of : (opens : Opens) (seeds : List SeedRow) (who : Who) (path plain drawn value : List ℕ)
-    → OpenAll opens seeds → All IsSeedRow seeds → length plain ≤ 2097152
+    → SeedOpens opens seeds who → All IsSeedRow seeds → length plain ≤ 2097152
     → IsBytes (draw_size who) drawn → value_by seeds who path plain drawn ≡ Some value
     → Held opens seeds who path plain drawn value
 unfolding Held

@@ -8,10 +8,10 @@ use Rattle.kr_config.specs.declared.who.Who.TheVariants.{Identity, Aescbc, Aesgc
 use Rattle.kr_config.specs.Kept.{keeps_providers}
 use Rattle.kr_config.specs.Providers.{is_kms}
 use Rattle.kr_kms.specs.declared.seeds.SeedRow.{SeedRow}
-use Rattle.kr_kms.specs.Truth.{Opens, OpenAll}
+use Rattle.kr_kms.specs.Truth.{Opens}
 use Rattle.kr_provider.specs.Ciphers.{cipher_under}
 use Rattle.kr_provider.specs.Envelopes.{Envelope, object_of, unknown}
-use Rattle.kr_provider.specs.Publication.{Publication, IsPublished, seed_of, writer_at}
+use Rattle.kr_provider.specs.Publication.{Publication, IsPublished, SeedOpens, seed_of, writer_at}
 use Rattle.kr_provider.specs.Readers.{reader_in, body_by}
 use Rattle.kr_provider.specs.Reading.{Reading, data_of, refused, unopened, value_reading, HasReading, HasSomeReading}
 use Rattle.kr_provider.specs.Sealing.{IsBytes, IsSealing, draw_size, sealed_by, value_size}
@@ -36,12 +36,13 @@ SealedReads = (seeds : List SeedRow) (list : List Who) (who : Who) (path plain d
     → IsSealedEnvelope seeds who path plain drawn envelope
     → value_reading envelope list path value ≡ data_of plain
 
--- a sealing by a published configuration, each of whose seeds opens, reads as its data and as
--- nothing else
+-- a sealing by a published configuration reads as its data and as nothing else, by each list that
+-- holds its provider, where the seed of that, if it is a plugin, opens
 abbrev pub SealingReads : Type 0
 SealingReads = (opens : Opens) (p : Publication) (list : List Who)
     (resource path plain value : List ℕ) (reading : Reading)
-    → IsPublished p → OpenAll opens p.seeds → IsTrue (keeps_providers list)
+    → IsPublished p → SeedOpens opens p.seeds (writer_at p resource)
+    → IsTrue (keeps_providers list)
     → Contains list (writer_at p resource)
     → IsSealing p resource path plain value → HasReading opens list path value reading
     ↔ (reading ≡ data_of plain)

@@ -1,7 +1,7 @@
 -- What a stored value reads as, by the providers of a list: data, or the first refusal that
 -- applies, or nothing since no
 -- plugin opened its source.
-use Rattle.std.specs.Prelude.{◌≡◌, ℕ, ◌==◌, ◌||◌, Bool, false, not, if◌then◌else◌, List, take, drop, length, Option, Some, None, Result, Ok, Err, ⊤}
+use Rattle.std.specs.Prelude.{◌≡◌, ℕ, ◌==◌, ◌&&◌, ◌||◌, Bool, true, false, not, if◌then◌else◌, List, take, drop, length, Option, Some, None, Result, Ok, Err, ⊤}
 use Rattle.std.specs.Str.{bytes_eq}
 use Rattle.kr_modes.specs.declared.ModeNo.{ModeNo}
 use Rattle.kr_modes.specs.declared.ModeNo.TheVariants.{Short, BadBlock, BadPadding, BadTag}
@@ -69,20 +69,22 @@ abbrev pub gcm_reading : (key path body : List ℕ) → Reading
 gcm_reading key path body = body_reading (gcm_opened (cipher_under key) (take 12 body) path
     (drop 12 body))
 
--- the info of 32 bytes, then the body under the key that it makes of the seed
-abbrev pub seed_reading : (seed path encrypted : List ℕ) → Reading
-seed_reading seed path encrypted =
-    if length seed == 32 then gcm_reading (value_key seed (take 32 encrypted)) path
-    (drop 32 encrypted) else seed_length
+-- the body under a source: a source of type 0 is the key itself; one of type 1 is a seed, and in
+-- front of
+-- the body stands the info of 32 bytes that makes the key
+abbrev pub body_under : SourceKind → (source path encrypted : List ℕ) → Reading
+body_under Key key path encrypted = gcm_reading key path encrypted
+body_under Seed seed path encrypted =
+    gcm_reading (value_key seed (take 32 encrypted)) path (drop 32 encrypted)
 
-abbrev pub source_reading : Option (List ℕ) → (path encrypted : List ℕ) → Reading
-source_reading None path encrypted = unopened
-source_reading (Some seed) path encrypted = seed_reading seed path encrypted
+-- either has 32 bytes
+abbrev pub source_reading : SourceKind → (source path encrypted : List ℕ) → Reading
+source_reading kind source path encrypted =
+    if length source == 32 then body_under kind source path encrypted else seed_length
 
--- a source that is the key itself is refused
 abbrev pub kind_reading : SourceKind → Option (List ℕ) → (path encrypted : List ℕ) → Reading
-kind_reading Key source path encrypted = object_refusal object.SourceType
-kind_reading Seed source path encrypted = source_reading source path encrypted
+kind_reading kind None path encrypted = unopened
+kind_reading kind (Some source) path encrypted = source_reading kind source path encrypted
 
 abbrev pub object_reading : Result EncryptedObject ObjectNo → Option (List ℕ) → (path : List ℕ)
     → Reading
@@ -120,18 +122,24 @@ HasSomeReading list path bytes reading = (envelope : Envelope)
     × (value_reading envelope list path bytes ≡ reading)
 
 -- ---- staleness: another provider than the writer read the value, or it is a plugin whose key id
--- isn't the published one
+-- isn't
+-- the published one, or its source is of type 0
 
-abbrev pub has_key_id : Option SeedRow → Result EncryptedObject ObjectNo → Bool
-has_key_id None read = false
-has_key_id (Some row) (Ok object) = bytes_eq object.key_id row.key_id
-has_key_id (Some row) (Err why) = false
+abbrev pub is_seed : SourceKind → Bool
+is_seed Key = false
+is_seed Seed = true
+
+-- as the published seed of the plugin would have it
+abbrev pub is_current : Option SeedRow → Result EncryptedObject ObjectNo → Bool
+is_current None read = false
+is_current (Some row) (Ok object) = bytes_eq object.key_id row.key_id && is_seed object.kind
+is_current (Some row) (Err why) = false
 
 abbrev pub is_rotated : Envelope → List SeedRow → Who → Bool
 is_rotated envelope seeds Identity = false
 is_rotated envelope seeds (Aescbc name secret) = false
 is_rotated envelope seeds (Aesgcm name secret) = false
-is_rotated envelope seeds (Kms name) = not (has_key_id (seed_of name seeds) envelope.object)
+is_rotated envelope seeds (Kms name) = not (is_current (seed_of name seeds) envelope.object)
 
 abbrev pub is_stale : Envelope → List SeedRow → List Who → (bytes : List ℕ) → Bool
 is_stale envelope seeds list bytes = not (is_reader bytes (writer_of list))
