@@ -1,4 +1,5 @@
-//! A file for each tested crate.
+//! A file for each tested subject.
 mod envelope;
 mod kms;
+mod lines;
 mod store;

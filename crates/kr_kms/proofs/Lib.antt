@@ -1,2 +1,6 @@
+-- Lemmas of this crate.
+pub mod Fetching
+pub mod Keys
+pub mod Lines
 pub mod Masks
 pub mod Shelf

@@ -5,34 +5,53 @@ use Rattle.std.proofs.lemmas.List.{length-map}
 use Rattle.kr_kms.specs.Calls.{key_in, Wraps}
 use Rattle.kr_base.specs.Limits.{IsShort}
 use Rattle.kr_kms.specs.Limits.{IsWithinLimits}
-use Rattle.kr_kms.specs.Table.{Table, masked, mask_of, salted, wrapped_by, table_truth, link_of, after_call}
+use Rattle.kr_kms.specs.Table.{Table, xor_of, mask_of, salt_pair, wrapped_by, table_truth, link_of, after_call}
 use Rattle.kr_kms.specs.declared.plugin.Wrapped.{Wrapped}
 
-pub masked_twice : (mask : ℕ) (bytes : List ℕ) → masked mask (masked mask bytes) ≡ bytes
-masked_twice mask [] = refl
-masked_twice mask (byte ∷ bytes) =
-    ap (λ b. b ∷ masked mask (masked mask bytes)) (xor_assoc byte mask mask ∙ ap (bit_xor byte) (xor_self mask) ∙ xor_zero_r byte) ∙ ap (λ l. byte ∷ l) (masked_twice mask bytes)
+pub xor_twice : (mask : ℕ) (bytes : List ℕ) → xor_of mask (xor_of mask bytes) ≡ bytes
+xor_twice mask [] = refl
+xor_twice mask (byte ∷ bytes) =
+    let off = xor_assoc byte mask mask ∙ ap (bit_xor byte) (xor_self mask) ∙ xor_zero_r byte in
+    ap (λ b. b ∷ xor_of mask (xor_of mask bytes)) off ∙ ap (λ l. byte ∷ l) (xor_twice mask bytes)
+
+abbrev current_mask : Table → ℕ
+current_mask table = mask_of table.key_id (salt_pair table.salt)
 
 -- what the plugin wrapped opens to the plain bytes
-pub opens_wrapped : (name : List ℕ) (table : Table) (plain : List ℕ) → table_truth.opens (key_in name (wrapped_by table plain)) ≡ Some plain
-opens_wrapped name table plain = ap Some (masked_twice (mask_of table.key_id (salted table.salt)) plain)
+pub opens_wrapped : (name : List ℕ) (table : Table) (plain : List ℕ)
+    → table_truth.opens (key_in name (wrapped_by table plain)) ≡ Some plain
+opens_wrapped name table plain = ap Some (xor_twice (current_mask table) plain)
 
 -- it is within the limits where the plain bytes and the key id are
-pub within : (table : Table) (plain : List ℕ) → IsShort plain → IsShort table.key_id → IsWithinLimits (wrapped_by table plain)
+pub within : (table : Table) (plain : List ℕ) → IsShort plain → IsShort table.key_id
+    → IsWithinLimits (wrapped_by table plain)
 within table plain p k = record {
   key_id = k;
-  source = subst (λ n. (1 ≤ n) × (n ≤ 1024)) (sym (length-map plain (λ byte. bit_xor byte (mask_of table.key_id (salted table.salt))))) p;
+  source = subst (λ n. (1 ≤ n) × (n ≤ 1024))
+      (sym (length-map plain (λ byte. bit_xor byte (current_mask table)))) p;
   annotations = (omega arith, omega arith);
 }
 
-pub within_back : (table : Table) (plain : List ℕ) → IsWithinLimits (wrapped_by table plain) → IsShort plain × IsShort table.key_id
-within_back table plain w = (subst (λ n. (1 ≤ n) × (n ≤ 1024)) (length-map plain (λ byte. bit_xor byte (mask_of table.key_id (salted table.salt)))) w.source, w.key_id)
+pub within_back : (table : Table) (plain : List ℕ) → IsWithinLimits (wrapped_by table plain)
+    → IsShort plain × IsShort table.key_id
+within_back table plain w = (
+  subst (λ n. (1 ≤ n) × (n ≤ 1024))
+      (length-map plain (λ byte. bit_xor byte (current_mask table))) w.source,
+  w.key_id,
+)
 
 -- an answer that it gave is as a link's must be
-pub wraps : (old new : Table) (plain : List ℕ) (wrapped : Wrapped) → IsWithinLimits (wrapped_by old plain) → new ≡ after_call old → wrapped ≡ wrapped_by new plain → Wraps table_truth (link_of old) plain (Ok wrapped) (link_of new)
+pub wraps : (old new : Table) (plain : List ℕ) (wrapped : Wrapped)
+    → IsWithinLimits (wrapped_by old plain) → new ≡ after_call old → wrapped ≡ wrapped_by new plain
+    → Wraps table_truth (link_of old) plain (Ok wrapped) (link_of new)
 wraps old new plain wrapped limits after is =
-    subst (λ t. Wraps table_truth (link_of old) plain (Ok wrapped) (link_of t)) (sym after) (subst (λ w. Wraps table_truth (link_of old) plain (Ok w) (link_of (after_call old))) (sym (is ∙ ap (λ t. wrapped_by t plain) after)) (
-      record { name = refl; status = refl; later = omega arith; failed = λ e. cc },
+    subst (λ t. Wraps table_truth (link_of old) plain (Ok wrapped) (link_of t)) (sym after)
+    (subst (λ w. Wraps table_truth (link_of old) plain (Ok w) (link_of (after_call old)))
+    (sym (is ∙ ap (λ t. wrapped_by t plain) after)) (
+      record {
+        same = record { name = refl; status = refl; later = omega arith };
+        failed = λ e. cc;
+      },
       (λ t. opens_wrapped old.name old plain, limits),
     ))
 

@@ -25,7 +25,8 @@ seed_at rows key = lookup (key_eq key) rows
 
 -- where the truth is told, each kept seed is the one that its key opens to
 abbrev pub AreOpen : Truth → List (SeedKey × List ℕ) → Type 0
-AreOpen truth rows = (key : SeedKey) (seed : List ℕ) → Contains rows (key, seed) → TellsOf truth key seed
+AreOpen truth rows =
+    (key : SeedKey) (seed : List ℕ) → Contains rows (key, seed) → TellsOf truth key seed
 
 -- this seed is given, as far as there is memory for it
 abbrev pub GivesSeed : List ℕ → Result (List ℕ) KmsNo → Type 0
@@ -47,5 +48,6 @@ pub record Fetches {L : Type 0} (truth : Truth) (link : L → Link) (old : L) (c
   -- what is kept was kept before, or is this answer under this key
   pub rows : (other : SeedKey) (seed : List ℕ) → Contains after.rows (other, seed)
       → Contains cache.rows (other, seed) ⊎ ((other ≡ key) × (result ≡ Ok seed))
+  pub still_open : AreOpen truth cache.rows → AreOpen truth after.rows
   pub size : after.size ≡ cache.size
   pub fits : length after.rows ≤ after.size

@@ -11,8 +11,8 @@ use Rattle.kr_kms.specs.declared.health.Field.TheVariants.{Version, Healthz, Key
 use Rattle.kr_kms.specs.declared.health.SeedNo.{SeedNo}
 use Rattle.kr_kms.specs.declared.health.SeedNo.TheVariants.{Failed, DiceFailed, Unhealthy, NoMemory}
 
--- the first rule that a status breaks, as the part that breaks it and what that says: the version is
--- `v2`, the health is `ok`, the key id has 1 to 1,024 bytes; none is broken where the plugin is healthy
+-- the first rule that a status breaks, as the part that breaks it and what that says: the version
+-- is `v2`, the health is `ok`, the key id has 1 to 1,024 bytes; a healthy plugin breaks none
 abbrev pub breach_in : Status → Option (Field × List ℕ)
 breach_in status = if bytes_eq status.version (codes "v2") then
     (if bytes_eq status.healthz (codes "ok") then
@@ -32,8 +32,8 @@ MayBeHealthy (Some status) = breach_in status ≡ None
 
 -- the key id of a healthy plugin, or why there is none
 abbrev pub TellsKeyId : Link → Result (List ℕ) SeedNo → Link → Type 0
-TellsKeyId old (Ok key_id) new =
-    (status : Status) × Agrees old.status status × (breach_in status ≡ None) × (status.key_id ≡ key_id)
+TellsKeyId old (Ok key_id) new = (status : Status) × Agrees old.status status
+    × (breach_in status ≡ None) × (status.key_id ≡ key_id)
 TellsKeyId old (Err (Unhealthy field text)) new = HasBreach old (Some (field, text))
 TellsKeyId old (Err Failed) new = Rose old.count new.count
 TellsKeyId old (Err DiceFailed) new = ⊥

@@ -1,9 +1,12 @@
+-- The definitions that contracts name.
 pub mod Cache
 pub mod Calls
 pub mod Health
 pub mod Limits
 pub mod MemWorld
 pub mod Outside
+pub mod Replies
+pub mod Requests
 pub mod Seeds
 pub mod Table
 pub mod Truth

@@ -22,11 +22,14 @@ abbrev pub without : List (ℕ × InputState) → ℕ → List (ℕ × InputStat
 without dice seat = remove_entry (λ other. other == seat) dice
 
 -- the first link of the seat whose plugin has the name
-abbrev pub link_of : {L : Type 0} → (L → List ℕ) → List (ℕ × L) → ℕ → List ℕ → Option L
-link_of name_of links seat plugin = option_map (λ link. link.1) (find (λ link. (link.0 == seat) && bytes_eq (name_of link.1) plugin) links)
+abbrev pub link_of : {L : Type 0} → (L → List ℕ) → List (ℕ × L) → (seat : ℕ) (plugin : List ℕ)
+    → Option L
+link_of name_of links seat plugin = option_map (λ link. link.1)
+    (find (λ link. (link.0 == seat) && bytes_eq (name_of link.1) plugin) links)
 
 -- no file of it fails; it doesn't tell what it was asked for
-abbrev pub told_by : List (List ℕ × List ℕ) → List (ℕ × InputState) → List ℕ → ℕ → Outside
+abbrev pub told_by : (files : List (List ℕ × List ℕ)) (dice : List (ℕ × InputState))
+    (out : List ℕ) (faults : ℕ) → Outside
 told_by files dice out faults = record {
   file = λ name. Some (file_of files name);
   asked = None;
@@ -41,12 +44,14 @@ told_by files dice out faults = record {
 abbrev pub GivesFile : Option (List ℕ) → ℕ → Result (List ℕ) FileNo → Type 0
 GivesFile file limit (Ok bytes) = (file ≡ Some bytes) × (length bytes ≤ limit)
 GivesFile file limit (Err Absent) = file ≡ None
-GivesFile file limit (Err TooLong) = (bytes : List ℕ) × (limit < length bytes) × (file ≡ Some bytes)
+GivesFile file limit (Err TooLong) =
+    (bytes : List ℕ) × (limit < length bytes) × (file ≡ Some bytes)
 GivesFile file limit (Err Failed) = ⊥
-GivesFile file limit (Err NoMemory) = (bytes : List ℕ) × (length bytes ≤ limit) × (file ≡ Some bytes)
+GivesFile file limit (Err NoMemory) =
+    (bytes : List ℕ) × (length bytes ≤ limit) × (file ≡ Some bytes)
 
--- the random source is given where there is one, as far as there is memory for it; where there is none, that counts as
--- a fault
+-- the random source is given where there is one, as far as there is memory for it; where there is
+-- none, that counts as a fault
 abbrev pub GivesDice : Option InputState → ℕ → Result InputState FileNo → ℕ → Type 0
 GivesDice first faults (Ok dice) after = (first ≡ Some dice) × (after ≡ faults)
 GivesDice first faults (Err Absent) after = ⊥

@@ -1,4 +1,5 @@
--- The plugin in memory: a table of texts, whose wrapped sources are masked by the sum of a key id and a salt.
+-- The plugin in memory: a table of texts, whose wrapped sources are masked by the sum of a key id
+-- and a salt.
 use Rattle.std.specs.Prelude.{◌≡◌, ℕ, ◌+◌, ◌%◌, ◌⊎◌, true, List, [], ◌∷◌, map, sum, codes, bit_xor, Contains, Some, Result, Ok, Err}
 use Rattle.std.specs.Option.{unwrap_or}
 use Rattle.std.specs.Str.{bytes_eq}
@@ -13,7 +14,8 @@ use Rattle.kr_kms.specs.declared.plugin.Wrapped.{Wrapped}
 use Rattle.kr_kms.specs.declared.plugin.KmsNo.{KmsNo}
 use Rattle.kr_kms.specs.declared.plugin.KmsNo.TheVariants.{Failed, NoMemory}
 
--- its name, the id of its current key, its salt of one byte, what its status says, and which of its calls fail
+-- its name, the id of its current key, its salt of one byte, what its status says, and which of its
+-- calls fail
 pub record Table : Type 0 where
   pub name : List ℕ
   pub key_id : List ℕ
@@ -35,26 +37,41 @@ abbrev pub mask_of : List ℕ → Pairs → ℕ
 mask_of key_id annotations = (sum key_id + sum (salt_in annotations)) % 256
 
 -- each byte xor the mask
-abbrev pub masked : ℕ → List ℕ → List ℕ
-masked mask bytes = map (λ byte. bit_xor byte mask) bytes
+abbrev pub xor_of : ℕ → List ℕ → List ℕ
+xor_of mask bytes = map (λ byte. bit_xor byte mask) bytes
 
 -- the truth of all plugins in memory: whatever is unwrapped is masked by what stands with it
 abbrev pub table_truth : Truth
-table_truth = record { told = true; opens = λ key. Some (masked (mask_of key.key_id key.annotations) key.source) }
+table_truth = record {
+  told = true;
+  opens = λ key. Some (xor_of (mask_of key.key_id key.annotations) key.source);
+}
 
 -- the one annotation with the salt
-abbrev pub salted : ℕ → Pairs
-salted salt = (salt_key, salt ∷ []) ∷ []
+abbrev pub salt_pair : ℕ → Pairs
+salt_pair salt = (salt_key, salt ∷ []) ∷ []
 
 -- what it makes of plain bytes
 abbrev pub wrapped_by : Table → List ℕ → Wrapped
-wrapped_by table plain = record { cipher = masked (mask_of table.key_id (salted table.salt)) plain; key_id = table.key_id; annotations = salted table.salt }
+wrapped_by table plain = record {
+  cipher = xor_of (mask_of table.key_id (salt_pair table.salt)) plain;
+  key_id = table.key_id;
+  annotations = salt_pair table.salt;
+}
 
 abbrev pub status_of : Table → Status
-status_of table = record { version = table.version; healthz = table.healthz; key_id = table.key_id }
+status_of table = record {
+  version = table.version;
+  healthz = table.healthz;
+  key_id = table.key_id;
+}
 
 abbrev pub link_of : Table → Link
-link_of table = record { name = table.name; count = table.calls.faults; status = Some (status_of table) }
+link_of table = record {
+  name = table.name;
+  count = table.calls.faults;
+  status = Some (status_of table);
+}
 
 -- the number of the next call is that of a failing one
 abbrev pub IsListed : Table → Type 0
@@ -62,15 +79,25 @@ IsListed table = Contains table.calls.fails (next_number table.calls.made)
 
 -- one more call was made, and it didn't fail
 abbrev pub after_call : Table → Table
-after_call table = record table { calls = record table.calls { made = next_number table.calls.made } }
+after_call table = record table {
+  calls = record table.calls { made = next_number table.calls.made };
+}
 
 -- one more call was made, and it failed
 abbrev pub after_fault : Table → Table
-after_fault table = record table { calls = record table.calls { made = next_number table.calls.made; faults = next_number table.calls.faults } }
+after_fault table = record table {
+  calls = record table.calls {
+    made = next_number table.calls.made;
+    faults = next_number table.calls.faults;
+  };
+}
 
--- a call has this answer where it can be served, as far as there is memory for it; it fails exactly where its number is
--- listed or it can't be served
+-- a call has this answer where it can be served, as far as there is memory for it; it fails exactly
+-- where its number is listed or it can't be served
 abbrev pub Answers : {T : Type 0} → Table → Type 0 → T → Result T KmsNo → Table → Type 0
-Answers old Served answer (Ok given) new = (IsListed old → ⊥) × Served × (given ≡ answer) × (new ≡ after_call old)
-Answers old Served answer (Err Failed) new = (IsListed old ⊎ (Served → ⊥)) × (new ≡ after_fault old)
-Answers old Served answer (Err NoMemory) new = (IsListed old → ⊥) × Served × (new ≡ after_call old)
+Answers old Served answer (Ok given) new =
+    (IsListed old → ⊥) × Served × (given ≡ answer) × (new ≡ after_call old)
+Answers old Served answer (Err Failed) new =
+    (IsListed old ⊎ (Served → ⊥)) × (new ≡ after_fault old)
+Answers old Served answer (Err NoMemory) new =
+    (IsListed old → ⊥) × Served × (new ≡ after_call old)

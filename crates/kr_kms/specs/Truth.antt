@@ -22,7 +22,12 @@ TellsOf truth key bytes = truth.told ≡ true → truth.opens key ≡ Some bytes
 
 -- what stands with a seed names it
 abbrev pub key_of : SeedRow → SeedKey
-key_of row = record { name = row.name; key_id = row.key_id; annotations = row.annotations; source = row.source }
+key_of row = record {
+  name = row.name;
+  key_id = row.key_id;
+  annotations = row.annotations;
+  source = row.source;
+}
 
 -- each wrapped source opens to the seed that stands with it
 abbrev pub OpenAll : Opens → List SeedRow → Type 0

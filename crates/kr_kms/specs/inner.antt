@@ -1,3 +1,5 @@
+-- Definitions that only contracts of the crate's own functions name.
 pub mod Keeping
+pub mod Shapes
 pub mod Statuses
 pub mod Wrapping

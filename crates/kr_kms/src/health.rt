@@ -32,7 +32,8 @@ pub enum SeedNo {
     NoMemory,
 }
 
-/// The id of the key that a healthy plugin wraps with, by its status. It never answers `DiceFailed`.
+/// The id of the key that a healthy plugin wraps with, by its status. It never answers
+/// `DiceFailed`.
 pub fn key_id_of<L: Kms>(alloc: Global, link: &mut L) -> Result<Text, SeedNo>
     ensures same { IsSameLink (L.link link.old) (L.link link.new) }
     ensures told { TellsKeyId (L.link link.old) result (L.link link.new) }

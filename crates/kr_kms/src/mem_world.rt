@@ -1,25 +1,30 @@
-ghost use Rattle.std.specs.Prelude.{◌≡◌, ℕ, ◌∷◌, [], ◌<◌, ◌+◌, ◌==◌, ◌≤◌, ◌⊎◌, length, count_by, vec_len, vec_capacity, MatchOption, None, Some, slice_index_or, is_ok, if◌then◌else◌, IfOk, IfErr, OnErr, IsErrOf};
+//! A world in memory, for tests.
+ghost use Rattle.std.specs.Prelude.{◌≡◌, ℕ, ◌∷◌, [], ◌<◌, ◌+◌, ◌==◌, ◌≤◌, ◌⊎◌, length, count_by};
+ghost use Rattle.std.specs.Prelude.{vec_len, vec_capacity, slice_index_or, is_ok, if◌then◌else◌};
+ghost use Rattle.std.specs.Prelude.{MatchOption, None, Some, IfOk, IfErr, OnErr, IsErrOf};
 ghost use Rattle.std.specs.Option.{option_copied};
 ghost use Rattle.std.specs.List.{remove};
 ghost use Rattle.kr_base.specs.Faults.{Rose};
 ghost use Rattle.kr_base.specs.InMemory.{InputState};
-ghost use Rattle.kr_kms.specs.Outside.{at_seat, Loads, Notes, KeepsFiles, KeepsDice, HandsOut, TakesBack};
-ghost use Rattle.kr_kms.specs.MemWorld.{file_of, dice_of, link_of, without, told_by, GivesFile, GivesDice};
+ghost use Rattle.kr_kms.specs.Outside.{at_seat, Loads, Notes, KeepsFiles, KeepsDice};
+ghost use Rattle.kr_kms.specs.Outside.{HandsOut, TakesBack};
+ghost use Rattle.kr_kms.specs.MemWorld.{file_of, dice_of, link_of, without, told_by};
+ghost use Rattle.kr_kms.specs.MemWorld.{GivesFile, GivesDice};
 
 use crate::plugin::Kms;
 use crate::world::{Asked, FileNo, World};
-use kr_base::{Bytes, List, MemDice, Text};
+use kr_base::{Bytes, FaultCount, List, MemDice, Text};
 use std::alloc::Global;
 
-/// A world in memory. Files stand with their names, random sources and links with their seats; of two with one name or
-/// one seat the first counts. A link's plugin is its own name.
+/// A world in memory. Files stand with their names, random sources and links with their seats; of
+/// two with one name or one seat the first counts. A link's plugin is its own name.
 #[derive(Debug, Drop)]
 pub struct MemWorld<L: Kms + Send> {
     files: Vec<(Text, Bytes)>,
     dice: Vec<(u32, MemDice)>,
     links: Vec<(u32, L)>,
     out: Vec<u32>,
-    faults: u64,
+    faults: FaultCount,
     // What is out finds its room again.
     ghost room: { vec_len dice + vec_len out ≤ vec_capacity dice },
 }
@@ -43,7 +48,7 @@ impl<L: Kms + Send> MemWorld<L> {
             dice: dice.into_vec(),
             links: links.into_vec(),
             out: Vec::new(alloc),
-            faults: 0,
+            faults: FaultCount::new(),
         }
     }
 
@@ -59,7 +64,8 @@ impl<L: Kms + Send> MemWorld<L> {
 
     /// Lends the link of the seat to the plugin, if it is there.
     pub fn link_of(&self, seat: u32, plugin: &str) -> Option<&L>
-        ensures { option_copied result ≡ link_of (λ link. (L.link link).name) self.now.links.items seat plugin.now }
+        ensures { option_copied result
+            ≡ link_of (λ link. (L.link link).name) self.now.links.items seat plugin.now }
     {
         for link in &self.links {
             if link.0 == seat && link.1.name() == plugin {
@@ -75,10 +81,11 @@ impl<L: Kms + Send> World for MemWorld<L> {
 
     type Link = L;
 
-    ghost told = { λ world. told_by world.files.items world.dice.items world.out.items world.faults };
+    ghost told = { λ world. told_by world.files.items world.dice.items world.out.items
+        world.faults };
 
     fn faults(&self) -> u64 {
-        self.faults
+        self.faults.count()
     }
 
     fn load(&mut self, alloc: Global, name: &str, limit: u64) -> Result<Bytes, FileNo>
@@ -86,11 +93,15 @@ impl<L: Kms + Send> World for MemWorld<L> {
         ensures same { self.new ≡ self.old }
 
         // As the trait says.
-        ensures file { Loads (⟦<MemWorld<L> as World>⟧.told self.old) (⟦<MemWorld<L> as World>⟧.told self.new) name.now limit result }
-        ensures asked { Notes (⟦<MemWorld<L> as World>⟧.told self.old) (⟦<MemWorld<L> as World>⟧.told self.new) (Asked.File name.now) result }
-        ensures files { KeepsFiles (⟦<MemWorld<L> as World>⟧.told self.old) (⟦<MemWorld<L> as World>⟧.told self.new) }
+        ensures file { Loads (⟦<MemWorld<L> as World>⟧.told self.old)
+            (⟦<MemWorld<L> as World>⟧.told self.new) name.now limit result }
+        ensures asked { Notes (⟦<MemWorld<L> as World>⟧.told self.old)
+            (⟦<MemWorld<L> as World>⟧.told self.new) (Asked.File name.now) result }
+        ensures files { KeepsFiles (⟦<MemWorld<L> as World>⟧.told self.old)
+            (⟦<MemWorld<L> as World>⟧.told self.new) }
         ensures opens { self.new.faults ≡ self.old.faults }
-        ensures dice { KeepsDice (⟦<MemWorld<L> as World>⟧.told self.old) (⟦<MemWorld<L> as World>⟧.told self.new) }
+        ensures dice { KeepsDice (⟦<MemWorld<L> as World>⟧.told self.old)
+            (⟦<MemWorld<L> as World>⟧.told self.new) }
     {
         let Some(file) = find_file(&self.files, name) else {
             return Err(FileNo::Absent);
@@ -105,21 +116,30 @@ impl<L: Kms + Send> World for MemWorld<L> {
     }
 
     fn dice(&mut self, _alloc: Global, seat: u32) -> Result<MemDice, FileNo>
-        ensures gives { GivesDice (dice_of self.old.dice.items seat) self.old.faults result self.new.faults }
-        ensures left { self.new.dice.items ≡ (if is_ok result then without self.old.dice.items seat else self.old.dice.items) }
-        ensures others { (self.new.files ≡ self.old.files) × (self.new.links ≡ self.old.links) }
+        ensures gives { GivesDice (dice_of self.old.dice.items seat) self.old.faults result
+            self.new.faults }
+        ensures left { self.new.dice.items ≡ (if is_ok result
+            then without self.old.dice.items seat else self.old.dice.items) }
+        ensures others { (self.new.files ≡ self.old.files)
+            × (self.new.links ≡ self.old.links) }
 
         // As the trait says.
-        ensures ok { IfOk result (λ dice. HandsOut (⟦<MemWorld<L> as World>⟧.told self.old) (⟦<MemWorld<L> as World>⟧.told self.new) seat (Some dice.bytes) dice.calls.faults) }
-        ensures err { OnErr result (KeepsDice (⟦<MemWorld<L> as World>⟧.told self.old) (⟦<MemWorld<L> as World>⟧.told self.new)) }
-        ensures refusals { IfErr result (λ why. (why ≡ FileNo.Failed) ⊎ (why ≡ FileNo.NoMemory)) }
+        ensures ok { IfOk result (λ dice. HandsOut (⟦<MemWorld<L> as World>⟧.told self.old)
+            (⟦<MemWorld<L> as World>⟧.told self.new) seat (Some dice.bytes) dice.calls.faults) }
+        ensures err { OnErr result (KeepsDice (⟦<MemWorld<L> as World>⟧.told self.old)
+            (⟦<MemWorld<L> as World>⟧.told self.new)) }
+        ensures refusals { IfErr result
+            (λ why. (why ≡ FileNo.Failed) ⊎ (why ≡ FileNo.NoMemory)) }
         ensures failed { IsErrOf result FileNo.Failed → Rose self.old.faults self.new.faults }
-        ensures asked { Notes (⟦<MemWorld<L> as World>⟧.told self.old) (⟦<MemWorld<L> as World>⟧.told self.new) (Asked.RandomSource seat) result }
-        ensures files { KeepsFiles (⟦<MemWorld<L> as World>⟧.told self.old) (⟦<MemWorld<L> as World>⟧.told self.new) }
-        ensures loads { (⟦<MemWorld<L> as World>⟧.told self.new).load_faults ≡ (⟦<MemWorld<L> as World>⟧.told self.old).load_faults }
+        ensures asked { Notes (⟦<MemWorld<L> as World>⟧.told self.old)
+            (⟦<MemWorld<L> as World>⟧.told self.new) (Asked.RandomSource seat) result }
+        ensures files { KeepsFiles (⟦<MemWorld<L> as World>⟧.told self.old)
+            (⟦<MemWorld<L> as World>⟧.told self.new) }
+        ensures loads { (⟦<MemWorld<L> as World>⟧.told self.new).load_faults
+            ≡ (⟦<MemWorld<L> as World>⟧.told self.old).load_faults }
     {
         let Some(at) = place_of(&self.dice, seat) else {
-            self.faults = self.faults.saturating_add(1);
+            self.faults.rise();
             return Err(FileNo::Failed);
         };
         match self.out.push(seat) {
@@ -133,13 +153,18 @@ impl<L: Kms + Send> World for MemWorld<L> {
     fn back_dice(&mut self, seat: u32, dice: MemDice)
         requires { 0 < (⟦<MemWorld<L> as World>⟧.told self.old).out seat }
         ensures put { self.new.dice.items ≡ (seat, dice) ∷ self.old.dice.items }
-        ensures others { (self.new.files ≡ self.old.files) × (self.new.links ≡ self.old.links) × (self.new.faults ≡ self.old.faults) }
+        ensures others { (self.new.files ≡ self.old.files) × (self.new.links ≡ self.old.links)
+            × (self.new.faults ≡ self.old.faults) }
 
         // As the trait says.
-        ensures back { TakesBack (⟦<MemWorld<L> as World>⟧.told self.old) (⟦<MemWorld<L> as World>⟧.told self.new) seat (Some dice.bytes) dice.calls.faults }
-        ensures asked { (⟦<MemWorld<L> as World>⟧.told self.new).asked ≡ (⟦<MemWorld<L> as World>⟧.told self.old).asked }
-        ensures files { KeepsFiles (⟦<MemWorld<L> as World>⟧.told self.old) (⟦<MemWorld<L> as World>⟧.told self.new) }
-        ensures loads { (⟦<MemWorld<L> as World>⟧.told self.new).load_faults ≡ (⟦<MemWorld<L> as World>⟧.told self.old).load_faults }
+        ensures back { TakesBack (⟦<MemWorld<L> as World>⟧.told self.old)
+            (⟦<MemWorld<L> as World>⟧.told self.new) seat (Some dice.bytes) dice.calls.faults }
+        ensures asked { (⟦<MemWorld<L> as World>⟧.told self.new).asked
+            ≡ (⟦<MemWorld<L> as World>⟧.told self.old).asked }
+        ensures files { KeepsFiles (⟦<MemWorld<L> as World>⟧.told self.old)
+            (⟦<MemWorld<L> as World>⟧.told self.new) }
+        ensures loads { (⟦<MemWorld<L> as World>⟧.told self.new).load_faults
+            ≡ (⟦<MemWorld<L> as World>⟧.told self.old).load_faults }
         ensures opens { self.new.faults ≡ self.old.faults }
     {
         strike(&mut self.out, seat);
@@ -164,7 +189,10 @@ fn find_file<'a>(files: &'a [(Text, Bytes)], name: &str) -> Option<&'a [u8]>
 
 /// Where the first random source of the seat stands.
 fn place_of(dice: &[(u32, MemDice)], seat: u32) -> Option<usize>
-    ensures { MatchOption result (dice_of dice.now seat ≡ None) (λ at. (at < length dice.now) × ((d : ℕ × InputState) → (slice_index_or dice.now at d).0 ≡ seat) × ((d : ℕ × InputState) → dice_of dice.now seat ≡ Some (slice_index_or dice.now at d).1) × (without dice.now seat ≡ remove dice.now at)) }
+    ensures { MatchOption result (dice_of dice.now seat ≡ None) (λ at. (at < length dice.now)
+        × ((d : ℕ × InputState) → (slice_index_or dice.now at d).0 ≡ seat)
+        × ((d : ℕ × InputState) → dice_of dice.now seat ≡ Some (slice_index_or dice.now at d).1)
+        × (without dice.now seat ≡ remove dice.now at)) }
 {
     for at in 0..dice.len() {
         if dice[at].0 == seat {
@@ -177,7 +205,8 @@ fn place_of(dice: &[(u32, MemDice)], seat: u32) -> Option<usize>
 /// Strikes one seat off those that are out.
 fn strike(out: &mut Vec<u32>, seat: u32)
     requires { 0 < count_by (λ other. other == seat) out.old.items }
-    ensures counts { (other : ℕ) → count_by (λ s. s == other) out.new.items + at_seat seat 1 other ≡ count_by (λ s. s == other) out.old.items }
+    ensures counts { (other : ℕ) → count_by (λ s. s == other) out.new.items + at_seat seat 1 other
+        ≡ count_by (λ s. s == other) out.old.items }
     ensures len { vec_len out.new + 1 ≡ vec_len out.old }
 {
     let at = index_of(out.as_slice(), seat);

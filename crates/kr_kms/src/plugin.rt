@@ -15,8 +15,8 @@ pub struct Status {
     pub key_id: Text,
 }
 
-/// What a plugin made of plain bytes: the wrapped source, the id of its key, and what it wants to see
-/// again when it unwraps.
+/// What a plugin made of plain bytes: the wrapped source, the id of its key, and what it wants to
+/// see again when it unwraps.
 #[derive(Debug, Drop)]
 pub struct Wrapped {
     pub cipher: Bytes,

@@ -1,10 +1,13 @@
 //! A plugin in memory, for tests. It keeps nothing secret.
-ghost use Rattle.std.specs.Prelude.{◌≡◌, ◌⊎◌, ◌↔◌, ◌%◌, ◌≤◌, [], IsTrue, IfOk, length, sum, if◌then◌else◌};
+ghost use Rattle.std.specs.Prelude.{◌≡◌, ◌⊎◌, ◌↔◌, ◌%◌, ◌≤◌, [], IsTrue, IfOk, sum};
+ghost use Rattle.std.specs.Prelude.{if◌then◌else◌};
 ghost use Rattle.std.specs.Bool.{OnTrue};
 ghost use Rattle.kr_base.specs.Faults.{Rose};
 ghost use Rattle.kr_kms.specs.Calls.{Says, Wraps, Unwraps};
 ghost use Rattle.kr_kms.specs.Limits.{IsWithinLimits};
-ghost use Rattle.kr_kms.specs.Table.{IsListed, after_call, after_fault, Answers, salt_in, mask_of, masked, salted, wrapped_by, status_of, table_truth, link_of};
+ghost use Rattle.kr_kms.specs.Table.{IsListed, after_call, after_fault, Answers, salt_in, mask_of};
+ghost use Rattle.kr_kms.specs.Table.{xor_of, salt_pair, wrapped_by, status_of, table_truth};
+ghost use Rattle.kr_kms.specs.Table.{link_of};
 
 use crate::plugin::{Kms, KmsNo, Status, Wrapped};
 use kr_base::{Annotations, Bytes, CallLog, List, NoMemory, Text, is_short};
@@ -14,8 +17,8 @@ use std::marker::Model;
 /// The annotation that has the salt as its value.
 const SALT_KEY: &str = "test.kmsrest/salt";
 
-/// A plugin in memory. It masks bytes by the sum of its key id and its salt of one byte. Its calls fail by their
-/// numbers, the first being 1, and a wrap also where its answer would pass a limit.
+/// A plugin in memory. It masks bytes by the sum of its key id and its salt of one byte. Its calls
+/// fail by their numbers, the first being 1, and a wrap also where its answer would pass a limit.
 #[derive(Debug, Drop)]
 pub struct TablePlugin {
     name: Text,
@@ -31,11 +34,19 @@ impl Model for TablePlugin {
 
     ghost Value = { Table };
 
-    ghost view = { λ plugin. record { name = plugin.name; key_id = plugin.key_id; salt = plugin.salt; version = plugin.version; healthz = plugin.healthz; calls = plugin.calls } };
+    ghost view = { λ plugin. record {
+      name = plugin.name;
+      key_id = plugin.key_id;
+      salt = plugin.salt;
+      version = plugin.version;
+      healthz = plugin.healthz;
+      calls = plugin.calls;
+    } };
 }
 
 impl TablePlugin {
-    /// A plugin with this name, current key id and status; each number in `fails` is that of a call that fails.
+    /// A plugin with this name, current key id and status; each number in `fails` is that of a call
+    /// that fails.
     pub fn new(
         name: Text,
         key_id: Text,
@@ -44,7 +55,14 @@ impl TablePlugin {
         healthz: Text,
         fails: List<u64>,
     ) -> TablePlugin
-        ensures { result ≡ record { name = name; key_id = key_id; salt = salt; version = version; healthz = healthz; calls = record { fails = fails.0; made = 0; faults = 0 } } }
+        ensures { result ≡ record {
+          name = name;
+          key_id = key_id;
+          salt = salt;
+          version = version;
+          healthz = healthz;
+          calls = record { fails = fails.0; made = 0; faults = 0 };
+        } }
     {
         TablePlugin {
             name,
@@ -66,7 +84,8 @@ impl TablePlugin {
     /// Counts one more call, and answers whether it fails.
     fn fails(&mut self, served: bool) -> bool
         ensures failed { IsTrue result ↔ (IsListed self.old ⊎ (IsTrue served → ⊥)) }
-        ensures after { self.new ≡ (if result then after_fault self.old else after_call self.old) }
+        ensures after { self.new
+            ≡ (if result then after_fault self.old else after_call self.old) }
         ensures later { self.old.calls.faults ≤ self.new.calls.faults }
         ensures rose { OnTrue result (Rose self.old.calls.faults self.new.calls.faults) }
     {
@@ -113,7 +132,8 @@ impl Kms for TablePlugin {
     }
 
     fn wrap(&mut self, alloc: Global, plain: &[u8]) -> Result<Wrapped, KmsNo>
-        ensures answers { Answers self.old (IsWithinLimits (wrapped_by self.old plain.now)) (wrapped_by self.old plain.now) result self.new }
+        ensures answers { Answers self.old (IsWithinLimits (wrapped_by self.old plain.now))
+            (wrapped_by self.old plain.now) result self.new }
 
         // As the trait says.
         ensures wraps { Wraps table_truth (link_of self.old) plain.now result (link_of self.new) }
@@ -121,7 +141,7 @@ impl Kms for TablePlugin {
         if self.fails(serves(self, plain)) {
             return Err(KmsNo::Failed);
         }
-        match wrapped(alloc, self, plain) {
+        match wrap_plain(alloc, self, plain) {
             Ok(wrapped) => Ok(wrapped),
             Err(NoMemory) => Err(KmsNo::NoMemory),
         }
@@ -134,15 +154,17 @@ impl Kms for TablePlugin {
         annotations: &Annotations,
         source: &[u8],
     ) -> Result<Bytes, KmsNo>
-        ensures answers { Answers self.old (Unit {0}) (masked (mask_of key_id.now annotations.now) source.now) result self.new }
+        ensures answers { Answers self.old (Unit {0})
+            (xor_of (mask_of key_id.now annotations.now) source.now) result self.new }
 
         // As the trait says.
-        ensures unwraps { Unwraps table_truth (link_of self.old) key_id.now annotations.now source.now result (link_of self.new) }
+        ensures unwraps { Unwraps table_truth (link_of self.old) key_id.now annotations.now
+            source.now result (link_of self.new) }
     {
         if self.fails(true) {
             return Err(KmsNo::Failed);
         }
-        match masked(alloc, source, mask_of(key_id, annotations)) {
+        match xor_all(alloc, source, mask_of(key_id, annotations)) {
             Ok(bytes) => Ok(bytes),
             Err(NoMemory) => Err(KmsNo::NoMemory),
         }
@@ -158,17 +180,17 @@ fn serves(plugin: &TablePlugin, plain: &[u8]) -> bool
 }
 
 /// What the plugin makes of plain bytes.
-fn wrapped(alloc: Global, plugin: &TablePlugin, plain: &[u8]) -> Result<Wrapped, NoMemory>
+fn wrap_plain(alloc: Global, plugin: &TablePlugin, plain: &[u8]) -> Result<Wrapped, NoMemory>
     ensures { IfOk result (λ wrapped. wrapped ≡ wrapped_by plugin.now plain.now) }
 {
-    let Ok(annotations) = salted(alloc, plugin.salt) else {
+    let Ok(annotations) = salt_pair(alloc, plugin.salt) else {
         return Err(NoMemory);
     };
     let Ok(key_id) = Text::copy(alloc, plugin.key_id.as_str()) else {
         return Err(NoMemory);
     };
     let mask = mask_of(key_id.as_str(), &annotations);
-    let Ok(cipher) = masked(alloc, plain, mask) else {
+    let Ok(cipher) = xor_all(alloc, plain, mask) else {
         return Err(NoMemory);
     };
     Ok(Wrapped {
@@ -179,8 +201,8 @@ fn wrapped(alloc: Global, plugin: &TablePlugin, plain: &[u8]) -> Result<Wrapped,
 }
 
 /// The one annotation with the salt.
-fn salted(alloc: Global, salt: u8) -> Result<Annotations, NoMemory>
-    ensures { IfOk result (λ annotations. annotations ≡ salted salt) }
+fn salt_pair(alloc: Global, salt: u8) -> Result<Annotations, NoMemory>
+    ensures { IfOk result (λ annotations. annotations ≡ salt_pair salt) }
 {
     let Ok(key) = Text::copy(alloc, SALT_KEY) else {
         return Err(NoMemory);
@@ -226,8 +248,8 @@ fn mask_of(key_id: &str, annotations: &Annotations) -> u8
 }
 
 /// The bytes, each xor the mask.
-fn masked(alloc: Global, bytes: &[u8], mask: u8) -> Result<Bytes, NoMemory>
-    ensures { IfOk result (λ out. out ≡ masked mask bytes.now) }
+fn xor_all(alloc: Global, bytes: &[u8], mask: u8) -> Result<Bytes, NoMemory>
+    ensures { IfOk result (λ out. out ≡ xor_of mask bytes.now) }
 {
     match bytes.iter().map(|byte| *byte ^ mask).collect(alloc) {
         Ok(out) => Ok(Bytes::from_vec(out)),

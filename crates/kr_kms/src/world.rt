@@ -1,7 +1,8 @@
 //! The world that a command runs in: its files, and the random source of each seat.
 ghost use Rattle.std.specs.Prelude.{◌≡◌, ◌<◌, ◌⊎◌, IfOk, IfErr, OnErr, IsErrOf};
 ghost use Rattle.kr_base.specs.Faults.{Rose};
-ghost use Rattle.kr_kms.specs.Outside.{Outside, file_faults, Loads, Notes, KeepsFiles, KeepsDice, HandsOut, TakesBack};
+ghost use Rattle.kr_kms.specs.Outside.{Outside, file_faults, Loads, Notes, KeepsFiles, KeepsDice};
+ghost use Rattle.kr_kms.specs.Outside.{HandsOut, TakesBack};
 
 use crate::plugin::Kms;
 use kr_base::{Bytes, Dice, Text};
@@ -29,8 +30,8 @@ pub enum Asked {
     RandomSource(u32),
 }
 
-/// Files by their names, and random sources by the numbers of seats. What is handed out can't be dropped: it comes
-/// back, also after a refusal.
+/// Files by their names, and random sources by the numbers of seats. What is handed out can't be
+/// dropped: it comes back, also after a refusal.
 pub trait World {
     /// The random source of a seat. It can move to a thread.
     type Rand: Dice + Send;
@@ -54,10 +55,13 @@ pub trait World {
 
     /// The random source of a seat. It never answers `Absent` or `TooLong`.
     fn dice(&mut self, alloc: Global, seat: u32) -> Result<Self::Rand, FileNo>
-        ensures ok { IfOk result (λ dice. HandsOut (told self.old) (told self.new) seat (Self.Rand.left dice) (Self.Rand.count dice)) }
+        ensures ok { IfOk result (λ dice. HandsOut (told self.old) (told self.new) seat
+            (Self.Rand.left dice) (Self.Rand.count dice)) }
         ensures err { OnErr result (KeepsDice (told self.old) (told self.new)) }
-        ensures refusals { IfErr result (λ why. (why ≡ FileNo.Failed) ⊎ (why ≡ FileNo.NoMemory)) }
-        ensures failed { IsErrOf result FileNo.Failed → Rose (told self.old).open_faults (told self.new).open_faults }
+        ensures refusals { IfErr result
+            (λ why. (why ≡ FileNo.Failed) ⊎ (why ≡ FileNo.NoMemory)) }
+        ensures failed { IsErrOf result FileNo.Failed
+            → Rose (told self.old).open_faults (told self.new).open_faults }
         ensures asked { Notes (told self.old) (told self.new) (Asked.RandomSource seat) result }
         ensures files { KeepsFiles (told self.old) (told self.new) }
         ensures loads { (told self.new).load_faults ≡ (told self.old).load_faults };
@@ -65,7 +69,8 @@ pub trait World {
     /// Takes a random source of the seat back. It needs no memory.
     fn back_dice(&mut self, seat: u32, dice: Self::Rand)
         requires { 0 < (told self.old).out seat }
-        ensures back { TakesBack (told self.old) (told self.new) seat (Self.Rand.left dice) (Self.Rand.count dice) }
+        ensures back { TakesBack (told self.old) (told self.new) seat (Self.Rand.left dice)
+            (Self.Rand.count dice) }
         ensures asked { (told self.new).asked ≡ (told self.old).asked }
         ensures files { KeepsFiles (told self.old) (told self.new) }
         ensures loads { (told self.new).load_faults ≡ (told self.old).load_faults }

@@ -1,3 +1,4 @@
+-- What was looked at isn't the file.
 use Rattle.std.proofs.Common.{◌≡◌, drop}
 use Rattle.kr_kms.specs.MemWorld.{file_of}
 use Rattle.kr_kms.proofs.mem_world.find_file.Given as goal

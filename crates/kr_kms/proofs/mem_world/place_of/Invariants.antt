@@ -1,3 +1,4 @@
+-- What was looked at isn't of the seat.
 use Rattle.std.proofs.Common.{◌≡◌, ◌++◌, take, drop}
 use Rattle.kr_kms.specs.MemWorld.{dice_of, without}
 use Rattle.kr_kms.proofs.mem_world.place_of.Given as goal

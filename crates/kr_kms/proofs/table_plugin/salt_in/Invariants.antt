@@ -1,3 +1,4 @@
+-- What was looked at isn't the salt.
 use Rattle.std.proofs.Common.{◌≡◌, drop}
 use Rattle.kr_kms.specs.Table.{salt_in}
 use Rattle.kr_kms.proofs.table_plugin.salt_in.Given as goal

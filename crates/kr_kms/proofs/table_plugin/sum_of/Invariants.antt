@@ -1,3 +1,4 @@
+-- What was added, and what is still to come, is the sum.
 use Rattle.std.proofs.Common.{◌≡◌, ◌+◌, ◌%◌, drop, sum}
 use Rattle.kr_kms.proofs.table_plugin.sum_of.Given as goal
 

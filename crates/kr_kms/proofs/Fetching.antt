@@ -1,0 +1,97 @@
+-- What is fetched through a cache.
+use Rattle.std.proofs.Common.{◌≡◌, ℕ, ◌≤◌, ◌⊎◌, true, List, length, Contains, Option, Some, None, Result, Ok, Err, IfOk, refl, sym, ◌∙◌, subst, inl, inr, arith}
+use Rattle.lru.specs.LruCache.{LruCache, put_entries}
+use Rattle.lru.proofs.CallerLemmas.{IsPut, Contains-lookup, Contains-put_entries}
+use Rattle.kr_kms.specs.Cache.{CacheState, Fetches, AreOpen, GivesSeed, key_eq, seed_at}
+use Rattle.kr_kms.specs.Calls.{Link, Asks, IsSameLink, Unwraps, asked_key}
+use Rattle.kr_kms.specs.Truth.{Truth, TellsOf}
+use Rattle.kr_kms.specs.declared.plugin.KmsNo.{KmsNo}
+use Rattle.kr_kms.specs.declared.plugin.KmsNo.TheVariants.{Failed, NoMemory}
+use Rattle.kr_kms.specs.declared.seeds.SeedKey.{SeedKey}
+use Rattle.kr_kms.specs.inner.Keeping.{Rows, IsCopyAt, AreAmong, AreAmongWith}
+use Rattle.kr_kms.proofs.Keys.{same_key}
+
+-- what is found under a key stands under it
+pub found_there : (rows : Rows) (key : SeedKey) (seed : List ℕ) → seed_at rows key ≡ Some seed
+    → Contains rows (key, seed)
+found_there rows key seed found =
+    let there = Contains-lookup (key_eq key) rows seed found in
+    subst (λ k. Contains rows (k, seed)) (sym ((same_key key there.0).0 there.2)) there.1
+
+-- what a put leaves was there before, or is what was put
+pub put_among : (cache : LruCache SeedKey (List ℕ)) (key : SeedKey) (seed : List ℕ)
+    → AreAmongWith cache.entries key seed (put_entries key_eq cache key seed)
+put_among cache key seed other kept there =
+    elim (Contains-put_entries key_eq cache key seed (other, kept) there) [
+      | inl before ↦ inl before
+      | inr put ↦ inr (is_key put.1, put.0)
+    ]
+  where
+    is_key : (other ≡ key)
+        ⊎ ((w : List ℕ) × Contains cache.entries (other, w) × (key_eq key other ≡ true))
+        → other ≡ key
+    is_key (inl same) = same
+    is_key (inr e) = sym ((same_key key other).0 e.2)
+
+module _ {L : Type 0} (truth : Truth) (link : L → Link) where
+  same_link : (old : L) → IsSameLink (link old) (link old)
+  same_link old = record { name = refl; status = refl; later = omega arith }
+
+  -- the seed that a copy gives opens
+  copy_opens : (rows : Rows) (key : SeedKey) (seed : List ℕ) (copy : Result (List ℕ) KmsNo)
+      → seed_at rows key ≡ Some seed → GivesSeed seed copy → AreOpen truth rows
+      → IfOk copy (λ bytes. TellsOf truth key bytes)
+  copy_opens rows key seed (Ok bytes) found gives known =
+      subst (TellsOf truth key) (sym gives) (known key seed (found_there rows key seed found))
+  copy_opens rows key seed (Err why) found gives known = tt
+
+  copy_asks : (old : L) (seed : List ℕ) (copy : Result (List ℕ) KmsNo) → GivesSeed seed copy
+      → Asks (link old) copy (link old)
+  copy_asks old seed (Ok bytes) gives = record { same = same_link old; failed = λ e. cc }
+  copy_asks old seed (Err Failed) gives = absurd gives
+  copy_asks old seed (Err NoMemory) gives = record { same = same_link old; failed = λ e. cc }
+
+  -- a kept seed is given
+  pub gives_kept : (old : L) (cache after : CacheState) (key : SeedKey)
+      (copy : Result (List ℕ) KmsNo) → IsCopyAt cache.rows key (Some copy)
+      → AreAmong cache.rows after.rows → after.size ≡ cache.size → length after.rows ≤ after.size
+      → Fetches truth link old cache key copy old after
+  gives_kept old cache after key copy is among size fits = record {
+    kept = λ seed found. let same : is.0 ≡ seed = cc (is.1, found) in
+        (refl, subst (λ s. GivesSeed s copy) same is.2);
+    asked = λ none. cc (is.1, none);
+    asks = copy_asks old is.0 copy is.2;
+    opens = copy_opens cache.rows key is.0 copy is.1 is.2;
+    rows = λ other seed there. inl (among other seed there);
+    still_open = λ known other seed there. known other seed (among other seed there);
+    size = size;
+    fits = fits;
+  }
+
+  -- the link's answer is given
+  pub gives_answer : (old new : L) (cache after : CacheState) (key_id : List ℕ) (annotations : _)
+      (source : List ℕ) (result : Result (List ℕ) KmsNo)
+      → let key = asked_key (link old).name key_id annotations source in
+      seed_at cache.rows key ≡ None
+      → Unwraps truth (link old) key_id annotations source result (link new)
+      → ((other : SeedKey) (seed : List ℕ) → Contains after.rows (other, seed)
+      → Contains cache.rows (other, seed) ⊎ ((other ≡ key) × (result ≡ Ok seed)))
+      → after.size ≡ cache.size → length after.rows ≤ after.size
+      → Fetches truth link old cache key result new after
+  gives_answer old new cache after key_id annotations source result none answer rows size fits =
+      let key = asked_key (link old).name key_id annotations source in
+      record {
+        kept = λ seed found. cc (none, found);
+        asked = λ _. answer;
+        asks = answer.0;
+        opens = λ _. answer.1;
+        rows = rows;
+        still_open = λ known other seed there. elim (rows other seed there) [
+          | inl before ↦ known other seed before
+          | inr put ↦
+              let Opens : Result (List ℕ) KmsNo → Type 0 = λ r. IfOk r (λ s. TellsOf truth key s) in
+              subst (λ k. TellsOf truth k seed) (sym put.0) (subst Opens put.1 answer.1)
+        ];
+        size = size;
+        fits = fits;
+      }
