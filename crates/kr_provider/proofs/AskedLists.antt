@@ -1,9 +1,12 @@
 -- Links of a list that are asked one after another.
-use Rattle.std.proofs.Common.{◌≡◌, ℕ, zero, suc, ◌+◌, ◌^◌, ◌-◌, ◌<◌, ◌≤◌, List, [], ◌∷◌, ◌++◌, length, map, refl, sym, ◌∙◌, ap, subst, arith, Contains, inl, inr}
-use Rattle.std.specs.Prelude.{◌⊎◌, Option, get_or}
+use Rattle.std.proofs.Common.{◌≡◌, ℕ, zero, suc, ◌+◌, ◌^◌, ◌-◌, ◌<◌, ◌≤◌, Bool, true, false, List, [], ◌∷◌, ◌++◌, length, map, take, drop, set, get_or, drop-cons, take-append-drop, refl, sym, ◌∙◌, ap, subst, arith, Contains, inl, inr}
+use Rattle.std.specs.Prelude.{◌⊎◌, cond, find, position, Option, Some, None}
 use Rattle.std.specs.List.{IsDistinct}
 use Rattle.std.specs.Str.{bytes_eq}
+use Rattle.std.proofs.lemmas.List.{drop-set, take-set}
 use Rattle.std.proofs.lemmas.List.Elements.{Contains-append_right}
+use Rattle.std.proofs.lemmas.List.Quantifiers.{position-Some}
+use Rattle.std.proofs.lemmas.Slice.Eq.{bytes_eq-Decides}
 use Rattle.kr_base.specs.Faults.{Rose}
 use Rattle.kr_base.specs.Told.{Agrees}
 use Rattle.kr_config.specs.Kept.{Row, plugins_in}
@@ -156,3 +159,39 @@ module _ {L : Type 0} (link : L → Link) (name : List ℕ) (Asks : L → L
     new_named = a.same.name ∙ a.named;
     rose = r;
   }
+
+-- ---- a link at a place
+
+-- a name that is there is found
+pub place_there : {L : Type 0} (link : L → Link) (name : List ℕ) (xs : List L)
+    → Contains (names_of link xs) name
+    → find (λ l. bytes_eq (link l).name name) xs ≡ None → ⊥
+place_there link name [] c e = omega (arith, c.1)
+place_there link name (x ∷ xs) c e = at (bytes_eq (link x).name name) refl c e
+  where
+    at : (b : Bool) → bytes_eq (link x).name name ≡ b → Contains (names_of link (x ∷ xs)) name
+        → cond b (Some x) (find (λ l. bytes_eq (link l).name name) xs) ≡ None → ⊥
+    at true t c e = cc
+    at false t (zero, lt, is) e = let same = (bytes_eq-Decides (link x).name name).1 is in cc
+    at false t (suc k, lt, is) e = place_there link name xs (k, omega (arith, lt), is) e
+
+pub asks_at : {L : Type 0} (link : L → Link) (name : List ℕ) (Asks : L → L
+    → Type 0) (xs ys : List L)
+    (at : ℕ) (x y : L) → position (λ l. bytes_eq (link l).name name) xs ≡ Some at
+    → x ≡ get_or xs at x → ys ≡ set xs at y → IsSameLink (link x) (link y) → Asks x y
+    → AsksOne link name Asks xs ys
+asks_at link name Asks xs ys at x y p is put same asks =
+    let place = position-Some (λ l. bytes_eq (link l).name name) xs at x p in record {
+      front = take at xs;
+      behind = drop (at + 1) xs;
+      old = x;
+      new = y;
+      olds_are = sym (take-append-drop at xs) ∙ ap (λ l. take at xs ++ l)
+          (drop-cons xs at x place.0 ∙ ap (λ z. z ∷ drop (suc at) xs) (sym is));
+      news_are = put ∙ sym (take-append-drop at (set xs at y))
+          ∙ (λ i. take-set xs at y i ++ drop-set xs at y place.0 i);
+      named = (bytes_eq-Decides (link x).name name).0
+          (ap (λ z. bytes_eq (link z).name name) is ∙ place.1);
+      same = same;
+      asks = asks;
+    }

@@ -19,3 +19,6 @@ mod Makings
 mod NameOrder
 pub mod PluginNames
 mod Unsealings
+mod ObjectSources
+mod SeedValues
+mod BenchLinks

@@ -32,7 +32,7 @@ beyond [] i n = refl
 beyond (x ∷ xs) zero n = absurd (n (omega arith))
 beyond (x ∷ xs) (suc i) n = beyond xs i (λ lt. n (omega (arith, lt)))
 
-no_place : {X : Type 0} (p : X → Bool) (xs : List X) → position p xs ≡ None → find p xs ≡ None
+pub no_place : {X : Type 0} (p : X → Bool) (xs : List X) → position p xs ≡ None → find p xs ≡ None
 no_place p xs e = find_at p xs ∙ beyond xs (position_or_len p xs)
     (λ lt. within (position_or_len p xs) (length xs) lt
     (outside (nat_lt (position_or_len p xs) (length xs)) (position_or_len p xs) e))

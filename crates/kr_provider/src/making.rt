@@ -1,8 +1,9 @@
 //! The seeds of a configuration's plugins, made in the order of their names.
-ghost use Rattle.std.specs.Prelude.{◌≡◌, ◌≤◌, ◌⊎◌, Contains};
+ghost use Rattle.std.specs.Prelude.{◌≡◌, ◌≤◌, ◌⊎◌, [], false, Contains, IfOk, IsOk};
 ghost use Rattle.kr_config.specs.Kept.{plugins_in, rows_of};
 ghost use Rattle.kr_provider.specs.AskedLinks.{AskedOnly};
 ghost use Rattle.kr_provider.specs.Names.{HasLinks, names_of};
+ghost use Rattle.kr_provider.specs.Publication.{names_plugin};
 ghost use Rattle.kr_provider.specs.Publishing.{refusal_at};
 ghost use Rattle.kr_provider.specs.inner.Making.{MakesAt, MakesAll};
 
@@ -26,6 +27,9 @@ pub(crate) fn make_seeds<L: Kms, D: Dice>(
     ensures asked { AskedOnly L.link (plugins_in (rows_of settings.now.entries.0)) links.old
         links.new }
     ensures later { D.count dice.old ≤ D.count dice.new }
+    ensures none { names_plugin (rows_of settings.now.entries.0) ≡ false
+        → IfOk result (λ made. made.0 ≡ []) × IsOk result
+        × (links.new ≡ links.old) × (dice.new ≡ dice.old) }
 {
     let mut made = List::new(alloc);
     let mut after = "";

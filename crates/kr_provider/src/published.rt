@@ -1,5 +1,5 @@
 //! Published configurations.
-ghost use Rattle.std.specs.Prelude.{◌≡◌, ◌≤◌, [], false};
+ghost use Rattle.std.specs.Prelude.{◌≡◌, ◌≤◌, [], false, Ok};
 ghost use Rattle.std.specs.List.{list_any};
 ghost use Rattle.kr_config.specs.Kept.{plugins_in, rows_of};
 ghost use Rattle.kr_config.specs.Providers.{is_kms};
@@ -108,7 +108,8 @@ impl Published {
 }
 
 /// Publishes settings: for each plugin that they name, in the order of the names' bytes, it asks
-/// the status, draws a seed and lets the plugin wrap it. The first refusal ends it.
+/// the status, draws a seed and lets the plugin wrap it. The first refusal ends it. Settings that
+/// name no plugin need no memory.
 pub fn publish<L: Kms, D: Dice>(
     alloc: Global,
     settings: Shared<Settings>,
@@ -120,6 +121,9 @@ pub fn publish<L: Kms, D: Dice>(
         links.old dice.old result links.new dice.new }
     ensures asked { AskedOnly L.link (plugins_in (rows_of settings.entries.0)) links.old links.new }
     ensures later { D.count dice.old ≤ D.count dice.new }
+    ensures none { names_plugin (rows_of settings.entries.0) ≡ false
+        → (result ≡ Ok (record { rows = rows_of settings.entries.0; seeds = [] }))
+        × (links.new ≡ links.old) × (dice.new ≡ dice.old) }
 {
     let seeds = make_seeds(alloc, settings.get(), links, dice)?;
     Ok(Published { settings, seeds })

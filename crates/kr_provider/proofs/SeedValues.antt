@@ -1,0 +1,42 @@
+-- A plugin's value: its parts in front of the sealed bytes and behind them.
+use Rattle.std.proofs.Common.{◌≡◌, ℕ, ◌+◌, ◌-◌, ◌*◌, ◌≤◌, ◌<◌, List, [], ◌∷◌, ◌++◌, length, take, drop, replicate, Some, refl, sym, ◌∙◌, ap, subst, arith, append_assoc, take_at, drop_at}
+use borrow.Rule.Slice.PartMut.{put_mid}
+use Rattle.std.proofs.lemmas.List.{length-replicate}
+use Rattle.kr_envelope.specs.declared.prefix.Kind.TheVariants as kind
+use Rattle.kr_envelope.specs.declared.object.SourceKind.TheVariants.{Seed}
+use Rattle.kr_envelope.specs.Canonical.{canonical, content_field, fields_behind, shortest}
+use Rattle.kr_envelope.specs.Prefixes.{prefix}
+use Rattle.kr_kms.specs.declared.seeds.SeedRow.{SeedRow}
+use Rattle.kr_provider.specs.Envelopes.{object_of, seed_body}
+use Rattle.kr_provider.proofs.SealedSizes.{seed_size}
+
+field_is : (body : List ℕ) (size : ℕ) → length body ≡ size → 1 ≤ size
+    → content_field 1 body ≡ 10 ∷ (shortest size ++ body)
+field_is [] size e some = absurd (omega (arith, e, some))
+field_is (byte ∷ bytes) size e some = ap (λ n. 10 ∷ (shortest n ++ byte ∷ bytes)) e
+
+-- what was written between zeros' neighbours is the value
+pub put_between : (front behind body : List ℕ) (start size : ℕ) → start ≡ length front
+    → put_mid start size (front ++ (replicate size 0 ++ behind)) body ≡ front ++ (body ++ behind)
+put_between front behind body start size e =
+    let zeros : List ℕ = replicate size 0 in
+    let first : take start (front ++ (zeros ++ behind)) ≡ front =
+    take_at front (zeros ++ behind) start (sym e) in
+    let rest : drop size (drop start (front ++ (zeros ++ behind))) ≡ behind =
+    ap (drop size) (drop_at front (zeros ++ behind) start (sym e))
+    ∙ drop_at zeros behind size (length-replicate size 0) in
+    (λ i. first i ++ (body ++ rest i))
+
+pub value_between : (name path plain drawn : List ℕ) (row : SeedRow) (size : ℕ)
+    → length drawn ≡ 44 → size ≡ 32 + (12 + (length plain + 16))
+    → (prefix kind.Kms name ++ 10 ∷ shortest size) ++ (seed_body row.seed path plain drawn
+    ++ fields_behind row.key_id row.source row.annotations Seed)
+    ≡ prefix kind.Kms name ++ canonical (object_of row path plain drawn)
+value_between name path plain drawn row size d s =
+    let start = prefix kind.Kms name in
+    let body = seed_body row.seed path plain drawn in
+    let behind = fields_behind row.key_id row.source row.annotations Seed in
+    let long : length body ≡ size = seed_size row.seed path plain drawn d ∙ sym s in
+    append_assoc start (10 ∷ shortest size) (body ++ behind)
+    ∙ ap (λ l. start ++ 10 ∷ l) (sym (append_assoc (shortest size) body behind))
+    ∙ ap (λ l. start ++ (l ++ behind)) (sym (field_is body size long (omega (arith, s))))
