@@ -1,12 +1,13 @@
 //! Published configurations.
-ghost use Rattle.std.specs.Prelude.{◌≡◌, ◌≤◌, [], false, Ok};
+ghost use Rattle.std.specs.Prelude.{◌≡◌, ◌≤◌, [], true, false, Ok};
 ghost use Rattle.std.specs.List.{list_any};
 ghost use Rattle.kr_config.specs.Kept.{plugins_in, rows_of};
-ghost use Rattle.kr_config.specs.Providers.{is_kms};
+ghost use Rattle.kr_config.specs.Providers.{is_kms, is_provider};
 ghost use Rattle.kr_provider.specs.AskedLinks.{AskedOnly};
 ghost use Rattle.kr_provider.specs.Names.{HasLinks, names_of};
-ghost use Rattle.kr_provider.specs.Publication.{names_plugin};
+ghost use Rattle.kr_provider.specs.Publication.{IsProviderList, names_plugin};
 ghost use Rattle.kr_provider.specs.Publishing.{Publishes};
+ghost use Rattle.kr_provider.specs.Readers.{writer_of};
 
 use crate::links::Links;
 use crate::making::make_seeds;
@@ -84,7 +85,7 @@ impl Published {
         ensures rows { All IsSeedRow self.now.seeds }
     {
         let list = self.listed(resource);
-        &list[0]
+        writer_in(list)
     }
 
     /// The providers of the resource, with what settings keep of them.
@@ -105,6 +106,15 @@ impl Published {
     {
         let _entries = self.entries();
     }
+}
+
+/// The first of a list.
+fn writer_in(list: &[Who]) -> &Who
+    requires { IsProviderList list.now }
+    ensures writer { result.now ≡ writer_of list.now }
+    ensures provider { is_provider result.now ≡ true }
+{
+    &list[0]
 }
 
 /// Publishes settings: for each plugin that they name, in the order of the names' bytes, it asks
