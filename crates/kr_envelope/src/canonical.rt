@@ -98,9 +98,8 @@ pub fn push_behind(
     kind: SourceKind,
 ) -> Result<(), AllocError>
     requires { size_of annotations.now ≤ annotations_size_limit }
-    ensures written { OnOk result (out.new.items
+    ensures { OnOk result (out.new.items
         ≡ out.old.items ++ fields_behind key_id.now source.now annotations.now kind) }
-    ensures texts { OnOk result (All (λ pair. IsUtf8 pair.0) annotations.now) }
 {
     push_content(out, 2, key_id.as_bytes())?;
     push_content(out, 3, source)?;
