@@ -167,13 +167,26 @@ pub place_there : {L : Type 0} (link : L → Link) (name : List ℕ) (xs : List 
     → Contains (names_of link xs) name
     → find (λ l. bytes_eq (link l).name name) xs ≡ None → ⊥
 place_there link name [] c e = omega (arith, c.1)
-place_there link name (x ∷ xs) c e = at (bytes_eq (link x).name name) refl c e
+place_there {L} link name (x ∷ xs) c e =
+    at (bytes_eq (link x).name name) refl (place_there link name xs) c e
   where
-    at : (b : Bool) → bytes_eq (link x).name name ≡ b → Contains (names_of link (x ∷ xs)) name
+    at : (b : Bool) → bytes_eq (link x).name name ≡ b
+        → (Contains (names_of link xs) name
+        → find (λ l. bytes_eq (link l).name name) xs ≡ None → ⊥)
+        → Contains (names_of link (x ∷ xs)) name
         → cond b (Some x) (find (λ l. bytes_eq (link l).name name) xs) ≡ None → ⊥
-    at true t c e = cc
-    at false t (zero, lt, is) e = let same = (bytes_eq-Decides (link x).name name).1 is in cc
-    at false t (suc k, lt, is) e = place_there link name xs (k, omega (arith, lt), is) e
+    at true t more c e = cc
+    at false t more (zero, lt, is) e =
+        let same = (bytes_eq-Decides (link x).name name).1 is in cc
+    at false t more (suc k, lt, is) e = more (k, omega (arith, lt), is) e
+
+pub place_named : {L : Type 0} (link : L → Link) (name : List ℕ) (xs : List L) (at : ℕ) (x : L)
+    → position (λ l. bytes_eq (link l).name name) xs ≡ Some at → x ≡ get_or xs at x
+    → (link x).name ≡ name
+place_named link name xs at x p is =
+    let place = position-Some (λ l. bytes_eq (link l).name name) xs at x p in
+    (bytes_eq-Decides (link x).name name).0
+    (ap (λ z. bytes_eq (link z).name name) is ∙ place.1)
 
 pub asks_at : {L : Type 0} (link : L → Link) (name : List ℕ) (Asks : L → L
     → Type 0) (xs ys : List L)
@@ -181,17 +194,17 @@ pub asks_at : {L : Type 0} (link : L → Link) (name : List ℕ) (Asks : L → L
     → x ≡ get_or xs at x → ys ≡ set xs at y → IsSameLink (link x) (link y) → Asks x y
     → AsksOne link name Asks xs ys
 asks_at link name Asks xs ys at x y p is put same asks =
-    let place = position-Some (λ l. bytes_eq (link l).name name) xs at x p in record {
+    let place = position-Some (λ l. bytes_eq (link l).name name) xs at x p in
+    let one : suc at ≡ at + 1 = omega arith in record {
       front = take at xs;
       behind = drop (at + 1) xs;
       old = x;
       new = y;
       olds_are = sym (take-append-drop at xs) ∙ ap (λ l. take at xs ++ l)
-          (drop-cons xs at x place.0 ∙ ap (λ z. z ∷ drop (suc at) xs) (sym is));
+          (drop-cons xs at x place.0 ∙ (λ i. sym is i ∷ drop (one i) xs));
       news_are = put ∙ sym (take-append-drop at (set xs at y))
           ∙ (λ i. take-set xs at y i ++ drop-set xs at y place.0 i);
-      named = (bytes_eq-Decides (link x).name name).0
-          (ap (λ z. bytes_eq (link z).name name) is ∙ place.1);
+      named = place_named link name xs at x p is;
       same = same;
       asks = asks;
     }

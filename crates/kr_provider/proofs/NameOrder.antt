@@ -99,7 +99,7 @@ IsStrictlySortedBy-none = tt
 
 -- ---- how many names come after one
 
-pub count_after : List ℕ → List (List ℕ) → ℕ
+abbrev pub count_after : List ℕ → List (List ℕ) → ℕ
 count_after after [] = 0
 count_after after (name ∷ names) = (if is_before after name then 1 else 0) + count_after after names
 

@@ -44,6 +44,12 @@ no_place p xs e = find_at p xs ∙ beyond xs (position_or_len p xs)
     within : (n m : ℕ) → n < m → nat_lt n m ≡ false → ⊥
     within n m lt f = grind (arith, nat_tests)
 
+-- what stands there is found
+pub found_at : {X : Type 0} (p : X → Bool) (xs : List X) (at : ℕ) (x : X)
+    → position p xs ≡ Some at → x ≡ get_or xs at x → find p xs ≡ Some x
+found_at p xs at x e is = let found = position-Some p xs at x e in
+    place_found p xs at e ∙ slice_get-get_or xs at x found.0 ∙ ap (λ w. Some w) (sym is)
+
 pub reader_found : (list : List Who) (bytes : List ℕ) (place : ℕ) (who : Who)
     → reader_place list bytes ≡ Some place → who ≡ get_or list place who
     → reader_in list bytes ≡ Some who

@@ -132,14 +132,16 @@ named_at names (x ∷ xs) (suc i) who a h is = named_at names xs i who a.1 (omeg
 seed_there : (seeds : List SeedRow) (name : List ℕ)
     → Contains (map (λ row. row.name) seeds) name → IsSome (seed_of name seeds)
 seed_there [] name c = absurd (omega (arith, c.1))
-seed_there (row ∷ rows) name c = at (bytes_eq row.name name) refl c
+seed_there (row ∷ rows) name c = at (bytes_eq row.name name) refl (seed_there rows name) c
   where
     at : (b : Bool) → bytes_eq row.name name ≡ b
+        → (Contains (map (λ r. r.name) rows) name → IsSome (seed_of name rows))
         → Contains (map (λ r. r.name) (row ∷ rows)) name
         → IsSome (cond b (Some row) (seed_of name rows))
-    at true t c = refl
-    at false t (zero, lt, e) = let s = (bytes_eq-Decides row.name name).1 e in absurd (cc)
-    at false t (suc k, lt, e) = seed_there rows name (k, omega (arith, lt), e)
+    at true t more c = refl
+    at false t more (zero, lt, e) =
+        let s = (bytes_eq-Decides row.name name).1 e in absurd (cc)
+    at false t more (suc k, lt, e) = more (k, omega (arith, lt), e)
 
 seeded_who : (p : Publication) → IsPublished p → (who : Who) → IsNamedIn (plugins_in p.rows) who
     → HasSeed p.seeds who

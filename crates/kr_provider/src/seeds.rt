@@ -1,8 +1,11 @@
 //! The published seeds.
-ghost use Rattle.std.specs.Prelude.{◌≡◌, ◌↔◌, IsTrue, MatchOption, None, Some, Ok};
+ghost use Rattle.std.specs.Prelude.{◌≡◌, ◌&&◌, not, MatchOption, None, Some, Ok, position};
+ghost use Rattle.std.specs.Str.{bytes_eq};
+ghost use Rattle.kr_kms.specs.Cache.{key_eq};
+ghost use Rattle.kr_kms.specs.Truth.{key_of};
+ghost use Rattle.kr_provider.specs.Envelopes.{seed_key};
 ghost use Rattle.kr_provider.specs.Publication.{seed_of};
 ghost use Rattle.kr_provider.specs.Reading.{is_current, is_seed};
-ghost use Rattle.kr_provider.specs.Unsealing.{IsSeedOf};
 
 use kr_envelope::{EncryptedObject, SourceKind};
 use kr_kms::SeedRow;
@@ -12,12 +15,22 @@ pub(crate) fn seed_of<'a>(seeds: &'a [SeedRow], name: &str) -> Option<&'a SeedRo
     ensures { MatchOption result (seed_of name.now seeds.now ≡ None)
         (λ row. seed_of name.now seeds.now ≡ Some row.now) }
 {
-    seeds.iter().find(|row| row.name.as_str() == name)
+    match place_in(seeds, name) {
+        Some(at) => Some(&seeds[at]),
+        None => None,
+    }
+}
+
+/// Where the seed of the plugin of this name stands.
+fn place_in(seeds: &[SeedRow], name: &str) -> Option<usize>
+    ensures { result ≡ position (λ row. bytes_eq row.name name.now) seeds.now }
+{
+    seeds.iter().position(|row| row.name.as_str() == name)
 }
 
 /// Whether the seed is the object's: name, key id, annotations and source are the same.
 pub(crate) fn is_seed_of(row: &SeedRow, name: &str, object: &EncryptedObject) -> bool
-    ensures { IsTrue result ↔ IsSeedOf row.now name.now object.now }
+    ensures { result ≡ key_eq (key_of row.now) (seed_key name.now object.now) }
 {
     row.name.as_str() == name
         && row.key_id == object.key_id
@@ -25,8 +38,16 @@ pub(crate) fn is_seed_of(row: &SeedRow, name: &str, object: &EncryptedObject) ->
         && row.source == object.source
 }
 
+/// Whether a value of the plugin is stale: another provider is the list's first, or the object isn't as
+/// the published seed would have it.
+pub(crate) fn is_stale(first: bool, row: &SeedRow, object: &EncryptedObject) -> bool
+    ensures { result ≡ not (first && is_current (Some row.now) (Ok object.now)) }
+{
+    !(first && is_current(row, object))
+}
+
 /// Whether the object is as the published seed of its plugin would have it.
-pub(crate) fn is_current(row: &SeedRow, object: &EncryptedObject) -> bool
+fn is_current(row: &SeedRow, object: &EncryptedObject) -> bool
     ensures { result ≡ is_current (Some row.now) (Ok object.now) }
 {
     object.key_id == row.key_id && is_seed(object.kind)

@@ -16,7 +16,7 @@ use crate::adoption::Adoption;
 use crate::links::Links;
 use crate::readers::{body_of, reader_of};
 use crate::refusal::{Opened, UnsealNo, ValueNo};
-use crate::seeds::{is_current, is_seed_of, seed_of};
+use crate::seeds::{is_seed_of, is_stale, seed_of};
 use crate::sources::{by_source, read_object};
 use crate::unsealing::unseal_by;
 use kr_base::{Bytes, Text};
@@ -121,11 +121,8 @@ fn by_plugin<L: Kms>(
 {
     let object = read_object(alloc, body)?;
     let plain = unseal_object(alloc, name, row, &object, links, cache, path)?;
-    let current = is_current(row, &object);
-    Ok(Opened {
-        plain,
-        stale: !(first && current),
-    })
+    let stale = is_stale(first, row, &object);
+    Ok(Opened { plain, stale })
 }
 
 /// The data of an object of the plugin of this name: under the published seed, where that is the

@@ -16,5 +16,5 @@ pub invariant_of-self : goal.invariant_of-self
 invariant_of-self g c = more g.L.Kms.link c.self.inside.items.items c.push.new.self.items c.args.link
     (is_ok c.push.result) c.push.ensures.items c.self.invariant
     (let P : List g.row.L.Denot → Type 0 = λ links.
-        Contains (names_of g.L.Kms.link links) (g.L.Kms.link c.args.link).name → ⊥ in
+    Contains (names_of g.L.Kms.link links) (g.L.Kms.link c.args.link).name → ⊥ in
     subst P (sym c.self.view_is) c.requires)

@@ -1,0 +1,11 @@
+-- `Bench::unseal`: the links serve the configuration still, and what is kept is true.
+use Rattle.kr_provider.proofs.BenchLinks.{unsealed_stay}
+use Rattle.kr_provider.proofs.bench.Bench.unseal.Goals as goal
+
+pub invariant_of-self : goal.invariant_of-self
+invariant_of-self g c = (
+  unsealed_stay g.L.Kms.link g.L.Kms.truth c.args.resource.now c.args.path.now c.args.bytes.now
+      c.self.inside.links c.unseal_for.new.links c.self.inside.adoption.published
+      c.unseal_for.result c.unseal_for.ensures.opened c.self.invariant.0,
+  c.unseal_for.ensures.kept,
+)
