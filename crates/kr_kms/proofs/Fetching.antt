@@ -1,6 +1,7 @@
 -- What is fetched through a cache.
-use Rattle.std.proofs.Common.{◌≡◌, ℕ, ◌≤◌, ◌⊎◌, true, List, length, Contains, Option, Some, None, Result, Ok, Err, IfOk, refl, sym, ◌∙◌, subst, inl, inr, arith}
-use Rattle.lru.specs.LruCache.{LruCache, put_entries}
+use Rattle.std.proofs.Common.{◌≡◌, ℕ, ◌≤◌, ◌⊎◌, true, List, length, Contains, Option, Some, None, Result, Ok, Err, IfOk, refl, sym, ◌∙◌, ap, subst, inl, inr, arith}
+use Rattle.std.specs.Prelude.{OnOk, OnErr}
+use Rattle.lru.specs.LruCache.{LruCache, lru_cache, put_entries}
 use Rattle.lru.proofs.CallerLemmas.{IsPut, Contains-lookup, Contains-put_entries}
 use Rattle.kr_kms.specs.Cache.{CacheState, Fetches, AreOpen, GivesSeed, key_eq, seed_at}
 use Rattle.kr_kms.specs.Calls.{Link, Asks, IsSameLink, Unwraps, asked_key}
@@ -32,6 +33,31 @@ put_among cache key seed other kept there =
         → other ≡ key
     is_key (inl same) = same
     is_key (inr e) = sym ((same_key key other).0 e.2)
+
+-- what a put leaves where it may have found no memory
+pub put_or_not : {E : Type 0} (before after : LruCache SeedKey (List ℕ)) (key : SeedKey)
+    (seed : List ℕ) (result : Result (Option (List ℕ)) E)
+    → OnOk result (after ≡ lru_cache (put_entries key_eq before key seed) before.cap)
+    → OnErr result (after ≡ before) → AreAmongWith before.entries key seed after.entries
+put_or_not before after key seed (Ok old) is none other kept there =
+    put_among before key seed other kept
+    (subst (λ (l : LruCache SeedKey (List ℕ)). Contains l.entries (other, kept)) is there)
+put_or_not before after key seed (Err why) none is other kept there =
+    inl (subst (λ (l : LruCache SeedKey (List ℕ)). Contains l.entries (other, kept)) is there)
+
+abbrev answer : List ℕ → Result (List ℕ) KmsNo
+answer seed = Ok seed
+
+-- what was kept, and then put beside it
+pub rows_with : (before middle after : Rows) (key : SeedKey) (seed : List ℕ)
+    → AreAmong before middle → AreAmongWith middle key seed after → (other : SeedKey)
+    (kept : List ℕ) → Contains after (other, kept) → Contains before (other, kept)
+    ⊎ ((other ≡ key) × (answer seed ≡ answer kept))
+rows_with before middle after key seed among with other kept there =
+    elim (with other kept there) [
+      | inl was ↦ inl (among other kept was)
+      | inr put ↦ inr (put.0, ap answer (sym put.1))
+    ]
 
 module _ {L : Type 0} (truth : Truth) (link : L → Link) where
   same_link : (old : L) → IsSameLink (link old) (link old)

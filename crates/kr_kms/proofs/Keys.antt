@@ -10,17 +10,17 @@ use Rattle.kr_kms.specs.declared.seeds.SeedKey.{SeedKey}
 
 same_as_itself : (a : SeedKey) → key_eq a a ≡ true
 same_as_itself a i = (bytes_decides a.name a.name).1 refl i
-    && (bytes_decides a.key_id a.key_id).1 refl i
-    && (pairs_decide a.annotations a.annotations).1 refl i
-    && (bytes_decides a.source a.source).1 refl i
+    && ((bytes_decides a.key_id a.key_id).1 refl i
+    && ((pairs_decide a.annotations a.annotations).1 refl i
+    && (bytes_decides a.source a.source).1 refl i))
 
 pub same_key : (a b : SeedKey) → Decides (key_eq a b) (a ≡ b)
 same_key a b = (
-  λ h. let three = first_so _ _ h in let two = first_so _ _ three in
-      let name = (bytes_decides a.name b.name).0 (first_so _ _ two) in
-      let key_id = (bytes_decides a.key_id b.key_id).0 (second_so _ _ two) in
-      let annotations = (pairs_decide a.annotations b.annotations).0 (second_so _ _ three) in
-      let source = (bytes_decides a.source b.source).0 (second_so _ _ h) in
+  λ h. let three = second_so _ _ h in let two = second_so _ _ three in
+      let name = (bytes_decides a.name b.name).0 (first_so _ _ h) in
+      let key_id = (bytes_decides a.key_id b.key_id).0 (first_so _ _ three) in
+      let annotations = (pairs_decide a.annotations b.annotations).0 (first_so _ _ two) in
+      let source = (bytes_decides a.source b.source).0 (second_so _ _ two) in
       λ i. record {
         name = name i;
         key_id = key_id i;

@@ -6,6 +6,7 @@ use Rattle.std.specs.List.Sorted.{IsStrictlySortedBy}
 use Rattle.std.specs.Map.{keys_of}
 use Rattle.std.specs.Ordering.{nat_cmp, ordering_reverse}
 use Rattle.std.specs.declared.cmp.Ordering.TheVariants.{Less, Greater}
+use Rattle.std.proofs.lemmas.List.{take_more, drop_more, take-append-drop}
 use Rattle.serde_json.specs.Data.{Members, member, put}
 use Rattle.serde_json.specs.Written.{has_float, members_have_float}
 use Rattle.kr_base.specs.Pairs.{Pairs, IsSortedByKey}
@@ -32,6 +33,24 @@ put_behind (first ∷ done) pair more h =
     nat_list_cmp_total.antisymm pair.0 first.0
     ∙ ap ordering_reverse (below_middle first.0 done pair more h.0) in
     rw above (ap (member first.0 (text_of_bytes first.1)) (put_behind done pair more h.1))
+
+-- one pair more
+pub member_more : (pairs : Pairs) (i : ℕ) (pair : Pair) (key value : List ℕ)
+    (before after : Members) → IsSortedByKey pairs → i < length pairs → pair ≡ get_or pairs i pair
+    → key ≡ pair.0 → value ≡ pair.1 → before ≡ pair_members (take i pairs)
+    → after ≡ put key (text_of_bytes value) before → after ≡ pair_members (take (i + 1) pairs)
+member_more pairs i pair key value before after sorted h is k v was put_in =
+    let here : take (i + 1) pairs ≡ take i pairs ++ pair ∷ [] =
+    take_more pairs i pair h ∙ ap (λ p. take i pairs ++ p ∷ []) (sym is) in
+    let rest : drop i pairs ≡ pair ∷ drop (i + 1) pairs =
+    drop_more pairs i pair h ∙ ap (λ p. p ∷ drop (i + 1) pairs) (sym is) in
+    let parts : pairs ≡ take i pairs ++ pair ∷ drop (i + 1) pairs =
+    sym (take-append-drop i pairs) ∙ ap (λ l. take i pairs ++ l) rest in
+    put_in ∙ ap (λ x. put x (text_of_bytes value) before) k
+    ∙ ap (λ x. put pair.0 (text_of_bytes x) before) v
+    ∙ ap (put pair.0 (text_of_bytes pair.1)) was
+    ∙ put_behind (take i pairs) pair (drop (i + 1) pairs) (subst IsSortedByKey parts sorted)
+    ∙ ap pair_members (sym here)
 
 pairs_no_float : (pairs : Pairs) → members_have_float (pair_members pairs) ≡ false
 pairs_no_float [] = refl

@@ -16,8 +16,8 @@ pub record CacheState : Type 0 where
 
 -- whether two keys have the same name, key id, annotations and source
 abbrev pub key_eq : SeedKey → SeedKey → Bool
-key_eq a b = bytes_eq a.name b.name && bytes_eq a.key_id b.key_id
-    && pairs_eq a.annotations b.annotations && bytes_eq a.source b.source
+key_eq a b = bytes_eq a.name b.name && (bytes_eq a.key_id b.key_id
+    && (pairs_eq a.annotations b.annotations && bytes_eq a.source b.source))
 
 -- the seed that is kept under the key, if one is
 abbrev pub seed_at : List (SeedKey × List ℕ) → SeedKey → Option (List ℕ)
