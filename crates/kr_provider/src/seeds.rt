@@ -33,9 +33,8 @@ pub(crate) fn is_seed_of(row: &SeedRow, name: &str, object: &EncryptedObject) ->
     ensures { result ≡ key_eq (key_of row.now) (seed_key name.now object.now) }
 {
     row.name.as_str() == name
-        && row.key_id == object.key_id
-        && row.annotations == object.annotations
-        && row.source == object.source
+        && (row.key_id == object.key_id
+            && (row.annotations == object.annotations && row.source == object.source))
 }
 
 /// Whether a value of the plugin is stale: another provider is the list's first, or the object isn't as
