@@ -4,8 +4,8 @@ use Rattle.std.specs.Prelude.{◌⊎◌}
 use Rattle.std.specs.List.{filter_map}
 use Rattle.kr_envelope.specs.declared.object.EncryptedObject.{EncryptedObject}
 use Rattle.kr_envelope.specs.Limits.{Reads, raw_in}
-use Rattle.kr_envelope.specs.Messages.{Item, IsItem, encrypted, key_id, source, annotation, kind, other, encrypted_in, last_or, raw_of}
-use Rattle.kr_envelope.specs.Wire.{Spells}
+use Rattle.kr_envelope.specs.Messages.{Item, IsItem, encrypted, key_id, source, annotation, kind, other, encrypted_in, last_or, of_bytes, raw_of}
+use Rattle.kr_envelope.specs.Wire.{IsField, Spells}
 use Rattle.kr_kms.specs.Cache.{AreOpen, CacheState, Fetches}
 use Rattle.kr_kms.specs.Calls.{Link, asked_key}
 use Rattle.kr_kms.specs.Truth.{Truth, TellsOf, key_of}
@@ -35,8 +35,16 @@ last_fits (encrypted content ∷ items) text x n (front, rest, is, more, parts) 
     content_fits : (front content : List ℕ) → IsItem front (encrypted content)
         → length content ≤ length front
     content_fits front content (field, f, means) =
-        let inside = subst (λ g. length content ≤ length front) (sym means) (omega arith) in
-        inside
+        by (subst (λ g. IsField front g) means f)
+      where
+        by : IsField front (of_bytes 1 content) → length content ≤ length front
+        by f = omega (
+          arith,
+          ap (λ (t : List ℕ). length t) f.parts,
+          length-append f.key f.content,
+          ap (λ (t : List ℕ). length t) f.content_is.2,
+          length-append f.content_is.0 content,
+        )
 last_fits (key_id content ∷ items) text x n (front, rest, is, more, parts) l k =
     last_fits items rest x n more (omega (
       arith,
@@ -116,26 +124,26 @@ module _ {L : Type 0} (truth : Truth) (link : L → Link) (row : SeedRow) (name 
   seed_taken links (Err (PluginFailed failed)) is g = absurd g
   seed_taken links (Err NoMemory) is g = asked_none link (name ∷ []) links
 
-  pub source_opened : (olds news : List L) (source : List ℕ) (result : Result (List ℕ) UnsealNo)
-      → (IsSeedOf row name found → ⊥) → OpensSource truth link name found olds (Ok source) news
-      → Gives (source_reading found.kind source path found.encrypted) result
+  pub source_opened : (olds news : List L) (opened : List ℕ) (result : Result (List ℕ) UnsealNo)
+      → (IsSeedOf row name found → ⊥) → OpensSource truth link name found olds (Ok opened) news
+      → Gives (source_reading found.kind opened path found.encrypted) result
       → UnsealsObject truth link row name found path olds result news
-  source_opened olds news source (Ok plain) n o g = record {
-    source = source;
+  source_opened olds news opened (Ok plain) n o g = record {
+    source = opened;
     is = record { published = λ s. absurd (n s); told = λ t. o.0 };
     gives = g;
     asked = o.1;
     unasked = inr n;
   }
-  source_opened olds news source (Err (Refused why)) n o g = record {
-    source = source;
+  source_opened olds news opened (Err (Refused why)) n o g = record {
+    source = opened;
     is = record { published = λ s. absurd (n s); told = λ t. o.0 };
     gives = g;
     asked = o.1;
     unasked = inr n;
   }
-  source_opened olds news source (Err (PluginFailed failed)) n o g = absurd g
-  source_opened olds news source (Err NoMemory) n o g = o.1
+  source_opened olds news opened (Err (PluginFailed failed)) n o g = absurd g
+  source_opened olds news opened (Err NoMemory) n o g = o.1
 
   pub source_fails : (olds news : List L) (why : UnsealNo) → (IsSeedOf row name found → ⊥)
       → OpensSource truth link name found olds (Err why) news
@@ -153,12 +161,12 @@ module _ {L : Type 0} (truth : Truth) (link : L → Link) (name : List ℕ) (fou
   IsFetched result = AsksOne link name (λ old new. Fetches truth link old cache
       (asked_key name found.key_id found.annotations found.source) result new after) olds news
 
-  pub fetched_opens : (source : List ℕ) → IsFetched (Ok source) → AreOpen truth cache.rows
-      → OpensSource truth link name found olds (Ok source) news
-  fetched_opens source a o = (
+  pub fetched_opens : (opened : List ℕ) → IsFetched (Ok opened) → AreOpen truth cache.rows
+      → OpensSource truth link name found olds (Ok opened) news
+  fetched_opens opened a o = (
     a.asks.opens o,
     asked_alone link name (λ old new. Fetches truth link
-        old cache (asked_key name found.key_id found.annotations found.source) (Ok source) new
+        old cache (asked_key name found.key_id found.annotations found.source) (Ok opened) new
         after) olds news a,
   )
 

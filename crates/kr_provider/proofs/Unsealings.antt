@@ -29,6 +29,10 @@ use Rattle.kr_provider.proofs.OneReading.{IsNoPlugin, has_unknown}
 use Rattle.kr_provider.proofs.Places.{stale_by_first, stale_by_plugin}
 use Rattle.kr_provider.proofs.SealedSizes.{found, of_all}
 
+-- an object that was read
+abbrev is_ok_of : EncryptedObject → Result EncryptedObject ObjectNo
+is_ok_of found = Ok found
+
 no_object : (reader : Option Who) (bytes : List ℕ) → IsNoPlugin reader
     → HasObject reader bytes unknown.object
 no_object None bytes n = tt
@@ -103,7 +107,7 @@ module _ {L : Type 0} (truth : Truth) (link : L → Link) (seeds : List SeedRow)
     pub object_refuses : (links : List L) (why : UnsealNo)
         → IsReadBy list bytes (Kms name) body first → IsObjectIn body (Err why)
         → UnsealsBy truth link seeds list path bytes links (Err why) links
-    object_refuses links (Refused why) r (no, s, is, n) =
+    object_refuses links (Refused why) r (no, s, (is, n)) =
         let envelope : Envelope = record { object = Err no; source = None } in
         let there = spelled (Err no) r s (λ e. n (cc)) in record {
           envelope = envelope;
@@ -163,7 +167,8 @@ module _ {L : Type 0} (truth : Truth) (link : L → Link) (seeds : List SeedRow)
           }
         where
           same_seed : (other : EncryptedObject) (q : SeedRow)
-              → Ok found_object ≡ Ok other → seed_of name seeds ≡ Some q → IsSeedOf q name other
+              → is_ok_of found_object ≡ is_ok_of other → seed_of name seeds ≡ Some q
+              → IsSeedOf q name other
               → IsSeedOf row name found_object
           same_seed other q e f is =
               let one : other ≡ found_object = cc in

@@ -86,14 +86,16 @@ fn unseal_in<L: Kms>(
             let Some(row) = seed_of(seeds, name.as_str()) else {
                 unreachable!();
             };
-            by_plugin(alloc, name, row, links, cache, first, path, body)
+            by_plugin(alloc, name.as_str(), row, links, cache, first, path, body)
         }
         _ => {
-            let plain = unseal_by(alloc, reader, adoption.words(reader), path, body)?;
-            Ok(Opened {
-                plain,
-                stale: !first,
-            })
+            match unseal_by(alloc, reader, adoption.words(reader), path, body) {
+                Ok(plain) => Ok(Opened {
+                    plain,
+                    stale: !first,
+                }),
+                Err(why) => Err(why),
+            }
         }
     }
 }
@@ -101,7 +103,7 @@ fn unseal_in<L: Kms>(
 /// What a value holds that the plugin of this name reads.
 fn by_plugin<L: Kms>(
     alloc: Global,
-    name: &Text,
+    name: &str,
     row: &SeedRow,
     links: &mut Links<L>,
     cache: &mut SeedCache,
@@ -119,8 +121,14 @@ fn by_plugin<L: Kms>(
         → UnsealsBy L.truth L.link seeds list path.now bytes links.old result links.new }
     ensures kept { AreOpen L.truth cache.new.rows }
 {
-    let object = read_object(alloc, body)?;
-    let plain = unseal_object(alloc, name, row, &object, links, cache, path)?;
+    let object = match read_object(alloc, body) {
+        Ok(object) => object,
+        Err(why) => return Err(why),
+    };
+    let plain = match unseal_object(alloc, name, row, &object, links, cache, path) {
+        Ok(plain) => plain,
+        Err(why) => return Err(why),
+    };
     let stale = is_stale(first, row, &object);
     Ok(Opened { plain, stale })
 }
@@ -129,7 +137,7 @@ fn by_plugin<L: Kms>(
 /// object's, and else under the source as it was unwrapped.
 fn unseal_object<L: Kms>(
     alloc: Global,
-    name: &Text,
+    name: &str,
     row: &SeedRow,
     object: &EncryptedObject,
     links: &mut Links<L>,
@@ -145,17 +153,20 @@ fn unseal_object<L: Kms>(
     ensures kept { AreOpen L.truth cache.new.rows }
 {
     let encrypted = object.encrypted.as_slice();
-    if is_seed_of(row, name.as_str(), object) {
+    if is_seed_of(row, name, object) {
         return by_source(alloc, object.kind, row.seed.as_slice(), path, encrypted);
     }
-    let source = open_source(alloc, name, object, links, cache)?;
+    let source = match open_source(alloc, name, object, links, cache) {
+        Ok(source) => source,
+        Err(why) => return Err(why),
+    };
     by_source(alloc, object.kind, source.as_slice(), path, encrypted)
 }
 
 /// What the plugin of this name unwraps the source of an object to.
 fn open_source<L: Kms>(
     alloc: Global,
-    name: &Text,
+    name: &str,
     object: &EncryptedObject,
     links: &mut Links<L>,
     cache: &mut SeedCache,
@@ -165,10 +176,10 @@ fn open_source<L: Kms>(
     ensures opened { OpensSource L.truth L.link name.now object.now links.old result links.new }
     ensures kept { AreOpen L.truth cache.new.rows }
 {
-    match links.fetch(cache, name.as_str(), object) {
+    match links.fetch(cache, name, object) {
         Ok(source) => Ok(source),
         Err(KmsNo::NoMemory) => Err(UnsealNo::NoMemory),
-        Err(KmsNo::Failed) => match Text::copy(alloc, name.as_str()) {
+        Err(KmsNo::Failed) => match Text::copy(alloc, name) {
             Ok(name) => Err(UnsealNo::PluginFailed { name }),
             Err(_) => Err(UnsealNo::NoMemory),
         },

@@ -4,24 +4,24 @@ use Rattle.kr_provider.specs.Unsealing.{UnsealsBy}
 use Rattle.kr_provider.proofs.Unsealings.{object_fails, object_opens, object_refuses}
 use Rattle.kr_provider.proofs.values.by_plugin.Goals as goal
 
-pub returns-in_err-object-clause-opened : goal.returns-in_err-object-clause-opened
-returns-in_err-object-clause-opened g c = λ seeds list bytes is_row r.
+pub returns-in-Err-clause-opened : goal.returns-in-Err-clause-opened
+returns-in-Err-clause-opened g c = λ seeds list bytes is_row r.
     object_refuses g.L.Kms.truth g.L.Kms.link seeds list c.args.path.now bytes c.args.name.now
-    c.args.body.now c.args.first c.args.links.now _ r c.in_err-object.ensures.is
+    c.args.body.now c.args.first c.args.links.now _ r c.in-Err.ensures.is
 
-pub returns-in_err-plain-clause-opened : goal.returns-in_err-plain-clause-opened
-returns-in_err-plain-clause-opened g c = λ seeds list bytes is_row r.
+pub returns-in-Err-unseal_object-clause-opened : goal.returns-in-Err-unseal_object-clause-opened
+returns-in-Err-unseal_object-clause-opened g c = λ seeds list bytes is_row r.
     object_fails g.L.Kms.truth g.L.Kms.link seeds list c.args.path.now bytes c.args.name.now
-    c.args.body.now c.args.first c.args.row.now is_row c.in_ok-object.object r
-    c.in_ok-object.ensures.is c.args.links.now c.unseal_object-plain.new.links _
-    c.in_err-plain.ensures.opened
+    c.args.body.now c.args.first c.args.row.now is_row c.in-Ok.object r
+    c.in-Ok.ensures.is c.args.links.now c.unseal_object.new.links _
+    c.in-Err-unseal_object.ensures.opened
 
 pub returns-clause-opened : goal.returns-clause-opened
 returns-clause-opened g c = λ seeds list bytes is_row r.
     subst (λ s. UnsealsBy g.L.Kms.truth g.L.Kms.link seeds list c.args.path.now bytes
-    c.args.links.now (Ok (record { plain = c.in_ok-plain.plain; stale = s }))
-    c.unseal_object-plain.new.links) (sym c.is_stale-stale.ensures)
+    c.args.links.now (Ok (record { plain = c.in-Ok-unseal_object.plain; stale = s }))
+    c.unseal_object.new.links) (sym c.is_stale-stale.ensures)
     (object_opens g.L.Kms.truth g.L.Kms.link seeds list c.args.path.now bytes c.args.name.now
-    c.args.body.now c.args.first c.args.row.now is_row c.in_ok-object.object r
-    c.in_ok-object.ensures.is c.args.links.now c.unseal_object-plain.new.links
-    c.in_ok-plain.plain c.in_ok-plain.ensures.opened)
+    c.args.body.now c.args.first c.args.row.now is_row c.in-Ok.object r
+    c.in-Ok.ensures.is c.args.links.now c.unseal_object.new.links
+    c.in-Ok-unseal_object.plain c.in-Ok-unseal_object.ensures.opened)

@@ -32,7 +32,7 @@ invariant_of-self g c =
     distinct_stay g.L.Kms.link (c.args.name.now ∷ []) items news
     (asked_alone g.L.Kms.link c.args.name.now same items news
     (asks_at g.L.Kms.link c.args.name.now same items news c.in-Some.at c.index_mut.result.now
-    c.fetch.new.link place (c.index_mut.ensures.value c.index_mut.result.now) refl
+    c.fetch.new.link place c.index_mut.ensures.value refl
     c.fetch.ensures.asks.same c.fetch.ensures.asks.same)) c.self.invariant
 
 pub returns : goal.returns
@@ -45,9 +45,9 @@ returns g c =
     let news = slice_set items c.in-Some.at c.fetch.new.link in
     subst (λ l. AsksOne g.L.Kms.link c.args.name.now asks l news) c.self.view_is
     (asks_at g.L.Kms.link c.args.name.now asks items news c.in-Some.at c.index_mut.result.now
-    c.fetch.new.link place (c.index_mut.ensures.value c.index_mut.result.now) refl
+    c.fetch.new.link place c.index_mut.ensures.value refl
     c.fetch.ensures.asks.same (subst (λ k. Fetches g.L.Kms.truth g.L.Kms.link c.index_mut.result.now c.args.cache.now k
     c.fetch.result c.fetch.new.link c.fetch.new.self) (λ i. asked_key
     (place_named g.L.Kms.link c.args.name.now items c.in-Some.at c.index_mut.result.now place
-    (c.index_mut.ensures.value c.index_mut.result.now) i) (c.as_str.ensures i)
+    c.index_mut.ensures.value i) (c.as_str.ensures i)
     c.args.object.now.annotations (c.as_slice-2.ensures i)) c.fetch.ensures))

@@ -32,7 +32,7 @@ invariant_of-self g c =
     distinct_stay g.L.Kms.link (c.args.name.now ∷ []) items news
     (asked_alone g.L.Kms.link c.args.name.now same items news
     (asks_at g.L.Kms.link c.args.name.now same items news c.in-Some.at c.index_mut.result.now
-    c.make_seed.new.link place (c.index_mut.ensures.value c.index_mut.result.now) refl
+    c.make_seed.new.link place c.index_mut.ensures.value refl
     c.make_seed.ensures.same c.make_seed.ensures.same)) c.self.invariant
 
 pub returns-clause-made : goal.returns-clause-made
@@ -45,5 +45,5 @@ returns-clause-made g c =
     let news = slice_set items c.in-Some.at c.make_seed.new.link in
     subst (λ l. AsksOne g.L.Kms.link c.args.name.now asks l news) c.self.view_is
     (asks_at g.L.Kms.link c.args.name.now asks items news c.in-Some.at c.index_mut.result.now
-    c.make_seed.new.link place (c.index_mut.ensures.value c.index_mut.result.now) refl
+    c.make_seed.new.link place c.index_mut.ensures.value refl
     c.make_seed.ensures.same c.make_seed.ensures.made)
