@@ -14,8 +14,11 @@ use Rattle.kr_config.specs.Kept.{Row, keeps, keeps_row, plugins_in}
 use Rattle.kr_config.specs.Lists.{first_list, list_of}
 use Rattle.kr_config.specs.Patterns.{matches}
 use Rattle.kr_config.specs.Providers.{is_provider, plugin_of, plugins_among}
+use Rattle.kr_kms.specs.Calls.{Link}
+use Rattle.kr_kms.specs.Truth.{Truth}
 use Rattle.kr_kms.specs.declared.seeds.SeedRow.{SeedRow}
 use Rattle.kr_provider.specs.Publication.{HasSeed, IsPublished, Publication, seed_of}
+use Rattle.kr_provider.specs.Publishing.{AreSeedsOf}
 use Rattle.kr_provider.specs.Readers.{writer_of}
 use Rattle.kr_provider.specs.inner.Scan.{AreNamedIn, HaveSeeds, IsNamedIn}
 use Rattle.kr_provider.proofs.Booleans.{and_left, and_right}
@@ -169,3 +172,16 @@ pub writer_seeded : (seeds : List SeedRow) (list : List Who) → HaveSeeds seeds
     → HasSeed seeds (writer_of list)
 writer_seeded seeds [] a = tt
 writer_seeded seeds (who ∷ rest) a = a.0
+
+-- ---- what was made for all names is published
+
+pub all_published : {L : Type 0} (truth : Truth) (link : L → Link) (links : List L)
+    (rows : List Row) (seeds : List SeedRow) → IsTrue (keeps rows)
+    → AreSeedsOf truth link links (plugins_in rows) (λ name. true) seeds
+    → IsPublished (record { rows = rows; seeds = seeds })
+all_published truth link links rows seeds k s = record {
+  kept = k;
+  ascend = s.ascend;
+  names = λ name. (λ c. ((s.named name).0 c).0, λ c. (s.named name).1 (c, refl));
+  seeds = s.rows;
+}

@@ -15,7 +15,7 @@ use crate::links::Links;
 use crate::making::refusal_at;
 use crate::published::{Published, publish};
 use crate::refusal::{Opened, PagesFull, PublishNo, SealNo, UnsealNo};
-use crate::sealing::seal_by;
+use crate::sealing::{seal_by, tell_bytes};
 use crate::values::unseal_for;
 use kr_base::{Bytes, Dice, NoMemory, Shared, Text};
 use kr_config::Settings;
@@ -238,6 +238,7 @@ fn seal_for<D: Dice>(
     let published = adoption.published();
     let writer = published.writer_for(resource);
     let words = adoption.words(writer);
+    tell_bytes(plain);
     seal_by(alloc, writer, published.seeds(), words, path, plain, dice)
 }
 

@@ -34,7 +34,10 @@ pub(crate) fn make_seeds<L: Kms, D: Dice>(
     let mut made = List::new(alloc);
     let mut after = "";
     while let Some(name) = settings.next_plugin(after) {
-        let row = make_one(alloc, name, links, dice)?;
+        let row = match make_one(alloc, name, links, dice) {
+            Ok(row) => row,
+            Err(why) => return Err(why),
+        };
         match made.push(row) {
             Ok(()) => {}
             Err(_) => return Err(PublishNo::NoMemory),

@@ -54,7 +54,6 @@ pub(crate) fn seal_by<D: Dice>(
     requires path { length path.now ≤ path_limit }
     ensures sealed { Seals D.left D.count seeds.now who.now path.now plain.now dice.old dice.new
         result }
-    ensures plain_is { All (λ byte. byte < 256) plain.now }
     ensures later { D.count dice.old ≤ D.count dice.new }
 {
     if plain.len() as u64 > DATA_LIMIT {
@@ -74,6 +73,11 @@ pub(crate) fn seal_by<D: Dice>(
         }
     }
 }
+
+/// Tells that each byte is below 256.
+pub(crate) fn tell_bytes(bytes: &[u8])
+    ensures { All (λ byte. byte < 256) bytes.now }
+{}
 
 /// The data as they stand, unless they begin as a value of another provider does.
 fn bare(alloc: Global, plain: &[u8]) -> Result<Bytes, SealNo>
