@@ -107,11 +107,11 @@ module _ {L : Type 0} (truth : Truth) (link : L → Link) (seeds : List SeedRow)
     pub object_refuses : (links : List L) (why : UnsealNo)
         → IsReadBy list bytes (Kms name) body first → IsObjectIn body (Err why)
         → UnsealsBy truth link seeds list path bytes links (Err why) links
-    object_refuses links (Refused why) r (no, s, (is, n)) =
-        let envelope : Envelope = record { object = Err no; source = None } in
-        let there = spelled (Err no) r s (λ e. n (cc)) in record {
+    object_refuses links (Refused why) r (breach, s, (is, n)) =
+        let envelope : Envelope = record { object = Err breach; source = None } in
+        let there = spelled (Err breach) r s (λ e. n (cc)) in record {
           envelope = envelope;
-          object = subst (λ o. HasObject o bytes (Err no)) (sym r.reader) there;
+          object = subst (λ o. HasObject o bytes (Err breach)) (sym r.reader) there;
           published = subst (λ o. TakesSeed seeds o envelope) (sym r.reader)
               (λ found row e. absurd (cc));
           told = λ t all.

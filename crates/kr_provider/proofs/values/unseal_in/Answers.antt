@@ -12,6 +12,6 @@ returns-in_default-clause-opened g c = no_reader g.L.Kms.truth g.L.Kms.link c.ar
 pub unreachable-requires : goal.unreachable-requires
 unreachable-requires g c =
     let reads = reader_reads c.args.list.now c.args.bytes.now c.in-Some.place
-        c.index-list-place.result (sym c.in-Some.ensures) c.index-list-place.is in
+    c.index-list-place.result (sym c.in-Some.ensures) c.index-list-place.is in
     let not = c.in_default-body_of.ensures in
     cc
