@@ -1,18 +1,13 @@
 //! kmsrest: the storage encryption layer of the Kubernetes API server, as a command line tool.
 #![tactic(auto)]
 
-use files::SystemFiles;
 use kr_base::write_all;
+use kr_edge::{RealWorld, StdSink, StdSource, SystemFiles};
 use kr_top::run;
-use real_world::RealWorld;
 use std::io::ErrorKind;
 use std::process::ExitCode;
-use streams::{StdSink, StdSource};
 use words::words;
 
-mod files;
-mod real_world;
-mod streams;
 mod words;
 
 fn main(rt: HostRuntime) -> ExitCode {

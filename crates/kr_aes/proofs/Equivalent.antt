@@ -4,7 +4,7 @@ use Rattle.std.proofs.lemmas.Bool.Decides.{nat_tests}
 use Rattle.std.proofs.lemmas.List.FromFn.{get_or-map-range_with_len}
 use Rattle.kr_aes.specs.declared.Rounds.{Rounds}
 use Rattle.kr_aes.specs.Field.{polynomial_product, product, remainder}
-use Rattle.kr_aes.specs.Cipher.{add_round_key, mixed, round_count, word_byte}
+use Rattle.kr_aes.specs.Cipher.{add_round_key, matrix_product, round_count, word_byte}
 use Rattle.kr_aes.specs.InverseCipher.{after_inverse_rounds, inverse_cipher, inverse_mix_columns, inverse_shift_rows, inverse_sub_bytes}
 use Rattle.kr_aes.specs.EquivalentInverse.{after_equivalent_rounds, equivalent_inverse_cipher, inverse_mixed_word, inverse_schedule, inverse_word}
 use Rattle.kr_aes.proofs.Blocks.{word_byte-lt}
@@ -73,7 +73,7 @@ sum_and_key x y z w p q u v k e =
 pub key_after_mixing : (words inverse : List ℕ) (round : ℕ) (state : List ℕ)
     → ((i : ℕ) → i < 4 → slice_index inverse (4 * round + i) ≡ inverse_mixed_word (slice_index words (4 * round + i)))
     → add_round_key inverse round (inverse_mix_columns state) ≡ inverse_mix_columns (add_round_key words round state)
-unfolding add_round_key mixed sum4
+unfolding add_round_key matrix_product sum4
 key_after_mixing words inverse round state is =
     let byte : (i row : ℕ) → i < 4 → word_byte (slice_index inverse (4 * round + i)) row
     ≡ slice_index (word_sum (slice_index words (4 * round + i)) 0 ∷ word_sum (slice_index words (4 * round + i)) 1 ∷ word_sum (slice_index words (4 * round + i)) 2 ∷ word_sum (slice_index words (4 * round + i)) 3 ∷ []) row =

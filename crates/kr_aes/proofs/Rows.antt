@@ -1,8 +1,8 @@
 -- Blocks cell by cell, from the words of their columns.
 use Rattle.std.proofs.Common.{◌≡◌, ℕ, ◌+◌, ◌*◌, List, [], ◌∷◌, slice_index, add-zero, lit<}
-use Rattle.kr_aes.specs.Cipher.{add_round_key, mix_columns, mixed, sbox, shift_rows, sub_bytes}
+use Rattle.kr_aes.specs.Cipher.{add_round_key, mix_columns, matrix_product, sbox, shift_rows, sub_bytes}
 use Rattle.kr_aes.specs.InverseCipher.{inverse_mix_columns, inverse_sbox, inverse_shift_rows, inverse_sub_bytes}
-use Rattle.kr_aes.specs.inner.Columns.{IsKeyed, block_of_columns, boxed, forward_byte, inverse_byte}
+use Rattle.kr_aes.specs.inner.Columns.{IsKeyed, block_of_columns, sbox_column, forward_byte, inverse_byte}
 
 -- blocks of the same cells
 pub same16 : {x0 x1 x2 x3 x4 x5 x6 x7 x8 x9 x10 x11 x12 x13 x14 x15 y0 y1 y2 y3 y4 y5 y6 y7 y8 y9 y10 y11 y12 y13 y14 y15 : ℕ}
@@ -17,16 +17,16 @@ pub forward_columns : (words : List ℕ) (round a b c d p q r s : ℕ)
     → IsKeyed (forward_byte c d a b) (slice_index words (4 * round + 2)) r
     → IsKeyed (forward_byte d a b c) (slice_index words (4 * round + 3)) s
     → block_of_columns (p ∷ q ∷ r ∷ s ∷ []) ≡ add_round_key words round (mix_columns (shift_rows (sub_bytes (block_of_columns (a ∷ b ∷ c ∷ d ∷ [])))))
-unfolding add_round_key mixed shift_rows sub_bytes
+unfolding add_round_key matrix_product shift_rows sub_bytes
 forward_columns words round a b c d p q r s hp hq hr hs =
     let at : 4 * round + 0 ≡ 4 * round = add-zero (4 * round) in
     rw at (same16 (hp 0 (lit< tt)) (hp 1 (lit< tt)) (hp 2 (lit< tt)) (hp 3 (lit< tt)) (hq 0 (lit< tt)) (hq 1 (lit< tt)) (hq 2 (lit< tt)) (hq 3 (lit< tt)) (hr 0 (lit< tt)) (hr 1 (lit< tt)) (hr 2 (lit< tt)) (hr 3 (lit< tt)) (hs 0 (lit< tt)) (hs 1 (lit< tt)) (hs 2 (lit< tt)) (hs 3 (lit< tt)))
 
 pub last_forward_columns : (words : List ℕ) (round a b c d p q r s : ℕ)
-    → IsKeyed (slice_index (boxed sbox a b c d)) (slice_index words (4 * round)) p
-    → IsKeyed (slice_index (boxed sbox b c d a)) (slice_index words (4 * round + 1)) q
-    → IsKeyed (slice_index (boxed sbox c d a b)) (slice_index words (4 * round + 2)) r
-    → IsKeyed (slice_index (boxed sbox d a b c)) (slice_index words (4 * round + 3)) s
+    → IsKeyed (slice_index (sbox_column sbox a b c d)) (slice_index words (4 * round)) p
+    → IsKeyed (slice_index (sbox_column sbox b c d a)) (slice_index words (4 * round + 1)) q
+    → IsKeyed (slice_index (sbox_column sbox c d a b)) (slice_index words (4 * round + 2)) r
+    → IsKeyed (slice_index (sbox_column sbox d a b c)) (slice_index words (4 * round + 3)) s
     → block_of_columns (p ∷ q ∷ r ∷ s ∷ []) ≡ add_round_key words round (shift_rows (sub_bytes (block_of_columns (a ∷ b ∷ c ∷ d ∷ []))))
 unfolding add_round_key shift_rows sub_bytes
 last_forward_columns words round a b c d p q r s hp hq hr hs =
@@ -39,16 +39,16 @@ pub inverse_columns : (words : List ℕ) (round a b c d p q r s : ℕ)
     → IsKeyed (inverse_byte c b a d) (slice_index words (4 * round + 2)) r
     → IsKeyed (inverse_byte d c b a) (slice_index words (4 * round + 3)) s
     → block_of_columns (p ∷ q ∷ r ∷ s ∷ []) ≡ add_round_key words round (inverse_mix_columns (inverse_shift_rows (inverse_sub_bytes (block_of_columns (a ∷ b ∷ c ∷ d ∷ [])))))
-unfolding add_round_key mixed inverse_shift_rows inverse_sub_bytes
+unfolding add_round_key matrix_product inverse_shift_rows inverse_sub_bytes
 inverse_columns words round a b c d p q r s hp hq hr hs =
     let at : 4 * round + 0 ≡ 4 * round = add-zero (4 * round) in
     rw at (same16 (hp 0 (lit< tt)) (hp 1 (lit< tt)) (hp 2 (lit< tt)) (hp 3 (lit< tt)) (hq 0 (lit< tt)) (hq 1 (lit< tt)) (hq 2 (lit< tt)) (hq 3 (lit< tt)) (hr 0 (lit< tt)) (hr 1 (lit< tt)) (hr 2 (lit< tt)) (hr 3 (lit< tt)) (hs 0 (lit< tt)) (hs 1 (lit< tt)) (hs 2 (lit< tt)) (hs 3 (lit< tt)))
 
 pub last_inverse_columns : (words : List ℕ) (round a b c d p q r s : ℕ)
-    → IsKeyed (slice_index (boxed inverse_sbox a d c b)) (slice_index words (4 * round)) p
-    → IsKeyed (slice_index (boxed inverse_sbox b a d c)) (slice_index words (4 * round + 1)) q
-    → IsKeyed (slice_index (boxed inverse_sbox c b a d)) (slice_index words (4 * round + 2)) r
-    → IsKeyed (slice_index (boxed inverse_sbox d c b a)) (slice_index words (4 * round + 3)) s
+    → IsKeyed (slice_index (sbox_column inverse_sbox a d c b)) (slice_index words (4 * round)) p
+    → IsKeyed (slice_index (sbox_column inverse_sbox b a d c)) (slice_index words (4 * round + 1)) q
+    → IsKeyed (slice_index (sbox_column inverse_sbox c b a d)) (slice_index words (4 * round + 2)) r
+    → IsKeyed (slice_index (sbox_column inverse_sbox d c b a)) (slice_index words (4 * round + 3)) s
     → block_of_columns (p ∷ q ∷ r ∷ s ∷ []) ≡ add_round_key words round (inverse_shift_rows (inverse_sub_bytes (block_of_columns (a ∷ b ∷ c ∷ d ∷ []))))
 unfolding add_round_key inverse_shift_rows inverse_sub_bytes
 last_inverse_columns words round a b c d p q r s hp hq hr hs =

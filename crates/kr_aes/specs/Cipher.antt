@@ -67,11 +67,11 @@ column_sum factors state row column =
     (product (slice_index factors 3) (cell state ((row + 3) % 4) column))
 
 -- each column times the matrix with these factors (4.3)
-unfoldable pub mixed : List ℕ → List ℕ → List ℕ
-mixed factors state = state_of (column_sum factors state)
+unfoldable pub matrix_product : List ℕ → List ℕ → List ℕ
+matrix_product factors state = state_of (column_sum factors state)
 
 abbrev pub mix_columns : List ℕ → List ℕ
-mix_columns state = mixed (2 ∷ 3 ∷ 1 ∷ 1 ∷ []) state
+mix_columns state = matrix_product (2 ∷ 3 ∷ 1 ∷ 1 ∷ []) state
 
 -- ---- AddRoundKey (5.1.4)
 
@@ -101,4 +101,5 @@ cipher words rounds block =
 -- ---- a law for callers: a cipher of a block is a block
 
 abbrev pub CipherGivesBlocks : Type 0
-CipherGivesBlocks = (words : List ℕ) (rounds : Rounds) (block : List ℕ) → IsBlock (cipher words rounds block)
+CipherGivesBlocks = (words : List ℕ) (rounds : Rounds) (block : List ℕ)
+    → IsBlock (cipher words rounds block)

@@ -1,6 +1,6 @@
--- The field of 256 elements (FIPS 197, as updated in 2023, section 4). A byte is the polynomial over
--- two elements whose coefficient of x^i is bit i. The sum of two polynomials is their exclusive or,
--- `bit_xor` (4.1).
+-- The field of 256 elements (FIPS 197, as updated in 2023, section 4). A byte is the polynomial
+-- over two elements whose coefficient of x^i is bit i. The sum of two polynomials is their
+-- exclusive or, `bit_xor` (4.1).
 use Rattle.std.specs.Prelude.{◌≡◌, ℕ, zero, suc, ◌+◌, ◌*◌, ◌^◌, ◌<◌, ◌==◌, bit_xor, find, unwrap_or}
 use Rattle.std.specs.Int.{bit_at}
 use Rattle.std.specs.List.{range_with_len}
@@ -11,11 +11,12 @@ unfoldable pub polynomial_product : ℕ → ℕ → ℕ → ℕ
 polynomial_product zero a b = 0
 polynomial_product (suc i) a b = bit_xor (polynomial_product i a b) (bit_at a i * (b * 2 ^ i))
 
--- the remainder of a polynomial of degree below n + d by a modulus of degree d: from the highest term
--- down, an x^(i + d) in it is taken away by the modulus times x^i (4.2)
+-- the remainder of a polynomial of degree below n + d by a modulus of degree d: from the highest
+-- term down, an x^(i + d) in it is taken away by the modulus times x^i (4.2)
 unfoldable pub remainder : ℕ → ℕ → ℕ → ℕ → ℕ
 remainder divisor d zero p = p
-remainder divisor d (suc i) p = remainder divisor d i (bit_xor p (bit_at p (i + d) * (divisor * 2 ^ i)))
+remainder divisor d (suc i) p =
+    remainder divisor d i (bit_xor p (bit_at p (i + d) * (divisor * 2 ^ i)))
 
 -- x^8 + x^4 + x^3 + x + 1, which no two polynomials of lower degree multiply to (4.2)
 abbrev pub modulus : ℕ

@@ -2,7 +2,7 @@
 use Rattle.std.specs.Prelude.{◌≡◌, ℕ, zero, suc, ◌+◌, ◌-◌, ◌%◌, ◌==◌, List, [], ◌∷◌, find, unwrap_or}
 use Rattle.std.specs.List.{range_with_len}
 use Rattle.kr_aes.specs.declared.Rounds.{Rounds}
-use Rattle.kr_aes.specs.Cipher.{IsBlock, add_round_key, cell, cipher, mixed, round_count, sbox, state_of}
+use Rattle.kr_aes.specs.Cipher.{IsBlock, add_round_key, cell, cipher, matrix_product, round_count, sbox, state_of}
 
 -- ---- InvShiftRows (5.3.1): row r goes r cells to the right, in a ring
 
@@ -21,7 +21,7 @@ inverse_sub_bytes state = state_of (λ row column. inverse_sbox (cell state row 
 -- ---- InvMixColumns (5.3.3)
 
 abbrev pub inverse_mix_columns : List ℕ → List ℕ
-inverse_mix_columns state = mixed (0xe ∷ 0xb ∷ 0xd ∷ 0x9 ∷ []) state
+inverse_mix_columns state = matrix_product (0xe ∷ 0xb ∷ 0xd ∷ 0x9 ∷ []) state
 
 -- ---- InvCipher (5.3)
 

@@ -4,11 +4,12 @@ ghost use Rattle.std.specs.Prelude.{◌≡◌, ℕ, ◌<◌, List, [], ◌∷◌
 ghost use Rattle.kr_aes.specs.Cipher.{add_round_key, mix_columns, sbox, shift_rows, sub_bytes};
 ghost use Rattle.kr_aes.specs.EquivalentInverse.{inverse_mixed_word};
 ghost use Rattle.kr_aes.specs.InverseCipher.{inverse_mix_columns, inverse_sbox, inverse_shift_rows, inverse_sub_bytes};
-ghost use Rattle.kr_aes.specs.inner.Columns.{IsKeyed, block_of_columns, boxed, forward_byte, inverse_byte};
+ghost use Rattle.kr_aes.specs.inner.Columns.{IsKeyed, block_of_columns, sbox_column, forward_byte, inverse_byte};
 
 use crate::cells;
 
 // The word of the bytes, added to the key's.
+#[inline(always)]
 fn keyed(a: u8, b: u8, c: u8, d: u8, key: u32) -> u32
     ensures { IsKeyed (slice_index (a ∷ b ∷ c ∷ d ∷ [])) key result }
 {
@@ -16,6 +17,7 @@ fn keyed(a: u8, b: u8, c: u8, d: u8, key: u32) -> u32
 }
 
 // The column that a round makes of one byte of each word.
+#[inline(always)]
 fn forward(a: u32, b: u32, c: u32, d: u32, key: u32) -> u32
     ensures { IsKeyed (forward_byte a b c d) key result }
 {
@@ -27,8 +29,9 @@ fn forward(a: u32, b: u32, c: u32, d: u32, key: u32) -> u32
 }
 
 // The same in the last round, which doesn't mix columns.
+#[inline(always)]
 fn last_forward(a: u32, b: u32, c: u32, d: u32, key: u32) -> u32
-    ensures { IsKeyed (slice_index (boxed sbox a b c d)) key result }
+    ensures { IsKeyed (slice_index (sbox_column sbox a b c d)) key result }
 {
     keyed(
         cells::sbox(a.to_be_bytes()[0]),
@@ -40,6 +43,7 @@ fn last_forward(a: u32, b: u32, c: u32, d: u32, key: u32) -> u32
 }
 
 // The column that a round of the equivalent inverse cipher makes of one byte of each word.
+#[inline(always)]
 fn inverse(a: u32, b: u32, c: u32, d: u32, key: u32) -> u32
     ensures { IsKeyed (inverse_byte a b c d) key result }
 {
@@ -51,8 +55,9 @@ fn inverse(a: u32, b: u32, c: u32, d: u32, key: u32) -> u32
 }
 
 // The same in the last round, which doesn't mix columns.
+#[inline(always)]
 fn last_inverse(a: u32, b: u32, c: u32, d: u32, key: u32) -> u32
-    ensures { IsKeyed (slice_index (boxed inverse_sbox a b c d)) key result }
+    ensures { IsKeyed (slice_index (sbox_column inverse_sbox a b c d)) key result }
 {
     keyed(
         cells::inverse_sbox(a.to_be_bytes()[0]),
@@ -64,6 +69,7 @@ fn last_inverse(a: u32, b: u32, c: u32, d: u32, key: u32) -> u32
 }
 
 // The columns of a block with a round's key added.
+#[inline(always)]
 pub(crate) fn first(words: &[u32; 60], round: usize, block: &[u8; 16]) -> [u32; 4]
     requires { round < 15 }
     ensures { block_of_columns result ≡ add_round_key words.now round block.now }
@@ -88,6 +94,7 @@ pub(crate) fn first(words: &[u32; 60], round: usize, block: &[u8; 16]) -> [u32; 
     ]
 }
 
+#[inline(always)]
 pub(crate) fn forward_round(words: &[u32; 60], round: usize, state: [u32; 4]) -> [u32; 4]
     requires { round < 15 }
     ensures { block_of_columns result ≡ add_round_key words.now round
@@ -102,6 +109,7 @@ pub(crate) fn forward_round(words: &[u32; 60], round: usize, state: [u32; 4]) ->
     ]
 }
 
+#[inline(always)]
 pub(crate) fn last_forward_round(words: &[u32; 60], round: usize, state: [u32; 4]) -> [u32; 4]
     requires { round < 15 }
     ensures { block_of_columns result ≡ add_round_key words.now round
@@ -116,6 +124,7 @@ pub(crate) fn last_forward_round(words: &[u32; 60], round: usize, state: [u32; 4
     ]
 }
 
+#[inline(always)]
 pub(crate) fn inverse_round(words: &[u32; 60], round: usize, state: [u32; 4]) -> [u32; 4]
     requires { round < 15 }
     ensures { block_of_columns result ≡ add_round_key words.now round
@@ -130,6 +139,7 @@ pub(crate) fn inverse_round(words: &[u32; 60], round: usize, state: [u32; 4]) ->
     ]
 }
 
+#[inline(always)]
 pub(crate) fn last_inverse_round(words: &[u32; 60], round: usize, state: [u32; 4]) -> [u32; 4]
     requires { round < 15 }
     ensures { block_of_columns result ≡ add_round_key words.now round
@@ -144,6 +154,7 @@ pub(crate) fn last_inverse_round(words: &[u32; 60], round: usize, state: [u32; 4
     ]
 }
 
+#[inline(always)]
 pub(crate) fn block_of(columns: [u32; 4]) -> [u8; 16]
     ensures { result ≡ block_of_columns columns }
 {

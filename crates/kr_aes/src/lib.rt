@@ -78,6 +78,7 @@ pub fn expand(key: &[u8], words: &mut [u32; 60]) -> Result<Rounds, KeyLength>
 
 /// Puts the cipher of a block in its place (FIPS 197 section 5.1). The words and the rounds are
 /// what `expand` gave for one key.
+#[inline(always)]
 pub fn encrypt_block(words: &[u32; 60], rounds: Rounds, block: &mut [u8; 16])
     requires { IsSchedule words.now rounds }
     ensures { block.new ≡ cipher words.now rounds block.old }
@@ -92,8 +93,8 @@ pub fn encrypt_block(words: &[u32; 60], rounds: Rounds, block: &mut [u8; 16])
     *block = columns::block_of(ciphered);
 }
 
-/// Writes the schedule of the equivalent inverse cipher (FIPS 197 section 5.3.5), by which many blocks
-/// are deciphered, from a key's words.
+/// Writes the schedule of the equivalent inverse cipher (FIPS 197 section 5.3.5), by which many
+/// blocks are deciphered, from a key's words.
 pub fn invert(words: &[u32; 60], rounds: Rounds, inverse: &mut [u32; 60])
     ensures { inverse.new ≡ inverse_schedule words.now rounds }
 {
@@ -104,8 +105,9 @@ pub fn invert(words: &[u32; 60], rounds: Rounds, inverse: &mut [u32; 60])
     }
 }
 
-/// Puts the inverse cipher of a block in its place, by the equivalent inverse cipher. The schedule is
-/// what `invert` made.
+/// Puts the inverse cipher of a block in its place, by the equivalent inverse cipher. The schedule
+/// is what `invert` made.
+#[inline(always)]
 pub fn decrypt_block_by_inverse(inverse: &[u32; 60], rounds: Rounds, block: &mut [u8; 16])
     ensures equivalent { block.new ≡ equivalent_inverse_cipher inverse.now rounds block.old }
     ensures inverse { (words : List ℕ) → inverse.now ≡ inverse_schedule words rounds

@@ -1,5 +1,5 @@
-//! The cipher and the inverse cipher byte by byte, as the standard writes them: what tests compare the
-//! tables with.
+//! The cipher and the inverse cipher byte by byte, as the standard writes them: what tests compare
+//! the tables with.
 
 ghost use Rattle.std.specs.Prelude.{◌≡◌, ℕ, List};
 ghost use Rattle.kr_aes.specs.Cipher.{IsBlock, cipher};

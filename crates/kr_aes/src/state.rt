@@ -1,7 +1,7 @@
 //! The transformations of the state (FIPS 197 sections 5.1.1 to 5.1.4).
 
 ghost use Rattle.std.specs.Prelude.{◌≡◌, ◌<◌, ◌≤◌, ◌+◌, ◌*◌, ◌/◌, ◌%◌};
-ghost use Rattle.kr_aes.specs.Cipher.{add_round_key, column_sum, mix_columns, mixed, sbox, shift_rows, sub_bytes};
+ghost use Rattle.kr_aes.specs.Cipher.{add_round_key, column_sum, mix_columns, matrix_product, sbox, shift_rows, sub_bytes};
 
 use crate::field;
 
@@ -46,7 +46,7 @@ fn column_sum(factors: &[u8; 4], state: &[u8; 16], row: usize, column: usize) ->
 }
 
 pub(crate) fn mix(factors: &[u8; 4], block: &mut [u8; 16])
-    ensures { block.new ≡ mixed factors.now block.old }
+    ensures { block.new ≡ matrix_product factors.now block.old }
 {
     let old = *block;
     for i in 0..16 {

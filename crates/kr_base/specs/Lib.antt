@@ -1,8 +1,10 @@
+-- The definitions that contracts name.
 pub mod Faults
 pub mod Numbering
 pub mod Told
 pub mod Streams
 pub mod Tapes
+pub mod Lines
 pub mod Pairs
 pub mod Limits
 pub mod Rules

@@ -1,1 +1,2 @@
+-- Types that may hold the type that holds them.
 pub mod list

@@ -1,1 +1,2 @@
+-- Definitions that only contracts of the crate's own functions name.
 pub mod Places

@@ -27,6 +27,13 @@ impl FaultCount {
         FaultCount { faults: 0 }
     }
 
+    /// There were so many before.
+    pub fn from_count(faults: u64) -> FaultCount
+        ensures { result ≡ faults }
+    {
+        FaultCount { faults }
+    }
+
     /// Counts one more fault.
     pub fn rise(&mut self)
         ensures next { self.new ≡ next_number self.old }

@@ -1,3 +1,4 @@
+-- The lemmas of kr_config.
 pub mod FirstLists
 pub mod Places
 pub mod ClassTables

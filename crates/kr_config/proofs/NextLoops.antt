@@ -1,5 +1,6 @@
 -- One part more of what a loop goes over.
-use Rattle.std.proofs.Common.{◌≡◌, Option, None, subst, ℕ, ◌+◌, ◌<◌, ◌≤◌, List, [], ◌∷◌, ◌++◌, length, get_or, take, refl, sym, ap, ◌∙◌}
+use Rattle.std.proofs.Common.{◌≡◌, Option, None, subst, ℕ, ◌+◌, ◌<◌, ◌≤◌, List, [], ◌∷◌, ◌++◌}
+use Rattle.std.proofs.Common.{length, get_or, take, refl, sym, ap, ◌∙◌}
 use Rattle.std.specs.List.{flat_map}
 use Rattle.std.proofs.lemmas.List.{take_all, take_more, flat_map_more}
 use Rattle.kr_config.specs.declared.settings.Entry.{Entry}
@@ -13,57 +14,91 @@ use Rattle.kr_config.specs.Classes.{class_cmp, class_made, classes_made, classes
 use Rattle.kr_config.specs.Nexts.{earlier, name_cmp, IsNextName, IsNextClass}
 use Rattle.kr_config.proofs.Nexts.{names_joined, no_name, classes_joined, no_class}
 
-more_parts : {X Y : Type 0} (f : X → List Y) (xs : List X) (i : ℕ) (x : X) → i < length xs → x ≡ get_or xs i x → flat_map f (take i xs) ++ f x ≡ flat_map f (take (i + 1) xs)
-more_parts f xs i x h is = flat_map_more f [] (take i xs) x ∙ ap (λ y. flat_map f (take i xs ++ y ∷ [])) is ∙ ap (flat_map f) (sym (take_more xs i x h))
+more_parts : {X Y : Type 0} (f : X → List Y) (xs : List X) (i : ℕ) (x : X) → i < length xs
+    → x ≡ get_or xs i x → flat_map f (take i xs) ++ f x ≡ flat_map f (take (i + 1) xs)
+more_parts f xs i x h is = flat_map_more f [] (take i xs) x
+    ∙ ap (λ y. flat_map f (take i xs ++ y ∷ [])) is ∙ ap (flat_map f) (sym (take_more xs i x h))
 
-all_parts : {X Y : Type 0} (f : X → List Y) (xs : List X) (i : ℕ) → length xs ≤ i → flat_map f (take i xs) ≡ flat_map f xs
+all_parts : {X Y : Type 0} (f : X → List Y) (xs : List X) (i : ℕ) → length xs ≤ i
+    → flat_map f (take i xs) ≡ flat_map f xs
 all_parts f xs i h = ap (flat_map f) (take_all i xs h)
 
-row_parts : {Y : Type 0} (f : Row → List Y) (entries : List Entry) → flat_map f (rows_of entries) ≡ flat_map (λ entry. f (row_of entry)) entries
+row_parts : {Y : Type 0} (f : Row → List Y) (entries : List Entry)
+    → flat_map f (rows_of entries) ≡ flat_map (λ entry. f (row_of entry)) entries
 row_parts f [] = refl
 row_parts f (e ∷ entries) = ap (λ l. f (row_of e) ++ l) (row_parts f entries)
 
 -- over providers
-pub names_begin : (providers : List Who) (after : List ℕ) → IsNextName (plugins_among (take 0 providers)) after None
+pub names_begin : (providers : List Who) (after : List ℕ)
+    → IsNextName (plugins_among (take 0 providers)) after None
 names_begin providers after = no_name after
 
-pub names_more : (providers : List Who) (i : ℕ) (who : Who) (after : List ℕ) (old other new : Option (List ℕ)) → i < length providers → who ≡ get_or providers i who
-    → IsNextName (plugins_among (take i providers)) after old → IsNextName (plugin_of who) after other → new ≡ earlier name_cmp old other → IsNextName (plugins_among (take (i + 1) providers)) after new
+pub names_more : (providers : List Who) (i : ℕ) (who : Who) (after : List ℕ)
+    (old other new : Option (List ℕ)) → i < length providers → who ≡ get_or providers i who
+    → IsNextName (plugins_among (take i providers)) after old
+    → IsNextName (plugin_of who) after other → new ≡ earlier name_cmp old other
+    → IsNextName (plugins_among (take (i + 1) providers)) after new
 names_more providers i who after old other new h is before own e =
     subst (λ l. IsNextName l after new) (more_parts plugin_of providers i who h is)
-    (subst (IsNextName (plugins_among (take i providers) ++ plugin_of who) after) (sym e) (names_joined (plugins_among (take i providers)) (plugin_of who) after old other before own))
+    (subst (IsNextName (plugins_among (take i providers) ++ plugin_of who) after) (sym e)
+    (names_joined (plugins_among (take i providers)) (plugin_of who) after old other before
+    own))
 
-pub names_end : (providers : List Who) (i : ℕ) (after : List ℕ) (next : Option (List ℕ)) → length providers ≤ i → IsNextName (plugins_among (take i providers)) after next → IsNextName (plugins_among providers) after next
-names_end providers i after next h all = subst (λ l. IsNextName l after next) (all_parts plugin_of providers i h) all
+pub names_end : (providers : List Who) (i : ℕ) (after : List ℕ) (next : Option (List ℕ))
+    → length providers ≤ i → IsNextName (plugins_among (take i providers)) after next
+    → IsNextName (plugins_among providers) after next
+names_end providers i after next h all =
+    subst (λ l. IsNextName l after next) (all_parts plugin_of providers i h) all
 
 -- over entries
 abbrev pub entry_names : Entry → List (List ℕ)
 entry_names entry = plugins_among entry.providers.0
 
-pub entries_begin : (entries : List Entry) (after : List ℕ) → IsNextName (flat_map entry_names (take 0 entries)) after None
+pub entries_begin : (entries : List Entry) (after : List ℕ)
+    → IsNextName (flat_map entry_names (take 0 entries)) after None
 entries_begin entries after = no_name after
 
-pub entries_more : (entries : List Entry) (i : ℕ) (entry : Entry) (after : List ℕ) (old other new : Option (List ℕ)) → i < length entries → entry ≡ get_or entries i entry
-    → IsNextName (flat_map entry_names (take i entries)) after old → IsNextName (plugins_among entry.providers.0) after other → new ≡ earlier name_cmp old other → IsNextName (flat_map entry_names (take (i + 1) entries)) after new
+pub entries_more : (entries : List Entry) (i : ℕ) (entry : Entry) (after : List ℕ)
+    (old other new : Option (List ℕ)) → i < length entries → entry ≡ get_or entries i entry
+    → IsNextName (flat_map entry_names (take i entries)) after old
+    → IsNextName (plugins_among entry.providers.0) after other
+    → new ≡ earlier name_cmp old other
+    → IsNextName (flat_map entry_names (take (i + 1) entries)) after new
 entries_more entries i entry after old other new h is before own e =
     subst (λ l. IsNextName l after new) (more_parts entry_names entries i entry h is)
-    (subst (IsNextName (flat_map entry_names (take i entries) ++ entry_names entry) after) (sym e) (names_joined (flat_map entry_names (take i entries)) (entry_names entry) after old other before own))
+    (subst (IsNextName (flat_map entry_names (take i entries) ++ entry_names entry) after) (sym e)
+    (names_joined (flat_map entry_names (take i entries)) (entry_names entry) after old other
+    before own))
 
-pub entries_end : (entries : List Entry) (i : ℕ) (after : List ℕ) (next : Option (List ℕ)) → length entries ≤ i → IsNextName (flat_map entry_names (take i entries)) after next → IsNextName (plugins_in (rows_of entries)) after next
-entries_end entries i after next h all = subst (λ l. IsNextName l after next) (all_parts entry_names entries i h ∙ sym (row_parts (λ row. plugins_among row.providers) entries)) all
+pub entries_end : (entries : List Entry) (i : ℕ) (after : List ℕ) (next : Option (List ℕ))
+    → length entries ≤ i → IsNextName (flat_map entry_names (take i entries)) after next
+    → IsNextName (plugins_in (rows_of entries)) after next
+entries_end entries i after next h all =
+    subst (λ l. IsNextName l after next)
+    (all_parts entry_names entries i h
+    ∙ sym (row_parts (λ row. plugins_among row.providers) entries)) all
 
 -- over patterns
-pub made_begin : (patterns : List Pattern) (after : Option Class) → IsNextClass (classes_made (take 0 patterns)) after None
+pub made_begin : (patterns : List Pattern) (after : Option Class)
+    → IsNextClass (classes_made (take 0 patterns)) after None
 made_begin patterns after = no_class after
 
-pub made_more : (patterns : List Pattern) (i : ℕ) (pattern : Pattern) (after old other new : Option Class) → i < length patterns → pattern ≡ get_or patterns i pattern
-    → IsNextClass (classes_made (take i patterns)) after old → IsNextClass (class_made pattern) after other → new ≡ earlier class_cmp old other → IsNextClass (classes_made (take (i + 1) patterns)) after new
+pub made_more : (patterns : List Pattern) (i : ℕ) (pattern : Pattern)
+    (after old other new : Option Class) → i < length patterns → pattern ≡ get_or patterns i pattern
+    → IsNextClass (classes_made (take i patterns)) after old
+    → IsNextClass (class_made pattern) after other → new ≡ earlier class_cmp old other
+    → IsNextClass (classes_made (take (i + 1) patterns)) after new
 made_more patterns i pattern after old other new h is before own e =
     subst (λ l. IsNextClass l after new) (more_parts class_made patterns i pattern h is)
-    (subst (IsNextClass (classes_made (take i patterns) ++ class_made pattern) after) (sym e) (classes_joined (classes_made (take i patterns)) (class_made pattern) after old other before own))
+    (subst (IsNextClass (classes_made (take i patterns) ++ class_made pattern) after) (sym e)
+    (classes_joined (classes_made (take i patterns)) (class_made pattern) after old other before
+    own))
 
-pub made_end : (patterns : List Pattern) (i : ℕ) (after next : Option Class) → length patterns ≤ i → IsNextClass (classes_made (take i patterns)) after next → IsNextClass (classes_made patterns) after next
-made_end patterns i after next h all = subst (λ l. IsNextClass l after next) (all_parts class_made patterns i h) all
+pub made_end : (patterns : List Pattern) (i : ℕ) (after next : Option Class) → length patterns ≤ i
+    → IsNextClass (classes_made (take i patterns)) after next
+    → IsNextClass (classes_made patterns) after next
+made_end patterns i after next h all =
+    subst (λ l. IsNextClass l after next) (all_parts class_made patterns i h) all
 
 -- over the entries' patterns, with the rest before all
 abbrev pub entry_classes : Entry → List Class
@@ -72,14 +107,27 @@ entry_classes entry = classes_made entry.patterns.0
 abbrev pub with_rest : List Entry → List Class
 with_rest entries = Rest ∷ flat_map entry_classes entries
 
-pub rest_begin : (entries : List Entry) (after next : Option Class) → IsNextClass (Rest ∷ []) after next → IsNextClass (with_rest (take 0 entries)) after next
+pub rest_begin : (entries : List Entry) (after next : Option Class)
+    → IsNextClass (Rest ∷ []) after next → IsNextClass (with_rest (take 0 entries)) after next
 rest_begin entries after next h = h
 
-pub rest_more : (entries : List Entry) (i : ℕ) (entry : Entry) (after old other new : Option Class) → i < length entries → entry ≡ get_or entries i entry
-    → IsNextClass (with_rest (take i entries)) after old → IsNextClass (classes_made entry.patterns.0) after other → new ≡ earlier class_cmp old other → IsNextClass (with_rest (take (i + 1) entries)) after new
+pub rest_more : (entries : List Entry) (i : ℕ) (entry : Entry) (after old other new : Option Class)
+    → i < length entries → entry ≡ get_or entries i entry
+    → IsNextClass (with_rest (take i entries)) after old
+    → IsNextClass (classes_made entry.patterns.0) after other
+    → new ≡ earlier class_cmp old other
+    → IsNextClass (with_rest (take (i + 1) entries)) after new
 rest_more entries i entry after old other new h is before own e =
-    subst (λ l. IsNextClass l after new) (ap (λ l. Rest ∷ l) (more_parts entry_classes entries i entry h is))
-    (subst (IsNextClass (with_rest (take i entries) ++ entry_classes entry) after) (sym e) (classes_joined (with_rest (take i entries)) (entry_classes entry) after old other before own))
+    subst (λ l. IsNextClass l after new)
+    (ap (λ l. Rest ∷ l) (more_parts entry_classes entries i entry h is))
+    (subst (IsNextClass (with_rest (take i entries) ++ entry_classes entry) after) (sym e)
+    (classes_joined (with_rest (take i entries)) (entry_classes entry) after old other before
+    own))
 
-pub rest_end : (entries : List Entry) (i : ℕ) (after next : Option Class) → length entries ≤ i → IsNextClass (with_rest (take i entries)) after next → IsNextClass (Rest ∷ classes_in (rows_of entries)) after next
-rest_end entries i after next h all = subst (λ l. IsNextClass l after next) (ap (λ l. Rest ∷ l) (all_parts entry_classes entries i h ∙ sym (row_parts (λ row. classes_made row.patterns) entries))) all
+pub rest_end : (entries : List Entry) (i : ℕ) (after next : Option Class) → length entries ≤ i
+    → IsNextClass (with_rest (take i entries)) after next
+    → IsNextClass (Rest ∷ classes_in (rows_of entries)) after next
+rest_end entries i after next h all =
+    subst (λ l. IsNextClass l after next)
+    (ap (λ l. Rest ∷ l) (all_parts entry_classes entries i h
+    ∙ sym (row_parts (λ row. classes_made row.patterns) entries))) all

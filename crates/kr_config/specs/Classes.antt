@@ -1,6 +1,6 @@
 -- The classes of resources that some settings tell apart.
-use Rattle.std.specs.Prelude.{◌≡◌, ℕ, ◌<◌, ◌↔◌, length, Option, None, Some, Bool, true, false, List, [], ◌∷◌, Contains, if◌then◌else◌}
-use Rattle.std.specs.List.{list_any, flat_map, slice_index_or}
+use Rattle.std.specs.Prelude.{ℕ, ◌↔◌, Bool, true, false, List, [], ◌∷◌, Contains, if◌then◌else◌}
+use Rattle.std.specs.List.{list_any, flat_map}
 use Rattle.std.specs.List.Sorted.{IsStrictlySortedBy}
 use Rattle.std.specs.Str.{bytes_eq}
 use Rattle.std.specs.Ordering.{nat_cmp}
@@ -38,10 +38,12 @@ classes_made patterns = flat_map class_made patterns
 abbrev pub classes_in : List Row → List Class
 classes_in rows = flat_map (λ row. classes_made row.patterns) rows
 
--- the table of some settings that were added: in order, each once, the class of each pattern and the rest
+-- the table of some settings that were added: in order, each once, the class of each pattern and
+-- the rest
 pub record IsTableOf (added : List (List Row)) (classes : List Class) : Type 0 where
   pub ascends : IsStrictlySortedBy class_cmp classes
-  pub members : (class : Class) → Contains classes class ↔ Contains (Rest ∷ flat_map classes_in added) class
+  pub members : (class : Class)
+      → Contains classes class ↔ Contains (Rest ∷ flat_map classes_in added) class
 
 -- the classes, or where there are none the rest alone
 abbrev pub or_rest : List Class → List Class
@@ -63,12 +65,8 @@ is_rest (Exact text) = false
 is_rest (Group group) = false
 is_rest Rest = true
 
--- where the first class that passes the test stands, which is this one; none where none passes
-abbrev pub Finds : (Class → Bool) → Class → List Class → Option ℕ → Type 0
-Finds test class classes None = list_any test classes ≡ false
-Finds test class classes (Some at) = (at < length classes) × (list_any test classes ≡ true) × ((other : Class) → slice_index_or classes at other ≡ class)
-
--- a resource's class: its own where the table has it, else its group's where the table has that, else the rest
+-- a resource's class: its own where the table has it, else its group's where the table has that,
+-- else the rest
 unfoldable pub class_in : List Class → List ℕ → Class
 class_in classes resource = if list_any (is_exact resource) classes then Exact resource
     else if list_any (is_group (group_of resource)) classes then Group (group_of resource) else Rest

@@ -1,9 +1,12 @@
 -- What settings keep.
-use Rattle.std.specs.Prelude.{ℕ, ◌&&◌, Bool, true, not, List, [], ◌∷◌, length, nat_le, map, count_by}
+use Rattle.std.specs.Prelude.{ℕ, ◌&&◌, Bool, true, not, List, [], ◌∷◌, length, nat_le, map}
+use Rattle.std.specs.Prelude.{count_by}
 use Rattle.std.specs.List.{list_all, flat_map, sum_by}
 use Rattle.kr_config.specs.declared.pattern.Pattern.{Pattern}
 use Rattle.kr_config.specs.declared.who.Who.{Who}
 use Rattle.kr_config.specs.declared.settings.Entry.{Entry}
+use Rattle.kr_config.specs.declared.refusal.Counted.TheVariants.{Entries, Patterns, Keys, Plugins}
+use Rattle.kr_config.specs.Refusals.{limit_of}
 use Rattle.kr_config.specs.Patterns.{is_pattern, clash}
 use Rattle.kr_config.specs.Providers.{is_provider, is_key, is_kms, plugins_among, rivals}
 
@@ -24,10 +27,12 @@ apart clashes [] = true
 apart clashes (x ∷ xs) = list_all (λ y. not (clashes x y)) xs && apart clashes xs
 
 abbrev pub keeps_patterns : List Pattern → Bool
-keeps_patterns patterns = nat_le 1 (length patterns) && list_all is_pattern patterns && apart clash patterns
+keeps_patterns patterns = nat_le 1 (length patterns) && list_all is_pattern patterns
+    && apart clash patterns
 
 abbrev pub keeps_providers : List Who → Bool
-keeps_providers providers = nat_le 1 (length providers) && list_all is_provider providers && apart rivals providers
+keeps_providers providers = nat_le 1 (length providers) && list_all is_provider providers
+    && apart rivals providers
 
 abbrev pub keeps_row : Row → Bool
 keeps_row row = keeps_patterns row.patterns && keeps_providers row.providers
@@ -45,7 +50,10 @@ kms_in rows = sum_by (λ row. count_by is_kms row.providers) rows
 abbrev pub plugins_in : List Row → List (List ℕ)
 plugins_in rows = flat_map (λ row. plugins_among row.providers) rows
 
--- 1 to 64 entries, each of which keeps the rules; in all at most 256 patterns, 64 keys and 16 plugins
+-- 1 to 64 entries, each of which keeps the rules; in all at most 256 patterns, 64 keys and 16
+-- plugins
 unfoldable pub keeps : List Row → Bool
-keeps rows = nat_le 1 (length rows) && nat_le (length rows) 64 && list_all keeps_row rows
-    && nat_le (patterns_in rows) 256 && nat_le (keys_in rows) 64 && nat_le (kms_in rows) 16
+keeps rows = nat_le 1 (length rows) && nat_le (length rows) (limit_of Entries)
+    && list_all keeps_row rows
+    && nat_le (patterns_in rows) (limit_of Patterns) && nat_le (keys_in rows) (limit_of Keys)
+    && nat_le (kms_in rows) (limit_of Plugins)

@@ -12,7 +12,8 @@ use Rattle.kr_config.specs.Meanings.{Means}
 
 -- bytes mean one thing
 abbrev pub OneMeaning : Type 0
-OneMeaning = (bytes : List ℕ) (a b : Result (List Row) ConfigNo) → Means bytes a → Means bytes b → a ≡ b
+OneMeaning = (bytes : List ℕ) (a b : Result (List Row) ConfigNo) → Means bytes a → Means bytes b
+    → a ≡ b
 
 -- bytes mean something
 abbrev pub SomeMeaning : Type 0
@@ -20,15 +21,19 @@ SomeMeaning = (bytes : List ℕ) → (rows : Result (List Row) ConfigNo) × Mean
 
 -- a class has in some settings, whichever they are, the list of a class that their table has
 abbrev pub EachClassNarrows : Type 0
-EachClassNarrows = (added : List (List Row)) (classes : List Class) (class : Class) → IsTableOf added classes
-    → (kept : Class) × Contains classes kept × ((rows : List Row) → Contains added rows → class_list rows class ≡ class_list rows kept)
+EachClassNarrows = (added : List (List Row)) (classes : List Class) (class : Class)
+    → IsTableOf added classes
+    → (kept : Class) × Contains classes kept
+    × ((rows : List Row) → Contains added rows → class_list rows class ≡ class_list rows kept)
 
 -- what comes next among the classes that some settings tell apart is what comes next in their table
 abbrev pub NextInTable : Type 0
-NextInTable = (added : List (List Row)) (classes : List Class) (after next : Option Class) → IsTableOf added classes
+NextInTable = (added : List (List Row)) (classes : List Class) (after next : Option Class)
+    → IsTableOf added classes
     → IsNextClass (Rest ∷ flat_map classes_in added) after next → IsNextClass classes after next
 
 -- what comes next in two lists together is the first of what comes next in each
 abbrev pub FirstOfBoth : Type 0
-FirstOfBoth = (classes more : List Class) (after one other : Option Class) → IsNextClass classes after one → IsNextClass more after other
+FirstOfBoth = (classes more : List Class) (after one other : Option Class)
+    → IsNextClass classes after one → IsNextClass more after other
     → IsNextClass (classes ++ more) after (earlier class_cmp one other)

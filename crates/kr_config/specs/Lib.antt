@@ -1,3 +1,5 @@
+-- The definitions of kr_config, in reading order.
+pub mod Refusals
 pub mod Patterns
 pub mod Providers
 pub mod Kept
@@ -7,5 +9,5 @@ pub mod Nexts
 pub mod Walk
 pub mod Yaml
 pub mod Meanings
-pub mod Reads
 pub mod Laws
+pub mod inner

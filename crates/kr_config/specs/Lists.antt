@@ -12,13 +12,15 @@ use Rattle.kr_config.specs.Kept.{Row}
 -- the providers of the first entry with such a pattern, or identity alone
 abbrev pub first_list : (Pattern → Bool) → List Row → List Who
 first_list test [] = Identity ∷ []
-first_list test (row ∷ rows) = if list_any test row.patterns then row.providers else first_list test rows
+first_list test (row ∷ rows) =
+    if list_any test row.patterns then row.providers else first_list test rows
 
 -- of a resource: a pattern that matches it
 abbrev pub list_of : List Row → List ℕ → List Who
 list_of rows resource = first_list (λ pattern. matches pattern resource) rows
 
--- of a class: an exact one goes by its resource, a group by the patterns that match all of it, the rest by those that match all
+-- of a class: an exact one goes by its resource, a group by the patterns that match all of it, the
+-- rest by those that match all
 abbrev pub class_list : List Row → Class → List Who
 class_list rows (Exact text) = list_of rows text
 class_list rows (Group group) = first_list (λ pattern. covers_group pattern group) rows

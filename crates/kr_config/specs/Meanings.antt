@@ -1,12 +1,19 @@
 -- What the bytes of a configuration mean: its entries, or the first breach.
-use Rattle.std.specs.Prelude.{◌≡◌, ℕ, ◌==◌, ◌||◌, Bool, true, false, List, [], ◌∷◌, Result, Err, if◌then◌else◌}
+use Rattle.std.specs.Prelude.{◌≡◌, ℕ, ◌==◌, ◌||◌, Bool, true, false, List, [], ◌∷◌, ⊤, Result, Ok}
+use Rattle.std.specs.Prelude.{Err, if◌then◌else◌}
 use Rattle.std.specs.Option.{option_map_or}
 use Rattle.std.specs.Str.{is_utf8}
 use Rattle.serde_json.specs.Read.{read}
 use Rattle.kr_yaml.specs.Data.{Data}
+use Rattle.kr_config.specs.declared.refusal.Rule.TheVariants as rule
+use Rattle.kr_config.specs.declared.refusal.YamlRule.TheVariants as yaml_rule
 use Rattle.kr_config.specs.declared.refusal.ConfigNo.{ConfigNo}
-use Rattle.kr_config.specs.Kept.{Row}
-use Rattle.kr_config.specs.Walk.{breach_at, start, breach, and_then, config_in}
+use Rattle.kr_config.specs.declared.refusal.ConfigNo.TheVariants.{Breach, Yaml}
+use Rattle.kr_config.specs.declared.refusal.ConfigErr.{ConfigErr}
+use Rattle.kr_config.specs.declared.refusal.ConfigErr.TheVariants.{No, NoMemory}
+use Rattle.kr_config.specs.declared.settings.Settings.{Settings}
+use Rattle.kr_config.specs.Kept.{Row, rows_of}
+use Rattle.kr_config.specs.Walk.{start, breach, and_then, config_in}
 use Rattle.kr_config.specs.Yaml.{json_of, TreeOf}
 
 -- the first byte other than space, tab, CR and LF is `{`
@@ -19,11 +26,12 @@ begins_json (byte ∷ bytes) = if is_blank byte then begins_json bytes else (byt
 
 -- a text in JSON, and then the walk over its tree
 unfoldable pub json_rows : List ℕ → Result (List Row) ConfigNo
-json_rows text = option_map_or config_in (read text) (breach 20 start)
+json_rows text = option_map_or config_in (read text) (breach rule.Json start)
 
 -- a text in YAML, and then the same walk over its tree
 abbrev pub MeansYaml : List ℕ → Result (List Row) ConfigNo → Type 0
-MeansYaml text rows = (tree : Result Data ConfigNo) × TreeOf text tree × (and_then tree (λ d. config_in (json_of d)) ≡ rows)
+MeansYaml text rows = (tree : Result Data ConfigNo) × TreeOf text tree
+    × (and_then tree (λ d. config_in (json_of d)) ≡ rows)
 
 -- a text that begins as JSON is JSON, and any other YAML
 abbrev pub TextMeans : Bool → List ℕ → Result (List Row) ConfigNo → Type 0
@@ -32,8 +40,8 @@ TextMeans false text rows = MeansYaml text rows
 
 -- bytes that aren't UTF-8
 abbrev pub no_text : Bool → ConfigNo
-no_text true = breach_at 20 start
-no_text false = record { code = 21; first = 0; second = 5 }
+no_text true = Breach rule.Json start
+no_text false = Yaml yaml_rule.NotUtf8 0
 
 abbrev pub MeansBy : Bool → List ℕ → Result (List Row) ConfigNo → Type 0
 MeansBy true bytes rows = TextMeans (begins_json bytes) bytes rows
@@ -41,3 +49,11 @@ MeansBy false bytes rows = Err (no_text (begins_json bytes)) ≡ rows
 
 abbrev pub Means : List ℕ → Result (List Row) ConfigNo → Type 0
 Means bytes rows = MeansBy (is_utf8 bytes) bytes rows
+
+-- the settings of the entries that are meant, or the breach; want of memory may take the place of
+-- either
+abbrev pub ReadsSettings : (Result (List Row) ConfigNo → Type 0) → Result Settings ConfigErr
+    → Type 0
+ReadsSettings Meant (Ok settings) = Meant (Ok (rows_of settings.entries.0))
+ReadsSettings Meant (Err (No why)) = Meant (Err why)
+ReadsSettings Meant (Err NoMemory) = ⊤

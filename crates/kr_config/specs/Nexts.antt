@@ -1,5 +1,6 @@
 -- What comes next in an order: the least of a list among those that come after another.
-use Rattle.std.specs.Prelude.{◌≡◌, ◌≢◌, ℕ, Bool, true, false, List, All, Contains, Option, None, Some, if◌then◌else◌}
+use Rattle.std.specs.Prelude.{◌≡◌, ◌≢◌, ℕ, Bool, true, false, List, All, Contains, Option, None}
+use Rattle.std.specs.Prelude.{Some, if◌then◌else◌}
 use Rattle.std.specs.Ordering.{is_lt, nat_cmp}
 use Rattle.std.specs.declared.cmp.Ordering.{Ordering}
 use Rattle.std.specs.declared.cmp.Ordering.TheVariants.{Less}
@@ -10,10 +11,12 @@ use Rattle.kr_config.specs.declared.borrowed_class.BorrowedClass.TheVariants as 
 use Rattle.kr_config.specs.declared.class.Class.TheVariants.{Exact, Group, Rest}
 use Rattle.kr_config.specs.Classes.{class_cmp}
 
--- of those in the list that pass the test the one that none of them comes before; none where none passes
+-- of those in the list that pass the test the one that none of them comes before; none where none
+-- passes
 abbrev pub IsLeast : {T : Type 0} → (T → T → Ordering) → (T → Bool) → List T → Option T → Type 0
 IsLeast cmp test xs None = All (λ x. test x ≡ false) xs
-IsLeast cmp test xs (Some least) = Contains xs least × (test least ≡ true) × All (λ x. test x ≡ true → cmp x least ≢ Less) xs
+IsLeast cmp test xs (Some least) =
+    Contains xs least × (test least ≡ true) × All (λ x. test x ≡ true → cmp x least ≢ Less) xs
 
 -- the first of two that may be none
 abbrev pub earlier : {T : Type 0} → (T → T → Ordering) → Option T → Option T → Option T

@@ -2,6 +2,7 @@
 use Rattle.std.specs.Prelude.{ℕ, ◌+◌, ◌==◌, ◌&&◌, ◌||◌, Bool, true, false, List, length, nat_le}
 use Rattle.std.specs.List.{after_first}
 use Rattle.std.specs.Str.{bytes_eq}
+use Rattle.kr_base.specs.Limits.{name_limit}
 use Rattle.kr_base.specs.Rules.{is_resource}
 use Rattle.kr_config.specs.declared.pattern.Pattern.{Pattern}
 use Rattle.kr_config.specs.declared.pattern.Pattern.TheVariants.{Exact, Group, All}
@@ -27,9 +28,10 @@ covers_rest (Exact text) = false
 covers_rest (Group group) = false
 covers_rest All = true
 
--- the group of a pattern is empty, or labels parted by dots, which is the form of a resource; `*.` before it counts among the 253 bytes
+-- the group of a pattern is empty, or labels parted by dots, which is the form of a resource; `*.`
+-- before it counts among the 253 bytes
 abbrev pub is_group : List ℕ → Bool
-is_group group = (length group == 0) || (nat_le (length group + 2) 253 && is_resource group)
+is_group group = (length group == 0) || (nat_le (length group + 2) name_limit && is_resource group)
 
 abbrev pub is_pattern : Pattern → Bool
 is_pattern (Exact text) = is_resource text

@@ -1,6 +1,8 @@
--- The walk over a configuration's tree. Its first breach decides, with its code and two numbers: of an entry, and of the
--- pattern or provider element in it, each from 0.
-use Rattle.std.specs.Prelude.{ℕ, ◌+◌, ◌-◌, ◌^◌, min, ◌==◌, ◌&&◌, ◌||◌, nat_lt, nat_le, Bool, true, false, List, [], ◌∷◌, ◌++◌, length, take, count_by, codes, Option, None, Some, Result, Ok, Err, if◌then◌else◌, option_and_then, is_some}
+-- The walk over a configuration's tree. Its first breach decides, with its place: the numbers of an
+-- entry, and of the pattern or provider element in it, each from 0.
+use Rattle.std.specs.Prelude.{ℕ, ◌+◌, ◌==◌, ◌&&◌, ◌||◌, nat_lt, nat_le, Bool, true, false, List, []}
+use Rattle.std.specs.Prelude.{◌∷◌, ◌++◌, length, take, count_by, codes, Option, None, Some, Result}
+use Rattle.std.specs.Prelude.{Ok, Err, if◌then◌else◌, option_and_then, is_some}
 use Rattle.std.specs.List.{list_any, before_first}
 use Rattle.std.specs.Option.{option_map_or}
 use Rattle.std.specs.Result.{result_ok}
@@ -10,12 +12,19 @@ use Rattle.serde_json.specs.Data as json
 use Rattle.serde_json.specs.Find.{get, as_null, as_str, as_array, as_object}
 use Rattle.base64.specs.Engines.{standard}
 use Rattle.base64.specs.GeneralPurpose.{decode_of}
+use Rattle.kr_base.specs.Numbering.{next_place}
 use Rattle.kr_base.specs.Rules.{is_name, is_resource}
 use Rattle.kr_config.specs.declared.pattern.Pattern.{Pattern}
 use Rattle.kr_config.specs.declared.pattern.Pattern.TheVariants.{Exact, Group, All}
 use Rattle.kr_config.specs.declared.who.Who.{Who}
 use Rattle.kr_config.specs.declared.who.Who.TheVariants.{Identity, Aescbc, Aesgcm, Kms}
+use Rattle.kr_config.specs.declared.refusal.Rule.{Rule}
+use Rattle.kr_config.specs.declared.refusal.Rule.TheVariants as rule
+use Rattle.kr_config.specs.declared.refusal.Counted.{Counted}
+use Rattle.kr_config.specs.declared.refusal.Counted.TheVariants.{Entries, Patterns, Keys, Plugins}
 use Rattle.kr_config.specs.declared.refusal.ConfigNo.{ConfigNo}
+use Rattle.kr_config.specs.declared.refusal.ConfigNo.TheVariants.{Breach, Limit}
+use Rattle.kr_config.specs.Refusals.{limit_of}
 use Rattle.kr_config.specs.declared.place.Place.{Place}
 use Rattle.kr_config.specs.declared.place.Counts.{Counts}
 use Rattle.kr_config.specs.declared.provider.Cipher.{Cipher}
@@ -24,19 +33,13 @@ use Rattle.kr_config.specs.Patterns.{group_of, is_group, same, overlap}
 use Rattle.kr_config.specs.Providers.{is_secret, is_key, is_kms, rivals}
 use Rattle.kr_config.specs.Kept.{Row, patterns_in, keys_in, kms_in}
 
--- a breach of this code at this place
-abbrev pub breach_at : ℕ → Place → ConfigNo
-breach_at code place = record { code = code; first = place.entry; second = place.item }
+-- a rule is broken at this place
+abbrev pub breach : {T : Type 0} → Rule → Place → Result T ConfigNo
+breach broken place = Err (Breach broken place)
 
-abbrev pub breach : {T : Type 0} → ℕ → Place → Result T ConfigNo
-breach code place = Err (breach_at code place)
-
--- a breach of the limit of this number
-abbrev pub limit_breach : ℕ → ℕ → ConfigNo
-limit_breach number limit = record { code = 39; first = number; second = limit }
-
-abbrev pub over_limit : {T : Type 0} → ℕ → ℕ → Result T ConfigNo
-over_limit number limit = Err (limit_breach number limit)
+-- there are too many of these
+abbrev pub over_limit : {T : Type 0} → Counted → Result T ConfigNo
+over_limit counted = Err (Limit counted)
 
 abbrev pub place_at : ℕ → ℕ → Place
 place_at entry item = record { entry = entry; item = item }
@@ -45,21 +48,20 @@ abbrev pub start : Place
 start = place_at 0 0
 
 -- a step, and what follows where it is no breach
-abbrev pub and_then : {A B : Type 0} → Result A ConfigNo → (A → Result B ConfigNo) → Result B ConfigNo
+abbrev pub and_then : {A B : Type 0} → Result A ConfigNo → (A → Result B ConfigNo)
+    → Result B ConfigNo
 and_then (Ok x) rest = rest x
 and_then (Err why) rest = Err why
 
--- a number stands still at the end of its type
-abbrev pub next_number : ℕ → ℕ
-next_number i = min (i + 1) (2 ^ 32 - 1)
-
--- each of a list in order, its number at hand
-abbrev pub walk : {S : Type 0} → (ℕ → S → Data → Result S ConfigNo) → ℕ → S → List Data → Result S ConfigNo
+-- each of a list in order, its number at hand, which stands still at the end of its type
+abbrev pub walk : {S : Type 0} → (ℕ → S → Data → Result S ConfigNo) → ℕ → S → List Data
+    → Result S ConfigNo
 walk step i s [] = Ok s
-walk step i s (d ∷ ds) = and_then (step i s d) (λ t. walk step (next_number i) t ds)
+walk step i s (d ∷ ds) = and_then (step i s d) (λ t. walk step (next_place i) t ds)
 
 -- each of a list in order, where its number says nothing
-abbrev pub walk_each : {S : Type 0} → (S → Data → Result S ConfigNo) → S → List Data → Result S ConfigNo
+abbrev pub walk_each : {S : Type 0} → (S → Data → Result S ConfigNo) → S → List Data
+    → Result S ConfigNo
 walk_each step s [] = Ok s
 walk_each step s (d ∷ ds) = and_then (step s d) (λ t. walk_each step t ds)
 
@@ -79,46 +81,64 @@ is_mapping d = is_some (as_object d)
 
 -- a named list is there and isn't empty
 unfoldable pub named_list : List ℕ → Place → Data → Result (List Data) ConfigNo
-named_list key place d = option_map_or (λ items. if length (list_of_items items) == 0 then breach 25 place else Ok (list_of_items items))
-    (option_and_then as_array (get key d)) (breach 22 place)
+named_list key place d = option_map_or
+    (λ items. if length (list_of_items items) == 0 then breach rule.EmptyList place
+    else Ok (list_of_items items))
+    (option_and_then as_array (get key d)) (breach rule.Form place)
 
 -- patterns
 
 -- behind `*.`: `*` is all, nothing or a group that group
 unfoldable pub star_pattern : List ℕ → Option Pattern
-star_pattern group = if bytes_eq group (codes "*") then Some All else if is_group group then Some (Group group) else None
+star_pattern group = if bytes_eq group (codes "*") then Some All
+    else if is_group group then Some (Group group) else None
 
 -- `*` before the first dot, or else a resource
 unfoldable pub pattern_of : List ℕ → Option Pattern
-pattern_of text = if list_any (λ byte. byte == 0x2E) text && bytes_eq (before_first (λ byte. byte == 0x2E) text) (codes "*") then star_pattern (group_of text)
+pattern_of text = if list_any (λ byte. byte == 0x2E) text
+    && bytes_eq (before_first (λ byte. byte == 0x2E) text) (codes "*")
+    then star_pattern (group_of text)
     else if is_resource text then Some (Exact text) else None
 
 -- after those of its list so far, and so many in earlier entries
 unfoldable pub place_pattern : ℕ → Place → List Pattern → Pattern → Result (List Pattern) ConfigNo
-place_pattern counted place before pattern = if list_any (λ earlier. same earlier pattern) before then breach 36 place
-    else if list_any (λ earlier. overlap earlier pattern) before then breach 37 place
-    else if nat_lt (counted + length before) 256 then Ok (before ++ pattern ∷ []) else over_limit 2 256
+place_pattern counted place before pattern =
+    if list_any (λ earlier. same earlier pattern) before then breach rule.SamePattern place
+    else if list_any (λ earlier. overlap earlier pattern) before then breach rule.Overlap place
+    else if nat_lt (counted + length before) (limit_of Patterns) then Ok (before ++ pattern ∷ [])
+    else over_limit Patterns
 
 unfoldable pub pattern_step : ℕ → ℕ → ℕ → List Pattern → Data → Result (List Pattern) ConfigNo
 pattern_step counted entry item before d = option_map_or
-    (λ text. option_map_or (place_pattern counted (place_at entry item) before) (pattern_of text) (breach 35 (place_at entry item)))
-    (as_str d) (breach 22 (place_at entry item))
+    (λ text. option_map_or (place_pattern counted (place_at entry item) before) (pattern_of text)
+    (breach rule.Pattern (place_at entry item)))
+    (as_str d) (breach rule.Form (place_at entry item))
 
 -- providers
 
 -- a provider after those of its list so far, whose prefix none of them has
 unfoldable pub place_provider : Place → List Who → Who → Result (List Who) ConfigNo
-place_provider place before who = if list_any (λ earlier. rivals earlier who) before then breach 38 place else Ok (before ++ who ∷ [])
+place_provider place before who =
+    if list_any (λ earlier. rivals earlier who) before then breach rule.SameProvider place
+    else Ok (before ++ who ∷ [])
 
 -- the limits of keys and of plugins, with so many in earlier entries
 unfoldable pub place_key : ℕ → Place → List Who → Who → Result (List Who) ConfigNo
-place_key counted place before who = and_then (place_provider place before who) (λ after. if nat_lt (counted + count_by is_key before) 64 then Ok after else over_limit 3 64)
+place_key counted place before who =
+    and_then (place_provider place before who)
+    (λ after. if nat_lt (counted + count_by is_key before) (limit_of Keys) then Ok after
+    else over_limit Keys)
 
 unfoldable pub place_plugin : ℕ → Place → List Who → Who → Result (List Who) ConfigNo
-place_plugin counted place before who = and_then (place_provider place before who) (λ after. if nat_lt (counted + count_by is_kms before) 16 then Ok after else over_limit 4 16)
+place_plugin counted place before who =
+    and_then (place_provider place before who)
+    (λ after. if nat_lt (counted + count_by is_kms before) (limit_of Plugins) then Ok after
+    else over_limit Plugins)
 
 unfoldable pub identity_step : Place → List Who → Data → Result (List Who) ConfigNo
-identity_step place before d = if is_mapping d || is_some (as_null d) then place_provider place before Identity else breach 22 place
+identity_step place before d =
+    if is_mapping d || is_some (as_null d) then place_provider place before Identity
+    else breach rule.Form place
 
 abbrev pub of_cipher : Cipher → List ℕ → List ℕ → Who
 of_cipher cipher.Cbc name secret = Aescbc name secret
@@ -126,33 +146,51 @@ of_cipher cipher.Gcm name secret = Aesgcm name secret
 
 -- a text by the name rule
 unfoldable pub name_at : Place → Data → Result (List ℕ) ConfigNo
-name_at place d = option_map_or (λ name. if is_name name then Ok name else breach 31 place) (text_at (codes "name") d) (breach 22 place)
+name_at place d = option_map_or (λ name. if is_name name then Ok name else breach rule.Name place)
+    (text_at (codes "name") d) (breach rule.Form place)
 
 -- strict base64 of 16, 24 or 32 bytes
 unfoldable pub secret_at : Place → Data → Result (List ℕ) ConfigNo
-secret_at place d = option_map_or (λ text. option_map_or (λ secret. if is_secret secret then Ok secret else breach 34 place) (result_ok (decode_of standard text)) (breach 33 place))
-    (text_at (codes "secret") d) (breach 22 place)
+secret_at place d = option_map_or
+    (λ text. option_map_or
+    (λ secret. if is_secret secret then Ok secret else breach rule.SecretLength place)
+    (result_ok (decode_of standard text)) (breach rule.Base64 place))
+    (text_at (codes "secret") d) (breach rule.Form place)
 
 unfoldable pub key_step : Cipher → ℕ → Place → List Who → Data → Result (List Who) ConfigNo
-key_step cipher counted place before d = and_then (name_at place d) (λ name. and_then (secret_at place d) (λ secret. place_key counted place before (of_cipher cipher name secret)))
+key_step cipher counted place before d =
+    and_then (name_at place d) (λ name.
+    and_then (secret_at place d) (λ secret.
+    place_key counted place before (of_cipher cipher name secret)))
 
 unfoldable pub keys_step : Cipher → ℕ → Place → List Who → Data → Result (List Who) ConfigNo
 keys_step cipher counted place before d = if is_mapping d
-    then and_then (named_list (codes "keys") place d) (λ keys. walk_each (key_step cipher counted place) before keys) else breach 22 place
+    then and_then (named_list (codes "keys") place d)
+    (λ keys. walk_each (key_step cipher counted place) before keys)
+    else breach rule.Form place
 
 -- `v2` and no other
 unfoldable pub version_at : Place → Data → Result Bool ConfigNo
 version_at place d = option_map_or
-    (λ version. if has_text (codes "apiVersion") (codes "v1") d then breach 29 place
-    else option_map_or (λ text. if bytes_eq (codes "v2") text then Ok true else breach 30 place) (as_str version) (breach 22 place))
-    (get (codes "apiVersion") d) (breach 29 place)
+    (λ version. if has_text (codes "apiVersion") (codes "v1") d then breach rule.KmsV1 place
+    else option_map_or
+    (λ text. if bytes_eq (codes "v2") text then Ok true else breach rule.KmsVersion place)
+    (as_str version) (breach rule.Form place))
+    (get (codes "apiVersion") d) (breach rule.KmsV1 place)
 
 unfoldable pub endpoint_at : Place → Data → Result Bool ConfigNo
-endpoint_at place d = option_map_or (λ text. if bytes_eq (take 7 text) (codes "unix://") then Ok true else breach 32 place) (text_at (codes "endpoint") d) (breach 22 place)
+endpoint_at place d = option_map_or
+    (λ text. if bytes_eq (take 7 text) (codes "unix://") then Ok true
+    else breach rule.Endpoint place)
+    (text_at (codes "endpoint") d) (breach rule.Form place)
 
 unfoldable pub plugin_step : ℕ → Place → List Who → Data → Result (List Who) ConfigNo
 plugin_step counted place before d = if is_mapping d
-    then and_then (version_at place d) (λ ok. and_then (name_at place d) (λ name. and_then (endpoint_at place d) (λ fine. place_plugin counted place before (Kms name)))) else breach 22 place
+    then and_then (version_at place d) (λ ok.
+    and_then (name_at place d) (λ name.
+    and_then (endpoint_at place d) (λ fine.
+    place_plugin counted place before (Kms name))))
+    else breach rule.Form place
 
 -- how many of the five providers an element has
 abbrev pub one_if : Bool → ℕ
@@ -162,20 +200,25 @@ abbrev pub has : List ℕ → Data → Bool
 has key d = is_some (get key d)
 
 abbrev pub kinds_of : Data → ℕ
-kinds_of d = one_if (has (codes "identity") d) + one_if (has (codes "aescbc") d) + one_if (has (codes "aesgcm") d) + one_if (has (codes "kms") d) + one_if (has (codes "secretbox") d)
+kinds_of d = one_if (has (codes "identity") d) + one_if (has (codes "aescbc") d)
+    + one_if (has (codes "aesgcm") d) + one_if (has (codes "kms") d)
+    + one_if (has (codes "secretbox") d)
 
 -- by the one that it has
 unfoldable pub kind_step : Counts → Place → List Who → Data → Result (List Who) ConfigNo
-kind_step counts place before d = option_map_or (identity_step place before) (get (codes "identity") d)
+kind_step counts place before d =
+    option_map_or (identity_step place before) (get (codes "identity") d)
     (option_map_or (keys_step cipher.Cbc counts.keys place before) (get (codes "aescbc") d)
     (option_map_or (keys_step cipher.Gcm counts.keys place before) (get (codes "aesgcm") d)
-    (option_map_or (plugin_step counts.plugins place before) (get (codes "kms") d) (breach 28 place))))
+    (option_map_or (plugin_step counts.plugins place before) (get (codes "kms") d)
+    (breach rule.Secretbox place))))
 
 unfoldable pub element_step : Counts → ℕ → ℕ → List Who → Data → Result (List Who) ConfigNo
 element_step counts entry item before d = if is_mapping d
-    then (if kinds_of d == 0 then breach 26 (place_at entry item)
-    else if nat_lt 1 (kinds_of d) then breach 27 (place_at entry item) else kind_step counts (place_at entry item) before d)
-    else breach 22 (place_at entry item)
+    then (if kinds_of d == 0 then breach rule.NoProvider (place_at entry item)
+    else if nat_lt 1 (kinds_of d) then breach rule.SeveralProviders (place_at entry item)
+    else kind_step counts (place_at entry item) before d)
+    else breach rule.Form (place_at entry item)
 
 -- entries
 
@@ -185,8 +228,9 @@ entry_of counts entry d = if is_mapping d
     then and_then (named_list (codes "resources") (place_at entry 0) d) (λ texts.
     and_then (walk (pattern_step counts.patterns entry) 0 [] texts) (λ ps.
     and_then (named_list (codes "providers") (place_at entry 0) d) (λ elements.
-    and_then (walk (element_step counts entry) 0 [] elements) (λ ws. Ok (record { patterns = ps; providers = ws })))))
-    else breach 22 (place_at entry 0)
+    and_then (walk (element_step counts entry) 0 [] elements) (λ ws.
+    Ok (record { patterns = ps; providers = ws })))))
+    else breach rule.Form (place_at entry 0)
 
 abbrev pub counts_of : ℕ → ℕ → ℕ → Counts
 counts_of patterns keys plugins = record { patterns = patterns; keys = keys; plugins = plugins }
@@ -195,13 +239,16 @@ abbrev pub counts_in : List Row → Counts
 counts_in rows = counts_of (patterns_in rows) (keys_in rows) (kms_in rows)
 
 unfoldable pub entry_step : ℕ → List Row → Data → Result (List Row) ConfigNo
-entry_step entry before d = and_then (entry_of (counts_in before) entry d) (λ row. Ok (before ++ row ∷ []))
+entry_step entry before d = and_then (entry_of (counts_in before) entry d)
+    (λ row. Ok (before ++ row ∷ []))
 
 unfoldable pub config_in : Data → Result (List Row) ConfigNo
 config_in d = if is_mapping d
     then (if has_text (codes "apiVersion") (codes "apiserver.config.k8s.io/v1") d
     then (if has_text (codes "kind") (codes "EncryptionConfiguration") d
-    then and_then (named_list (codes "resources") start d) (λ entries. if nat_le (length entries) 64 then walk entry_step 0 [] entries else over_limit 1 64)
-    else breach 24 start)
-    else breach 23 start)
-    else breach 22 start
+    then and_then (named_list (codes "resources") start d)
+    (λ entries. if nat_le (length entries) (limit_of Entries) then walk entry_step 0 [] entries
+    else over_limit Entries)
+    else breach rule.Kind start)
+    else breach rule.ApiVersion start)
+    else breach rule.Form start

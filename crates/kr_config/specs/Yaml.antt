@@ -1,14 +1,19 @@
 -- What a text in YAML means: its tree in JSON's form, so that one walk serves both.
 use Rattle.std.specs.Prelude.{◌≡◌, ℕ, List, Result, Ok, Err}
-use Rattle.serde_json.specs.Data.{Data, null, string, array, object, Items, no_items, item, Members, no_members, put}
+use Rattle.serde_json.specs.Data.{Data, null, string, array, object, Items, no_items, item, Members}
+use Rattle.serde_json.specs.Data.{no_members, put}
 use Rattle.kr_yaml.specs.Data as yaml
 use Rattle.kr_yaml.specs.Texts.{text_tokens}
 use Rattle.kr_yaml.specs.Reads.{HasTree, Refuses}
 use Rattle.kr_yaml.specs.declared.yaml_no.YamlNo.{YamlNo}
-use Rattle.kr_yaml.specs.declared.yaml_no.YamlNo.TheVariants.{Outside, Indent, DuplicateKey, Deep, NoMemory}
+use Rattle.kr_yaml.specs.declared.yaml_no.YamlNo.TheVariants.{Outside, Indent, DuplicateKey, Deep}
+use Rattle.kr_yaml.specs.declared.yaml_no.YamlNo.TheVariants.{NoMemory}
+use Rattle.kr_config.specs.declared.refusal.YamlRule.TheVariants as yaml_rule
 use Rattle.kr_config.specs.declared.refusal.ConfigNo.{ConfigNo}
+use Rattle.kr_config.specs.declared.refusal.ConfigNo.TheVariants.{Yaml}
 
--- nothing is null and a word a text; lists and mappings stay, with a mapping's members put in one after another
+-- nothing is null and a word a text; lists and mappings stay, with a mapping's members put in one
+-- after another
 abbrev mutual
   pub json_of : yaml.Data → Data
   json_of yaml.null = null
@@ -24,18 +29,16 @@ abbrev mutual
   json_members done yaml.no_members = done
   json_members done (yaml.member key d ms) = json_members (put key (json_of d) done) ms
 
--- a breach of the YAML profile has code 21; the numbers are those of its line and its kind
-abbrev pub in_line : ℕ → ℕ → ConfigNo
-in_line line kind = record { code = 21; first = line; second = kind }
-
-abbrev pub IsNumbered : YamlNo → ConfigNo → Type 0
-IsNumbered (Outside line) why = why ≡ in_line line 1
-IsNumbered (Indent line) why = why ≡ in_line line 2
-IsNumbered (DuplicateKey line) why = why ≡ in_line line 3
-IsNumbered (Deep line) why = why ≡ in_line line 4
-IsNumbered NoMemory why = ⊥
+-- a breach of the YAML profile, as the configuration's
+abbrev pub IsBreachOf : YamlNo → ConfigNo → Type 0
+IsBreachOf (Outside line) why = why ≡ Yaml yaml_rule.Outside line
+IsBreachOf (Indent line) why = why ≡ Yaml yaml_rule.Indent line
+IsBreachOf (DuplicateKey line) why = why ≡ Yaml yaml_rule.DuplicateKey line
+IsBreachOf (Deep line) why = why ≡ Yaml yaml_rule.Deep line
+IsBreachOf NoMemory why = ⊥
 
 -- a text's tree, or its first breach
 abbrev pub TreeOf : List ℕ → Result yaml.Data ConfigNo → Type 0
 TreeOf text (Ok d) = HasTree (text_tokens text) d
-TreeOf text (Err why) = (breach : YamlNo) × Refuses (text_tokens text) breach × IsNumbered breach why
+TreeOf text (Err why) = (breach : YamlNo) × Refuses (text_tokens text) breach
+    × IsBreachOf breach why

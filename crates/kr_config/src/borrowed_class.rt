@@ -1,4 +1,5 @@
-//! Classes of resources that settings lend, so that a table of them can be gone through without memory.
+//! Classes of resources that settings lend, so that a table of them can be gone through without
+//! memory.
 ghost use Rattle.std.specs.Prelude.{◌≡◌, IfOk};
 ghost use Rattle.std.specs.Option.{option_map};
 ghost use Rattle.std.specs.Ordering.{is_lt};
@@ -39,14 +40,8 @@ pub fn copy_class(alloc: Global, class: BorrowedClass<'_>) -> Result<Class, NoMe
     ensures { IfOk result (λ copy. copy ≡ lent_class class.entry) }
 {
     match class {
-        BorrowedClass::Exact(text) => match Text::copy(alloc, text.as_str()) {
-            Ok(text) => Ok(Class::Exact(text)),
-            Err(why) => Err(why),
-        },
-        BorrowedClass::Group(group) => match Text::copy(alloc, group.as_str()) {
-            Ok(group) => Ok(Class::Group(group)),
-            Err(why) => Err(why),
-        },
+        BorrowedClass::Exact(text) => Ok(Class::Exact(Text::copy(alloc, text.as_str())?)),
+        BorrowedClass::Group(group) => Ok(Class::Group(Text::copy(alloc, group.as_str())?)),
         BorrowedClass::Rest => Ok(Class::Rest),
     }
 }
@@ -66,7 +61,8 @@ pub fn first_of<'a>(
     one: Option<BorrowedClass<'a>>,
     other: Option<BorrowedClass<'a>>,
 ) -> Option<BorrowedClass<'a>>
-    ensures { option_map lent_class result ≡ earlier class_cmp (option_map lent_class one.entry) (option_map lent_class other.entry) }
+    ensures { option_map lent_class result
+        ≡ earlier class_cmp (option_map lent_class one.entry) (option_map lent_class other.entry) }
 {
     match (one, other) {
         (Some(class), Some(rival)) => if is_before(rival, class) {

@@ -6,8 +6,8 @@ use crate::borrowed_class::{BorrowedClass, copy_class};
 use kr_base::{NoMemory, Text};
 use std::alloc::Global;
 
-/// A class of resources that settings treat alike. Classes are ordered: exact ones by their bytes, then groups by their
-/// bytes, then the rest.
+/// A class of resources that settings treat alike. Classes are ordered: exact ones by their bytes,
+/// then groups by their bytes, then the rest.
 #[derive(Debug, Drop, PartialEq, Eq, PartialOrd, Ord)]
 pub enum Class {
     /// The one resource of this text.

@@ -1,12 +1,15 @@
 //! The table of classes that some settings tell apart.
-ghost use Rattle.std.specs.Prelude.{◌≡◌, ◌<◌, ◌↔◌, length, ◌++◌, [], ◌∷◌, List, IsTrue, IfOk, OnOk, OnErr, Contains};
+ghost use Rattle.std.specs.Prelude.{◌≡◌, ◌<◌, ◌↔◌, length, ◌++◌, [], ◌∷◌, List, IsTrue, IfOk, OnOk};
+ghost use Rattle.std.specs.Prelude.{OnErr, Contains};
 ghost use Rattle.std.specs.List.{slice_index_or, list_any, flat_map};
 ghost use Rattle.std.specs.List.Sorted.{IsStrictlySortedBy};
 ghost use Rattle.kr_config.specs.declared.class.Class.{Class};
 ghost use Rattle.kr_config.specs.declared.class.Class.TheVariants.{Exact, Group, Rest};
 ghost use Rattle.kr_config.specs.Kept.{Row, rows_of};
 ghost use Rattle.kr_config.specs.Lists.{list_of, class_list};
-ghost use Rattle.kr_config.specs.Classes.{class_cmp, class_made, classes_made, classes_in, IsTableOf, Finds, class_in, is_exact, is_group, is_rest};
+ghost use Rattle.kr_config.specs.Classes.{class_cmp, class_made, classes_made, classes_in};
+ghost use Rattle.kr_config.specs.Classes.{IsTableOf, class_in, is_exact, is_group, is_rest};
+ghost use Rattle.kr_config.specs.inner.Finds.{Finds};
 
 use crate::class::Class;
 use crate::pattern::{Pattern, group_of};
@@ -15,7 +18,8 @@ use kr_base::{NoMemory, Text};
 use std::alloc::Global;
 use std::marker::Model;
 
-/// The classes of resources that some settings tell apart. Contracts see it as the list of its classes.
+/// The classes of resources that some settings tell apart. Contracts see it as the list of its
+/// classes.
 #[derive(Debug, Drop)]
 pub struct ClassTable {
     /// None before the first settings, so that a new table takes no memory.
@@ -36,7 +40,8 @@ impl Model for ClassTable {
 
     ghost view = { λ table. or_rest table.classes.items };
 
-    ghost invariant = { λ table. IsTrue (list_any is_rest (or_rest table.classes.items)) × (table.rest ≡ Rest ∷ []) };
+    ghost invariant = { λ table. IsTrue (list_any is_rest (or_rest table.classes.items))
+        × (table.rest ≡ Rest ∷ []) };
 }
 
 impl ClassTable {
@@ -59,19 +64,14 @@ impl ClassTable {
             → IsTableOf (added ++ rows_of settings.now.entries.0 ∷ []) self.new) }
         ensures err { OnErr result (self.new ≡ self.old) }
     {
-        let mut fresh = match fresh_classes(self.alloc, settings.entries.as_slice()) {
-            Ok(fresh) => fresh,
-            Err(why) => return Err(why),
-        };
-        match self.classes.append(&mut fresh) {
-            Ok(()) => {}
-            Err(_) => return Err(NoMemory),
-        }
+        let mut fresh = fresh_classes(self.alloc, settings.entries.as_slice())?;
+        self.classes.append(&mut fresh)?;
         put_in_order(&mut self.classes);
         Ok(())
     }
 
-    /// Lends the classes in their order: exact ones by their bytes, groups by their bytes, the rest.
+    /// Lends the classes in their order: exact ones by their bytes, groups by their bytes, the
+    /// rest.
     pub fn classes(&self) -> &[Class]
         ensures classes { result.now ≡ self.now }
         ensures rest { IsTrue (list_any is_rest self.now) }
@@ -83,13 +83,16 @@ impl ClassTable {
         }
     }
 
-    /// The place of the resource's class: its own if it is there, else its group's if it is there, else the rest's. In each
-    /// of the settings that were added the list of the resource is the list of this class.
+    /// The place of the resource's class: its own if it is there, else its group's if it is there,
+    /// else the rest's. In each of the settings that were added the list of the resource is the
+    /// list of this class.
     #[tactic(auto, unfolding(crate::specs::Classes::class_in), using(crate::proofs::ClassTables::law_of_classes))]
     pub fn class_of(&self, resource: &str) -> usize
         ensures within { result < length self.now }
-        ensures class { (other : Class) → slice_index_or self.now result other ≡ class_in self.now resource.now }
-        ensures law { (added : List (List Row)) → IsTableOf added self.now → (rows : List Row) → Contains added rows
+        ensures class { (other : Class)
+            → slice_index_or self.now result other ≡ class_in self.now resource.now }
+        ensures law { (added : List (List Row)) → IsTableOf added self.now → (rows : List Row)
+            → Contains added rows
             → list_of rows resource.now ≡ class_list rows (class_in self.now resource.now) }
     {
         let classes = self.classes();
@@ -106,6 +109,7 @@ impl ClassTable {
     }
 }
 
+/// Where the class of the one resource stands.
 #[tactic(auto, using(crate::proofs::Places::finds_exact, crate::proofs::Places::finds_none))]
 fn exact_place(classes: &[Class], resource: &str) -> Option<usize>
     ensures { Finds (is_exact resource.now) (Exact resource.now) classes.now result }
@@ -118,6 +122,7 @@ fn exact_place(classes: &[Class], resource: &str) -> Option<usize>
     None
 }
 
+/// Where the class of the group stands.
 #[tactic(auto, using(crate::proofs::Places::finds_group, crate::proofs::Places::finds_none))]
 fn group_place(classes: &[Class], group: &str) -> Option<usize>
     ensures { Finds (is_group group.now) (Group group.now) classes.now result }
@@ -130,6 +135,7 @@ fn group_place(classes: &[Class], group: &str) -> Option<usize>
     None
 }
 
+/// Where the rest stands.
 #[tactic(auto, using(crate::proofs::Places::finds_rest, crate::proofs::Places::finds_none))]
 fn rest_place(classes: &[Class]) -> Option<usize>
     ensures { Finds is_rest Rest classes.now result }
@@ -145,7 +151,8 @@ fn rest_place(classes: &[Class]) -> Option<usize>
 /// Sorts the classes and leaves each once.
 fn put_in_order(classes: &mut Vec<Class>)
     ensures ascends { IsStrictlySortedBy class_cmp classes.new.items }
-    ensures members { (class : Class) → Contains classes.new.items class ↔ Contains classes.old.items class }
+    ensures members { (class : Class)
+        → Contains classes.new.items class ↔ Contains classes.old.items class }
 {
     classes.sort_unstable();
     classes.dedup();
@@ -156,19 +163,14 @@ fn fresh_classes(alloc: Global, entries: &[Entry]) -> Result<Vec<Class>, NoMemor
     ensures { IfOk result (λ classes. classes.items ≡ Rest ∷ classes_in (rows_of entries.now)) }
 {
     let mut classes = Vec::new(alloc);
-    match classes.push(Class::Rest) {
-        Ok(()) => {}
-        Err(_) => return Err(NoMemory),
-    }
+    classes.push(Class::Rest)?;
     for entry in entries {
-        match push_classes(alloc, &mut classes, entry.patterns.as_slice()) {
-            Ok(()) => {}
-            Err(why) => return Err(why),
-        }
+        push_classes(alloc, &mut classes, entry.patterns.as_slice())?;
     }
     Ok(classes)
 }
 
+/// Adds the classes that the patterns make.
 fn push_classes(
     alloc: Global,
     classes: &mut Vec<Class>,
@@ -177,30 +179,20 @@ fn push_classes(
     ensures { OnOk result (classes.new.items ≡ classes.old.items ++ classes_made patterns.now) }
 {
     for pattern in patterns {
-        match push_class(alloc, classes, pattern) {
-            Ok(()) => {}
-            Err(why) => return Err(why),
-        }
+        push_class(alloc, classes, pattern)?;
     }
     Ok(())
 }
 
+/// Adds the class that the pattern makes, if it makes one.
 fn push_class(alloc: Global, classes: &mut Vec<Class>, pattern: &Pattern) -> Result<(), NoMemory>
     ensures { OnOk result (classes.new.items ≡ classes.old.items ++ class_made pattern.now) }
 {
     let class = match pattern {
-        Pattern::Exact(text) => match Text::copy(alloc, text.as_str()) {
-            Ok(text) => Class::Exact(text),
-            Err(why) => return Err(why),
-        },
-        Pattern::Group(group) => match Text::copy(alloc, group.as_str()) {
-            Ok(group) => Class::Group(group),
-            Err(why) => return Err(why),
-        },
+        Pattern::Exact(text) => Class::Exact(Text::copy(alloc, text.as_str())?),
+        Pattern::Group(group) => Class::Group(Text::copy(alloc, group.as_str())?),
         Pattern::All => return Ok(()),
     };
-    match classes.push(class) {
-        Ok(()) => Ok(()),
-        Err(_) => Err(NoMemory),
-    }
+    classes.push(class)?;
+    Ok(())
 }

@@ -15,7 +15,8 @@ fn if_after<'a>(
     class: BorrowedClass<'a>,
     after: Option<BorrowedClass<'_>>,
 ) -> Option<BorrowedClass<'a>>
-    ensures { IsNextClass (lent_class class.entry ∷ []) (option_map lent_class after.entry) (option_map lent_class result) }
+    ensures { IsNextClass (lent_class class.entry ∷ []) (option_map lent_class after.entry)
+        (option_map lent_class result) }
 {
     if comes_after(after, class) {
         Some(class)
@@ -24,9 +25,11 @@ fn if_after<'a>(
     }
 }
 
+/// The class that the pattern makes, if it comes after this one.
 #[tactic(auto, using(crate::proofs::Nexts::no_class))]
 fn next_of<'a>(pattern: &'a Pattern, after: Option<BorrowedClass<'_>>) -> Option<BorrowedClass<'a>>
-    ensures { IsNextClass (class_made pattern.now) (option_map lent_class after.entry) (option_map lent_class result) }
+    ensures { IsNextClass (class_made pattern.now) (option_map lent_class after.entry)
+        (option_map lent_class result) }
 {
     match pattern {
         Pattern::Exact(text) => if_after(BorrowedClass::Exact(text), after),
@@ -35,12 +38,14 @@ fn next_of<'a>(pattern: &'a Pattern, after: Option<BorrowedClass<'_>>) -> Option
     }
 }
 
+/// The first class after this one, of those that the patterns make.
 #[tactic(auto, using(crate::proofs::NextLoops::made_begin, crate::proofs::NextLoops::made_more, crate::proofs::NextLoops::made_end))]
 fn next_made<'a>(
     patterns: &'a [Pattern],
     after: Option<BorrowedClass<'_>>,
 ) -> Option<BorrowedClass<'a>>
-    ensures { IsNextClass (classes_made patterns.now) (option_map lent_class after.entry) (option_map lent_class result) }
+    ensures { IsNextClass (classes_made patterns.now) (option_map lent_class after.entry)
+        (option_map lent_class result) }
 {
     let mut next = None;
     for pattern in patterns {
@@ -55,7 +60,8 @@ pub fn next_in<'a>(
     entries: &'a [Entry],
     after: Option<BorrowedClass<'_>>,
 ) -> Option<BorrowedClass<'a>>
-    ensures { IsNextClass (Rest ∷ classes_in (rows_of entries.now)) (option_map lent_class after.entry) (option_map lent_class result) }
+    ensures { IsNextClass (Rest ∷ classes_in (rows_of entries.now))
+        (option_map lent_class after.entry) (option_map lent_class result) }
 {
     let mut next = if_after(BorrowedClass::Rest, after);
     for entry in entries {

@@ -11,6 +11,7 @@ use crate::who::Who;
 use kr_base::Text;
 use std::cmp::Ordering;
 
+/// Whether the name comes before the other by bytes.
 fn is_before(name: &str, other: &str) -> bool
     ensures { result ≡ is_lt (name_cmp name.now other.now) }
 {
@@ -23,7 +24,8 @@ fn is_before(name: &str, other: &str) -> bool
 /// The first of two: what comes next in one list of names and what comes next in another.
 fn first_of<'a>(one: Option<&'a Text>, other: Option<&'a Text>) -> Option<&'a Text>
     ensures { option_map (λ name. name.now) result
-        ≡ earlier name_cmp (option_map (λ name. name.now) one.entry) (option_map (λ name. name.now) other.entry) }
+        ≡ earlier name_cmp (option_map (λ name. name.now) one.entry)
+        (option_map (λ name. name.now) other.entry) }
 {
     match (one, other) {
         (Some(name), Some(rival)) => {
@@ -49,6 +51,7 @@ fn if_after<'a>(name: &'a Text, after: &str) -> Option<&'a Text>
     }
 }
 
+/// The provider's name, if it is a plugin and comes after this name.
 #[tactic(auto, using(crate::proofs::Nexts::no_name))]
 fn next_of<'a>(who: &'a Who, after: &str) -> Option<&'a Text>
     ensures { IsNextName (plugin_of who.now) after.now (option_map (λ name. name.now) result) }
@@ -61,9 +64,11 @@ fn next_of<'a>(who: &'a Who, after: &str) -> Option<&'a Text>
     }
 }
 
+/// The least name of a plugin after this one, of these providers.
 #[tactic(auto, using(crate::proofs::NextLoops::names_begin, crate::proofs::NextLoops::names_more, crate::proofs::NextLoops::names_end))]
 fn next_among<'a>(providers: &'a [Who], after: &str) -> Option<&'a Text>
-    ensures { IsNextName (plugins_among providers.now) after.now (option_map (λ name. name.now) result) }
+    ensures { IsNextName (plugins_among providers.now) after.now
+        (option_map (λ name. name.now) result) }
 {
     let mut next = None;
     for who in providers {
@@ -75,7 +80,8 @@ fn next_among<'a>(providers: &'a [Who], after: &str) -> Option<&'a Text>
 /// The least name of a plugin after this one.
 #[tactic(auto, using(crate::proofs::NextLoops::entries_begin, crate::proofs::NextLoops::entries_more, crate::proofs::NextLoops::entries_end))]
 pub fn next_in<'a>(entries: &'a [Entry], after: &str) -> Option<&'a Text>
-    ensures { IsNextName (plugins_in (rows_of entries.now)) after.now (option_map (λ name. name.now) result) }
+    ensures { IsNextName (plugins_in (rows_of entries.now)) after.now
+        (option_map (λ name. name.now) result) }
 {
     let mut next = None;
     for entry in entries {

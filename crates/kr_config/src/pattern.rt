@@ -1,6 +1,7 @@
 //! Patterns of resources.
 ghost use Rattle.std.specs.Prelude.{◌≡◌};
-ghost use Rattle.kr_config.specs.Patterns.{matches, covers_group, covers_rest, group_of, same, overlap};
+ghost use Rattle.kr_config.specs.Patterns.{matches, covers_group, covers_rest, group_of, same};
+ghost use Rattle.kr_config.specs.Patterns.{overlap};
 
 use kr_base::Text;
 
@@ -50,7 +51,8 @@ impl Pattern {
         }
     }
 
-    /// Whether one of the two matches all, or one is a group and the other an exact one of that group.
+    /// Whether one of the two matches all, or one is a group and the other an exact one of that
+    /// group.
     pub fn overlaps(&self, other: &Pattern) -> bool
         ensures { result ≡ overlap self.now other.now }
     {

@@ -1,13 +1,15 @@
 //! Reading a provider.
-ghost use Rattle.std.specs.Prelude.{◌≡◌, ◌+◌, ◌≤◌, nat_lt, count_by};
+ghost use Rattle.std.specs.Prelude.{◌≡◌, ◌≤◌, count_by};
 ghost use Rattle.std.specs.List.{list_any};
 ghost use Rattle.serde_json.specs.View.{view};
 ghost use Rattle.kr_config.specs.Providers.{rivals, is_key, is_kms, is_secret};
-ghost use Rattle.kr_config.specs.Walk.{place_provider, place_key, place_plugin, identity_step, of_cipher, name_at, secret_at, key_step, version_at, endpoint_at, plugin_step};
-ghost use Rattle.kr_config.specs.Reads.{Reads, ReadsInto, Checks};
+ghost use Rattle.kr_config.specs.Walk.{place_provider, place_key, place_plugin, identity_step};
+ghost use Rattle.kr_config.specs.Walk.{of_cipher, name_at, secret_at, key_step, version_at};
+ghost use Rattle.kr_config.specs.Walk.{endpoint_at, plugin_step};
+ghost use Rattle.kr_config.specs.inner.Reads.{Reads, ReadsInto, Checks};
 
-use crate::place::{Place, breach, over_limit};
-use crate::refusal::{ConfigErr, ConfigNo};
+use crate::place::Place;
+use crate::refusal::{ConfigErr, ConfigNo, Counted, Rule};
 use crate::tree::{has_text, is_mapping, text_at};
 use crate::who::Who;
 use base64::DecodeAllocError;
@@ -19,7 +21,9 @@ use std::alloc::Global;
 /// The cipher of a provider of keys.
 #[derive(Clone, Copy, Debug)]
 pub enum Cipher {
+    /// AES-CBC, of `aescbc`.
     Cbc,
+    /// AES-GCM, of `aesgcm`.
     Gcm,
 }
 
@@ -29,7 +33,7 @@ fn place_provider(place: Place, before: &mut List<Who>, who: Who) -> Result<(), 
     ensures { ReadsInto (place_provider place before.old.0 who) before.new.0 result }
 {
     if has_rival(before.as_slice(), &who) {
-        return Err(ConfigErr::No(breach(38, place)));
+        return Err(ConfigErr::No(Rule::SameProvider.at(place)));
     }
     match before.push(who) {
         Ok(()) => Ok(()),
@@ -37,13 +41,14 @@ fn place_provider(place: Place, before: &mut List<Who>, who: Who) -> Result<(), 
     }
 }
 
+/// Whether one of these has the prefix of the provider.
 fn has_rival(before: &[Who], who: &Who) -> bool
     ensures { result ≡ list_any (λ earlier. rivals earlier who.now) before.now }
 {
     before.iter().any(|earlier| earlier.is_rival(who))
 }
 
-/// The same for a key, within the limit of the file's keys.
+/// Puts a key behind those before it, within the limit of the file's keys.
 #[tactic(auto, unfolding(crate::specs::Walk::place_key))]
 fn place_key(
     counted: usize,
@@ -54,17 +59,14 @@ fn place_key(
     ensures { ReadsInto (place_key counted place before.old.0 who) before.new.0 result }
 {
     let more = before.as_slice().iter().filter(|who| who.is_key()).count();
-    match place_provider(place, before, who) {
-        Ok(()) => {}
-        Err(why) => return Err(why),
-    }
-    if !is_below(counted, more, 64) {
-        return Err(ConfigErr::No(over_limit(3, 64)));
+    place_provider(place, before, who)?;
+    if !Counted::Keys.has_room(counted, more) {
+        return Err(ConfigErr::No(ConfigNo::Limit(Counted::Keys)));
     }
     Ok(())
 }
 
-/// The same for a KMS plugin, within the limit of the file's plugins.
+/// Puts a KMS plugin behind those before it, within the limit of the file's plugins.
 #[tactic(auto, unfolding(crate::specs::Walk::place_plugin))]
 fn place_plugin(
     counted: usize,
@@ -75,20 +77,11 @@ fn place_plugin(
     ensures { ReadsInto (place_plugin counted place before.old.0 who) before.new.0 result }
 {
     let more = before.as_slice().iter().filter(|who| who.is_kms()).count();
-    match place_provider(place, before, who) {
-        Ok(()) => {}
-        Err(why) => return Err(why),
-    }
-    if !is_below(counted, more, 16) {
-        return Err(ConfigErr::No(over_limit(4, 16)));
+    place_provider(place, before, who)?;
+    if !Counted::Plugins.has_room(counted, more) {
+        return Err(ConfigErr::No(ConfigNo::Limit(Counted::Plugins)));
     }
     Ok(())
-}
-
-fn is_below(a: usize, b: usize, limit: usize) -> bool
-    ensures { result ≡ nat_lt (a + b) limit }
-{
-    a < limit && b < limit - a
 }
 
 /// Reads an identity element.
@@ -97,7 +90,7 @@ pub fn read_identity(place: Place, before: &mut List<Who>, value: &Value) -> Res
     ensures { ReadsInto (identity_step place before.old.0 (view value.now)) before.new.0 result }
 {
     if !is_mapping(value) && !value.is_null() {
-        return Err(ConfigErr::No(breach(22, place)));
+        return Err(ConfigErr::No(Rule::Form.at(place)));
     }
     place_provider(place, before, Who::Identity)
 }
@@ -112,16 +105,11 @@ pub fn read_key(
     before: &mut List<Who>,
     value: &Value,
 ) -> Result<(), ConfigErr>
-    ensures { ReadsInto (key_step cipher counted place before.old.0 (view value.now)) before.new.0 result }
+    ensures { ReadsInto (key_step cipher counted place before.old.0 (view value.now)) before.new.0
+        result }
 {
-    let name = match read_name(alloc, place, value) {
-        Ok(name) => name,
-        Err(why) => return Err(why),
-    };
-    let secret = match read_secret(alloc, place, value) {
-        Ok(secret) => secret,
-        Err(why) => return Err(why),
-    };
+    let name = read_name(alloc, place, value)?;
+    let secret = read_secret(alloc, place, value)?;
     let who = match cipher {
         Cipher::Cbc => Who::Aescbc(name, secret),
         Cipher::Gcm => Who::Aesgcm(name, secret),
@@ -135,15 +123,12 @@ fn read_name(alloc: Global, place: Place, value: &Value) -> Result<Text, ConfigE
     ensures { Reads (name_at place (view value.now)) result }
 {
     let Some(name) = text_at(value, "name") else {
-        return Err(ConfigErr::No(breach(22, place)));
+        return Err(ConfigErr::No(Rule::Form.at(place)));
     };
     if !name_ok(name) {
-        return Err(ConfigErr::No(breach(31, place)));
+        return Err(ConfigErr::No(Rule::Name.at(place)));
     }
-    match Text::copy(alloc, name) {
-        Ok(name) => Ok(name),
-        Err(_) => Err(ConfigErr::NoMemory),
-    }
+    Ok(Text::copy(alloc, name)?)
 }
 
 /// The key at `secret`, by its rule.
@@ -152,13 +137,13 @@ fn read_secret(alloc: Global, place: Place, value: &Value) -> Result<Bytes, Conf
     ensures { Reads (secret_at place (view value.now)) result }
 {
     let Some(text) = text_at(value, "secret") else {
-        return Err(ConfigErr::No(breach(22, place)));
+        return Err(ConfigErr::No(Rule::Form.at(place)));
     };
     match STANDARD.decode(alloc, text.as_bytes()) {
         Ok(secret) if matches!(secret.len(), 16 | 24 | 32) => Ok(Bytes::from_vec(secret)),
-        Ok(_) => Err(ConfigErr::No(breach(34, place))),
+        Ok(_) => Err(ConfigErr::No(Rule::SecretLength.at(place))),
         Err(DecodeAllocError::OutOfMemory) => Err(ConfigErr::NoMemory),
-        Err(_) => Err(ConfigErr::No(breach(33, place))),
+        Err(_) => Err(ConfigErr::No(Rule::Base64.at(place))),
     }
 }
 
@@ -171,54 +156,48 @@ pub fn read_plugin(
     before: &mut List<Who>,
     value: &Value,
 ) -> Result<(), ConfigErr>
-    ensures { ReadsInto (plugin_step counted place before.old.0 (view value.now)) before.new.0 result }
+    ensures { ReadsInto (plugin_step counted place before.old.0 (view value.now)) before.new.0
+        result }
 {
     if !is_mapping(value) {
-        return Err(ConfigErr::No(breach(22, place)));
+        return Err(ConfigErr::No(Rule::Form.at(place)));
     }
-    match check_version(place, value) {
-        Ok(()) => {}
-        Err(why) => return Err(ConfigErr::No(why)),
-    }
-    let name = match read_name(alloc, place, value) {
-        Ok(name) => name,
-        Err(why) => return Err(why),
-    };
-    match check_endpoint(place, value) {
-        Ok(()) => {}
-        Err(why) => return Err(ConfigErr::No(why)),
-    }
+    check_version(place, value)?;
+    let name = read_name(alloc, place, value)?;
+    check_endpoint(place, value)?;
     place_plugin(counted, place, before, Who::Kms(name))
 }
 
+/// Whether a kms element's version is `v2`, or which rule it breaks.
 #[tactic(auto, unfolding(crate::specs::Walk::version_at))]
 fn check_version(place: Place, value: &Value) -> Result<(), ConfigNo>
     ensures { Checks (version_at place (view value.now)) result }
 {
     let Some(version) = value.get("apiVersion") else {
-        return Err(breach(29, place));
+        return Err(Rule::KmsV1.at(place));
     };
     if has_text(value, "apiVersion", "v1") {
-        return Err(breach(29, place));
+        return Err(Rule::KmsV1.at(place));
     }
     let Some(text) = version.as_str() else {
-        return Err(breach(22, place));
+        return Err(Rule::Form.at(place));
     };
     if text != "v2" {
-        return Err(breach(30, place));
+        return Err(Rule::KmsVersion.at(place));
     }
     Ok(())
 }
 
+/// Whether its endpoint begins `unix://`, or which rule it breaks.
 #[tactic(auto, unfolding(crate::specs::Walk::endpoint_at))]
 fn check_endpoint(place: Place, value: &Value) -> Result<(), ConfigNo>
     ensures { Checks (endpoint_at place (view value.now)) result }
 {
     let Some(text) = text_at(value, "endpoint") else {
-        return Err(breach(22, place));
+        return Err(Rule::Form.at(place));
     };
     if !text.as_bytes().starts_with(b"unix://") {
-        return Err(breach(32, place));
+        return Err(Rule::Endpoint.at(place));
     }
     Ok(())
 }

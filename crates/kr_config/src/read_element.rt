@@ -1,20 +1,21 @@
 //! Reading a provider element.
 ghost use Rattle.std.specs.Prelude.{◌≡◌, ◌≤◌, map};
 ghost use Rattle.serde_json.specs.View.{view};
-ghost use Rattle.kr_config.specs.Walk.{walk_each, key_step, keys_step, one_if, kinds_of, kind_step, element_step};
-ghost use Rattle.kr_config.specs.Reads.{ReadsInto};
+ghost use Rattle.kr_config.specs.Walk.{walk_each, key_step, keys_step, one_if, kinds_of, kind_step};
+ghost use Rattle.kr_config.specs.Walk.{element_step};
+ghost use Rattle.kr_config.specs.inner.Reads.{ReadsInto};
 
-use crate::place::{Counts, Place, breach};
+use crate::place::{Counts, Place};
 use crate::provider::{Cipher, read_identity, read_key, read_plugin};
-use crate::refusal::ConfigErr;
+use crate::refusal::{ConfigErr, Rule};
 use crate::tree::{has, is_mapping, named_list};
 use crate::who::Who;
 use kr_base::List;
 use serde_json::Value;
 use std::alloc::Global;
 
-/// Reads the provider element at this place, where earlier entries have so many keys and plugins, and puts its providers behind
-/// those that stand before it.
+/// Reads the provider element at this place, where earlier entries have so many keys and plugins,
+/// and puts its providers behind those that stand before it.
 #[tactic(auto, unfolding(crate::specs::Walk::element_step))]
 pub fn read_element(
     alloc: Global,
@@ -23,17 +24,18 @@ pub fn read_element(
     before: &mut List<Who>,
     value: &Value,
 ) -> Result<(), ConfigErr>
-    ensures { ReadsInto (element_step counts place.entry place.item before.old.0 (view value.now)) before.new.0 result }
+    ensures { ReadsInto (element_step counts place.entry place.item before.old.0 (view value.now))
+        before.new.0 result }
 {
     if !is_mapping(value) {
-        return Err(ConfigErr::No(breach(22, place)));
+        return Err(ConfigErr::No(Rule::Form.at(place)));
     }
     let kinds = kinds_of(value);
     if kinds == 0 {
-        return Err(ConfigErr::No(breach(26, place)));
+        return Err(ConfigErr::No(Rule::NoProvider.at(place)));
     }
     if kinds > 1 {
-        return Err(ConfigErr::No(breach(27, place)));
+        return Err(ConfigErr::No(Rule::SeveralProviders.at(place)));
     }
     read_kind(alloc, counts, place, before, value)
 }
@@ -49,6 +51,7 @@ fn kinds_of(value: &Value) -> u32
         + one_if(has(value, "secretbox"))
 }
 
+/// 1 where it is so, else 0.
 fn one_if(b: bool) -> u32
     ensures one { result ≡ one_if b }
     ensures small { result ≤ 1 }
@@ -56,6 +59,7 @@ fn one_if(b: bool) -> u32
     if b { 1 } else { 0 }
 }
 
+/// Reads the element by the one provider that it has.
 #[tactic(auto, unfolding(crate::specs::Walk::kind_step))]
 fn read_kind(
     alloc: Global,
@@ -78,7 +82,7 @@ fn read_kind(
     if let Some(kms) = value.get("kms") {
         return read_plugin(alloc, counts.plugins, place, before, kms);
     }
-    Err(ConfigErr::No(breach(28, place)))
+    Err(ConfigErr::No(Rule::Secretbox.at(place)))
 }
 
 /// Reads an element of keys.
@@ -91,17 +95,17 @@ fn read_keys(
     before: &mut List<Who>,
     value: &Value,
 ) -> Result<(), ConfigErr>
-    ensures { ReadsInto (keys_step cipher counted place before.old.0 (view value.now)) before.new.0 result }
+    ensures { ReadsInto (keys_step cipher counted place before.old.0 (view value.now)) before.new.0
+        result }
 {
     if !is_mapping(value) {
-        return Err(ConfigErr::No(breach(22, place)));
+        return Err(ConfigErr::No(Rule::Form.at(place)));
     }
-    match named_list(value, "keys", place) {
-        Ok(keys) => read_each_key(alloc, cipher, counted, place, before, keys),
-        Err(why) => Err(ConfigErr::No(why)),
-    }
+    let keys = named_list(value, "keys", place)?;
+    read_each_key(alloc, cipher, counted, place, before, keys)
 }
 
+/// Reads the keys of an element in their order.
 #[tactic(auto, using(crate::proofs::Trees::each_more, crate::proofs::Trees::each_stops, crate::proofs::Trees::each_ends))]
 fn read_each_key(
     alloc: Global,
@@ -111,13 +115,11 @@ fn read_each_key(
     before: &mut List<Who>,
     keys: &[Value],
 ) -> Result<(), ConfigErr>
-    ensures { ReadsInto (walk_each (key_step cipher counted place) before.old.0 (map view keys.now)) before.new.0 result }
+    ensures { ReadsInto (walk_each (key_step cipher counted place) before.old.0 (map view keys.now))
+        before.new.0 result }
 {
     for key in keys {
-        match read_key(alloc, cipher, counted, place, before, key) {
-            Ok(()) => {}
-            Err(why) => return Err(why),
-        }
+        read_key(alloc, cipher, counted, place, before, key)?;
     }
     Ok(())
 }

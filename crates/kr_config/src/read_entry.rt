@@ -1,14 +1,14 @@
 //! Reading an entry.
-ghost use Rattle.std.specs.Prelude.{◌≡◌, ◌≤◌, map, []};
+ghost use Rattle.std.specs.Prelude.{◌≡◌, map, []};
 ghost use Rattle.serde_json.specs.View.{view};
 ghost use Rattle.kr_config.specs.Walk.{walk, pattern_step, element_step, entry_of};
-ghost use Rattle.kr_config.specs.Reads.{ReadsList, ReadsEntry};
+ghost use Rattle.kr_config.specs.inner.Reads.{ReadsList, ReadsEntry};
 
 use crate::pattern::Pattern;
-use crate::place::{Counts, Place, breach};
+use crate::place::{Counts, Place};
 use crate::read_element::read_element;
 use crate::read_pattern::read_pattern;
-use crate::refusal::ConfigErr;
+use crate::refusal::{ConfigErr, Rule};
 use crate::settings::Entry;
 use crate::tree::{is_mapping, named_list};
 use crate::who::Who;
@@ -24,33 +24,23 @@ pub fn read_entry(
     entry: u32,
     value: &Value,
 ) -> Result<Entry, ConfigErr>
-    requires { counts.patterns ≤ 256 }
     ensures { ReadsEntry (entry_of counts entry (view value.now)) result }
 {
     let place = Place { entry, item: 0 };
     if !is_mapping(value) {
-        return Err(ConfigErr::No(breach(22, place)));
+        return Err(ConfigErr::No(Rule::Form.at(place)));
     }
-    let patterns = match named_list(value, "resources", place) {
-        Ok(texts) => match read_patterns(alloc, counts.patterns, entry, texts) {
-            Ok(patterns) => patterns,
-            Err(why) => return Err(why),
-        },
-        Err(why) => return Err(ConfigErr::No(why)),
-    };
-    let providers = match named_list(value, "providers", place) {
-        Ok(elements) => match read_elements(alloc, counts, entry, elements) {
-            Ok(providers) => providers,
-            Err(why) => return Err(why),
-        },
-        Err(why) => return Err(ConfigErr::No(why)),
-    };
+    let texts = named_list(value, "resources", place)?;
+    let patterns = read_patterns(alloc, counts.patterns, entry, texts)?;
+    let elements = named_list(value, "providers", place)?;
+    let providers = read_elements(alloc, counts, entry, elements)?;
     Ok(Entry {
         patterns,
         providers,
     })
 }
 
+/// Reads the patterns of an entry in their order.
 #[tactic(auto, using(crate::proofs::Trees::walk_more, crate::proofs::Trees::walk_stops, crate::proofs::Trees::walk_ends))]
 fn read_patterns(
     alloc: Global,
@@ -58,21 +48,18 @@ fn read_patterns(
     entry: u32,
     texts: &[Value],
 ) -> Result<List<Pattern>, ConfigErr>
-    requires { counted ≤ 256 }
     ensures { ReadsList (walk (pattern_step counted entry) 0 [] (map view texts.now)) result }
 {
     let mut patterns = List::new(alloc);
     let mut item: u32 = 0;
     for text in texts {
-        match read_pattern(alloc, counted, Place { entry, item }, &mut patterns, text) {
-            Ok(()) => {}
-            Err(why) => return Err(why),
-        }
+        read_pattern(alloc, counted, Place { entry, item }, &mut patterns, text)?;
         item = item.saturating_add(1);
     }
     Ok(patterns)
 }
 
+/// Reads the provider elements of an entry in their order.
 #[tactic(auto, using(crate::proofs::Trees::walk_more, crate::proofs::Trees::walk_stops, crate::proofs::Trees::walk_ends))]
 fn read_elements(
     alloc: Global,
@@ -85,16 +72,13 @@ fn read_elements(
     let mut providers = List::new(alloc);
     let mut item: u32 = 0;
     for element in elements {
-        match read_element(
+        read_element(
             alloc,
             counts,
             Place { entry, item },
             &mut providers,
             element,
-        ) {
-            Ok(()) => {}
-            Err(why) => return Err(why),
-        }
+        )?;
         item = item.saturating_add(1);
     }
     Ok(providers)

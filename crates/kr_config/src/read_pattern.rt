@@ -1,25 +1,22 @@
 //! Reading a pattern.
-ghost use Rattle.std.specs.Prelude.{◌≡◌, ◌≤◌, IfOk, Some, None, if◌then◌else◌};
+ghost use Rattle.std.specs.Prelude.{◌≡◌, IfOk, Some, None, if◌then◌else◌};
 ghost use Rattle.std.specs.List.{list_any};
 ghost use Rattle.kr_base.specs.Rules.{is_resource};
 ghost use Rattle.kr_config.specs.declared.pattern.Pattern.TheVariants.{Exact};
 ghost use Rattle.serde_json.specs.View.{view};
 ghost use Rattle.kr_config.specs.Patterns.{same, overlap, is_group};
 ghost use Rattle.kr_config.specs.Walk.{star_pattern, pattern_of, place_pattern, pattern_step};
-ghost use Rattle.kr_config.specs.Reads.{ReadsInto};
+ghost use Rattle.kr_config.specs.inner.Reads.{ReadsInto};
 
 use crate::pattern::Pattern;
-use crate::place::{Place, breach, over_limit};
-use crate::refusal::ConfigErr;
-use kr_base::{List, NoMemory, Text, resource_ok};
+use crate::place::Place;
+use crate::refusal::{ConfigErr, ConfigNo, Counted, Rule};
+use kr_base::{List, NAME_LIMIT, NoMemory, Text, resource_ok};
 use serde_json::Value;
 use std::alloc::Global;
 
-/// The longest group: `*.` before it counts among the 253 bytes.
-const GROUP_LIMIT: usize = 251;
-
-/// Reads the pattern at this place, where earlier entries have `counted` patterns, and puts it behind those that stand before
-/// it.
+/// Reads the pattern at this place, where earlier entries have `counted` patterns, and puts it
+/// behind those that stand before it.
 #[tactic(auto, unfolding(crate::specs::Walk::pattern_step))]
 pub fn read_pattern(
     alloc: Global,
@@ -28,19 +25,19 @@ pub fn read_pattern(
     before: &mut List<Pattern>,
     value: &Value,
 ) -> Result<(), ConfigErr>
-    requires { counted ≤ 256 }
-    ensures { ReadsInto (pattern_step counted place.entry place.item before.old.0 (view value.now)) before.new.0 result }
+    ensures { ReadsInto (pattern_step counted place.entry place.item before.old.0 (view value.now))
+        before.new.0 result }
 {
     let Some(text) = value.as_str() else {
-        return Err(ConfigErr::No(breach(22, place)));
+        return Err(ConfigErr::No(Rule::Form.at(place)));
     };
-    match pattern_of(alloc, text) {
-        Ok(Some(pattern)) => place_pattern(counted, place, before, pattern),
-        Ok(None) => Err(ConfigErr::No(breach(35, place))),
-        Err(_) => Err(ConfigErr::NoMemory),
+    match pattern_of(alloc, text)? {
+        Some(pattern) => place_pattern(counted, place, before, pattern),
+        None => Err(ConfigErr::No(Rule::Pattern.at(place))),
     }
 }
 
+/// Puts a pattern behind those before it, where it clashes with none and the file has room.
 #[tactic(auto, unfolding(crate::specs::Walk::place_pattern))]
 fn place_pattern(
     counted: usize,
@@ -48,17 +45,16 @@ fn place_pattern(
     before: &mut List<Pattern>,
     pattern: Pattern,
 ) -> Result<(), ConfigErr>
-    requires { counted ≤ 256 }
     ensures { ReadsInto (place_pattern counted place before.old.0 pattern) before.new.0 result }
 {
     if has_same(before.as_slice(), &pattern) {
-        return Err(ConfigErr::No(breach(36, place)));
+        return Err(ConfigErr::No(Rule::SamePattern.at(place)));
     }
     if has_overlap(before.as_slice(), &pattern) {
-        return Err(ConfigErr::No(breach(37, place)));
+        return Err(ConfigErr::No(Rule::Overlap.at(place)));
     }
-    if before.as_slice().len() >= 256 - counted {
-        return Err(ConfigErr::No(over_limit(2, 256)));
+    if !Counted::Patterns.has_room(counted, before.as_slice().len()) {
+        return Err(ConfigErr::No(ConfigNo::Limit(Counted::Patterns)));
     }
     match before.push(pattern) {
         Ok(()) => Ok(()),
@@ -66,12 +62,14 @@ fn place_pattern(
     }
 }
 
+/// Whether the pattern stands among these.
 fn has_same(before: &[Pattern], pattern: &Pattern) -> bool
     ensures { result ≡ list_any (λ earlier. same earlier pattern.now) before.now }
 {
     before.iter().any(|earlier| earlier.is_same(pattern))
 }
 
+/// Whether it overlaps one of these.
 fn has_overlap(before: &[Pattern], pattern: &Pattern) -> bool
     ensures { result ≡ list_any (λ earlier. overlap earlier pattern.now) before.now }
 {
@@ -104,26 +102,23 @@ fn star_pattern(alloc: Global, group: &str) -> Result<Option<Pattern>, NoMemory>
     if !group_ok(group) {
         return Ok(None);
     }
-    match Text::copy(alloc, group) {
-        Ok(group) => Ok(Some(Pattern::Group(group))),
-        Err(why) => Err(why),
-    }
+    Ok(Some(Pattern::Group(Text::copy(alloc, group)?)))
 }
 
+/// The pattern of one resource, where the text is a resource.
 fn exact_pattern(alloc: Global, text: &str) -> Result<Option<Pattern>, NoMemory>
-    ensures { IfOk result (λ pattern. pattern ≡ (if is_resource text.now then Some (Exact text.now) else None)) }
+    ensures { IfOk result (λ pattern. pattern
+        ≡ (if is_resource text.now then Some (Exact text.now) else None)) }
 {
     if !resource_ok(text) {
         return Ok(None);
     }
-    match Text::copy(alloc, text) {
-        Ok(text) => Ok(Some(Pattern::Exact(text))),
-        Err(why) => Err(why),
-    }
+    Ok(Some(Pattern::Exact(Text::copy(alloc, text)?)))
 }
 
+/// Whether a group is of its form. `*.` before it counts among the bytes.
 fn group_ok(group: &str) -> bool
     ensures { result ≡ is_group group.now }
 {
-    group.is_empty() || (group.len() <= GROUP_LIMIT && resource_ok(group))
+    group.is_empty() || (group.len() <= NAME_LIMIT - 2 && resource_ok(group))
 }

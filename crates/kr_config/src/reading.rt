@@ -4,12 +4,14 @@ ghost use Rattle.serde_json.specs.View.{view};
 ghost use Rattle.serde_json.specs.Read.{read};
 ghost use Rattle.kr_config.specs.Providers.{is_key, is_kms};
 ghost use Rattle.kr_config.specs.Walk.{walk, entry_step, config_in};
-ghost use Rattle.kr_config.specs.Meanings.{begins_json, is_blank, json_rows, MeansYaml, TextMeans, no_text, Means};
-ghost use Rattle.kr_config.specs.Reads.{ReadsEntries, ReadsMeant, ReadsSettings, ReadsJson};
+ghost use Rattle.kr_config.specs.Meanings.{begins_json, is_blank, json_rows, MeansYaml, TextMeans};
+ghost use Rattle.kr_config.specs.Meanings.{no_text, Means};
+ghost use Rattle.kr_config.specs.Meanings.{ReadsSettings};
+ghost use Rattle.kr_config.specs.inner.Reads.{ReadsEntries, ReadsMeant, ReadsJson};
 
-use crate::place::{Counts, breach, over_limit, start};
+use crate::place::{Counts, start};
 use crate::read_entry::read_entry;
-use crate::refusal::{ConfigErr, ConfigNo};
+use crate::refusal::{ConfigErr, ConfigNo, Counted, Rule, YamlRule};
 use crate::settings::{Entry, Settings};
 use crate::tree::{has_text, is_mapping, named_list};
 use crate::who::Who;
@@ -20,9 +22,9 @@ use serde_json::error::Category;
 use std::alloc::Global;
 use std::str;
 
-/// Reads a configuration, in JSON where its first byte other than space, tab, CR and LF is `{`, and else in YAML. Its walk
-/// goes over the whole, the entries in order, and in each the patterns and then the provider elements; the first breach
-/// decides. Members that no rule names are ignored.
+/// Reads a configuration, in JSON where its first byte other than space, tab, CR and LF is `{`, and
+/// else in YAML. Its walk goes over the whole, the entries in order, and in each the patterns and
+/// then the provider elements; the first breach decides. Members that no rule names are ignored.
 #[tactic(auto, using(crate::proofs::Meant::text_kept))]
 pub fn read(alloc: Global, bytes: &[u8]) -> Result<Settings, ConfigErr>
     ensures { ReadsSettings (Means bytes.now) result }
@@ -47,13 +49,9 @@ fn no_text(is_json: bool) -> ConfigNo
     ensures { result ≡ no_text is_json }
 {
     if is_json {
-        return breach(20, start());
+        return Rule::Json.at(start());
     }
-    ConfigNo {
-        code: 21,
-        first: 0,
-        second: 5,
-    }
+    ConfigNo::Yaml(YamlRule::NotUtf8, 0)
 }
 
 /// Reads a text in JSON or in YAML.
@@ -73,7 +71,7 @@ fn read_json_text(alloc: Global, text: &str) -> Result<List<Entry>, ConfigErr>
 {
     match read_json(alloc, text) {
         Ok(value) => read_config(alloc, &value),
-        Err(JsonNo::Form) => Err(ConfigErr::No(breach(20, start()))),
+        Err(JsonNo::Form) => Err(ConfigErr::No(Rule::Json.at(start()))),
         Err(JsonNo::NoMemory) => Err(ConfigErr::NoMemory),
     }
 }
@@ -82,10 +80,8 @@ fn read_json_text(alloc: Global, text: &str) -> Result<List<Entry>, ConfigErr>
 fn read_yaml_text(alloc: Global, text: &str) -> Result<List<Entry>, ConfigErr>
     ensures { ReadsMeant (MeansYaml text.now) result }
 {
-    match read_yaml(alloc, text) {
-        Ok(value) => read_config(alloc, &value),
-        Err(why) => Err(why),
-    }
+    let value = read_yaml(alloc, text)?;
+    read_config(alloc, &value)
 }
 
 /// Whether the first byte other than space, tab, CR and LF is `{`.
@@ -100,6 +96,7 @@ fn begins_json(bytes: &[u8]) -> bool
     false
 }
 
+/// Whether it is a space, tab, CR or LF.
 fn is_blank(byte: u8) -> bool
     ensures { result ≡ is_blank byte }
 {
@@ -127,30 +124,29 @@ fn read_json(alloc: Global, text: &str) -> Result<Value, JsonNo>
     }
 }
 
+/// Reads the tree of a configuration.
 #[tactic(auto, unfolding(crate::specs::Walk::config_in))]
 fn read_config(alloc: Global, value: &Value) -> Result<List<Entry>, ConfigErr>
     ensures { ReadsEntries (config_in (view value.now)) result }
 {
     if !is_mapping(value) {
-        return Err(ConfigErr::No(breach(22, start())));
+        return Err(ConfigErr::No(Rule::Form.at(start())));
     }
     if !has_text(value, "apiVersion", "apiserver.config.k8s.io/v1") {
-        return Err(ConfigErr::No(breach(23, start())));
+        return Err(ConfigErr::No(Rule::ApiVersion.at(start())));
     }
     if !has_text(value, "kind", "EncryptionConfiguration") {
-        return Err(ConfigErr::No(breach(24, start())));
+        return Err(ConfigErr::No(Rule::Kind.at(start())));
     }
-    let entries = match named_list(value, "resources", start()) {
-        Ok(entries) => entries,
-        Err(why) => return Err(ConfigErr::No(why)),
-    };
-    if entries.len() > 64 {
-        return Err(ConfigErr::No(over_limit(1, 64)));
+    let entries = named_list(value, "resources", start())?;
+    if entries.len() > Counted::Entries.limit() as usize {
+        return Err(ConfigErr::No(ConfigNo::Limit(Counted::Entries)));
     }
     read_entries(alloc, entries)
 }
 
-#[tactic(auto, using(crate::proofs::EntryLoop::reading_begins, crate::proofs::EntryLoop::reading_more, crate::proofs::EntryLoop::reading_stops, crate::proofs::EntryLoop::reading_ends, crate::proofs::EntryLoop::reading_few, crate::proofs::EntryLoop::few_patterns, crate::proofs::EntryLoop::few_keys, crate::proofs::EntryLoop::few_plugins))]
+/// Reads the entries in their order, and counts what they have.
+#[tactic(auto, using(crate::proofs::EntryLoop::reading_begins, crate::proofs::EntryLoop::reading_more, crate::proofs::EntryLoop::reading_stops, crate::proofs::EntryLoop::reading_ends, crate::proofs::EntryLoop::few_patterns, crate::proofs::EntryLoop::few_keys, crate::proofs::EntryLoop::few_plugins))]
 fn read_entries(alloc: Global, values: &[Value]) -> Result<List<Entry>, ConfigErr>
     ensures { ReadsEntries (walk entry_step 0 [] (map view values.now)) result }
 {
@@ -165,10 +161,7 @@ fn read_entries(alloc: Global, values: &[Value]) -> Result<List<Entry>, ConfigEr
             keys,
             plugins,
         };
-        let entry = match read_entry(alloc, counts, number, value) {
-            Ok(entry) => entry,
-            Err(why) => return Err(why),
-        };
+        let entry = read_entry(alloc, counts, number, value)?;
         patterns += entry.patterns.as_slice().len();
         keys += keys_in(entry.providers.as_slice());
         plugins += plugins_in(entry.providers.as_slice());
@@ -181,12 +174,14 @@ fn read_entries(alloc: Global, values: &[Value]) -> Result<List<Entry>, ConfigEr
     Ok(entries)
 }
 
+/// How many keys there are.
 fn keys_in(providers: &[Who]) -> usize
     ensures { result ≡ count_by is_key providers.now }
 {
     providers.iter().filter(|who| who.is_key()).count()
 }
 
+/// How many plugins there are.
 fn plugins_in(providers: &[Who]) -> usize
     ensures { result ≡ count_by is_kms providers.now }
 {

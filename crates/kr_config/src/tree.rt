@@ -1,13 +1,13 @@
-//! Looking into the tree that a configuration is: its walk asks of a value only whether it is a text, null, a list or a
-//! mapping. JSON's values are that tree.
+//! Looking into the tree that a configuration is: its walk asks of a value only whether it is a
+//! text, null, a list or a mapping. JSON's values are that tree.
 ghost use Rattle.std.specs.Prelude.{◌≡◌, map};
 ghost use Rattle.std.specs.Option.{option_map};
 ghost use Rattle.serde_json.specs.View.{view};
 ghost use Rattle.kr_config.specs.Walk.{text_at, has_text, is_mapping, has, named_list};
-ghost use Rattle.kr_config.specs.Reads.{Lends};
+ghost use Rattle.kr_config.specs.inner.Reads.{Lends};
 
-use crate::place::{Place, breach};
-use crate::refusal::ConfigNo;
+use crate::place::Place;
+use crate::refusal::{ConfigNo, Rule};
 use serde_json::Value;
 
 /// The text at a member.
@@ -50,13 +50,13 @@ pub fn named_list<'a>(value: &'a Value, key: &str, place: Place) -> Result<&'a [
     ensures { Lends (named_list key.now place (view value.now)) result }
 {
     let Some(member) = value.get(key) else {
-        return Err(breach(22, place));
+        return Err(Rule::Form.at(place));
     };
     let Some(list) = member.as_array() else {
-        return Err(breach(22, place));
+        return Err(Rule::Form.at(place));
     };
     if list.is_empty() {
-        return Err(breach(25, place));
+        return Err(Rule::EmptyList.at(place));
     }
     Ok(list.as_slice())
 }

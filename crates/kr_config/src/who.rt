@@ -5,8 +5,8 @@ ghost use Rattle.kr_config.specs.Providers.{rivals, is_key, is_kms};
 use kr_base::{Bytes, NoMemory, Text};
 use std::alloc::Global;
 
-/// A provider: what writes and reads the values of a resource. A provider is its kind, its name and its secret, so
-/// two keys of one name with other secrets are two providers.
+/// A provider: what writes and reads the values of a resource. A provider is its kind, its name and
+/// its secret, so two keys of one name with other secrets are two providers.
 #[derive(Debug, Drop, PartialEq, Eq)]
 pub enum Who {
     /// The data as they stand.

@@ -4,11 +4,10 @@ ghost use Rattle.serde_json.specs.Data.{no_members};
 ghost use Rattle.serde_json.specs.View.{view, items_view, members_view};
 ghost use Rattle.kr_yaml.specs.Data.{items_of, members_of};
 ghost use Rattle.kr_yaml.specs.Shown as shown;
-ghost use Rattle.kr_config.specs.Yaml.{json_of, json_items, json_members, in_line};
-ghost use Rattle.kr_config.specs.declared.refusal.ConfigErr.TheVariants.{No};
-ghost use Rattle.kr_config.specs.Reads.{ReadsYaml, Numbers};
+ghost use Rattle.kr_config.specs.Yaml.{json_of, json_items, json_members};
+ghost use Rattle.kr_config.specs.inner.Reads.{ReadsYaml, Restates};
 
-use crate::refusal::{ConfigErr, ConfigNo};
+use crate::refusal::{ConfigErr, ConfigNo, YamlRule};
 use kr_base::NoMemory;
 use kr_yaml::{Member, Tree, YamlNo};
 use serde_json::{Map, Value, put};
@@ -20,37 +19,28 @@ pub fn read_yaml(alloc: Global, text: &str) -> Result<Value, ConfigErr>
 {
     let tree = match kr_yaml::read(alloc, text) {
         Ok(tree) => tree,
-        Err(why) => return Err(numbered(why)),
+        Err(why) => return Err(restate(why)),
     };
-    match value_of(alloc, &tree) {
-        Ok(value) => Ok(value),
-        Err(_) => Err(ConfigErr::NoMemory),
-    }
+    Ok(value_of(alloc, &tree)?)
 }
 
-/// A breach of the YAML profile by its number.
-fn numbered(why: YamlNo) -> ConfigErr
-    ensures { Numbers why result }
+/// A breach of the YAML profile, as the configuration's.
+fn restate(why: YamlNo) -> ConfigErr
+    ensures { Restates why result }
 {
     match why {
-        YamlNo::Outside { line } => in_line(line, 1),
-        YamlNo::Indent { line } => in_line(line, 2),
-        YamlNo::DuplicateKey { line } => in_line(line, 3),
-        YamlNo::Deep { line } => in_line(line, 4),
+        YamlNo::Outside { line } => ConfigErr::No(ConfigNo::Yaml(YamlRule::Outside, line)),
+        YamlNo::Indent { line } => ConfigErr::No(ConfigNo::Yaml(YamlRule::Indent, line)),
+        YamlNo::DuplicateKey { line } => ConfigErr::No(ConfigNo::Yaml(
+            YamlRule::DuplicateKey,
+            line,
+        )),
+        YamlNo::Deep { line } => ConfigErr::No(ConfigNo::Yaml(YamlRule::Deep, line)),
         YamlNo::NoMemory => ConfigErr::NoMemory,
     }
 }
 
-fn in_line(line: u32, kind: u32) -> ConfigErr
-    ensures { result ≡ No (in_line line kind) }
-{
-    ConfigErr::No(ConfigNo {
-        code: 21,
-        first: line,
-        second: kind,
-    })
-}
-
+/// The tree as a value.
 #[cycle(value)]
 #[tactic(auto, using(crate::proofs::Conversions::as_object))]
 fn value_of(alloc: Global, tree: &Tree) -> Result<Value, NoMemory>
@@ -58,45 +48,38 @@ fn value_of(alloc: Global, tree: &Tree) -> Result<Value, NoMemory>
 {
     match tree {
         Tree::Null => Ok(Value::Null),
-        Tree::Word(word) => match String::from_str(alloc, word.as_str()) {
-            Ok(text) => Ok(Value::String(text)),
-            Err(_) => Err(NoMemory),
-        },
+        Tree::Word(word) => Ok(Value::String(String::from_str(alloc, word.as_str())?)),
         Tree::Items(items) => Ok(Value::Array(values_of(alloc, items.as_slice())?)),
         Tree::Members(members) => Ok(Value::Object(map_of(alloc, members.as_slice())?)),
     }
 }
 
+/// Trees as values.
 #[cycle(value)]
 #[tactic(auto, using(crate::proofs::Conversions::items_same))]
 fn values_of(alloc: Global, items: &[Tree]) -> Result<Vec<Value>, NoMemory>
-    ensures { IfOk result (λ values. items_view values.items ≡ json_items (items_of (shown.views items.now))) }
+    ensures { IfOk result (λ values. items_view values.items
+        ≡ json_items (items_of (shown.views items.now))) }
 {
-    let Ok(mut values) = Vec::with_capacity(alloc, items.len()) else {
-        return Err(NoMemory);
-    };
+    let mut values = Vec::with_capacity(alloc, items.len())?;
     for item in items {
         let value = value_of(alloc, item)?;
-        match values.push(value) {
-            Ok(()) => {}
-            Err(_) => return Err(NoMemory),
-        }
+        values.push(value)?;
     }
     Ok(values)
 }
 
+/// Members as a map of values.
 #[cycle(value)]
 #[tactic(auto, using(crate::proofs::Conversions::member_more, crate::proofs::Conversions::members_end))]
 fn map_of(alloc: Global, members: &[Member]) -> Result<Map<String, Value>, NoMemory>
-    ensures { IfOk result (λ map. members_view map.entries ≡ json_members no_members (members_of (shown.member_views members.now))) }
+    ensures { IfOk result (λ map. members_view map.entries
+        ≡ json_members no_members (members_of (shown.member_views members.now))) }
 {
     let mut map = Map::new(alloc);
     for member in members {
         let value = value_of(alloc, &member.value)?;
-        match put(&mut map, alloc, member.key.as_str(), value) {
-            Ok(()) => {}
-            Err(_) => return Err(NoMemory),
-        }
+        put(&mut map, alloc, member.key.as_str(), value)?;
     }
     Ok(map)
 }

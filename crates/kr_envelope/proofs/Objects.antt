@@ -13,7 +13,7 @@ use Rattle.kr_base.specs.Pairs.{Pairs, with_pair}
 use Rattle.kr_envelope.specs.Wire.{Spells, Starts, Field, IsField}
 use Rattle.kr_envelope.specs.Messages.{last_or, bytes_at, of_bytes, Means, Item, encrypted, key_id, source, annotation, kind, other, IsItem, IsText, IsMessage, encrypted_in, key_id_in, source_in, annotation_in, kind_in, put_all, Raw, raw_of}
 use Rattle.kr_envelope.specs.Limits.{Judges, BreaksAt, Reads}
-use Rattle.kr_envelope.specs.inner.Reading.{merged, later, Keeps, Sees, SeesEntry, Walks}
+use Rattle.kr_envelope.specs.inner.Reading.{with_item, later, Keeps, Sees, SeesEntry, Walks}
 use Rattle.kr_envelope.specs.declared.partial.PartialObject.{PartialObject}
 use Rattle.kr_envelope.specs.declared.object.ObjectNo.{ObjectNo}
 use Rattle.kr_envelope.specs.declared.object.ObjectNo.TheVariants.{Wire, KeyId, Source, Annotations, SourceType, NoData, NotUtf8, NoMemory}
@@ -47,7 +47,7 @@ same_raw a b e k s n m =
     ∙ ap (λ x. raw b.encrypted b.key_id b.source b.annotations x) m
 
 -- one more item goes over those before it
-pub raw_more : (items : List Item) (item : Item) → raw_of (items ++ item ∷ []) ≡ merged (raw_of items) item
+pub raw_more : (items : List Item) (item : Item) → raw_of (items ++ item ∷ []) ≡ with_item (raw_of items) item
 raw_more items (encrypted content) = let item = encrypted content in same_raw _ _
     (has encrypted_in [] items item content refl) (ap (last_or []) (keeps key_id_in items item refl)) (ap (last_or []) (keeps source_in items item refl)) (ap (put_all []) (keeps annotation_in items item refl)) (ap (last_or 0) (keeps kind_in items item refl))
 raw_more items (key_id content) = let item = key_id content in same_raw _ _
@@ -123,7 +123,7 @@ whole_entry text rest key value s e =
     (text, refl, (s.fields, subst (λ l. Spells IsField l s.fields) whole s.spelled, s.key_is, s.value_is))
 
 -- a message, one more item at a time
-pub walk_more : (text rest behind : List ℕ) (partial after : PartialObject) (item : Item) → Walks text rest partial → Starts IsItem rest item behind → IsText item → ((raw : Raw) → Sees partial raw → Sees after (merged raw item)) → Walks text behind after
+pub walk_more : (text rest behind : List ℕ) (partial after : PartialObject) (item : Item) → Walks text rest partial → Starts IsItem rest item behind → IsText item → ((raw : Raw) → Sees partial raw → Sees after (with_item raw item)) → Walks text behind after
 walk_more text rest behind partial after item w s t p = record {
   front = w.front ++ s.0;
   items = w.items ++ item ∷ [];

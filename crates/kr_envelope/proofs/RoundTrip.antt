@@ -21,7 +21,7 @@ use Rattle.kr_envelope.specs.declared.object.EncryptedObject.{EncryptedObject}
 use Rattle.kr_envelope.specs.Wire.{Spells, Starts, IsVarint, varint, Field, IsField}
 use Rattle.kr_envelope.specs.Messages.{last_or, last_bytes, of_bytes, Item, encrypted, key_id, source, annotation, kind, IsItem, IsText, IsMessage, encrypted_in, key_id_in, source_in, annotation_in, kind_in, put_all, Raw, raw_of}
 use Rattle.kr_envelope.specs.Limits.{Reads, breach_of, number_of, raw_in}
-use Rattle.kr_envelope.specs.Canonical.{shortest, sized, content_field, pair_field, kind_field, canonical, IsWritable, IsKept, IsReadBack}
+use Rattle.kr_envelope.specs.Canonical.{shortest, with_length, content_field, pair_field, kind_field, canonical, IsWritable, IsKept, IsReadBack}
 use Rattle.kr_envelope.proofs.Spellings.{spells_rest, spells_one, spells_none}
 use Rattle.kr_envelope.proofs.Items.{items_code}
 use Rattle.kr_envelope.proofs.Numbers.{shortest_is}
@@ -99,7 +99,7 @@ content_is : (n : ℕ) (content : List ℕ) → 1 ≤ n → n < 15 → 1 ≤ len
 content_is n [] l h s f = absurd (omega arith)
 content_is n (byte ∷ tail) l h s f = record {
   key = (n * 8 + 2) ∷ [];
-  content = sized (byte ∷ tail);
+  content = with_length (byte ∷ tail);
   parts = refl;
   key_is = one_byte (n * 8 + 2) (omega arith);
   content_is = (shortest (length (byte ∷ tail)), shortest_is (length (byte ∷ tail)) f, refl);
@@ -141,7 +141,7 @@ pair_is pair h =
     let text : List ℕ = content_field 1 pair.0 ++ content_field 2 pair.1 in
     let long : length text < 2 ^ 64 = omega (arith, length-append (content_field 1 pair.0) (content_field 2 pair.1), content_length 1 pair.0 (omega arith), content_length 2 pair.1 (omega arith)) in (
       of_bytes 4 text,
-      record { key = 34 ∷ []; content = sized text; parts = refl; key_is = one_byte 34 (omega arith); content_is = (shortest (length text), shortest_is (length text) long, refl); numbered = (omega arith, omega arith) },
+      record { key = 34 ∷ []; content = with_length text; parts = refl; key_is = one_byte 34 (omega arith); content_is = (shortest (length text), shortest_is (length text) long, refl); numbered = (omega arith, omega arith) },
       (
         text,
         refl,

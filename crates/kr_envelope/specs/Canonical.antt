@@ -21,13 +21,13 @@ unfoldable pub shortest : ℕ → List ℕ
 shortest n = groups 9 n
 
 -- bytes behind their size
-abbrev pub sized : List ℕ → List ℕ
-sized content = shortest (length content) ++ content
+abbrev pub with_length : List ℕ → List ℕ
+with_length content = shortest (length content) ++ content
 
 -- a field of bytes, which is left out where there are none
 abbrev pub content_field : ℕ → List ℕ → List ℕ
 content_field n [] = []
-content_field n (byte ∷ bytes) = (n * 8 + 2) ∷ sized (byte ∷ bytes)
+content_field n (byte ∷ bytes) = (n * 8 + 2) ∷ with_length (byte ∷ bytes)
 
 -- how many bytes a field of so many bytes takes
 abbrev pub content_size : ℕ → ℕ
@@ -36,7 +36,7 @@ content_size (suc n) = 1 + (length (shortest (suc n)) + suc n)
 
 -- an annotation is field 4, with the key as its field 1 and the value as its field 2
 abbrev pub pair_field : List ℕ × List ℕ → List ℕ
-pair_field pair = (4 * 8 + 2) ∷ sized (content_field 1 pair.0 ++ content_field 2 pair.1)
+pair_field pair = (4 * 8 + 2) ∷ with_length (content_field 1 pair.0 ++ content_field 2 pair.1)
 
 -- the source type is field 5, and is left out where it is 0
 abbrev pub kind_field : SourceKind → List ℕ

@@ -1,3 +1,4 @@
+-- The definitions that contracts name.
 pub mod Prefixes
 pub mod Wire
 pub mod Messages

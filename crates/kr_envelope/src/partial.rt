@@ -3,7 +3,7 @@
 ghost use Rattle.std.specs.Prelude.{[], OnOk};
 ghost use Rattle.kr_envelope.specs.Messages.{Raw, raw_of};
 ghost use Rattle.kr_envelope.specs.Limits.{Judges};
-ghost use Rattle.kr_envelope.specs.inner.Reading.{item_of, merged, with_annotation, Sees};
+ghost use Rattle.kr_envelope.specs.inner.Reading.{item_of, with_item, with_annotation, Sees};
 
 use crate::item::Item;
 use crate::object::{EncryptedObject, ObjectNo, SourceKind};
@@ -40,7 +40,7 @@ impl<'a> PartialObject<'a> {
     /// Merges one more item over those before it.
     pub fn merge(&mut self, alloc: Global, item: Item<'a>) -> Result<(), NoMemory>
         ensures { (raw : Raw) → Sees self.old raw
-            → OnOk result (Sees self.new (merged raw (item_of item.entry))) }
+            → OnOk result (Sees self.new (with_item raw (item_of item.entry))) }
     {
         match item {
             Item::Encrypted(content) => self.encrypted = content,

@@ -16,6 +16,7 @@ abbrev pub padded_key : List ℕ → ℕ → List ℕ
 padded_key key pad = map (λ byte. bit_xor byte pad) (key_block key)
 
 -- H(K XOR opad, H(K XOR ipad, text)), with 0x36 repeated as ipad and 0x5C repeated as opad. Texts
--- that FIPS 180-4 has no digest for, of nearly 2 ^ 61 bytes and more, have the one that sha256 gives.
+-- that FIPS 180-4 has no digest for, of nearly 2 ^ 61 bytes and more, have the one that sha256
+-- gives.
 unfoldable pub hmac : List ℕ → List ℕ → List ℕ
 hmac key text = sha256 (padded_key key 0x5C ++ sha256 (padded_key key 0x36 ++ text))

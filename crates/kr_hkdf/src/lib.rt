@@ -13,8 +13,8 @@ use keyed_hash::KeyedHasher;
 /// The length of a SHA-256 digest in bytes: HashLen of RFC 5869.
 const HASH_LENGTH: usize = 32;
 
-/// The HMAC-SHA256 code of `message` under `key` (RFC 2104), not truncated. Both may have any length;
-/// the RFC advises against keys of fewer than 32 bytes.
+/// The HMAC-SHA256 code of `message` under `key` (RFC 2104), not truncated. Both may have any
+/// length; the RFC advises against keys of fewer than 32 bytes.
 pub fn hmac(key: &[u8], message: &[u8]) -> [u8; 32]
     ensures { result ≡ hmac key.now message.now }
 {
@@ -24,8 +24,8 @@ pub fn hmac(key: &[u8], message: &[u8]) -> [u8; 32]
 }
 
 /// HKDF-Expand with HMAC-SHA256 (RFC 5869, section 2.3): fills `out` with keying material from the
-/// pseudorandom key `prk`, for the application's context `info`. The most that the RFC allows is 8,160
-/// bytes, 255 blocks of 32, since a byte numbers them.
+/// pseudorandom key `prk`, for the application's context `info`. The most that the RFC allows is
+/// 8,160 bytes, 255 blocks of 32, since a byte numbers them.
 pub fn expand(prk: &[u8], info: &[u8], out: &mut [u8])
     requires output_fits { length out.old ≤ 8160 }
     requires info_fits { length info.now ≤ 1048576 }

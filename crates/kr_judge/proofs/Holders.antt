@@ -5,29 +5,30 @@ use Rattle.std.specs.List.{slice_get}
 use Rattle.std.specs.Option.{IsSomeAnd}
 use Rattle.std.proofs.lemmas.List.{take_more_set, drop-set-lt, take_all, map-append, length-set}
 use Rattle.kr_judge.specs.declared.generation.Generation.{Generation}
-use Rattle.kr_judge.specs.Boards.{Taken, generation_of, generations_of, left_by, without_current, changed_at, held_more, held_less, MayHold, IsHeld, is_live}
+use Rattle.kr_judge.specs.Boards.{GenerationState, left_by, without_current, changed_at, held_more, held_less, MayHold, IsHeld, is_live}
+use Rattle.kr_judge.specs.inner.Views.{generation_of, generations_of}
 use Rattle.kr_judge.proofs.Parts.{drop_at, drop_end, take_at_more}
 
-changed : (change : Taken → Taken) (generations : List Generation) (i : ℕ) (g new : Generation) → i < length generations → g ≡ get_or generations i g → generation_of new ≡ change (generation_of g)
+changed : (change : GenerationState → GenerationState) (generations : List Generation) (i : ℕ) (g new : Generation) → i < length generations → g ≡ get_or generations i g → generation_of new ≡ change (generation_of g)
     → generations_of (set generations i new) ≡ changed_at change i (generations_of generations)
 changed change [] i g new h is e = absurd (omega arith)
 changed change (k ∷ ks) zero g new h is e = ap (λ x. x ∷ generations_of ks) (e ∙ ap (λ y. change (generation_of y)) is)
 changed change (k ∷ ks) (suc i) g new h is e = ap (λ l. generation_of k ∷ l) (changed change ks i g new (omega arith) is e)
 
-is_there : (P : Taken → Type 0) (generations : List Generation) (i : ℕ) → IsSomeAnd (slice_get (generations_of generations) i) P → i < length generations
+is_there : (P : GenerationState → Type 0) (generations : List Generation) (i : ℕ) → IsSomeAnd (slice_get (generations_of generations) i) P → i < length generations
 is_there P [] i h = absurd h
 is_there P (k ∷ ks) zero h = omega arith
 is_there P (k ∷ ks) (suc i) h = let l : i < length ks = is_there P ks i h in omega arith
 
-as_there : (P : Taken → Type 0) (generations : List Generation) (i : ℕ) (g : Generation) → IsSomeAnd (slice_get (generations_of generations) i) P → g ≡ get_or generations i g → P (generation_of g)
+as_there : (P : GenerationState → Type 0) (generations : List Generation) (i : ℕ) (g : Generation) → IsSomeAnd (slice_get (generations_of generations) i) P → g ≡ get_or generations i g → P (generation_of g)
 as_there P [] i g h is = absurd h
 as_there P (k ∷ ks) zero g h is = subst (λ y. P (generation_of y)) (sym is) h
 as_there P (k ∷ ks) (suc i) g h is = as_there P ks i g h is
 
-abbrev MayBeHeld : Taken → Type 0
+abbrev MayBeHeld : GenerationState → Type 0
 MayBeHeld generation = IsTrue (is_live generation) × (generation.holders + 1 < 2 ^ 32)
 
-abbrev HasHolders : Taken → Type 0
+abbrev HasHolders : GenerationState → Type 0
 HasHolders generation = 0 < generation.holders
 
 pub hold_there : (generations : List Generation) (i : ℕ) → MayHold i (generations_of generations) → i < length generations

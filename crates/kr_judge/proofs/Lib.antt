@@ -1,4 +1,5 @@
 pub mod Parts
+pub mod Lists
 pub mod Needs
 pub mod Tables
 pub mod Raw
@@ -6,4 +7,7 @@ pub mod ClassSteps
 pub mod Walks
 pub mod Verdicts
 pub mod Members
+pub mod Passing
+pub mod Currents
 pub mod Holders
+pub mod Pieces

@@ -1,6 +1,6 @@
 -- A path's place among needs, and that needs stay in the order of their paths.
 use Rattle.std.proofs.Common.{◌≡◌, ℕ, ◌<◌, ◌≤◌, ◌+◌, Bool, true, false, List, [], ◌∷◌, ◌++◌, None, Some, Ok, Err, length, get_or, take, drop, map, refl, sym, ap, subst, ◌∙◌, arith, append_assoc, append-nil, add-one}
-use Rattle.std.specs.Prelude.{slice_set, if◌then◌else◌}
+use Rattle.std.specs.Prelude.{slice_set, if◌then◌else◌, cond, Option}
 use Rattle.std.specs.List.{AllByRecursion}
 use Rattle.std.specs.List.Sorted.{IsStrictlySortedBy}
 use Rattle.std.specs.Str.{bytes_eq}
@@ -9,13 +9,13 @@ use Rattle.std.proofs.lemmas.Map.Text.{is_eq-slice_cmp}
 use Rattle.std.proofs.lemmas.Slice.Eq.{bytes_eq-Decides}
 use Rattle.std.specs.declared.cmp.Ordering.{Ordering}
 use Rattle.std.specs.declared.cmp.Ordering.TheVariants.{Less, Equal, Greater}
-use Rattle.std.proofs.lemmas.Cmp.{nat_list_cmp_total}
+use Rattle.std.proofs.lemmas.Cmp.{nat_list_cmp_total, tied_itself}
 use Rattle.std.proofs.lemmas.List.{set_split, take_all}
 use Rattle.kr_config.specs.Nexts.{name_cmp}
 use Rattle.kr_judge.specs.declared.need.Need.{Need}
-use Rattle.kr_judge.specs.Boards.{AreByPath, set_need, drop_need}
+use Rattle.kr_judge.specs.Boards.{AreByPath, need_at, set_need, drop_need}
 use Rattle.kr_judge.specs.inner.Places.{IsPlaceOf, IsFoundAt}
-use Rattle.kr_judge.specs.Laws.{StaySorted}
+use Rattle.kr_judge.specs.Laws.{StaySorted, SetAtPath, DropAtPath}
 use Rattle.kr_judge.proofs.Parts.{drop_at, drop_end, take_at_more}
 
 -- the paths before the place are less: a need of the path is put into what is left
@@ -152,3 +152,80 @@ sorted_drop needs path s = drop_sorted needs path s
 
 pub stay_sorted : StaySorted
 stay_sorted needs s = (λ need. set_sorted needs need s, λ path. drop_sorted needs path s)
+
+-- what is needed at a path
+unlike : (a b path : List ℕ) → name_cmp a b ≡ Greater → bytes_eq b path ≡ true → bytes_eq a path ≡ false
+unlike a b path h e = by (bytes_eq a path) refl
+  where
+    by : (v : Bool) → bytes_eq a path ≡ v → v ≡ false
+    by false k = refl
+    by true k = absurd (
+        let same : a ≡ b = (bytes_eq-Decides a path).0 k ∙ sym ((bytes_eq-Decides b path).0 e) in
+        let greater : name_cmp b b ≡ Greater = subst (λ p. name_cmp p b ≡ Greater) same h in
+        let equal : name_cmp b b ≡ Equal = tied_itself nat_list_cmp_total b in
+        let clash : Equal ≡ Greater = sym equal ∙ greater in cc
+        )
+
+pub set_at : SetAtPath
+set_at [] need path = refl
+set_at (own ∷ needs) need path = by (name_cmp need.path own.path) refl (bytes_eq need.path path) refl (bytes_eq own.path path) refl (set_at needs need path)
+  where
+    by : (r : Ordering) → name_cmp need.path own.path ≡ r → (v : Bool) → bytes_eq need.path path ≡ v → (w : Bool) → bytes_eq own.path path ≡ w
+        → need_at (set_need needs need) path ≡ (if bytes_eq need.path path then Some need else need_at needs path)
+        → need_at (match_ordering r (need ∷ own ∷ needs) (need ∷ needs) (own ∷ set_need needs need)) path
+        ≡ (if bytes_eq need.path path then Some need else need_at (own ∷ needs) path)
+    by Less h v e w k rest = refl
+    by Equal h true e w k rest = ap (λ t. cond t (Some need) (need_at needs path)) e ∙ sym (ap (λ t. cond t (Some need) (need_at (own ∷ needs) path)) e)
+    by Equal h false e w k rest =
+        let other : bytes_eq own.path path ≡ false = subst (λ p. bytes_eq p path ≡ false) (equal_paths need.path own.path h) e in
+        ap (λ t. cond t (Some need) (need_at needs path)) e ∙ sym (ap (λ t. cond t (Some need) (need_at (own ∷ needs) path)) e ∙ ap (λ t. cond t (Some own) (need_at needs path)) other)
+    by Greater h v e true k rest =
+        let other : bytes_eq need.path path ≡ false = unlike need.path own.path path h k in
+        ap (λ t. cond t (Some own) (need_at (set_need needs need) path)) k
+        ∙ sym (ap (λ t. cond t (Some need) (need_at (own ∷ needs) path)) other ∙ ap (λ t. cond t (Some own) (need_at needs path)) k)
+    by Greater h v e false k rest =
+        ap (λ t. cond t (Some own) (need_at (set_need needs need) path)) k ∙ rest
+        ∙ sym (ap (λ o. cond (bytes_eq need.path path) (Some need) o) (ap (λ t. cond t (Some own) (need_at needs path)) k))
+
+-- above a path nothing is needed at it
+none_above : (path : List ℕ) (needs : List Need) → Above path needs → need_at needs path ≡ None
+none_above path [] all = refl
+none_above path (own ∷ needs) all = ap (λ t. cond t (Some own) (need_at needs path)) (apart_less path own.path all.0) ∙ none_above path needs all.1
+  where
+    apart_less : (a b : List ℕ) → name_cmp a b ≡ Less → bytes_eq b a ≡ false
+    apart_less a b h = by (bytes_eq b a) refl
+      where
+        by : (v : Bool) → bytes_eq b a ≡ v → v ≡ false
+        by false k = refl
+        by true k = absurd (
+            let less : name_cmp a a ≡ Less = subst (λ p. name_cmp a p ≡ Less) ((bytes_eq-Decides b a).0 k) h in
+            let equal : name_cmp a a ≡ Equal = tied_itself nat_list_cmp_total a in
+            let clash : Equal ≡ Less = sym equal ∙ less in cc
+            )
+
+pub drop_at_path : DropAtPath
+unfolding IsStrictlySortedBy
+drop_at_path [] gone path s = by (bytes_eq gone path)
+  where
+    by : (v : Bool) → need_at [] path ≡ (if v then None else need_at [] path)
+    by true = refl
+    by false = refl
+drop_at_path (own ∷ needs) gone path s = by (bytes_eq own.path gone) refl (bytes_eq gone path) refl (bytes_eq own.path path) refl (drop_at_path needs gone path s.1)
+  where
+    by : (u : Bool) → bytes_eq own.path gone ≡ u → (v : Bool) → bytes_eq gone path ≡ v → (w : Bool) → bytes_eq own.path path ≡ w
+        → need_at (drop_need needs gone) path ≡ (if bytes_eq gone path then None else need_at needs path)
+        → need_at (if u then needs else own ∷ drop_need needs gone) path ≡ (if bytes_eq gone path then None else need_at (own ∷ needs) path)
+    by true h true e w k rest =
+        let same : own.path ≡ path = (bytes_eq-Decides own.path gone).0 h ∙ (bytes_eq-Decides gone path).0 e in
+        subst (λ p. need_at needs p ≡ None) same (none_above own.path needs s.0) ∙ sym (ap (λ t. cond t None (need_at (own ∷ needs) path)) e)
+    by true h false e w k rest =
+        let other : bytes_eq own.path path ≡ false = subst (λ p. bytes_eq p path ≡ false) (sym ((bytes_eq-Decides own.path gone).0 h)) e in
+        sym (ap (λ t. cond t None (need_at (own ∷ needs) path)) e ∙ ap (λ t. cond t (Some own) (need_at needs path)) other)
+    by false h v e false k rest = ap (λ t. cond t (Some own) (need_at (drop_need needs gone) path)) k ∙ rest
+        ∙ sym (ap (λ o. cond (bytes_eq gone path) None o) (ap (λ t. cond t (Some own) (need_at needs path)) k))
+    by false h true e true k rest = absurd (
+        let same : own.path ≡ gone = (bytes_eq-Decides own.path path).0 k ∙ sym ((bytes_eq-Decides gone path).0 e) in
+        let clash : true ≡ false = sym ((bytes_eq-Decides own.path gone).1 same) ∙ h in cc
+        )
+    by false h false e true k rest = ap (λ t. cond t (Some own) (need_at (drop_need needs gone) path)) k
+        ∙ sym (ap (λ t. cond t None (need_at (own ∷ needs) path)) e ∙ ap (λ t. cond t (Some own) (need_at needs path)) k)

@@ -14,16 +14,17 @@ use Rattle.kr_config.specs.Nexts.{earlier, comes_after, IsNextClass}
 use Rattle.kr_config.proofs.Nexts.{classes_joined}
 use Rattle.kr_config.proofs.Narrowing.{next_in_table}
 use Rattle.kr_judge.specs.declared.generation.Generation.{Generation}
-use Rattle.kr_judge.specs.Boards.{Taken, generation_of, generations_of, is_live}
+use Rattle.kr_judge.specs.Boards.{GenerationState, is_live}
+use Rattle.kr_judge.specs.inner.Views.{generation_of, generations_of}
 use Rattle.kr_judge.specs.Tables.{table_of}
 use Rattle.kr_judge.specs.Verdicts.{judged_classes}
 use Rattle.kr_judge.proofs.Parts.{take_at_more}
-use Rattle.kr_judge.proofs.Tables.{table_computes}
+use Rattle.kr_judge.proofs.Tables.{is_table}
 
 abbrev with_rest : List Row → List Class
 with_rest rows = Rest ∷ classes_in rows
 
-abbrev rows_in : List Taken → List (List Row)
+abbrev rows_in : List GenerationState → List (List Row)
 rows_in generations = map (λ generation. generation.rows) (filter is_live generations)
 
 abbrev raw : List Row → List Generation → List Class
@@ -105,5 +106,5 @@ once rows added after (Some next) h = (
 pub raw_end : (rows : List Row) (generations : List Generation) (i : ℕ) (after next : Option Class) → IsRaw rows generations i after next → length generations ≤ i → IsNextClass (judged_classes rows (generations_of generations)) after next
 raw_end rows generations i after next all h =
     let added : List (List Row) = rows ∷ rows_in (generations_of generations) in
-    next_in_table added (table_of added) after next (table_computes added)
+    next_in_table added (table_of added) after next (is_table added)
     (once rows (rows_in (generations_of generations)) after next (subst (λ l. IsNextClass (raw rows l) after next) (take_all i generations h) all.so_far))

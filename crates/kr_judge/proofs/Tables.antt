@@ -1,7 +1,7 @@
 -- The classes of some settings in their order are their table, and what comes next in it.
 use Rattle.std.proofs.Common.{◌≡◌, ◌≢◌, zero, suc, Bool, true, false, List, [], ◌∷◌, Option, None, Some, All, Contains, refl, sym, ap, subst, ◌∙◌, ◌⊎◌, inl, inr, arith}
 use Rattle.std.specs.List.{AllByRecursion, filter, flat_map}
-use Rattle.std.specs.Prelude.{cond}
+use Rattle.std.specs.Prelude.{cond, IsTrue, ◌↔◌}
 use Rattle.std.specs.List.Sorted.{IsStrictlySortedBy}
 use Rattle.std.specs.Ordering.{match_ordering, ordering_reverse, is_eq, is_lt}
 use Rattle.std.specs.declared.cmp.Ordering.{Ordering}
@@ -9,15 +9,19 @@ use Rattle.std.specs.declared.cmp.Ordering.TheVariants.{Less, Equal, Greater}
 use Rattle.std.proofs.lemmas.Map.Text.{is_eq-slice_cmp}
 use Rattle.std.proofs.lemmas.Slice.Eq.{bytes_eq-Decides}
 use Rattle.std.proofs.lemmas.Cmp.{tied_itself}
-use Rattle.std.proofs.lemmas.List.Elements.{Contains-append_cases, Contains-append_right, All-head, All-tail}
+use Rattle.std.specs.BTreeSet.{BTreeSet, insert_key, contains}
+use Rattle.std.proofs.lemmas.Map.Lookups.{btree_set_from_contains}
+use Rattle.std.proofs.lemmas.Map.Views.{btree_set_contains_iff}
+use Rattle.std.proofs.lemmas.List.Elements.{All-head, All-tail}
 use Rattle.kr_config.specs.declared.class.Class.{Class}
 use Rattle.kr_config.specs.declared.class.Class.TheVariants.{Exact, Group, Rest}
 use Rattle.kr_config.specs.Kept.{Row}
-use Rattle.kr_config.specs.Classes.{class_cmp, classes_in}
+use Rattle.kr_config.specs.Classes.{class_cmp, classes_in, IsTableOf}
 use Rattle.kr_config.specs.Nexts.{comes_after, IsNextClass}
 use Rattle.kr_config.proofs.Orders.{class_total}
-use Rattle.kr_judge.specs.Tables.{with_class, in_order, table_of}
+use Rattle.kr_judge.specs.Tables.{in_order, table_of}
 use Rattle.kr_judge.specs.Laws.{TableComputes}
+use Rattle.kr_judge.proofs.Lists.{here, there, cases, head_is}
 
 equal_class : (a b : Class) → class_cmp a b ≡ Equal → a ≡ b
 equal_class (Exact a) (Exact b) h = ap Exact ((bytes_eq-Decides a b).0 (sym (is_eq-slice_cmp a b) ∙ ap is_eq h))
@@ -31,44 +35,28 @@ equal_class Rest (Group b) h = cc
 equal_class Rest Rest h = refl
 
 -- members
-pub here : (x : Class) (xs : List Class) → Contains (x ∷ xs) x
-here x xs = (0, omega arith, refl)
-
-pub there : (x y : Class) (xs : List Class) → Contains xs y → Contains (x ∷ xs) y
-there x y xs h = Contains-append_right (x ∷ []) xs y h
-
-only : (x y : Class) → Contains (x ∷ []) y → x ≡ y
-only x y (zero, l, e) = e
-only x y (suc k, l, e) = absurd (omega arith)
-
-pub cases : (x y : Class) (xs : List Class) → Contains (x ∷ xs) y → (x ≡ y) ⊎ Contains xs y
-cases x y xs h = elim (Contains-append_cases (x ∷ []) xs y h) [ inl k ↦ inl (only x y k) | inr k ↦ inr k ]
-
-head_is : (x y : Class) (xs : List Class) → x ≡ y → Contains (x ∷ xs) y
-head_is x y xs e = subst (Contains (x ∷ xs)) e (here x xs)
-
-put_to : (c : Class) (cs : List Class) (x : Class) → Contains (with_class c cs) x → Contains (c ∷ cs) x
+put_to : (c : Class) (cs : List Class) (x : Class) → Contains (insert_key class_cmp cs c) x → Contains (c ∷ cs) x
 put_to c [] x h = h
 put_to c (o ∷ os) x h = by (class_cmp c o) (put_to c os x) h
   where
-    by : (r : Ordering) → (Contains (with_class c os) x → Contains (c ∷ os) x) → Contains (match_ordering r (c ∷ o ∷ os) (o ∷ os) (o ∷ with_class c os)) x → Contains (c ∷ o ∷ os) x
+    by : (r : Ordering) → (Contains (insert_key class_cmp os c) x → Contains (c ∷ os) x) → Contains (match_ordering r (c ∷ o ∷ os) (o ∷ os) (o ∷ insert_key class_cmp os c)) x → Contains (c ∷ o ∷ os) x
     by Less rest k = k
     by Equal rest k = there c x (o ∷ os) k
-    by Greater rest k = elim (cases o x (with_class c os) k) [
+    by Greater rest k = elim (cases o x (insert_key class_cmp os c) k) [
       | inl e ↦ there c x (o ∷ os) (head_is o x os e)
       | inr m ↦ elim (cases c x os (rest m)) [ inl e ↦ head_is c x (o ∷ os) e | inr n ↦ there c x (o ∷ os) (there o x os n) ]
     ]
 
-put_from : (c : Class) (cs : List Class) (x : Class) → Contains (c ∷ cs) x → Contains (with_class c cs) x
+put_from : (c : Class) (cs : List Class) (x : Class) → Contains (c ∷ cs) x → Contains (insert_key class_cmp cs c) x
 put_from c [] x h = h
 put_from c (o ∷ os) x h = by (class_cmp c o) refl (put_from c os x) h
   where
-    by : (r : Ordering) → class_cmp c o ≡ r → (Contains (c ∷ os) x → Contains (with_class c os) x) → Contains (c ∷ o ∷ os) x → Contains (match_ordering r (c ∷ o ∷ os) (o ∷ os) (o ∷ with_class c os)) x
+    by : (r : Ordering) → class_cmp c o ≡ r → (Contains (c ∷ os) x → Contains (insert_key class_cmp os c) x) → Contains (c ∷ o ∷ os) x → Contains (match_ordering r (c ∷ o ∷ os) (o ∷ os) (o ∷ insert_key class_cmp os c)) x
     by Less h rest k = k
     by Equal h rest k = elim (cases c x (o ∷ os) k) [ inl e ↦ head_is o x os (sym (equal_class c o h) ∙ e) | inr m ↦ m ]
     by Greater h rest k = elim (cases c x (o ∷ os) k) [
-      | inl e ↦ there o x (with_class c os) (rest (head_is c x os e))
-      | inr m ↦ elim (cases o x os m) [ inl e ↦ head_is o x (with_class c os) e | inr n ↦ there o x (with_class c os) (rest (there c x os n)) ]
+      | inl e ↦ there o x (insert_key class_cmp os c) (rest (head_is c x os e))
+      | inr m ↦ elim (cases o x os m) [ inl e ↦ head_is o x (insert_key class_cmp os c) e | inr n ↦ there o x (insert_key class_cmp os c) (rest (there c x os n)) ]
     ]
 
 order_to : (cs : List Class) (x : Class) → Contains (in_order cs) x → Contains cs x
@@ -83,11 +71,11 @@ order_from (c ∷ cs) x h = put_from c (in_order cs) x (elim (cases c x cs h) [ 
 abbrev Above : Class → List Class → Type 0
 Above c cs = AllByRecursion (λ other. class_cmp c other ≡ Less) cs
 
-above_put : (c new : Class) (cs : List Class) → Above c cs → class_cmp c new ≡ Less → Above c (with_class new cs)
+above_put : (c new : Class) (cs : List Class) → Above c cs → class_cmp c new ≡ Less → Above c (insert_key class_cmp cs new)
 above_put c new [] all h = (h, tt)
 above_put c new (o ∷ os) all h = by (class_cmp new o) (above_put c new os all.1 h)
   where
-    by : (r : Ordering) → Above c (with_class new os) → Above c (match_ordering r (new ∷ o ∷ os) (o ∷ os) (o ∷ with_class new os))
+    by : (r : Ordering) → Above c (insert_key class_cmp os new) → Above c (match_ordering r (new ∷ o ∷ os) (o ∷ os) (o ∷ insert_key class_cmp os new))
     by Less rest = (h, all)
     by Equal rest = all
     by Greater rest = (all.0, rest)
@@ -96,12 +84,12 @@ above_further : (c d : Class) (cs : List Class) → class_cmp c d ≡ Less → A
 above_further c d [] h all = tt
 above_further c d (o ∷ os) h all = (class_total.trans c d o h all.0, above_further c d os h all.1)
 
-put_sorted : (c : Class) (cs : List Class) → IsStrictlySortedBy class_cmp cs → IsStrictlySortedBy class_cmp (with_class c cs)
+put_sorted : (c : Class) (cs : List Class) → IsStrictlySortedBy class_cmp cs → IsStrictlySortedBy class_cmp (insert_key class_cmp cs c)
 unfolding IsStrictlySortedBy
 put_sorted c [] s = (tt, tt)
 put_sorted c (o ∷ os) s = by (class_cmp c o) refl (put_sorted c os s.1)
   where
-    by : (r : Ordering) → class_cmp c o ≡ r → IsStrictlySortedBy class_cmp (with_class c os) → IsStrictlySortedBy class_cmp (match_ordering r (c ∷ o ∷ os) (o ∷ os) (o ∷ with_class c os))
+    by : (r : Ordering) → class_cmp c o ≡ r → IsStrictlySortedBy class_cmp (insert_key class_cmp os c) → IsStrictlySortedBy class_cmp (match_ordering r (c ∷ o ∷ os) (o ∷ os) (o ∷ insert_key class_cmp os c))
     by Less h rest = ((h, above_further c o os h s.0), s)
     by Equal h rest = s
     by Greater h rest = (above_put o c os s.0 (class_total.antisymm o c ∙ ap ordering_reverse h), rest)
@@ -111,15 +99,39 @@ unfolding IsStrictlySortedBy
 order_sorted [] = tt
 order_sorted (c ∷ cs) = put_sorted c (in_order cs) (order_sorted cs)
 
-pub table_computes : TableComputes
+pub is_table : (added : List (List Row)) → IsTableOf added (table_of added)
 unfolding table_of
-table_computes added = record {
+is_table added = record {
   ascends = order_sorted (Rest ∷ flat_map classes_in added);
   members = λ class. (order_to (Rest ∷ flat_map classes_in added) class, order_from (Rest ∷ flat_map classes_in added) class);
 }
 
+-- two tables of the same settings have the same members in the same order
+one_truth : (u v : Bool) → (IsTrue u → IsTrue v) → (IsTrue v → IsTrue u) → u ≡ v
+one_truth true v h k = sym (h refl)
+one_truth false true h k = k refl
+one_truth false false h k = refl
+
+one_table : (added : List (List Row)) (one other : List Class) → IsTableOf added one → IsTableOf added other → one ≡ other
+one_table added one other a b =
+    let s : BTreeSet Class = record { keys = one } in
+    let t : BTreeSet Class = record { keys = other } in
+    let in_one : (q : Class) → IsTrue (contains class_cmp s q) ↔ Contains one q = btree_set_contains_iff class_total equal_class s in
+    let in_other : (q : Class) → IsTrue (contains class_cmp t q) ↔ Contains other q = btree_set_contains_iff class_total equal_class t in
+    btree_set_from_contains class_total s t a.ascends b.ascends
+    (λ q. one_truth (contains class_cmp s q) (contains class_cmp t q)
+    (λ h. (in_other q).1 ((b.members q).1 ((a.members q).0 ((in_one q).0 h))))
+    (λ h. (in_one q).1 ((a.members q).1 ((b.members q).0 ((in_other q).0 h)))))
+    equal_class
+
+pub table_computes : TableComputes
+table_computes added classes = (
+  λ table. one_table added classes (table_of added) table (is_table added),
+  λ e. subst (IsTableOf added) (sym e) (is_table added),
+)
+
 pub table_sorted : (added : List (List Row)) → IsStrictlySortedBy class_cmp (table_of added)
-table_sorted added = (table_computes added).ascends
+table_sorted added = (is_table added).ascends
 
 -- what comes after a class
 abbrev pub rest_after : Option Class → List Class → List Class

@@ -7,8 +7,8 @@ use Rattle.kr_config.specs.Kept.{Row}
 use Rattle.kr_judge.specs.declared.need.Need.{Need}
 use Rattle.kr_judge.specs.declared.verdict.Verdict.{Verdict}
 use Rattle.kr_judge.specs.declared.verdict.Verdict.TheVariants.{Pass, DropsStored, DropsWriter, Unread}
-use Rattle.kr_judge.specs.Boards.{Taken}
-use Rattle.kr_judge.specs.Verdicts.{dropped, lost_writers, unread_writers, first, first_or_pass, verdict_of}
+use Rattle.kr_judge.specs.Boards.{GenerationState}
+use Rattle.kr_judge.specs.Verdicts.{dropped_needs, lost_writers, unread_writers, first, first_or_pass, verdict_of}
 
 found : {X : Type 0} (says : X → Verdict) (xs : List X) (more : List Verdict) (x : X) → Some x ≡ first xs → first_or_pass (map says xs ++ more) ≡ says x
 found says [] more x h = cc
@@ -26,10 +26,10 @@ last_none : {X : Type 0} (says : X → Verdict) (xs : List X) → None ≡ first
 last_none says [] h = refl
 last_none says (y ∷ xs) h = cc
 
-abbrev unread_reasons : ℕ → List Row → List Taken → List Verdict
+abbrev unread_reasons : ℕ → List Row → List GenerationState → List Verdict
 unread_reasons replica rows generations = map (λ lost. Unread lost.0 lost.1 lost.2) (unread_writers replica rows generations)
 
-abbrev later_reasons : ℕ → List Row → List Taken → List Verdict
+abbrev later_reasons : ℕ → List Row → List GenerationState → List Verdict
 later_reasons replica rows generations = map (λ lost. DropsWriter lost.0 lost.1 lost.2) (lost_writers replica rows generations) ++ unread_reasons replica rows generations
 
 -- a reason that is copied out, or want of memory where there is one
@@ -40,31 +40,31 @@ tells : (told copied : Verdict) (result : Result Verdict NoMemory) → told ≡ 
 tells told copied (Ok verdict) e n h = h ∙ sym e
 tells told copied (Err why) e n h = λ p. n (sym e ∙ p)
 
-pub tells_stored : (needs : List Need) (generations : List Taken) (replica : ℕ) (rows : List Row) (need : Need) (result : Result Verdict NoMemory) → Some need ≡ first (dropped rows needs)
+pub tells_stored : (needs : List Need) (generations : List GenerationState) (replica : ℕ) (rows : List Row) (need : Need) (result : Result Verdict NoMemory) → Some need ≡ first (dropped_needs rows needs)
     → IfOk result (λ verdict. verdict ≡ DropsStored need.path need.who) → Tells (verdict_of needs generations replica rows) result
 unfolding verdict_of
 tells_stored needs generations replica rows need result h k =
-    tells (verdict_of needs generations replica rows) (DropsStored need.path need.who) result (found (λ own. DropsStored own.path own.who) (dropped rows needs) (later_reasons replica rows generations) need h) (λ p. cc) k
+    tells (verdict_of needs generations replica rows) (DropsStored need.path need.who) result (found (λ own. DropsStored own.path own.who) (dropped_needs rows needs) (later_reasons replica rows generations) need h) (λ p. cc) k
 
-pub tells_writer : (needs : List Need) (generations : List Taken) (replica : ℕ) (rows : List Row) (number : ℕ) (class : Class) (who : Who) (result : Result Verdict NoMemory) → None ≡ first (dropped rows needs)
+pub tells_writer : (needs : List Need) (generations : List GenerationState) (replica : ℕ) (rows : List Row) (number : ℕ) (class : Class) (who : Who) (result : Result Verdict NoMemory) → None ≡ first (dropped_needs rows needs)
     → Some (number, class, who) ≡ first (lost_writers replica rows generations) → IfOk result (λ verdict. verdict ≡ DropsWriter number class who) → Tells (verdict_of needs generations replica rows) result
 unfolding verdict_of
 tells_writer needs generations replica rows number class who result h k m =
     tells (verdict_of needs generations replica rows) (DropsWriter number class who) result
-    (none (λ own. DropsStored own.path own.who) (dropped rows needs) (later_reasons replica rows generations) h ∙ found (λ lost. DropsWriter lost.0 lost.1 lost.2) (lost_writers replica rows generations) (unread_reasons replica rows generations) (number, class, who) k) (λ p. cc) m
+    (none (λ own. DropsStored own.path own.who) (dropped_needs rows needs) (later_reasons replica rows generations) h ∙ found (λ lost. DropsWriter lost.0 lost.1 lost.2) (lost_writers replica rows generations) (unread_reasons replica rows generations) (number, class, who) k) (λ p. cc) m
 
-pub tells_unread : (needs : List Need) (generations : List Taken) (replica : ℕ) (rows : List Row) (number : ℕ) (class : Class) (who : Who) (result : Result Verdict NoMemory) → None ≡ first (dropped rows needs)
+pub tells_unread : (needs : List Need) (generations : List GenerationState) (replica : ℕ) (rows : List Row) (number : ℕ) (class : Class) (who : Who) (result : Result Verdict NoMemory) → None ≡ first (dropped_needs rows needs)
     → None ≡ first (lost_writers replica rows generations) → Some (number, class, who) ≡ first (unread_writers replica rows generations) → IfOk result (λ verdict. verdict ≡ Unread number class who)
     → Tells (verdict_of needs generations replica rows) result
 unfolding verdict_of
 tells_unread needs generations replica rows number class who result h k m o =
     tells (verdict_of needs generations replica rows) (Unread number class who) result
-    (none (λ own. DropsStored own.path own.who) (dropped rows needs) (later_reasons replica rows generations) h ∙ none (λ lost. DropsWriter lost.0 lost.1 lost.2) (lost_writers replica rows generations) (unread_reasons replica rows generations) k
+    (none (λ own. DropsStored own.path own.who) (dropped_needs rows needs) (later_reasons replica rows generations) h ∙ none (λ lost. DropsWriter lost.0 lost.1 lost.2) (lost_writers replica rows generations) (unread_reasons replica rows generations) k
     ∙ last_found (λ lost. Unread lost.0 lost.1 lost.2) (unread_writers replica rows generations) (number, class, who) m) (λ p. cc) o
 
-pub passes : (needs : List Need) (generations : List Taken) (replica : ℕ) (rows : List Row) → None ≡ first (dropped rows needs) → None ≡ first (lost_writers replica rows generations)
+pub passes : (needs : List Need) (generations : List GenerationState) (replica : ℕ) (rows : List Row) → None ≡ first (dropped_needs rows needs) → None ≡ first (lost_writers replica rows generations)
     → None ≡ first (unread_writers replica rows generations) → Pass ≡ verdict_of needs generations replica rows
 unfolding verdict_of
 passes needs generations replica rows h k m =
-    sym (none (λ own. DropsStored own.path own.who) (dropped rows needs) (later_reasons replica rows generations) h ∙ none (λ lost. DropsWriter lost.0 lost.1 lost.2) (lost_writers replica rows generations) (unread_reasons replica rows generations) k
+    sym (none (λ own. DropsStored own.path own.who) (dropped_needs rows needs) (later_reasons replica rows generations) h ∙ none (λ lost. DropsWriter lost.0 lost.1 lost.2) (lost_writers replica rows generations) (unread_reasons replica rows generations) k
     ∙ last_none (λ lost. Unread lost.0 lost.1 lost.2) (unread_writers replica rows generations) m)

@@ -1,22 +1,16 @@
 -- The classes that some settings tell apart, computed.
 use Rattle.std.specs.Prelude.{List, [], ◌∷◌}
 use Rattle.std.specs.List.{flat_map}
-use Rattle.std.specs.Ordering.{match_ordering}
+use Rattle.std.specs.BTreeSet.{insert_key}
 use Rattle.kr_config.specs.declared.class.Class.{Class}
 use Rattle.kr_config.specs.declared.class.Class.TheVariants.{Rest}
 use Rattle.kr_config.specs.Kept.{Row}
 use Rattle.kr_config.specs.Classes.{class_cmp, classes_in}
 
--- with the class at its place in their order, once
-abbrev pub with_class : Class → List Class → List Class
-with_class class [] = class ∷ []
-with_class class (own ∷ classes) =
-    match_ordering (class_cmp class own) (class ∷ own ∷ classes) (own ∷ classes) (own ∷ with_class class classes)
-
 -- in order, each once
 abbrev pub in_order : List Class → List Class
 in_order [] = []
-in_order (class ∷ classes) = with_class class (in_order classes)
+in_order (class ∷ classes) = insert_key class_cmp (in_order classes) class
 
 -- the class of each pattern of the settings, and the rest, in the order of the table of classes
 unfoldable pub table_of : List (List Row) → List Class

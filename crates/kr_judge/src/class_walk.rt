@@ -3,8 +3,8 @@ ghost use Rattle.std.specs.Prelude.{◌≡◌};
 ghost use Rattle.std.specs.Option.{option_map};
 ghost use Rattle.kr_config.specs.Kept.{rows_of};
 ghost use Rattle.kr_config.specs.Nexts.{lent_class, IsNextClass};
-ghost use Rattle.kr_judge.specs.Boards.{generations_of};
-ghost use Rattle.kr_judge.specs.Verdicts.{judged_classes, unread, first};
+ghost use Rattle.kr_judge.specs.inner.Views.{generations_of};
+ghost use Rattle.kr_judge.specs.Verdicts.{judged_classes, unread_classes, first};
 
 use crate::generation::Generation;
 use crate::provider_lists::unread_writer;
@@ -37,7 +37,7 @@ pub fn first_unread<'a>(
     reading: &Settings,
 ) -> Option<(BorrowedClass<'a>, &'a Who)>
     ensures { option_map (λ lost. (lent_class lost.0, lost.1.now)) result
-        ≡ first (unread (judged_classes (rows_of settings.now.entries.0) (generations_of generations.now)) (rows_of writing.now.entries.0) (rows_of reading.now.entries.0)) }
+        ≡ first (unread_classes (judged_classes (rows_of settings.now.entries.0) (generations_of generations.now)) (rows_of writing.now.entries.0) (rows_of reading.now.entries.0)) }
 {
     let mut after = None;
     while let Some(class) = next_class(generations, settings, after) {

@@ -1,6 +1,7 @@
 //! Generations of settings.
 ghost use Rattle.std.specs.Prelude.{◌≡◌};
-ghost use Rattle.kr_judge.specs.Boards.{generation_of, is_live};
+ghost use Rattle.kr_judge.specs.Boards.{is_live};
+ghost use Rattle.kr_judge.specs.inner.Views.{generation_of};
 ghost use Rattle.kr_judge.specs.Verdicts.{is_other};
 
 use kr_base::Shared;

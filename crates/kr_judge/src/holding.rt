@@ -1,8 +1,12 @@
 //! Changes of kept generations.
-ghost use Rattle.std.specs.Prelude.{◌≡◌, vec_len, vec_capacity};
-ghost use Rattle.kr_judge.specs.Boards.{generations_of, without_current, held_more, held_less, changed_at, MayHold, IsHeld};
+ghost use Rattle.std.specs.Prelude.{◌≡◌, ◌<◌, ◌+◌, ◌++◌, [], ◌∷◌, true, vec_len, vec_capacity};
+ghost use Rattle.kr_config.specs.Kept.{rows_of};
+ghost use Rattle.kr_judge.specs.Boards.{without_current, held_more, held_less, changed_at, MayHold, IsHeld};
+ghost use Rattle.kr_judge.specs.inner.Views.{generations_of};
 
 use crate::generation::Generation;
+use kr_base::Shared;
+use kr_config::Settings;
 
 /// No generation of the replica is current any more.
 #[tactic(auto, using(crate::proofs::Holders::left_begin, crate::proofs::Holders::left_here, crate::proofs::Holders::left_other, crate::proofs::Holders::left_end))]
@@ -16,6 +20,29 @@ pub fn leave(generations: &mut Vec<Generation>, replica: u32)
             generations[at].current = false;
         }
     }
+}
+
+/// Makes the next generation, the current one of its replica, in room that is there.
+pub fn add(generations: &mut Vec<Generation>, replica: u32, settings: Shared<Settings>)
+    requires { vec_len generations.old < vec_capacity generations.old }
+    ensures added { generations_of generations.new.items
+        ≡ without_current replica (generations_of generations.old.items)
+        ++ record {
+          replica = replica;
+          rows = rows_of settings.entries.0;
+          current = true;
+          holders = 0;
+        } ∷ [] }
+    ensures length { vec_len generations.new ≡ vec_len generations.old + 1 }
+    ensures room { vec_capacity generations.new ≡ vec_capacity generations.old }
+{
+    leave(generations, replica);
+    generations.push_reserved(Generation {
+        replica,
+        settings,
+        current: true,
+        holders: 0,
+    });
 }
 
 /// One more holds the generation.

@@ -1,25 +1,25 @@
 //! The first reason of each kind against new settings.
-ghost use Rattle.std.specs.Prelude.{◌≡◌, ◌≢◌, ◌<◌, ◌^◌, length, IfOk, MatchResult};
+ghost use Rattle.std.specs.Prelude.{◌≡◌, ◌≢◌, ◌<◌, ◌^◌, length, MatchResult};
 ghost use Rattle.std.specs.Option.{option_map};
 ghost use Rattle.kr_config.specs.Kept.{rows_of};
 ghost use Rattle.kr_config.specs.Nexts.{lent_class};
-ghost use Rattle.kr_judge.specs.Boards.{generations_of};
-ghost use Rattle.kr_judge.specs.Verdicts.{dropped, lost_writers, unread_writers, first, verdict_of};
-ghost use Rattle.kr_judge.specs.declared.verdict.Verdict.TheVariants.{Pass, DropsStored, DropsWriter, Unread};
+ghost use Rattle.kr_judge.specs.inner.Views.{generations_of};
+ghost use Rattle.kr_judge.specs.Verdicts.{dropped_needs, lost_writers, unread_writers, first, verdict_of};
+ghost use Rattle.kr_judge.specs.declared.verdict.Verdict.TheVariants.{Pass};
 
 use crate::class_walk::first_unread;
 use crate::generation::Generation;
 use crate::need::Need;
 use crate::provider_lists::has;
 use crate::verdict::Verdict;
-use kr_base::{NoMemory, Text};
-use kr_config::{BorrowedClass, Settings, Who, copy_class};
+use kr_base::NoMemory;
+use kr_config::{BorrowedClass, Settings, Who};
 use std::alloc::Global;
 
 /// The first need that the new settings don't read.
 #[tactic(auto, using(crate::proofs::Walks::needs_begin, crate::proofs::Walks::need_skips, crate::proofs::Walks::need_found, crate::proofs::Walks::needs_end))]
 pub fn first_dropped<'a>(needs: &'a [Need], settings: &Settings) -> Option<&'a Need>
-    ensures { option_map (λ need. need.now) result ≡ first (dropped (rows_of settings.now.entries.0) needs.now) }
+    ensures { option_map (λ need. need.now) result ≡ first (dropped_needs (rows_of settings.now.entries.0) needs.now) }
 {
     for need in needs {
         if !has(settings.list_for(need.resource.as_str()), &need.who) {
@@ -75,45 +75,6 @@ pub fn first_unread_writer<'a>(
     None
 }
 
-pub fn drops_stored(alloc: Global, need: &Need) -> Result<Verdict, NoMemory>
-    ensures { IfOk result (λ verdict. verdict ≡ DropsStored need.now.path need.now.who) }
-{
-    Ok(Verdict::DropsStored {
-        path: Text::copy(alloc, need.path.as_str())?,
-        who: need.who.copy(alloc)?,
-    })
-}
-
-pub fn drops_writer(
-    alloc: Global,
-    generation: u32,
-    class: BorrowedClass<'_>,
-    who: &Who,
-) -> Result<Verdict, NoMemory>
-    ensures { IfOk result (λ verdict. verdict ≡ DropsWriter generation (lent_class class.entry) who.now) }
-{
-    Ok(Verdict::DropsWriter {
-        generation,
-        class: copy_class(alloc, class)?,
-        who: who.copy(alloc)?,
-    })
-}
-
-pub fn isnt_read(
-    alloc: Global,
-    generation: u32,
-    class: BorrowedClass<'_>,
-    who: &Who,
-) -> Result<Verdict, NoMemory>
-    ensures { IfOk result (λ verdict. verdict ≡ Unread generation (lent_class class.entry) who.now) }
-{
-    Ok(Verdict::Unread {
-        generation,
-        class: copy_class(alloc, class)?,
-        who: who.copy(alloc)?,
-    })
-}
-
 /// The first reason of all.
 #[tactic(auto, using(crate::proofs::Verdicts::passes))]
 pub fn judge(
@@ -129,15 +90,17 @@ pub fn judge(
         (λ _. verdict_of needs.now (generations_of generations.now) replica (rows_of settings.now.entries.0) ≢ Pass) }
 {
     match first_dropped(needs, settings) {
-        Some(need) => return drops_stored(alloc, need),
+        Some(need) => return Verdict::drops_stored(alloc, &need.path, &need.who),
         None => {}
     }
     match first_lost_writer(generations, replica, settings) {
-        Some((generation, class, who)) => return drops_writer(alloc, generation, class, who),
+        Some((generation, class, who)) => {
+            return Verdict::drops_writer(alloc, generation, class, who);
+        }
         None => {}
     }
     match first_unread_writer(generations, replica, settings) {
-        Some((generation, class, who)) => return isnt_read(alloc, generation, class, who),
+        Some((generation, class, who)) => return Verdict::unread(alloc, generation, class, who),
         None => {}
     }
     Ok(Verdict::Pass)

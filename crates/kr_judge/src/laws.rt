@@ -1,8 +1,14 @@
 //! Laws of the definitions, for a reader and for callers' proofs. The functions do nothing.
-ghost use Rattle.kr_judge.specs.Laws.{TableComputes, HasMembers, StaySorted};
+ghost use Rattle.kr_judge.specs.Laws.{PassesExactly, TableComputes, HasMembers, StaySorted, SetAtPath, DropAtPath};
 
-/// The classes that a judgement goes through are those of the table of the same settings, in its order.
-pub fn judged_classes_are_a_table()
+/// The verdict is `Pass` exactly where the new settings read all that is stored and all that the other live
+/// generations write, and these read what the new settings write.
+pub fn passes_exactly()
+    ensures { PassesExactly }
+{}
+
+/// The classes that a judgement goes through are the table of the same settings, and there is one such table.
+pub fn judged_classes_are_the_table()
     ensures { TableComputes }
 {}
 
@@ -14,4 +20,10 @@ pub fn providers_are_told_apart()
 /// Needs stay in the order of their paths, one a path.
 pub fn needs_stay_by_path()
     ensures { StaySorted }
+{}
+
+/// A need is set at its own path and dropped at a path alone.
+pub fn needs_go_by_path()
+    ensures set { SetAtPath }
+    ensures drop { DropAtPath }
 {}

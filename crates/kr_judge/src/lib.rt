@@ -1,5 +1,5 @@
-//! Which configuration a replica may take up: generations of settings, the needs of what is stored, and
-//! the verdict on new settings.
+//! Which configuration a replica may take up: generations of settings, the needs of what is
+//! stored, and the verdict on new settings.
 #![tactic(auto)]
 
 mod board;
@@ -12,8 +12,12 @@ mod need;
 mod need_list;
 mod provider_lists;
 mod verdict;
+mod verdict_text;
 
 pub use board::Board;
-pub use laws::{judged_classes_are_a_table, needs_stay_by_path, providers_are_told_apart};
+pub use laws::{
+    judged_classes_are_the_table, needs_go_by_path, needs_stay_by_path, passes_exactly,
+    providers_are_told_apart,
+};
 pub use need::Need;
 pub use verdict::Verdict;

@@ -15,8 +15,17 @@ pub struct Need {
 
 impl Need {
     /// A need of copies of its parts.
-    pub fn copy(alloc: Global, path: &str, resource: &str, who: &Who) -> Result<Need, NoMemory>
-        ensures { IfOk result (λ need. need ≡ record { path = path.now; resource = resource.now; who = who.now }) }
+    pub(crate) fn copy(
+        alloc: Global,
+        path: &str,
+        resource: &str,
+        who: &Who,
+    ) -> Result<Need, NoMemory>
+        ensures { IfOk result (λ need. need ≡ record {
+          path = path.now;
+          resource = resource.now;
+          who = who.now;
+        }) }
     {
         let path = Text::copy(alloc, path)?;
         let resource = Text::copy(alloc, resource)?;

@@ -1,7 +1,11 @@
 //! Verdicts.
+ghost use Rattle.std.specs.Prelude.{◌≡◌, ◌≢◌, IfOk, MatchResult};
+ghost use Rattle.kr_config.specs.Nexts.{lent_class};
+ghost use Rattle.kr_judge.specs.declared.verdict.Verdict.TheVariants.{Pass, DropsStored, DropsWriter, Unread};
 
-use kr_base::Text;
-use kr_config::{Class, Who};
+use kr_base::{NoMemory, Text};
+use kr_config::{BorrowedClass, Class, Who, copy_class};
+use std::alloc::Global;
 
 /// Whether a replica may take new settings up, or the first reason why not.
 #[derive(Debug, Drop, PartialEq, Eq)]
@@ -25,4 +29,70 @@ pub enum Verdict {
         class: Class,
         who: Who,
     },
+}
+
+impl Verdict {
+    /// `DropsStored` of copies of its parts.
+    pub(crate) fn drops_stored(alloc: Global, path: &Text, who: &Who) -> Result<Verdict, NoMemory>
+        ensures { IfOk result (λ verdict. verdict ≡ DropsStored path.now who.now) }
+    {
+        Ok(Verdict::DropsStored {
+            path: Text::copy(alloc, path.as_str())?,
+            who: who.copy(alloc)?,
+        })
+    }
+
+    /// `DropsWriter` of copies of its parts.
+    pub(crate) fn drops_writer(
+        alloc: Global,
+        generation: u32,
+        class: BorrowedClass<'_>,
+        who: &Who,
+    ) -> Result<Verdict, NoMemory>
+        ensures { IfOk result
+            (λ verdict. verdict ≡ DropsWriter generation (lent_class class.entry) who.now) }
+    {
+        Ok(Verdict::DropsWriter {
+            generation,
+            class: copy_class(alloc, class)?,
+            who: who.copy(alloc)?,
+        })
+    }
+
+    /// `Unread` of copies of its parts.
+    pub(crate) fn unread(
+        alloc: Global,
+        generation: u32,
+        class: BorrowedClass<'_>,
+        who: &Who,
+    ) -> Result<Verdict, NoMemory>
+        ensures { IfOk result
+            (λ verdict. verdict ≡ Unread generation (lent_class class.entry) who.now) }
+    {
+        Ok(Verdict::Unread {
+            generation,
+            class: copy_class(alloc, class)?,
+            who: who.copy(alloc)?,
+        })
+    }
+
+    /// A copy of the verdict; `Pass` needs no memory for it.
+    pub fn copy(&self, alloc: Global) -> Result<Verdict, NoMemory>
+        ensures { MatchResult result (λ copy. copy ≡ self.now) (λ _. self.now ≢ Pass) }
+    {
+        match self {
+            Verdict::Pass => Ok(Verdict::Pass),
+            Verdict::DropsStored { path, who } => Verdict::drops_stored(alloc, path, who),
+            Verdict::DropsWriter {
+                generation,
+                class,
+                who,
+            } => { Verdict::drops_writer(alloc, *generation, class.borrowed(), who) }
+            Verdict::Unread {
+                generation,
+                class,
+                who,
+            } => { Verdict::unread(alloc, *generation, class.borrowed(), who) }
+        }
+    }
 }

@@ -1,8 +1,8 @@
 -- What is fetched through a cache.
-use Rattle.std.proofs.Common.{◌≡◌, ℕ, ◌≤◌, ◌⊎◌, true, List, length, Contains, Option, Some, None, Result, Ok, Err, IfOk, refl, sym, ◌∙◌, ap, subst, inl, inr, arith}
+use Rattle.std.proofs.Common.{◌≡◌, ℕ, ◌≤◌, ◌⊎◌, true, List, length, Contains, Option, Some, None, Result, Ok, Err, IfOk, refl, sym, ap, subst, inl, inr, arith}
 use Rattle.std.specs.Prelude.{OnOk, OnErr}
 use Rattle.lru.specs.LruCache.{LruCache, lru_cache, put_entries}
-use Rattle.lru.proofs.CallerLemmas.{IsPut, Contains-lookup, Contains-put_entries}
+use Rattle.lru.proofs.CallerLemmas.{Contains-lookup, Contains-put_entries}
 use Rattle.kr_kms.specs.Cache.{CacheState, Fetches, AreOpen, GivesSeed, key_eq, seed_at}
 use Rattle.kr_kms.specs.Calls.{Link, Asks, IsSameLink, Unwraps, asked_key}
 use Rattle.kr_kms.specs.Truth.{Truth, TellsOf}

@@ -1,7 +1,7 @@
 -- Seeds with their wrapped sources.
-use Rattle.std.specs.Prelude.{◌≡◌, ℕ, ◌&&◌, ◌⊎◌, Bool, List, length, All, Option, Some, None, Result, Ok, Err}
+use Rattle.std.specs.Prelude.{◌≡◌, ℕ, ◌⊎◌, List, length, All, Option, Some, None, Result, Ok, Err}
 use Rattle.std.specs.Io.KnownBytes.{Consumes, Keeps}
-use Rattle.std.specs.Str.{IsUtf8, bytes_eq}
+use Rattle.std.specs.Str.{IsUtf8}
 use Rattle.kr_base.specs.Faults.{Rose}
 use Rattle.kr_base.specs.Limits.{IsShort, AreFew}
 use Rattle.kr_base.specs.Pairs.{IsSortedByKey}

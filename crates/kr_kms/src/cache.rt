@@ -55,6 +55,7 @@ impl SeedCache {
             (asked_key (L.link link.old).name key_id.now annotations.now source.now)
             result link.new self.new }
     {
+        // Its length tells that no more are kept than may be.
         let _fits = self.inner.len();
         let alloc = *self.inner.allocator();
         let Ok(key) = key_of(alloc, link.name(), key_id, annotations, source) else {

@@ -110,6 +110,7 @@ fn row_of(name: Text, wrapped: Wrapped, seed: Bytes) -> SeedRow
         key_id,
         annotations,
     } = wrapped;
+    // Lending it tells that it is a text.
     let _text = key_id.as_str();
     tell_texts(annotations.pairs());
     SeedRow {

@@ -1,11 +1,11 @@
 -- The bits of a block's polynomial are those of the block, from the left.
-use Rattle.std.proofs.Common.{◌≡◌, ℕ, zero, suc, ◌+◌, ◌*◌, ◌-◌, ◌/◌, ◌%◌, ◌^◌, ◌<◌, List, length, slice_index, refl, sym, ap, ◌∙◌, arith, inl, inr}
+use Rattle.std.proofs.Common.{◌≡◌, ℕ, zero, suc, ◌+◌, ◌*◌, ◌-◌, ◌/◌, ◌%◌, ◌^◌, ◌<◌, List, length, map, slice_index, refl, subst, sym, ap, ◌∙◌, arith, inl, inr}
 use Rattle.std.proofs.Math.Nat.{pow-suc}
 use Rattle.std.proofs.lemmas.Bool.{cases_lt}
-use Rattle.std.proofs.lemmas.List.{ext_get_or}
+use Rattle.std.proofs.lemmas.List.{ext_get_or, get_or-map}
 use Rattle.std.proofs.lemmas.Nat.{mod_below, pow-add, shr-shr}
 use Rattle.std.proofs.lemmas.Nat.Bits.{bit_at-suc, bit_at_cat_high, bit_at_cat_low, bit_at_lowest, same_from_bits_below}
-use Rattle.std.specs.Int.{w128, bit_at, byte_at, bytes_high_first, from_be_bytes, reverse_bits, reverse_bits_onto}
+use Rattle.std.specs.Int.{w8, w128, bit_at, byte_at, bytes_high_first, from_be_bytes, from_le_bytes, reverse_bits, reverse_bits_onto}
 use Rattle.kr_aes.specs.Cipher.{IsBlock}
 use Rattle.kr_aes.proofs.Blocks.{cell-lt}
 use Rattle.kr_modes.specs.Ghash.{block_of, polynomial}
@@ -77,6 +77,49 @@ bit_of_polynomial block i is lt =
     ∙ (λ k. bit_at (joined_16 block k) (e k))
     ∙ joined_bit 16 (slice_index block) (cell-lt block is) j (omega arith)
     ∙ (λ k. bit_at (slice_index block (place k)) (bit k))
+
+-- ---- the same from the bytes' mirrors, the lowest first
+
+reversed-lt : (k m n a : ℕ) → a < 2 ^ m → reverse_bits_onto k n a < 2 ^ (m + k)
+unfolding reverse_bits_onto
+reversed-lt zero m n a lt =
+    let e : m ≡ m + 0 = omega arith in
+    subst (λ (x : ℕ). a < 2 ^ x) e lt
+reversed-lt (suc k) m n a lt =
+    let e : suc m + k ≡ m + suc k = omega arith in
+    let grown : a * 2 + n % 2 < 2 ^ suc m = omega (arith, pow-suc 2 m) in
+    subst (λ (x : ℕ). reverse_bits_onto k (n / 2) (a * 2 + n % 2) < 2 ^ x) e
+    (reversed-lt k (suc m) (n / 2) (a * 2 + n % 2) grown)
+
+joined_low_16 : (bytes : List ℕ)
+    → from_le_bytes w128 bytes ≡ joined 16 (λ k. slice_index bytes (15 - k))
+unfolding joined
+joined_low_16 bytes = omega arith
+
+pub polynomial_of_mirrored : (block bytes : List ℕ) (p : ℕ) → IsBlock block
+    → bytes ≡ map (reverse_bits w8) block → p ≡ from_le_bytes w128 bytes → p < 2 ^ 128
+    → p ≡ polynomial block
+unfolding polynomial
+polynomial_of_mirrored block bytes p is e from fits =
+    let size : length block ≡ 16 = is.size in
+    let cell : (k : ℕ) → k < 16 → slice_index bytes k ≡ reverse_bits w8 (slice_index block k) =
+    λ k lt. ap (λ (xs : List ℕ). slice_index xs k) e
+    ∙ get_or-map (reverse_bits w8) block k 0 0 (omega arith) in
+    let byte : (i : ℕ) → slice_index bytes (15 - i) < 256 =
+    λ i. rw (cell (15 - i) (omega arith))
+    (reversed-lt 8 0 (slice_index block (15 - i)) 0 (omega arith)) in
+    same_from_bits_below 128 p (polynomial block) fits
+    (reversed-lt 128 0 (from_be_bytes w128 block) 0 (omega arith))
+    (λ j lt.
+    let place : 15 - (16 - 1 - j / 8) ≡ j / 8 = omega arith in
+    let bit : 8 - 1 - j % 8 ≡ 7 - j % 8 = omega arith in
+    ap (λ (x : ℕ). bit_at x j) (from ∙ joined_low_16 bytes)
+    ∙ joined_bit 16 (λ k. slice_index bytes (15 - k)) byte j lt
+    ∙ ap (λ (k : ℕ). bit_at (slice_index bytes k) (j % 8)) place
+    ∙ ap (λ (x : ℕ). bit_at x (j % 8)) (cell (j / 8) (omega arith))
+    ∙ reversed_bit 8 (slice_index block (j / 8)) 0 (j % 8) (omega arith)
+    ∙ ap (bit_at (slice_index block (j / 8))) bit
+    ∙ sym (bit_of_polynomial block j is lt))
 
 -- ---- and back
 

@@ -11,3 +11,4 @@ pub mod Opening
 pub mod Streams
 pub mod Sealed
 pub mod BlockBits
+pub mod Mirrors

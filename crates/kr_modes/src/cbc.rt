@@ -12,8 +12,8 @@ use crate::ModeNo;
 use crate::blocks::{self, BLOCK};
 use kr_aes::Rounds;
 
-/// The length in bytes of what `cbc_seal` makes of `n` bytes: 1 to 16 bytes of padding are added. The
-/// data has at most 4,194,304 bytes.
+/// The length in bytes of what `cbc_seal` makes of `n` bytes: 1 to 16 bytes of padding are added.
+/// The data has at most 4,194,304 bytes.
 pub fn cbc_length(n: usize) -> usize
     requires { n ≤ 4194304 }
     ensures { result ≡ n + 16 - n % 16 }
@@ -21,8 +21,8 @@ pub fn cbc_length(n: usize) -> usize
     n + BLOCK - n % BLOCK
 }
 
-/// Writes the CBC encryption of the padded data into `out`, without the IV. The words and the rounds
-/// are what `kr_aes::expand` gave for one key.
+/// Writes the CBC encryption of the padded data into `out`, without the IV. The words and the
+/// rounds are what `kr_aes::expand` gave for one key.
 pub fn cbc_seal(words: &[u32; 60], rounds: Rounds, iv: &[u8; 16], plain: &[u8], out: &mut [u8])
     requires schedule { IsSchedule words.now rounds }
     requires fits { length plain.now ≤ 4194304 }
@@ -43,10 +43,10 @@ pub fn cbc_seal(words: &[u32; 60], rounds: Rounds, iv: &[u8; 16], plain: &[u8], 
     out[BLOCK * whole..].copy_from_slice(&block);
 }
 
-/// Opens what `cbc_seal` sealed: the body is the IV and the blocks behind it. The length of the data
-/// is answered, and the data stands at the front of `out`; the rest of `out` is any bytes, and so is
-/// all of it after `BadPadding`. A wrong key isn't noticed where what it decrypts to is padded data.
-/// The words and the rounds are what `kr_aes::expand` gave for one key.
+/// Opens what `cbc_seal` sealed: the body is the IV and the blocks behind it. The length of the
+/// data is answered, and the data stands at the front of `out`; the rest of `out` is any bytes, and
+/// so is all of it after `BadPadding`. A wrong key isn't noticed where what it decrypts to is
+/// padded data. The words and the rounds are what `kr_aes::expand` gave for one key.
 pub fn cbc_unseal(
     words: &[u32; 60],
     rounds: Rounds,

@@ -16,8 +16,8 @@ const NONCE: usize = 12;
 /// The length of a tag in bytes.
 const TAG: usize = 16;
 
-/// Writes the ciphertext and the tag of the data and the associated data into `out`. Under one key no
-/// nonce may be used twice. The words and the rounds are what `kr_aes::expand` gave for one key.
+/// Writes the ciphertext and the tag of the data and the associated data into `out`. Under one key
+/// no nonce may be used twice. The words and the rounds are what `kr_aes::expand` gave for one key.
 pub fn gcm_seal(
     words: &[u32; 60],
     rounds: Rounds,
@@ -38,9 +38,9 @@ pub fn gcm_seal(
     out[size..].copy_from_slice(&tag);
 }
 
-/// Opens what `gcm_seal` sealed: the body is ciphertext and tag. The length of the data is answered,
-/// and the data stands at the front of `out`; the rest of `out` stays as it was. The words and the
-/// rounds are what `kr_aes::expand` gave for one key.
+/// Opens what `gcm_seal` sealed: the body is ciphertext and tag. The length of the data is
+/// answered, and the data stands at the front of `out`; the rest of `out` stays as it was. The
+/// words and the rounds are what `kr_aes::expand` gave for one key.
 pub fn gcm_unseal(
     words: &[u32; 60],
     rounds: Rounds,

@@ -1,5 +1,6 @@
-//! GHASH (SP 800-38D sections 6.3 and 6.4). A product by the hash subkey is the sum of 32 entries of
-//! tables, which are made once for a subkey: one entry for each four coefficients of the other factor.
+//! GHASH (SP 800-38D sections 6.3 and 6.4). A product by the hash subkey is the sum of 32 entries
+//! of tables, which are made once for a subkey: one entry for each four coefficients of the other
+//! factor.
 
 ghost use Rattle.std.specs.Prelude.{◌≡◌, ◌≤◌, ℕ, length, map};
 ghost use Rattle.std.specs.List.{range_with_len};
@@ -9,6 +10,7 @@ ghost use Rattle.kr_modes.specs.Ghash.{block_of, ghash_blocks, polynomial, produ
 ghost use Rattle.kr_modes.specs.inner.Tables.{IsTableOf, four_terms, times_x};
 
 use crate::blocks::{self, BLOCK};
+use crate::mirror;
 
 /// The tables of a subkey, one behind another: 32 tables of 16 polynomials.
 pub(crate) type Products = [u128; 512];
@@ -18,7 +20,10 @@ pub(crate) type Products = [u128; 512];
 pub(crate) fn polynomial(block: [u8; BLOCK]) -> u128
     ensures { result ≡ polynomial block }
 {
-    u128::from_be_bytes(block).reverse_bits()
+    mirror::known(&block);
+    let mut mirrored = block;
+    mirror::mirror_all(&mut mirrored);
+    u128::from_le_bytes(mirrored)
 }
 
 /// The block that stands for a polynomial.

@@ -1,5 +1,5 @@
-//! A pool of pages for the words of expanded keys. A page that isn't in use is zero. Memory is taken
-//! where the pool is made and nowhere else.
+//! A pool of pages for the words of expanded keys. A page that isn't in use is zero. Memory is
+//! taken where the pool is made and nowhere else.
 #![tactic(auto)]
 
 ghost use Rattle.std.specs.Prelude.{◌≡◌, ◌≢◌, ℕ, ◌↔◌, ◌+◌, ◌<◌, [], length, replicate, false, IsErr, IfOk, OnErr};
@@ -14,8 +14,8 @@ use std::marker::Model;
 /// How many words a page has: what the longest key expands to.
 const WORDS: usize = 60;
 
-/// A page that was taken, which contracts see as its number. It can be neither copied nor dropped: it ends
-/// where it is given back.
+/// A page that was taken, which contracts see as its number. It can be neither copied nor dropped:
+/// it ends where it is given back.
 pub struct Page {
     number: u32,
 }
@@ -32,7 +32,8 @@ impl Model for Page {
 #[derive(Clone, Copy, Debug, PartialEq, Eq)]
 pub struct Full;
 
-/// Pages of 60 words, some of which are taken. Contracts see the words of all and the numbers of the free ones.
+/// Pages of 60 words, some of which are taken. Contracts see the words of all and the numbers of
+/// the free ones.
 #[derive(Drop)]
 pub struct Pages {
     pages: Vec<[u32; WORDS]>,

@@ -1,9 +1,11 @@
+-- Lemmas that several proofs share.
 pub mod Parts
 pub mod Steps
 pub mod Indexes
 pub mod Loading
 pub mod Refusals
 pub mod Written
+pub mod Places
 pub mod Shared
 pub mod Above
 pub mod Lookahead

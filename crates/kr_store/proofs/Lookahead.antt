@@ -7,19 +7,25 @@ use Rattle.kr_store.specs.inner.Reading.{Takes}
 use Rattle.kr_store.proofs.Steps.{rest_of, seen}
 
 -- the next bytes were taken
-pub takes_next : (told now : Option (List ℕ)) (place end count later n : ℕ) (into : List ℕ) → now ≡ told → n ≤ length into → IfSome told (λ bytes. take n into ≡ take n (drop place bytes))
+pub takes_next : (told now : Option (List ℕ)) (place end count later n : ℕ) (into : List ℕ)
+    → now ≡ told → n ≤ length into → IfSome told (λ bytes. take n into ≡ take n (drop place bytes))
     → Takes (seen told place end count) (seen now (place + n) end later) (take n into)
 takes_next told now place end count later n into same fits e = record {
-  consumed = subst (λ t. Consumes (rest_of place told) (rest_of (place + n) t) (take n into)) (sym same) (gone told e);
+  consumed = subst (λ t. Consumes (rest_of place told) (rest_of (place + n) t) (take n into))
+      (sym same) (gone told e);
   place = ap (λ k. place + k) (sym (length-take-le n into fits));
 }
   where
-    gone : (t : Option (List ℕ)) → IfSome t (λ bytes. take n into ≡ take n (drop place bytes)) → Consumes (rest_of place t) (rest_of (place + n) t) (take n into)
+    gone : (t : Option (List ℕ)) → IfSome t (λ bytes. take n into ≡ take n (drop place bytes))
+        → Consumes (rest_of place t) (rest_of (place + n) t) (take n into)
     gone None h = tt
-    gone (Some bytes) h = sym (take-append-drop n (drop place bytes)) ∙ ap (λ l. l ++ drop n (drop place bytes)) (sym h) ∙ ap (λ l. take n into ++ l) (drop-drop n place bytes)
+    gone (Some bytes) h = sym (take-append-drop n (drop place bytes))
+        ∙ ap (λ l. l ++ drop n (drop place bytes)) (sym h) ∙ ap (λ l. take n into ++ l)
+        (drop-drop n place bytes)
 
 -- a part of bytes of which the front is known
-window : (u f n : ℕ) (xs ys : List ℕ) → take f xs ≡ take f ys → u + n ≤ f → take n (take (f - u) (drop u xs)) ≡ take n (drop u ys)
+window : (u f n : ℕ) (xs ys : List ℕ) → take f xs ≡ take f ys → u + n ≤ f
+    → take n (take (f - u) (drop u xs)) ≡ take n (drop u ys)
 window u f n xs ys e h =
     take-take n (f - u) (drop u xs) (omega (arith, h))
     ∙ sym (drop-take u n xs)
@@ -27,42 +33,72 @@ window u f n xs ys e h =
     ∙ drop-take u n ys
 
 -- how many bytes are handed out of those that were read ahead
-handed : (u f n size : ℕ) (ahead : List ℕ) → u < f → f ≤ length ahead → 0 < size → n ≡ min (length (take (f - u) (drop u ahead))) size → (0 < n) × (u + n ≤ f) × (n ≤ size)
+handed : (u f n size : ℕ) (ahead : List ℕ) → u < f → f ≤ length ahead → 0 < size
+    → n ≡ min (length (take (f - u) (drop u ahead))) size → (0 < n) × (u + n ≤ f) × (n ≤ size)
 handed u f n size ahead l m s is =
     let a = length-take (f - u) (drop u ahead) in
-    let b = length-drop u ahead in
-    (omega (arith, a, b, l, m, s, is), omega (arith, a, b, l, m, s, is), omega (arith, a, b, l, m, s, is))
+    let b = length-drop u ahead in (
+      omega (arith, a, b, l, m, s, is),
+      omega (arith, a, b, l, m, s, is),
+      omega
+          (arith, a, b, l, m, s, is),
+    )
 
 -- bytes are handed out of those that were read ahead
-pub hands_on : (told now : Option (List ℕ)) (place end count later start f n size : ℕ) (ahead slice into : List ℕ) → now ≡ told → start ≤ place → place - start < f → f ≤ length ahead → slice ≡ ahead
-    → IfSome told (λ bytes. take f ahead ≡ take f (drop start bytes)) → 0 < size → length into ≡ size
-    → n ≡ min (length (take (f - (place - start)) (drop (place - start) slice))) size → take n into ≡ take n (take (f - (place - start)) (drop (place - start) slice))
-    → (0 < n) × (n ≤ length into) × Takes (seen told place end count) (seen now (place + n) end later) (take n into)
-hands_on told now place end count later start f n size ahead slice into same low l m are known s long is e =
-    let h = handed (place - start) f n size ahead l m s (is ∙ ap (λ xs. min (length (take (f - (place - start)) (drop (place - start) xs))) size) are) in
+pub hands_on : (told now : Option (List ℕ)) (place end count later start f n size : ℕ)
+    (ahead slice into : List ℕ) → now ≡ told → start ≤ place → place - start < f → f ≤ length ahead
+    → slice ≡ ahead
+    → IfSome told (λ bytes. take f ahead ≡ take f (drop start bytes)) → 0 < size
+    → length into ≡ size
+    → n ≡ min (length (take (f - (place - start)) (drop (place - start) slice))) size
+    → take n into ≡ take n (take (f - (place - start)) (drop (place - start) slice))
+    → (0 < n) × (n ≤ length into) × Takes (seen told place end count)
+    (seen now (place + n) end later) (take n into)
+hands_on told now place end count later start f n size ahead slice into same low l m are known s
+    long is e =
+    let h = handed (place - start) f n size ahead l m s
+    (is ∙ ap (λ xs. min (length (take (f - (place - start)) (drop (place - start) xs))) size)
+    are) in
     let fits : n ≤ length into = omega (arith, h.2, long) in
     (h.0, fits, takes_next told now place end count later n into same fits (of told known h.1))
   where
-    of : (t : Option (List ℕ)) → IfSome t (λ bytes. take f ahead ≡ take f (drop start bytes)) → (place - start) + n ≤ f → IfSome t (λ bytes. take n into ≡ take n (drop place bytes))
+    of : (t : Option (List ℕ)) → IfSome t (λ bytes. take f ahead ≡ take f (drop start bytes))
+        → (place - start) + n ≤ f → IfSome t (λ bytes. take n into ≡ take n (drop place bytes))
     of None k w = tt
-    of (Some bytes) k w = e ∙ ap (λ xs. take n (take (f - (place - start)) (drop (place - start) xs))) are ∙ window (place - start) f n ahead (drop start bytes) k w
-        ∙ ap (take n) (drop-drop (place - start) start bytes ∙ ap (λ j. drop j bytes) (omega (arith, low)))
+    of (Some bytes) k w = e ∙ ap
+        (λ xs. take n (take (f - (place - start)) (drop (place - start) xs))) are
+        ∙ window (place - start) f n ahead (drop start bytes) k w
+        ∙ ap (take n) (drop-drop (place - start) start bytes ∙ ap (λ j. drop j bytes)
+        (omega (arith, low)))
 
 -- what was read stands at the front
-pub reads_front : (told : Option (List ℕ)) (place n : ℕ) (into : List ℕ) → ReadsAt told place n into → IfSome told (λ bytes. take n into ≡ take n (drop place bytes))
+pub reads_front : (told : Option (List ℕ)) (place n : ℕ) (into : List ℕ)
+    → ReadsAt told place n into → IfSome told (λ bytes. take n into ≡ take n (drop place bytes))
 reads_front None place n into r = tt
 reads_front (Some bytes) place n into r = r.1
 
 -- bytes are handed out of those that were just read ahead
-pub hands_first : (told now : Option (List ℕ)) (place end count later f n size : ℕ) (ahead slice into : List ℕ) → now ≡ told → (f ≡ 0 → ⊥) → f ≤ length ahead → slice ≡ ahead → ReadsAt told place f ahead → 0 < size → length into ≡ size
-    → n ≡ min (length (take f slice)) size → take n into ≡ take n (take f slice) → (0 < n) × (n ≤ length into) × Takes (seen told place end count) (seen now (place + n) end later) (take n into)
-hands_first told now place end count later f n size ahead slice into same some m are read s long is e =
+pub hands_first : (told now : Option (List ℕ)) (place end count later f n size : ℕ)
+    (ahead slice into : List ℕ) → now ≡ told → (f ≡ 0 → ⊥) → f ≤ length ahead → slice ≡ ahead
+    → ReadsAt told place f ahead → 0 < size → length into ≡ size
+    → n ≡ min (length (take f slice)) size → take n into ≡ take n (take f slice)
+    → (0 < n) × (n ≤ length into) × Takes (seen told place end count)
+    (seen now (place + n) end later) (take n into)
+hands_first told now place end count later f n size ahead slice into same some m are read s long is
+    e =
     let a = length-take-le f ahead m in
-    let count_is : n ≡ min f size = is ∙ ap (λ xs. min (length (take f xs)) size) are ∙ ap (λ k. min k size) a in
+    let count_is : n ≡ min f size = is ∙ ap (λ xs. min (length (take f xs)) size) are
+    ∙ ap (λ k. min k size) a in
     let fits : n ≤ length into = omega (arith, count_is, long) in
-    let within : n ≤ f = omega (arith, count_is) in
-    (omega (arith, count_is, some, s), fits, takes_next told now place end count later n into same fits (of told (reads_front told place f ahead read) within))
+    let within : n ≤ f = omega (arith, count_is) in (
+      omega (arith, count_is, some, s),
+      fits,
+      takes_next told now place end count later n into same
+          fits (of told (reads_front told place f ahead read) within),
+    )
   where
-    of : (t : Option (List ℕ)) → IfSome t (λ bytes. take f ahead ≡ take f (drop place bytes)) → n ≤ f → IfSome t (λ bytes. take n into ≡ take n (drop place bytes))
+    of : (t : Option (List ℕ)) → IfSome t (λ bytes. take f ahead ≡ take f (drop place bytes))
+        → n ≤ f → IfSome t (λ bytes. take n into ≡ take n (drop place bytes))
     of None k w = tt
-    of (Some bytes) k w = e ∙ ap (λ xs. take n (take f xs)) are ∙ ap (take n) k ∙ take-take n f (drop place bytes) w
+    of (Some bytes) k w = e ∙ ap (λ xs. take n (take f xs)) are ∙ ap (take n) k ∙ take-take n f
+        (drop place bytes) w

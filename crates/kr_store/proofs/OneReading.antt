@@ -1,7 +1,9 @@
 -- Bytes are the file of one list of rows, or have one breach.
-use Rattle.std.proofs.Common.{◌≡◌, ℕ, ◌+◌, ◌<◌, ◌≤◌, ◌⊎◌, List, [], ◌∷◌, ◌++◌, length, take, drop, Ok, Err, refl, sym, ◌∙◌, ap, subst, arith, length-append, append_assoc, inl, inr}
-use Rattle.std.proofs.lemmas.List.{take_all, append-nil}
-use Rattle.std.proofs.Math.Seq.{take-append_seam, drop-append_seam}
+use Rattle.std.proofs.Common.{◌≡◌, ℕ, ◌≤◌, ◌⊎◌, List, [], ◌++◌, length, take, Err, refl, sym, ◌∙◌, ap, subst, arith, length-append, append_assoc, inl, inr}
+use Rattle.std.proofs.lemmas.List.{take_all}
+use Rattle.std.proofs.Math.Seq.{take-append_seam}
+use Rattle.kr_store.specs.declared.format.Format.{Format}
+use Rattle.kr_store.specs.declared.format.Format.TheVariants.{One}
 use Rattle.kr_store.specs.declared.rows.LogRow.{LogRow}
 use Rattle.kr_store.specs.declared.answers.Cause.{Cause}
 use Rattle.kr_store.specs.declared.answers.Cause.TheVariants.{Torn, BadRow, Order}
@@ -9,125 +11,122 @@ use Rattle.kr_store.specs.declared.answers.Stop.TheVariants.{Breach}
 use Rattle.kr_store.specs.declared.answers.StoreNo.{StoreNo}
 use Rattle.kr_store.specs.declared.answers.StoreNo.TheVariants as no
 use Rattle.kr_store.specs.Rows.{AllFollow}
-use Rattle.kr_store.specs.File.{magic, row_bytes, rows_bytes, file_bytes, IsFile}
-use Rattle.kr_store.specs.Breaches.{Read, row_part, next_row, BreaksAt, IsTornMagic, IsBreach}
-use Rattle.kr_store.specs.inner.Reading.{placed}
-use Rattle.kr_store.proofs.Refusals.{same_found, row_read, found_next}
+use Rattle.kr_store.specs.File.{magic, rows_bytes, file_bytes, IsFile}
+use Rattle.kr_store.specs.Breaches.{Read, next_row, BreaksAt, IsTornMagic, IsOther, IsBreach}
+use Rattle.kr_store.specs.inner.Reading.{no_at}
+use Rattle.kr_store.proofs.Refusals.{stop_once, magic_once}
+use Rattle.kr_store.proofs.Steps.{begins_name}
 
-rows_once : (k : ℕ) (before rows others : List LogRow) → k ≡ length before + 1 → AllFollow before rows → AllFollow before others → rows_bytes k rows ≡ rows_bytes k others → rows ≡ others
-rows_once k before [] [] is f g e = refl
-rows_once k before [] (other ∷ others) is f g e = absurd (omega (arith, ap length e, length-append (row_bytes k other) (rows_bytes (k + 1) others)))
-rows_once k before (row ∷ rows) [] is f g e = absurd (omega (arith, ap length e, length-append (row_bytes k row) (rows_bytes (k + 1) rows)))
-rows_once k before (row ∷ rows) (other ∷ others) is f g e =
-    let mine : row_part k (row_bytes k row ++ rows_bytes (k + 1) rows) ≡ Ok (row, rows_bytes (k + 1) rows) = row_read k before row (rows_bytes (k + 1) rows) is f.0 in
-    let theirs : row_part k (row_bytes k row ++ rows_bytes (k + 1) rows) ≡ Ok (other, rows_bytes (k + 1) others) = subst (λ l. row_part k l ≡ Ok (other, rows_bytes (k + 1) others)) (sym e) (row_read k before other (rows_bytes (k + 1) others) is g.0) in
-    let same = same_found row other (rows_bytes (k + 1) rows) (rows_bytes (k + 1) others) _ mine theirs in
-    let first : row ≡ other = same.0 in
-    let rest : rows ≡ others = rows_once (k + 1) (before ++ row ∷ []) rows others (omega (arith, length-append before (row ∷ []))) f.1 (subst (λ (l : LogRow). AllFollow (before ++ l ∷ []) others) (sym first) g.1) same.1 in
-    cc
+nothing_long : (format : Format) (rows : List LogRow) (bytes : List ℕ)
+    → bytes ≡ [] → bytes ≡ file_bytes format rows → ⊥
+nothing_long format rows bytes e f =
+    omega (arith, ap length (sym e ∙ f), length-append (magic format) (rows_bytes 1 rows))
 
-behind_magic : (a b : List ℕ) → magic ++ a ≡ magic ++ b → a ≡ b
-behind_magic a b e = sym (drop-append_seam magic a) ∙ ap (drop (length magic)) e ∙ drop-append_seam magic b
-
-nothing_long : (rows : List LogRow) (bytes : List ℕ) → bytes ≡ [] → bytes ≡ file_bytes rows → ⊥
-nothing_long rows bytes e f = omega (arith, ap length (sym e ∙ f), length-append magic (rows_bytes 1 rows))
-
-pub file_once : (bytes : List ℕ) (rows others : List LogRow) → IsFile rows bytes → IsFile others bytes → rows ≡ others
-file_once bytes rows others f g = elim f.1 [
+pub file_once : (bytes : List ℕ) (format other : Format) (rows others : List LogRow)
+    → IsFile format rows bytes → IsFile other others bytes
+    → (format ≡ other) × (rows ≡ others)
+file_once bytes format other rows others f g = elim f.1 [
   | inl none ↦ elim g.1 [
-    | inl nothing ↦ none.0 ∙ sym nothing.0
-    | inr same ↦ absurd (nothing_long others bytes none.1 same)
+    | inl nothing ↦ (none.0 ∙ sym nothing.0, none.1 ∙ sym nothing.1)
+    | inr same ↦ absurd (nothing_long other others bytes none.2 same)
   ]
   | inr same ↦ elim g.1 [
-    | inl nothing ↦ absurd (nothing_long rows bytes nothing.1 same)
-    | inr other ↦ rows_once 1 [] rows others refl f.0 g.0 (behind_magic (rows_bytes 1 rows) (rows_bytes 1 others) (sym same ∙ other))
+    | inl nothing ↦ absurd (nothing_long format rows bytes nothing.2 same)
+    | inr also ↦
+        let once = magic_once format other (rows_bytes 1 rows) (rows_bytes 1 others)
+        (sym same ∙ also) in (
+          once.0,
+          (stop_once format 1 [] rows others [] [] Torn Torn refl f.0
+              (subst (λ (z : Format). AllFollow z [] others) (sym once.0) g.0) refl refl
+              (ap (λ l. l ++ []) once.1)).0,
+        )
   ]
 ]
 
-ok_not_err : (read : Read LogRow) (found : LogRow × List ℕ) (cause : Cause) → read ≡ Ok found → read ≡ Err cause → ⊥
-ok_not_err read found cause e f = cc
-
-err_once : (read : Read LogRow) (cause other : Cause) → read ≡ Err cause → read ≡ Err other → cause ≡ other
+err_once : (read : Read LogRow) (cause other : Cause) → read ≡ Err cause → read ≡ Err other
+    → cause ≡ other
 err_once read cause other e f = cc
 
--- where rows end and something breaks
-stop_once : (k : ℕ) (before rows others : List LogRow) (rest more : List ℕ) (cause other : Cause) → k ≡ length before + 1 → AllFollow before rows → AllFollow before others
-    → next_row (before ++ rows) rest ≡ Err cause → next_row (before ++ others) more ≡ Err other → rows_bytes k rows ++ rest ≡ rows_bytes k others ++ more → (rows ≡ others) × (rest ≡ more)
-stop_once k before [] [] rest more cause other is f g b d e = (refl, e)
-stop_once k before [] (o ∷ others) rest more cause other is f g b d e =
-    let split : rest ≡ row_bytes k o ++ (rows_bytes (k + 1) others ++ more) = e ∙ append_assoc (row_bytes k o) (rows_bytes (k + 1) others) more in
-    absurd (ok_not_err (next_row before rest) (o, rows_bytes (k + 1) others ++ more) cause
-    (subst (λ l. next_row before l ≡ Ok (o, rows_bytes (k + 1) others ++ more)) (sym split) (found_next k before o (rows_bytes (k + 1) others ++ more) is g.0))
-    (subst (λ (l : List LogRow). next_row l rest ≡ Err cause) (append-nil before) b))
-stop_once k before (r ∷ rows) [] rest more cause other is f g b d e =
-    let split : more ≡ row_bytes k r ++ (rows_bytes (k + 1) rows ++ rest) = sym e ∙ append_assoc (row_bytes k r) (rows_bytes (k + 1) rows) rest in
-    absurd (ok_not_err (next_row before more) (r, rows_bytes (k + 1) rows ++ rest) other
-    (subst (λ l. next_row before l ≡ Ok (r, rows_bytes (k + 1) rows ++ rest)) (sym split) (found_next k before r (rows_bytes (k + 1) rows ++ rest) is f.0))
-    (subst (λ (l : List LogRow). next_row l more ≡ Err other) (append-nil before) d))
-stop_once k before (r ∷ rows) (o ∷ others) rest more cause other is f g b d e =
-    let ends : row_bytes k r ++ (rows_bytes (k + 1) rows ++ rest) ≡ row_bytes k o ++ (rows_bytes (k + 1) others ++ more) = sym (append_assoc (row_bytes k r) (rows_bytes (k + 1) rows) rest) ∙ e ∙ append_assoc (row_bytes k o) (rows_bytes (k + 1) others) more in
-    let mine : row_part k (row_bytes k r ++ (rows_bytes (k + 1) rows ++ rest)) ≡ Ok (r, rows_bytes (k + 1) rows ++ rest) = row_read k before r (rows_bytes (k + 1) rows ++ rest) is f.0 in
-    let theirs : row_part k (row_bytes k r ++ (rows_bytes (k + 1) rows ++ rest)) ≡ Ok (o, rows_bytes (k + 1) others ++ more) =
-    subst (λ l. row_part k l ≡ Ok (o, rows_bytes (k + 1) others ++ more)) (sym ends) (row_read k before o (rows_bytes (k + 1) others ++ more) is g.0) in
-    let same = same_found r o (rows_bytes (k + 1) rows ++ rest) (rows_bytes (k + 1) others ++ more) _ mine theirs in
-    let first : r ≡ o = same.0 in
-    let tail = stop_once (k + 1) (before ++ r ∷ []) rows others rest more cause other (omega (arith, length-append before (r ∷ []))) f.1
-    (subst (λ (l : LogRow). AllFollow (before ++ l ∷ []) others) (sym first) g.1)
-    (subst (λ (l : List LogRow). next_row l rest ≡ Err cause) (sym (append_assoc before (r ∷ []) rows)) b)
-    (subst (λ (l : List LogRow). next_row l more ≡ Err other) (ap (λ (l : LogRow). before ++ (l ∷ others)) (sym first) ∙ sym (append_assoc before (r ∷ []) others)) d) same.1 in
-    let rows_same : rows ≡ others = tail.0 in
-    (cc, tail.1)
-
-breaks_once : (bytes : List ℕ) (at to : ℕ) (cause other : Cause) → BreaksAt bytes at cause → BreaksAt bytes to other → (at ≡ to) × (cause ≡ other)
+breaks_once : (bytes : List ℕ) (at to : ℕ) (cause other : Cause) → BreaksAt bytes at cause
+    → BreaksAt bytes to other → (at ≡ to) × (cause ≡ other)
 breaks_once bytes at to cause other b d =
-    let joined : magic ++ (rows_bytes 1 b.rows ++ b.rest) ≡ magic ++ (rows_bytes 1 d.rows ++ d.rest) =
-    sym (append_assoc magic (rows_bytes 1 b.rows) b.rest) ∙ sym b.split ∙ d.split ∙ append_assoc magic (rows_bytes 1 d.rows) d.rest in
-    let same = stop_once 1 [] b.rows d.rows b.rest d.rest cause other refl b.good d.good b.breaks d.breaks (behind_magic (rows_bytes 1 b.rows ++ b.rest) (rows_bytes 1 d.rows ++ d.rest) joined) in (
-      b.place ∙ ap (λ (r : List LogRow). length (file_bytes r)) same.0 ∙ sym d.place,
-      err_once (next_row b.rows b.rest) cause other b.breaks (subst (λ l. next_row b.rows l ≡ Err other) (sym same.1) (subst (λ (r : List LogRow). next_row r d.rest ≡ Err other) (sym same.0) d.breaks)),
+    let once = magic_once b.format d.format (rows_bytes 1 b.rows ++ b.rest)
+    (rows_bytes 1 d.rows ++ d.rest)
+    (sym (append_assoc (magic b.format) (rows_bytes 1 b.rows) b.rest)
+    ∙ sym b.split ∙ d.split ∙ append_assoc (magic d.format) (rows_bytes 1 d.rows) d.rest) in
+    let format : d.format ≡ b.format = sym once.0 in
+    let breaks : next_row b.format d.rows d.rest ≡ Err other =
+    subst (λ (z : Format). next_row z d.rows d.rest ≡ Err other) format d.breaks in
+    let same = stop_once b.format 1 [] b.rows d.rows b.rest d.rest cause other refl b.good
+    (subst (λ (z : Format). AllFollow z [] d.rows) format d.good) b.breaks breaks once.1 in (
+      b.place ∙ ap (λ (r : List LogRow). length (file_bytes b.format r)) same.0
+          ∙ ap (λ (z : Format). length (file_bytes z d.rows)) once.0 ∙ sym d.place,
+      err_once (next_row b.format b.rows b.rest) cause other b.breaks
+          (subst (λ l. next_row b.format b.rows l ≡ Err other) (sym same.1)
+          (subst (λ (r : List LogRow). next_row b.format r d.rest ≡ Err other)
+          (sym same.0) breaks)),
     )
 
-long_before : (bytes : List ℕ) (at : ℕ) (cause : Cause) → BreaksAt bytes at cause → length magic ≤ length bytes
-long_before bytes at cause b = omega (arith, ap length b.split, length-append (file_bytes b.rows) b.rest, length-append magic (rows_bytes 1 b.rows))
+long_before : (bytes : List ℕ) (at : ℕ) (cause : Cause) → BreaksAt bytes at cause
+    → 8 ≤ length bytes
+long_before bytes at cause b = omega (
+  arith,
+  ap length b.split,
+  length-append (file_bytes b.format b.rows) b.rest,
+  length-append (magic b.format) (rows_bytes 1 b.rows),
+)
 
--- bytes that break at a row begin with the magic
-begins : (bytes : List ℕ) (at : ℕ) (cause : Cause) → BreaksAt bytes at cause → take (length magic) bytes ≡ take (length bytes) magic
-begins bytes at cause b =
-    ap (take (length magic)) (b.split ∙ append_assoc magic (rows_bytes 1 b.rows) b.rest) ∙ take-append_seam magic (rows_bytes 1 b.rows ++ b.rest)
-    ∙ sym (take_all (length bytes) magic (long_before bytes at cause b))
+-- bytes that break at a row, or end inside a magic, begin a magic
 
-torn_begins : (bytes : List ℕ) → IsTornMagic bytes → take (length magic) bytes ≡ take (length bytes) magic
-torn_begins bytes t = take_all (length magic) bytes (omega (arith, t.1)) ∙ t.2
+begins : (bytes : List ℕ) (at : ℕ) (cause : Cause) (b : BreaksAt bytes at cause)
+    → IsOther b.format bytes → ⊥
+begins bytes at cause b o =
+    let named : List ℕ = magic b.format in
+    let rows : List ℕ = rows_bytes 1 b.rows in
+    o (ap (take (length named)) (b.split ∙ append_assoc named rows b.rest)
+    ∙ take-append_seam named (rows ++ b.rest)
+    ∙ sym (take_all (length bytes) named (long_before bytes at cause b)))
+
+torn_begins : (bytes : List ℕ) → IsTornMagic bytes → IsOther One bytes → ⊥
+torn_begins bytes t o =
+    o (take_all (length (magic One)) bytes (omega (arith, t.1)) ∙ t.2
+    ∙ begins_name One (length bytes) t.1)
 
 -- a breach: another magic, a torn one, or a row
-abbrev Shown : List ℕ → StoreNo → Type 0
-Shown bytes why =
-    ((why ≡ no.Magic) × (take (length magic) bytes ≡ take (length bytes) magic → ⊥))
+abbrev BreachKind : List ℕ → StoreNo → Type 0
+BreachKind bytes why =
+    ((why ≡ no.Magic) × ((format : Format) → IsOther format bytes))
     ⊎ (((why ≡ no.Torn 0) × IsTornMagic bytes)
-    ⊎ ((at : ℕ) × (cause : Cause) × (why ≡ placed (Breach cause) at) × BreaksAt bytes at cause))
+    ⊎ ((at : ℕ) × (cause : Cause) × (why ≡ no_at (Breach cause) at) × BreaksAt bytes at cause))
 
-shown : (bytes : List ℕ) (why : StoreNo) → IsBreach bytes why → Shown bytes why
-shown bytes no.Magic b = inl (refl, b)
-shown bytes (no.Torn at) (inl t) = inr (inl (ap (λ (n : ℕ). no.Torn n) t.0, t.1))
-shown bytes (no.Torn at) (inr t) = inr (inr (at, Torn, refl, t))
-shown bytes (no.BadRow at) b = inr (inr (at, BadRow, refl, b))
-shown bytes (no.Order at) b = inr (inr (at, Order, refl, b))
-shown bytes no.TooLong b = absurd b
-shown bytes no.Failed b = absurd b
-shown bytes no.NoMemory b = absurd b
+kind_of_breach : (bytes : List ℕ) (why : StoreNo) → IsBreach bytes why → BreachKind bytes why
+kind_of_breach bytes no.Magic b = inl (refl, b)
+kind_of_breach bytes (no.Torn at) (inl t) = inr (inl (ap (λ (n : ℕ). no.Torn n) t.0, t.1))
+kind_of_breach bytes (no.Torn at) (inr t) = inr (inr (at, Torn, refl, t))
+kind_of_breach bytes (no.BadRow at) b = inr (inr (at, BadRow, refl, b))
+kind_of_breach bytes (no.Order at) b = inr (inr (at, Order, refl, b))
+kind_of_breach bytes no.TooLong b = absurd b
+kind_of_breach bytes no.Failed b = absurd b
+kind_of_breach bytes no.NoMemory b = absurd b
 
-shown_once : (bytes : List ℕ) (why other : StoreNo) → Shown bytes why → Shown bytes other → why ≡ other
-shown_once bytes why other (inl m) (inl n) = m.0 ∙ sym n.0
-shown_once bytes why other (inl m) (inr (inl t)) = absurd (m.1 (torn_begins bytes t.1))
-shown_once bytes why other (inl m) (inr (inr r)) = absurd (m.1 (begins bytes r.0 r.1 r.3))
-shown_once bytes why other (inr (inl t)) (inl n) = absurd (n.1 (torn_begins bytes t.1))
-shown_once bytes why other (inr (inl t)) (inr (inl u)) = t.0 ∙ sym u.0
-shown_once bytes why other (inr (inl t)) (inr (inr r)) = absurd (omega (arith, t.1.1, long_before bytes r.0 r.1 r.3))
-shown_once bytes why other (inr (inr r)) (inl n) = absurd (n.1 (begins bytes r.0 r.1 r.3))
-shown_once bytes why other (inr (inr r)) (inr (inl u)) = absurd (omega (arith, u.1.1, long_before bytes r.0 r.1 r.3))
-shown_once bytes why other (inr (inr r)) (inr (inr s)) =
+kind_once : (bytes : List ℕ) (why other : StoreNo) → BreachKind bytes why
+    → BreachKind bytes other → why ≡ other
+kind_once bytes why other (inl m) (inl n) = m.0 ∙ sym n.0
+kind_once bytes why other (inl m) (inr (inl t)) = absurd (torn_begins bytes t.1 (m.1 One))
+kind_once bytes why other (inl m) (inr (inr r)) = absurd (begins bytes r.0 r.1 r.3 (m.1 r.3.format))
+kind_once bytes why other (inr (inl t)) (inl n) = absurd (torn_begins bytes t.1 (n.1 One))
+kind_once bytes why other (inr (inl t)) (inr (inl u)) = t.0 ∙ sym u.0
+kind_once bytes why other (inr (inl t)) (inr (inr r)) =
+    absurd (omega (arith, t.1.1, long_before bytes r.0 r.1 r.3))
+kind_once bytes why other (inr (inr r)) (inl n) = absurd (begins bytes r.0 r.1 r.3 (n.1 r.3.format))
+kind_once bytes why other (inr (inr r)) (inr (inl u)) =
+    absurd (omega (arith, u.1.1, long_before bytes r.0 r.1 r.3))
+kind_once bytes why other (inr (inr r)) (inr (inr s)) =
     let same = breaks_once bytes r.0 s.0 r.1 s.1 r.3 s.3 in
-    r.2 ∙ ap (λ (n : ℕ). placed (Breach r.1) n) same.0 ∙ ap (λ (c : Cause). placed (Breach c) s.0) same.1 ∙ sym s.2
+    r.2 ∙ ap (λ (n : ℕ). no_at (Breach r.1) n) same.0
+    ∙ ap (λ (c : Cause). no_at (Breach c) s.0) same.1 ∙ sym s.2
 
-pub breach_once : (bytes : List ℕ) (why other : StoreNo) → IsBreach bytes why → IsBreach bytes other → why ≡ other
-breach_once bytes why other b d = shown_once bytes why other (shown bytes why b) (shown bytes other d)
+pub breach_once : (bytes : List ℕ) (why other : StoreNo) → IsBreach bytes why
+    → IsBreach bytes other → why ≡ other
+breach_once bytes why other b d =
+    kind_once bytes why other (kind_of_breach bytes why b) (kind_of_breach bytes other d)

@@ -1,12 +1,16 @@
 -- What is wrong with bytes that are no file of a store, and where: the first breach.
-use Rattle.std.specs.Prelude.{◌≡◌, ◌≢◌, ℕ, ◌+◌, ◌<◌, ◌⊎◌, ◌==◌, nat_le, nat_lt, Bool, true, if◌then◌else◌, List, [], ◌++◌, length, take, drop, get_or, is_some, Result, Ok, Err}
+use Rattle.std.specs.Prelude.{◌≡◌, ◌≢◌, ℕ, ◌+◌, ◌<◌, ◌≤◌, ◌⊎◌, ◌==◌, nat_le, nat_lt, Bool, true, if◌then◌else◌, List, [], ◌++◌, length, take, drop, get_or, Option, None, Some, is_some, Result, Ok, Err}
 use Rattle.std.specs.Int.{w16, w32, w64, from_be_bytes}
+use Rattle.kr_base.specs.Limits.{path_limit, name_limit}
 use Rattle.kr_base.specs.Rules.{is_path, is_resource}
+use Rattle.kr_store.specs.declared.format.Check.{Check}
+use Rattle.kr_store.specs.declared.format.Format.{Format}
+use Rattle.kr_store.specs.declared.format.Format.TheVariants.{One, Two}
 use Rattle.kr_store.specs.declared.rows.Change.{Change}
 use Rattle.kr_store.specs.declared.rows.Change.TheVariants.{Put, Delete}
 use Rattle.kr_store.specs.declared.rows.LogRow.{LogRow}
 use Rattle.kr_store.specs.Rows.{live, AreRows, longest_value}
-use Rattle.kr_store.specs.File.{magic, file_bytes}
+use Rattle.kr_store.specs.File.{store_name, magic, file_bytes}
 use Rattle.kr_store.specs.declared.answers.StoreNo.{StoreNo}
 use Rattle.kr_store.specs.declared.answers.StoreNo.TheVariants as no
 use Rattle.kr_store.specs.declared.kept_row.Kind.{Kind}
@@ -43,70 +47,100 @@ number_64 bytes = behind (part 8 bytes) (λ number rest. Ok (from_be_bytes w64 n
 
 -- bytes behind their length, which is judged before them
 abbrev pub sized_part : ℕ → List ℕ → Read (List ℕ)
-sized_part most bytes = behind (number_16 bytes) (λ n rest. if nat_le n most then part n rest else Err BadRow)
+sized_part most bytes =
+    behind (number_16 bytes) (λ n rest. if nat_le n most then part n rest else Err BadRow)
 
 abbrev pub path_part : List ℕ → Read (List ℕ)
-path_part bytes = behind (sized_part 1024 bytes) (λ path rest. kept_if (is_path path) BadRow path rest)
+path_part bytes =
+    behind (sized_part path_limit bytes) (λ path rest. kept_if (is_path path) BadRow path rest)
 
 abbrev pub resource_part : List ℕ → Read (List ℕ)
-resource_part bytes = behind (sized_part 253 bytes) (λ resource rest. kept_if (is_resource resource) BadRow resource rest)
+resource_part bytes =
+    behind (sized_part name_limit bytes)
+    (λ resource rest. kept_if (is_resource resource) BadRow resource rest)
+
+-- the check of a put, which format 2 alone has
+abbrev pub check_part : Format → List ℕ → Read (Option Check)
+check_part One bytes = Ok (None, bytes)
+check_part Two bytes =
+    behind (number_64 bytes) (λ value rest. Ok (Some (record { value = value }), rest))
 
 abbrev pub value_part : List ℕ → Read (List ℕ)
-value_part bytes = behind (number_32 bytes) (λ n rest. if nat_le n longest_value then part n rest else Err BadRow)
+value_part bytes =
+    behind (number_32 bytes) (λ n rest. if nat_le n longest_value then part n rest else Err BadRow)
 
 -- the kind of a row: 1 is a put, 2 a delete
 abbrev pub kind_by : ℕ → List ℕ → Read Kind
-kind_by byte rest = if byte == 1 then Ok (kind.Put, rest) else (if byte == 2 then Ok (kind.Delete, rest) else Err BadRow)
+kind_by byte rest =
+    if byte == 1 then Ok (kind.Put, rest)
+    else (if byte == 2 then Ok (kind.Delete, rest) else Err BadRow)
 
 abbrev pub kind_part : List ℕ → Read Kind
 kind_part bytes = behind (part 1 bytes) (λ byte rest. kind_by (get_or byte 0 0) rest)
 
 -- the revision, which has to be k
 abbrev pub revision_part : ℕ → List ℕ → Read ℕ
-revision_part k bytes = behind (number_64 bytes) (λ number rest. kept_if (number == k) Order number rest)
+revision_part k bytes =
+    behind (number_64 bytes) (λ number rest. kept_if (number == k) Order number rest)
 
-abbrev pub put_part : List ℕ → Read Change
-put_part bytes = behind (resource_part bytes) (λ resource rest. behind (value_part rest) (λ stored rest. Ok (Put resource stored, rest)))
+-- what a put does: its resource, its check and its value
+abbrev pub put_part : Format → List ℕ → Read Change
+put_part format bytes =
+    behind (resource_part bytes) (λ resource rest. behind (check_part format rest)
+    (λ check rest. behind (value_part rest) (λ stored rest. Ok (Put resource stored check, rest))))
 
 -- what a row does, by its kind
-abbrev pub change_part : Kind → List ℕ → Read Change
-change_part kind.Put bytes = put_part bytes
-change_part kind.Delete bytes = Ok (Delete, bytes)
+abbrev pub change_part : Format → Kind → List ℕ → Read Change
+change_part format kind.Put bytes = put_part format bytes
+change_part format kind.Delete bytes = Ok (Delete, bytes)
 
 -- the kind and the path of the row with revision k
 abbrev pub head_part : ℕ → List ℕ → Read (Kind × List ℕ)
-head_part k bytes = behind (kind_part bytes) (λ kind rest. behind (revision_part k rest) (λ _ rest. behind (path_part rest) (λ path rest. Ok ((kind, path), rest))))
+head_part k bytes =
+    behind (kind_part bytes) (λ kind rest. behind (revision_part k rest)
+    (λ _ rest. behind (path_part rest) (λ path rest. Ok ((kind, path), rest))))
 
 -- the row with revision k, its parts from left to right
-abbrev pub row_part : ℕ → List ℕ → Read LogRow
-row_part k bytes = behind (head_part k bytes) (λ head rest. behind (change_part head.0 rest) (λ change rest. Ok (record { path = head.1; change = change }, rest)))
+abbrev pub row_part : Format → ℕ → List ℕ → Read LogRow
+row_part format k bytes =
+    behind (head_part k bytes) (λ head rest. behind (change_part format head.0 rest)
+    (λ change rest. Ok (record { path = head.1; change = change }, rest)))
 
 -- a delete needs a live row
 abbrev pub may_change : List LogRow → List ℕ → Change → Bool
-may_change before path (Put resource stored) = true
+may_change before path (Put resource stored check) = true
 may_change before path Delete = is_some (live before path)
 
 -- the row behind those before it
-abbrev pub next_row : List LogRow → List ℕ → Read LogRow
-next_row before bytes = behind (row_part (length before + 1) bytes) (λ row rest. kept_if (may_change before row.path row.change) BadRow row rest)
+abbrev pub next_row : Format → List LogRow → List ℕ → Read LogRow
+next_row format before bytes =
+    behind (row_part format (length before + 1) bytes)
+    (λ row rest. kept_if (may_change before row.path row.change) BadRow row rest)
 
 -- the bytes are a file of some rows, and then what breaks at this place
 pub record BreaksAt (bytes : List ℕ) (at : ℕ) (cause : Cause) : Type 0 where
+  pub format : Format
   pub rows : List LogRow
   pub rest : List ℕ
-  pub good : AreRows rows
-  pub split : bytes ≡ file_bytes rows ++ rest
+  pub good : AreRows format rows
+  pub split : bytes ≡ file_bytes format rows ++ rest
   pub more : rest ≢ []
-  pub breaks : next_row rows rest ≡ Err cause
-  pub place : at ≡ length (file_bytes rows)
+  pub breaks : next_row format rows rest ≡ Err cause
+  pub place : at ≡ length (file_bytes format rows)
 
--- the bytes are not empty and end inside the magic
+-- 1 to 7 bytes that begin the magic of both formats
 abbrev pub IsTornMagic : List ℕ → Type 0
-IsTornMagic bytes = (0 < length bytes) × (length bytes < length magic) × (bytes ≡ take (length bytes) magic)
+IsTornMagic bytes =
+    (0 < length bytes) × (length bytes ≤ length store_name)
+    × (bytes ≡ take (length bytes) store_name)
+
+-- the first bytes, at most 8, don't begin this format's magic and don't begin with it
+abbrev pub IsOther : Format → List ℕ → Type 0
+IsOther format bytes = take (length (magic format)) bytes ≢ take (length bytes) (magic format)
 
 -- the first breach, by its kind
 abbrev pub IsBreach : List ℕ → StoreNo → Type 0
-IsBreach bytes no.Magic = take (length magic) bytes ≢ take (length bytes) magic
+IsBreach bytes no.Magic = (format : Format) → IsOther format bytes
 IsBreach bytes (no.Torn at) = ((at ≡ 0) × IsTornMagic bytes) ⊎ BreaksAt bytes at Torn
 IsBreach bytes (no.BadRow at) = BreaksAt bytes at BadRow
 IsBreach bytes (no.Order at) = BreaksAt bytes at Order

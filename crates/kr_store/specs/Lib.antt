@@ -1,3 +1,4 @@
+-- The definitions that contracts cite: those of inner contracts stand in inner.
 pub mod Rows
 pub mod File
 pub mod Breaches

@@ -3,4 +3,5 @@ pub mod KeptRows
 pub mod Reading
 pub mod Index
 pub mod Log
+pub mod Store
 pub mod Writing

@@ -1,12 +1,14 @@
 //! Why a tape is refused, and why a row is not written.
+
 /// Why a tape wasn't loaded; the place is that of the first byte of the row that breaks the form.
 #[derive(Clone, Copy, Debug, PartialEq, Eq)]
 pub enum StoreNo {
-    /// The first bytes, at most 8, aren't those that name the format.
+    /// The first bytes, at most 8, neither name a format nor begin such a name.
     Magic,
     /// The file ends inside the part that is read next.
     Torn { at: u64 },
-    /// A row's kind, path, resource or length breaks its rule, or it deletes a path without a live row.
+    /// A row's kind, path, resource or length breaks its rule, or it deletes a path without a live
+    /// row.
     BadRow { at: u64 },
     /// A row's revision isn't the number of the rows before it plus 1.
     Order { at: u64 },

@@ -1,7 +1,7 @@
-//! What follows from the definitions of a file and of its breaches.
-ghost use Rattle.kr_store.specs.Laws.{OneFile, OneBreach, NoFileBroken, FileOrBreach};
+//! What follows from the definitions of rows, of a file and of its breaches.
+ghost use Rattle.kr_store.specs.Laws.{OneFile, OneBreach, NoFileBroken, FileOrBreach, RowStays, LiveIsAt};
 
-/// Bytes are the file of at most one list of rows.
+/// Bytes are the file of at most one list of rows, in one format.
 pub fn one_file()
     ensures { OneFile }
 {}
@@ -15,4 +15,11 @@ pub fn one_breach()
 /// Bytes are the file of some rows, or have a first breach.
 pub fn some_answer()
     ensures { FileOrBreach }
+{}
+
+/// A row keeps its revision when more rows are written, and a path's live row is the row with its
+/// revision.
+pub fn one_row()
+    ensures stays { RowStays }
+    ensures live { LiveIsAt }
 {}

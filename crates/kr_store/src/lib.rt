@@ -3,6 +3,7 @@
 
 mod answers;
 mod encode;
+mod format;
 mod index;
 mod kept_row;
 mod laws;
@@ -15,6 +16,7 @@ mod store;
 mod write;
 
 pub use answers::{PutNo, StoreNo};
-pub use laws::{one_breach, one_file, some_answer};
-pub use rows::{Change, LogRow, Row};
+pub use format::{Check, Format};
+pub use laws::{one_breach, one_file, one_row, some_answer};
+pub use rows::{Change, LogRow, Row, RowRef};
 pub use store::Store;

@@ -1,5 +1,5 @@
 //! The file on its tape, as rows are appended to it.
-ghost use Rattle.std.specs.Prelude.{◌≡◌, ◌+◌, ◌^◌, ◌<◌, ◌≤◌, false, length, IfSome};
+ghost use Rattle.std.specs.Prelude.{◌≡◌, ◌+◌, ◌^◌, ◌<◌, false, length, IfSome};
 ghost use Rattle.kr_base.specs.Faults.{IsCounted};
 ghost use Rattle.kr_store.specs.inner.Log.{Extends, Readies};
 
@@ -15,21 +15,30 @@ pub(crate) struct Log<T: Tape> {
 }
 
 impl<T: Tape> Model for Log<T> {
-    ghost use Rattle.std.specs.Prelude.{◌≡◌, ◌≤◌, false, length, IfSome};
-    ghost use Rattle.kr_store.specs.inner.Log.{Tail};
+    ghost use Rattle.kr_store.specs.inner.Log.{Tail, HoldsEnd};
 
     ghost Value = { Tail };
 
-    ghost view = { λ log. record { told = T.told log.tape; count = T.count log.tape; end = log.end; torn = log.torn } };
+    ghost view = { λ log. record {
+      told = T.told log.tape;
+      count = T.count log.tape;
+      end = log.end;
+      torn = log.torn;
+    } };
 
-    ghost invariant = { λ log. IfSome (T.told log.tape) (λ bytes. (log.end ≤ length bytes) × (log.torn ≡ false → log.end ≡ length bytes)) };
+    ghost invariant = { λ log. HoldsEnd (T.told log.tape) log.end log.torn };
 }
 
 impl<T: Tape> Log<T> {
     /// A tape that ends with its file.
     pub fn new(tape: T, end: u64) -> Log<T>
         requires { IfSome (T.told tape) (λ bytes. end ≡ length bytes) }
-        ensures { result ≡ record { told = T.told tape; count = T.count tape; end = end; torn = false } }
+        ensures { result ≡ record {
+          told = T.told tape;
+          count = T.count tape;
+          end = end;
+          torn = false;
+        } }
     {
         Log {
             tape,
@@ -38,7 +47,7 @@ impl<T: Tape> Log<T> {
         }
     }
 
-    // Lets the tape end with the file.
+    /// Lets the tape end with the file.
     fn ready(&mut self) -> Result<(), Failed>
         ensures readies { Readies self.old self.new result }
         ensures cause { IsCounted self.old.count self.new.count result }
@@ -55,16 +64,13 @@ impl<T: Tape> Log<T> {
         }
     }
 
-    /// Appends to the file. Where a write has failed before, the tape is first cut to the end of the file.
+    /// Appends to the file. Where a write has failed before, the tape is first cut to the file.
     pub fn append(&mut self, bytes: &[u8]) -> Result<(), Failed>
         requires { self.old.end + length bytes.now < 2 ^ 64 }
         ensures extends { Extends self.old self.new bytes.now result }
         ensures cause { IsCounted self.old.count self.new.count result }
     {
-        match self.ready() {
-            Ok(()) => {}
-            Err(Failed) => return Err(Failed),
-        }
+        self.ready()?;
         match self.tape.put_at(self.end, bytes) {
             Ok(()) => {
                 self.end += bytes.len() as u64;

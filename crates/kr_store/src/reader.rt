@@ -1,16 +1,15 @@
 //! Reading a file from front to back.
-ghost use Rattle.std.specs.Prelude.{◌≡◌, ◌≢◌, ℕ, ◌+◌, ◌^◌, ◌<◌, ◌≤◌, min, get_or, [], ◌∷◌, length, IfSome, IfOk, IfErr, IsErrOf, MatchOption, IsTrue, ◌↔◌, take};
+ghost use Rattle.std.specs.Prelude.{◌≡◌, ◌≢◌, ℕ, ◌+◌, ◌^◌, ◌<◌, ◌≤◌, min, get_or, [], ◌∷◌, length, IfSome, IfOk, IfErr, MatchOption, IsTrue, ◌↔◌, take};
 ghost use Rattle.std.specs.Int.{w16, w32, w64, to_be_bytes};
-ghost use Rattle.kr_base.specs.Faults.{Rose};
 ghost use Rattle.kr_base.specs.Rules.{IsPath, IsResource};
-ghost use Rattle.kr_store.specs.Rows.{longest_value};
+ghost use Rattle.kr_store.specs.Rows.{longest_value, HasCheck};
 ghost use Rattle.kr_store.specs.inner.KeptRows.{IsKeptRow};
-ghost use Rattle.kr_store.specs.File.{magic, text_bytes, value_bytes, byte_of};
-ghost use Rattle.kr_store.specs.Breaches.{part, number_16, number_32, number_64, sized_part, path_part, resource_part, value_part, kind_part, revision_part, head_part, put_part, row_part};
-ghost use Rattle.kr_store.specs.inner.Reading.{Moves, Begins, Fills, IsShort, IsNamed, Names, Gives, items_of, sized_bytes, head_bytes, put_bytes, kept_bytes};
+ghost use Rattle.kr_store.specs.File.{text_bytes, value_bytes, check_bytes, byte_of};
+ghost use Rattle.kr_store.specs.Breaches.{part, number_16, number_32, number_64, sized_part, path_part, resource_part, check_part, value_part, kind_part, revision_part, head_part, put_part, row_part};
+ghost use Rattle.kr_store.specs.inner.Reading.{Moves, Advances, Begins, Fills, IsShort, IsNamed, Names, Gives, items_of, sized_bytes, head_bytes, put_bytes, kept_bytes};
 
 use crate::answers::{Cause, Stop, StoreNo};
-use crate::encode::MAGIC;
+use crate::format::{Check, Format, MAGIC_LENGTH, STORE_NAME};
 use crate::kept_row::{KeptRow, Kind};
 use crate::limits::{LONGEST_PATH, LONGEST_RESOURCE, LONGEST_VALUE};
 use crate::rows::Row;
@@ -18,22 +17,29 @@ use kr_base::{Bytes, Failed, NoMemory, Shared, Tape, Text, path_ok, resource_ok}
 use std::alloc::Global;
 use std::marker::Model;
 
-// What the type says of each byte.
+/// What the type says of each byte.
 fn known(bytes: &[u8])
     ensures { (i : ℕ) → get_or bytes.now i 0 < 2 ^ 8 }
 {}
 
-fn named(front: &[u8]) -> Result<(), StoreNo>
-    requires { length front.now ≤ length magic }
+/// The format that the front of a file names; these are its first bytes, at most 8.
+fn format_of(front: &[u8]) -> Result<Format, StoreNo>
+    requires { length front.now ≤ 8 }
     ensures { IsNamed front.now result }
 {
-    if front != &MAGIC[..front.len()] {
+    if front == Format::One.magic() {
+        return Ok(Format::One);
+    }
+    if front == Format::Two.magic() {
+        return Ok(Format::Two);
+    }
+    if front.len() > STORE_NAME.len() {
         return Err(StoreNo::Magic);
     }
-    if front.len() < MAGIC.len() {
-        return Err(StoreNo::Torn { at: 0 });
+    if front != &STORE_NAME[..front.len()] {
+        return Err(StoreNo::Magic);
     }
-    Ok(())
+    Err(StoreNo::Torn { at: 0 })
 }
 
 fn kind_of(byte: u8) -> Option<Kind>
@@ -58,7 +64,7 @@ fn room(alloc: Global) -> Result<Vec<u8>, NoMemory>
     }
 }
 
-// As many bytes as there are and fit.
+/// As many bytes as there are and fit.
 fn hand_out(bytes: &[u8], into: &mut [u8]) -> usize
     ensures count { result ≡ min (length bytes.now) (length into.old) }
     ensures same { take result into.new ≡ take result bytes.now }
@@ -87,18 +93,33 @@ impl<T: Tape> Model for Reader<T> {
 
     ghost Value = { Ahead };
 
-    ghost view = { λ reader. record { told = T.told reader.tape; left = option_map (λ bytes. drop reader.place bytes) (T.told reader.tape); place = reader.place; end = reader.end; count = T.count reader.tape } };
+    ghost view = { λ reader. record {
+      told = T.told reader.tape;
+      left = option_map (λ bytes. drop reader.place bytes) (T.told reader.tape);
+      place = reader.place;
+      end = reader.end;
+      count = T.count reader.tape;
+    } };
 
-    ghost invariant = { λ reader. (reader.place ≤ reader.end) × IfSome (T.told reader.tape) (λ bytes. reader.end ≡ length bytes)
-        × (reader.start ≤ reader.place) × (reader.place ≤ reader.start + reader.filled) × (0 < length reader.ahead.items) × (reader.filled ≤ length reader.ahead.items)
-        × IfSome (T.told reader.tape) (λ bytes. take reader.filled reader.ahead.items ≡ take reader.filled (drop reader.start bytes)) };
+    ghost invariant = { λ reader. (reader.place ≤ reader.end)
+        × IfSome (T.told reader.tape) (λ bytes. reader.end ≡ length bytes)
+        × (reader.start ≤ reader.place) × (reader.place ≤ reader.start + reader.filled)
+        × (0 < length reader.ahead.items) × (reader.filled ≤ length reader.ahead.items)
+        × IfSome (T.told reader.tape) (λ bytes. take reader.filled reader.ahead.items
+        ≡ take reader.filled (drop reader.start bytes)) };
 }
 
 impl<T: Tape> Reader<T> {
     /// A reader of a tape with so many bytes.
     pub fn new(alloc: Global, tape: T, end: u64) -> Result<Reader<T>, (NoMemory, T)>
         requires { IfSome (T.told tape) (λ bytes. end ≡ length bytes) }
-        ensures ok { IfOk result (λ reader. reader ≡ record { told = T.told tape; left = T.told tape; place = 0; end = end; count = T.count tape }) }
+        ensures ok { IfOk result (λ reader. reader ≡ record {
+          told = T.told tape;
+          left = T.told tape;
+          place = 0;
+          end = end;
+          count = T.count tape;
+        }) }
         ensures err { IfErr result (λ refused. refused.1 ≡ tape) }
     {
         match room(alloc) {
@@ -145,12 +166,11 @@ impl<T: Tape> Reader<T> {
         self.place == self.end
     }
 
-    // The next bytes, at least one.
+    /// The next bytes, at least one.
     fn some(&mut self, into: &mut [u8]) -> Result<usize, Stop>
         requires some { 0 < length into.old }
         requires within { self.old.place + length into.old ≤ self.old.end }
-        ensures moves { Moves self.old self.new }
-        ensures failed { IsErrOf result Stop.Failed → Rose self.old.count self.new.count }
+        ensures advances { Advances Stop.Failed self.old self.new result }
         ensures read { Begins self.old self.new into.new result }
     {
         let used = (self.place - self.start) as usize;
@@ -186,10 +206,9 @@ impl<T: Tape> Reader<T> {
         Ok(n)
     }
 
-    // The next bytes, as many as the buffer holds.
+    /// The next bytes, as many as the buffer holds.
     fn fill(&mut self, into: &mut [u8]) -> Result<(), Stop>
-        ensures moves { Moves self.old self.new }
-        ensures failed { IsErrOf result Stop.Failed → Rose self.old.count self.new.count }
+        ensures advances { Advances Stop.Failed self.old self.new result }
         ensures read { Fills self.old self.new into.new result }
         ensures short { IsShort self.old (length into.old) result }
     {
@@ -206,26 +225,24 @@ impl<T: Tape> Reader<T> {
         Ok(())
     }
 
-    /// The 8 bytes that name the format, of a tape that isn't empty.
-    pub fn magic(&mut self) -> Result<(), StoreNo>
+    /// The format, by the 8 bytes that name it, of a tape that isn't empty.
+    pub fn magic(&mut self) -> Result<Format, StoreNo>
         requires start { self.old.place ≡ 0 }
         requires some { 0 < self.old.end }
-        ensures moves { Moves self.old self.new }
-        ensures failed { IsErrOf result StoreNo.Failed → Rose self.old.count self.new.count }
+        ensures advances { Advances StoreNo.Failed self.old self.new result }
         ensures names { Names self.old self.new result }
     {
-        let mut front = [0; MAGIC.len()];
-        let n = self.end.min(MAGIC.len() as u64) as usize;
+        let mut front = [0; MAGIC_LENGTH];
+        let n = self.end.min(MAGIC_LENGTH as u64) as usize;
         self.front(&mut front[..n])
     }
 
-    // As many bytes as the file has of those that name the format.
-    fn front(&mut self, front: &mut [u8]) -> Result<(), StoreNo>
+    /// As many bytes as the file has of those that name the format.
+    fn front(&mut self, front: &mut [u8]) -> Result<Format, StoreNo>
         requires start { self.old.place ≡ 0 }
         requires some { 0 < length front.old }
-        requires size { length front.old ≡ min self.old.end (length magic) }
-        ensures moves { Moves self.old self.new }
-        ensures failed { IsErrOf result StoreNo.Failed → Rose self.old.count self.new.count }
+        requires size { length front.old ≡ min self.old.end 8 }
+        ensures advances { Advances StoreNo.Failed self.old self.new result }
         ensures names { Names self.old self.new result }
     {
         match self.fill(front) {
@@ -234,61 +251,48 @@ impl<T: Tape> Reader<T> {
             Err(Stop::Failed) => return Err(StoreNo::Failed),
             Err(Stop::NoMemory) => unreachable!(),
         }
-        named(front)
+        format_of(front)
     }
 
+    /// A number of 2 bytes, the highest first.
     fn number_16(&mut self) -> Result<u16, Stop>
-        ensures moves { Moves self.old self.new }
-        ensures failed { IsErrOf result Stop.Failed → Rose self.old.count self.new.count }
+        ensures advances { Advances Stop.Failed self.old self.new result }
         ensures read { Gives self.old self.new (to_be_bytes w16) number_16 result }
         ensures fits { IfOk result (λ n. n < 2 ^ 16) }
     {
         let mut bytes = [0; 2];
-        match self.fill(&mut bytes) {
-            Ok(()) => {
-                known(&bytes);
-                Ok(u16::from_be_bytes(bytes))
-            }
-            Err(stop) => Err(stop),
-        }
+        self.fill(&mut bytes)?;
+        known(&bytes);
+        Ok(u16::from_be_bytes(bytes))
     }
 
+    /// A number of 4 bytes, the highest first.
     fn number_32(&mut self) -> Result<u32, Stop>
-        ensures moves { Moves self.old self.new }
-        ensures failed { IsErrOf result Stop.Failed → Rose self.old.count self.new.count }
+        ensures advances { Advances Stop.Failed self.old self.new result }
         ensures read { Gives self.old self.new (to_be_bytes w32) number_32 result }
         ensures fits { IfOk result (λ n. n < 2 ^ 32) }
     {
         let mut bytes = [0; 4];
-        match self.fill(&mut bytes) {
-            Ok(()) => {
-                known(&bytes);
-                Ok(u32::from_be_bytes(bytes))
-            }
-            Err(stop) => Err(stop),
-        }
+        self.fill(&mut bytes)?;
+        known(&bytes);
+        Ok(u32::from_be_bytes(bytes))
     }
 
+    /// A number of 8 bytes, the highest first.
     fn number_64(&mut self) -> Result<u64, Stop>
-        ensures moves { Moves self.old self.new }
-        ensures failed { IsErrOf result Stop.Failed → Rose self.old.count self.new.count }
+        ensures advances { Advances Stop.Failed self.old self.new result }
         ensures read { Gives self.old self.new (to_be_bytes w64) number_64 result }
         ensures fits { IfOk result (λ n. n < 2 ^ 64) }
     {
         let mut bytes = [0; 8];
-        match self.fill(&mut bytes) {
-            Ok(()) => {
-                known(&bytes);
-                Ok(u64::from_be_bytes(bytes))
-            }
-            Err(stop) => Err(stop),
-        }
+        self.fill(&mut bytes)?;
+        known(&bytes);
+        Ok(u64::from_be_bytes(bytes))
     }
 
-    // The next n bytes.
+    /// The next n bytes.
     fn part(&mut self, alloc: Global, n: usize) -> Result<Vec<u8>, Stop>
-        ensures moves { Moves self.old self.new }
-        ensures failed { IsErrOf result Stop.Failed → Rose self.old.count self.new.count }
+        ensures advances { Advances Stop.Failed self.old self.new result }
         ensures read { Gives self.old self.new items_of (part n) result }
         ensures length { IfOk result (λ bytes. length bytes.items ≡ n) }
     {
@@ -305,17 +309,13 @@ impl<T: Tape> Reader<T> {
         }
     }
 
-    // Bytes behind their length.
+    /// Bytes behind their length.
     fn sized(&mut self, alloc: Global, most: u16) -> Result<Vec<u8>, Stop>
-        ensures moves { Moves self.old self.new }
-        ensures failed { IsErrOf result Stop.Failed → Rose self.old.count self.new.count }
+        ensures advances { Advances Stop.Failed self.old self.new result }
         ensures read { Gives self.old self.new sized_bytes (sized_part most) result }
         ensures length { IfOk result (λ bytes. length bytes.items ≤ most) }
     {
-        let n = match self.number_16() {
-            Ok(n) => n,
-            Err(stop) => return Err(stop),
-        };
+        let n = self.number_16()?;
         if n > most {
             return Err(Stop::Breach(Cause::BadRow));
         }
@@ -325,17 +325,13 @@ impl<T: Tape> Reader<T> {
         }
     }
 
-    // A value behind its length.
+    /// A value behind its length.
     fn value(&mut self, alloc: Global) -> Result<Bytes, Stop>
-        ensures moves { Moves self.old self.new }
-        ensures failed { IsErrOf result Stop.Failed → Rose self.old.count self.new.count }
+        ensures advances { Advances Stop.Failed self.old self.new result }
         ensures read { Gives self.old self.new value_bytes value_part result }
         ensures length { IfOk result (λ value. length value ≤ longest_value) }
     {
-        let n = match self.number_32() {
-            Ok(n) => n,
-            Err(stop) => return Err(stop),
-        };
+        let n = self.number_32()?;
         if n > LONGEST_VALUE {
             return Err(Stop::Breach(Cause::BadRow));
         }
@@ -345,16 +341,13 @@ impl<T: Tape> Reader<T> {
         }
     }
 
+    /// A path behind its length.
     fn path(&mut self, alloc: Global) -> Result<Text, Stop>
-        ensures moves { Moves self.old self.new }
-        ensures failed { IsErrOf result Stop.Failed → Rose self.old.count self.new.count }
+        ensures advances { Advances Stop.Failed self.old self.new result }
         ensures read { Gives self.old self.new text_bytes path_part result }
         ensures rule { IfOk result (λ path. IsPath path) }
     {
-        let bytes = match self.sized(alloc, LONGEST_PATH) {
-            Ok(bytes) => bytes,
-            Err(stop) => return Err(stop),
-        };
+        let bytes = self.sized(alloc, LONGEST_PATH)?;
         let Ok(text) = String::from_utf8(bytes) else {
             return Err(Stop::Breach(Cause::BadRow));
         };
@@ -364,16 +357,13 @@ impl<T: Tape> Reader<T> {
         Ok(Text::from_string(text))
     }
 
+    /// A resource behind its length.
     fn resource(&mut self, alloc: Global) -> Result<Text, Stop>
-        ensures moves { Moves self.old self.new }
-        ensures failed { IsErrOf result Stop.Failed → Rose self.old.count self.new.count }
+        ensures advances { Advances Stop.Failed self.old self.new result }
         ensures read { Gives self.old self.new text_bytes resource_part result }
         ensures rule { IfOk result (λ resource. IsResource resource) }
     {
-        let bytes = match self.sized(alloc, LONGEST_RESOURCE) {
-            Ok(bytes) => bytes,
-            Err(stop) => return Err(stop),
-        };
+        let bytes = self.sized(alloc, LONGEST_RESOURCE)?;
         let Ok(text) = String::from_utf8(bytes) else {
             return Err(Stop::Breach(Cause::BadRow));
         };
@@ -383,48 +373,39 @@ impl<T: Tape> Reader<T> {
         Ok(Text::from_string(text))
     }
 
+    /// The kind of a row.
     fn kind(&mut self) -> Result<Kind, Stop>
-        ensures moves { Moves self.old self.new }
-        ensures failed { IsErrOf result Stop.Failed → Rose self.old.count self.new.count }
+        ensures advances { Advances Stop.Failed self.old self.new result }
         ensures read { Gives self.old self.new (λ kind. byte_of kind ∷ []) kind_part result }
     {
         let mut byte = [0; 1];
-        match self.fill(&mut byte) {
-            Ok(()) => {}
-            Err(stop) => return Err(stop),
-        }
+        self.fill(&mut byte)?;
         match kind_of(byte[0]) {
             Some(kind) => Ok(kind),
             None => Err(Stop::Breach(Cause::BadRow)),
         }
     }
 
-    // The revision, which has to be this one.
+    /// The revision, which has to be this one.
     fn revision(&mut self, revision: u64) -> Result<(), Stop>
-        ensures moves { Moves self.old self.new }
-        ensures failed { IsErrOf result Stop.Failed → Rose self.old.count self.new.count }
-        ensures read { Gives self.old self.new (λ _. to_be_bytes w64 revision) (revision_part revision) result }
+        ensures advances { Advances Stop.Failed self.old self.new result }
+        ensures read { Gives self.old self.new
+            (λ _. to_be_bytes w64 revision) (revision_part revision) result }
     {
-        let found = match self.number_64() {
-            Ok(found) => found,
-            Err(stop) => return Err(stop),
-        };
+        let found = self.number_64()?;
         if found != revision {
             return Err(Stop::Breach(Cause::Order));
         }
         Ok(())
     }
 
+    /// The kind and the path of the row with this revision.
     fn head(&mut self, alloc: Global, revision: u64) -> Result<(Kind, Text), Stop>
-        ensures moves { Moves self.old self.new }
-        ensures failed { IsErrOf result Stop.Failed → Rose self.old.count self.new.count }
+        ensures advances { Advances Stop.Failed self.old self.new result }
         ensures read { Gives self.old self.new (head_bytes revision) (head_part revision) result }
         ensures rule { IfOk result (λ head. IsPath head.1) }
     {
-        let kind = match self.kind() {
-            Ok(kind) => kind,
-            Err(stop) => return Err(stop),
-        };
+        let kind = self.kind()?;
         match self.revision(revision) {
             Ok(()) => {}
             Err(stop) => return Err(stop),
@@ -435,30 +416,47 @@ impl<T: Tape> Reader<T> {
         }
     }
 
-    // The resource and the value of a put.
-    fn put(&mut self, alloc: Global) -> Result<(Text, Bytes), Stop>
-        ensures moves { Moves self.old self.new }
-        ensures failed { IsErrOf result Stop.Failed → Rose self.old.count self.new.count }
-        ensures read { Gives self.old self.new put_bytes put_part result }
-        ensures resource { IfOk result (λ put. IsResource put.0) }
-        ensures length { IfOk result (λ put. length put.1 ≤ longest_value) }
+    /// The check of a put, where the format has one.
+    fn check(&mut self, format: Format) -> Result<Option<Check>, Stop>
+        ensures advances { Advances Stop.Failed self.old self.new result }
+        ensures read { Gives self.old self.new check_bytes (check_part format) result }
+        ensures rule { IfOk result (λ check. HasCheck format check) }
     {
-        let resource = match self.resource(alloc) {
-            Ok(resource) => resource,
+        let _ = &self.tape;
+        match format {
+            Format::One => Ok(None),
+            Format::Two => match self.number_64() {
+                Ok(value) => Ok(Some(Check { value })),
+                Err(stop) => Err(stop),
+            },
+        }
+    }
+
+    /// The resource, the check and the value of a put.
+    fn put(&mut self, alloc: Global, format: Format) -> Result<(Text, Option<Check>, Bytes), Stop>
+        ensures advances { Advances Stop.Failed self.old self.new result }
+        ensures read { Gives self.old self.new put_bytes (put_part format) result }
+        ensures resource { IfOk result (λ put. IsResource put.0) }
+        ensures check { IfOk result (λ put. HasCheck format put.1) }
+        ensures length { IfOk result (λ put. length put.2 ≤ longest_value) }
+    {
+        let resource = self.resource(alloc)?;
+        let check = match self.check(format) {
+            Ok(check) => check,
             Err(stop) => return Err(stop),
         };
         match self.value(alloc) {
-            Ok(stored) => Ok((resource, stored)),
+            Ok(stored) => Ok((resource, check, stored)),
             Err(stop) => Err(stop),
         }
     }
 
     /// The row with this revision.
-    pub fn row(&mut self, alloc: Global, revision: u64) -> Result<KeptRow, Stop>
-        ensures moves { Moves self.old self.new }
-        ensures failed { IsErrOf result Stop.Failed → Rose self.old.count self.new.count }
-        ensures read { Gives self.old self.new (kept_bytes revision) (row_part revision) result }
-        ensures rule { IfOk result (λ row. IsKeptRow revision row) }
+    pub fn row(&mut self, alloc: Global, format: Format, revision: u64) -> Result<KeptRow, Stop>
+        ensures advances { Advances Stop.Failed self.old self.new result }
+        ensures read { Gives
+            self.old self.new (kept_bytes revision) (row_part format revision) result }
+        ensures rule { IfOk result (λ row. IsKeptRow format revision row) }
     {
         let (kind, path) = match self.head(alloc, revision) {
             Ok(head) => head,
@@ -467,7 +465,7 @@ impl<T: Tape> Reader<T> {
         match kind {
             Kind::Delete => Ok(KeptRow::Delete(path)),
             Kind::Put => {
-                let (resource, stored) = match self.put(alloc) {
+                let (resource, check, stored) = match self.put(alloc, format) {
                     Ok(put) => put,
                     Err(stop) => return Err(stop),
                 };
@@ -476,6 +474,7 @@ impl<T: Tape> Reader<T> {
                     resource,
                     revision,
                     stored,
+                    check,
                 };
                 match Shared::new(alloc, row) {
                     Ok(row) => Ok(KeptRow::Put(row)),

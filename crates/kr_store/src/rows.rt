@@ -1,20 +1,34 @@
 //! Rows: a put as it is handed out, and each row as the file has it.
+use crate::format::Check;
 use kr_base::{Bytes, Text};
 
 /// A value that was put for a resource at a path, with its revision: the number of its row, from 1.
+/// A store of the first format has no checks.
 #[derive(Debug, Drop)]
 pub struct Row {
     pub path: Text,
     pub resource: Text,
     pub revision: u64,
     pub stored: Bytes,
+    pub check: Option<Check>,
+}
+
+/// A row of a store, lent: a put, or a delete by its path.
+#[derive(Clone, Copy, Debug)]
+pub enum RowRef<'a> {
+    Put(&'a Row),
+    Delete(&'a str),
 }
 
 /// What a row does at its path.
 #[derive(Debug, Drop)]
 pub enum Change {
     /// It puts a value for a resource.
-    Put { resource: Text, stored: Bytes },
+    Put {
+        resource: Text,
+        stored: Bytes,
+        check: Option<Check>,
+    },
     /// It deletes what was there.
     Delete,
 }

@@ -1,28 +1,31 @@
 //! A store: its rows, their index, and the file that they are.
-ghost use Rattle.std.specs.Prelude.{◌≡◌, ◌≤◌, ◌^◌, ◌<◌, ◌+◌, ◌++◌, ◌-◌, get_or, false, length, IfOk, IfErr, IfSome, IsSome};
+ghost use Rattle.std.specs.Prelude.{◌≡◌, ℕ, ◌≤◌, ◌^◌, ◌<◌, ◌+◌, ◌++◌, ◌-◌, get_or, false, length, IfOk, IfErr, IfSome, IsSome};
 ghost use Rattle.kr_base.specs.Faults.{Rose};
 ghost use Rattle.kr_base.specs.Rules.{IsPath, IsResource};
 ghost use Rattle.std.specs.String.{string_bytes};
+ghost use Rattle.kr_store.specs.declared.format.Format.{Format};
 ghost use Rattle.kr_store.specs.declared.kept_row.KeptRow.{KeptRow};
-ghost use Rattle.kr_store.specs.Rows.{longest_value, live, put_of, MayChange, IsRow};
+ghost use Rattle.kr_store.specs.Rows.{longest_value, live, put_of, check_in, MayChange, IsRow};
 ghost use Rattle.kr_store.specs.inner.KeptRows.{log_row_of, shared_row, IsKeptRow, IsChange};
-ghost use Rattle.kr_store.specs.File.{lead, row_bytes};
-ghost use Rattle.kr_store.specs.Stores.{Loads, Holds, Puts, Deletes, Replaces, IsNext};
+ghost use Rattle.kr_store.specs.inner.Writing.{lead};
+ghost use Rattle.kr_store.specs.File.{row_bytes};
+ghost use Rattle.kr_store.specs.Stores.{Loads, Holds, Puts, Deletes, Replaces, IsNext, LendsRow};
 
 use crate::answers::{PutNo, StoreNo};
 use crate::encode::{row_bytes, row_length};
+use crate::format::{Check, Format};
 use crate::index::{Index, key_of};
 use crate::kept_row::KeptRow;
-use crate::load::load_rows;
+use crate::load::{Contents, load_rows};
 use crate::log::Log;
 use crate::reader::Reader;
-use crate::rows::{Change, Row};
+use crate::rows::{Change, Row, RowRef};
 use crate::write::{WriteNo, write_row};
 use kr_base::{Bytes, Failed, List, NoMemory, Shared, Tape, Text};
 use std::alloc::Global;
 use std::marker::Model;
 
-// A row, before it is written: its bytes, its path as the index keeps it, and what is kept of it.
+/// A row, before it is written: its bytes, its path as the index keeps it, and what is kept of it.
 #[derive(Drop)]
 struct Made {
     bytes: Bytes,
@@ -32,21 +35,23 @@ struct Made {
 
 fn make_row(
     alloc: Global,
+    format: Format,
     empty: bool,
     revision: u64,
     path: &str,
     change: Change,
 ) -> Result<Made, NoMemory>
     requires path { IsPath path.now }
-    requires change { IsChange change }
+    requires change { IsChange format change }
     ensures bytes { IfOk result (λ made. made.bytes
-        ≡ lead empty ++ row_bytes revision (record { path = path.now; change = change })) }
+        ≡ lead format empty
+        ++ row_bytes revision (record { path = path.now; change = change })) }
     ensures key { IfOk result (λ made. string_bytes made.key ≡ path.now) }
     ensures row { IfOk result (λ made. log_row_of made.row
         ≡ record { path = path.now; change = change }) }
-    ensures rule { IfOk result (λ made. IsKeptRow revision made.row) }
+    ensures rule { IfOk result (λ made. IsKeptRow format revision made.row) }
 {
-    let bytes = row_bytes(alloc, empty, revision, path, &change)?;
+    let bytes = row_bytes(alloc, format, empty, revision, path, &change)?;
     let key = key_of(alloc, path)?;
     let path = Text::copy(alloc, path)?;
     let row = kept_row(alloc, revision, path, change)?;
@@ -58,18 +63,23 @@ fn make_row(
 }
 
 fn kept_row(alloc: Global, revision: u64, path: Text, change: Change) -> Result<KeptRow, NoMemory>
-    requires path { IsPath path }
-    requires change { IsChange change }
+    requires { IsPath path }
     ensures row { IfOk result (λ row. log_row_of row ≡ record { path = path; change = change }) }
-    ensures rule { IfOk result (λ row. IsKeptRow revision row) }
+    ensures rule { IfOk result (λ row.
+        (format : Format) → IsChange format change → IsKeptRow format revision row) }
 {
     match change {
-        Change::Put { resource, stored } => {
+        Change::Put {
+            resource,
+            stored,
+            check,
+        } => {
             let row = Row {
                 path,
                 resource,
                 revision,
                 stored,
+                check,
             };
             match Shared::new(alloc, row) {
                 Ok(row) => Ok(KeptRow::Put(row)),
@@ -80,7 +90,7 @@ fn kept_row(alloc: Global, revision: u64, path: Text, change: Change) -> Result<
     }
 }
 
-// A copy of the resource of the row with this revision, a put.
+/// A copy of the resource of the row with this revision, a put.
 fn resource_at(alloc: Global, rows: &[KeptRow], revision: u64) -> Result<Text, NoMemory>
     requires first { 1 ≤ revision }
     requires last { revision ≤ length rows.now }
@@ -94,7 +104,7 @@ fn resource_at(alloc: Global, rows: &[KeptRow], revision: u64) -> Result<Text, N
     }
 }
 
-// Shares the row with this revision, if it is a put.
+/// Shares the row with this revision, if it is a put.
 fn share(rows: &[KeptRow], revision: u64) -> Result<Option<Shared<Row>>, NoMemory>
     requires first { 1 ≤ revision }
     requires last { revision ≤ length rows.now }
@@ -110,34 +120,43 @@ fn share(rows: &[KeptRow], revision: u64) -> Result<Option<Shared<Row>>, NoMemor
     }
 }
 
-/// The rows of a file on a tape: all of them in a log, and an index of the last ones in order of paths.
+/// The rows of a file on a tape: all of them in a log, and an index of the last ones in order of
+/// paths.
 #[derive(Drop)]
 pub struct Store<T: Tape> {
     alloc: Global,
     log: Log<T>,
     limit: u64,
+    format: Format,
     rows: List<KeptRow>,
     index: Index,
 }
 
 impl<T: Tape> Model for Store<T> {
-    ghost use Rattle.kr_store.specs.Stores.{Kept, kept_of, IsStore};
+    ghost use Rattle.kr_store.specs.Stores.{Kept};
+    ghost use Rattle.kr_store.specs.inner.Store.{kept_of, IsStore};
 
     ghost Value = { Kept };
 
-    ghost view = { λ store. kept_of store.rows.0 store.limit store.log };
+    ghost view = { λ store. kept_of store.format store.rows.0 store.limit store.log };
 
-    ghost invariant = { λ store. IsStore store.rows.0 store.index store.limit store.log };
+    ghost invariant = { λ store.
+        IsStore store.format store.rows.0 store.index store.limit store.log };
 }
 
 impl<T: Tape> Store<T> {
-    /// Loads the tape's file, if it has no more bytes than the limit. A refusal gives the tape back.
+    /// Loads the tape's file, if it has no more bytes than the limit. A refusal gives the tape
+    /// back.
     pub fn load(alloc: Global, mut tape: T, limit: u64) -> Result<Store<T>, (StoreNo, T)>
         requires { limit < 2 ^ 63 }
         ensures loads { Loads (T.told tape) limit result }
-        ensures same { IfErr result (λ refused. (T.told refused.1 ≡ T.told tape) × (T.count tape ≤ T.count refused.1)) }
-        ensures failed { IfErr result (λ refused. refused.0 ≡ StoreNo.Failed → Rose (T.count tape) (T.count refused.1)) }
-        ensures kept { IfOk result (λ store. (store.limit ≡ limit) × (store.told ≡ T.told tape) × (store.torn ≡ false) × (T.count tape ≤ store.count)) }
+        ensures same { IfErr result (λ refused.
+            (T.told refused.1 ≡ T.told tape) × (T.count tape ≤ T.count refused.1)) }
+        ensures failed { IfErr result (λ refused.
+            refused.0 ≡ StoreNo.Failed → Rose (T.count tape) (T.count refused.1)) }
+        ensures kept { IfOk result (λ store.
+            (store.limit ≡ limit) × (store.told ≡ T.told tape) × (store.torn ≡ false)
+            × (T.count tape ≤ store.count)) }
     {
         let length = match tape.len() {
             Ok(length) => length,
@@ -151,26 +170,49 @@ impl<T: Tape> Store<T> {
             Err((_, tape)) => return Err((StoreNo::NoMemory, tape)),
         };
         match load_rows(alloc, &mut reader) {
-            Ok((rows, index)) => Ok(Store {
-                alloc,
-                log: Log::new(reader.into_tape(), length),
-                limit,
-                rows,
-                index,
-            }),
+            Ok(contents) => {
+                let Contents {
+                    format,
+                    rows,
+                    index,
+                } = contents;
+                Ok(Store {
+                    alloc,
+                    log: Log::new(reader.into_tape(), length),
+                    limit,
+                    format,
+                    rows,
+                    index,
+                })
+            }
             Err(no) => Err((no, reader.into_tape())),
         }
     }
 
-    /// Appends a put, and answers its revision.
-    pub fn put(&mut self, path: &str, resource: &str, stored: Bytes) -> Result<u64, PutNo>
+    /// Appends a put, and answers its revision. The first format keeps no check.
+    pub fn put(
+        &mut self,
+        path: &str,
+        resource: &str,
+        stored: Bytes,
+        check: Check,
+    ) -> Result<u64, PutNo>
         requires path { IsPath path.now }
         requires resource { IsResource resource.now }
         requires stored { length stored ≤ longest_value }
-        ensures { Puts self.old self.new (put_of path.now resource.now stored) result }
+        ensures { Puts self.old self.new
+            (put_of path.now resource.now stored (check_in self.old.format check)) result }
     {
+        let check = self.format.keep(check);
         match Text::copy(self.alloc, resource) {
-            Ok(resource) => self.append(path, Change::Put { resource, stored }),
+            Ok(resource) => self.append(
+                path,
+                Change::Put {
+                    resource,
+                    stored,
+                    check,
+                },
+            ),
             Err(NoMemory) => Err(PutNo::NoMemory),
         }
     }
@@ -189,11 +231,18 @@ impl<T: Tape> Store<T> {
         }
     }
 
-    /// Appends a put for the resource of the path's last row, where that is a put with this revision.
-    pub fn replace_if(&mut self, path: &str, revision: u64, stored: Bytes) -> Result<u64, PutNo>
+    /// Appends a put for the resource of the path's last row, where that is a put with this
+    /// revision. The first format keeps no check.
+    pub fn replace_if(
+        &mut self,
+        path: &str,
+        revision: u64,
+        stored: Bytes,
+        check: Check,
+    ) -> Result<u64, PutNo>
         requires path { IsPath path.now }
         requires stored { length stored ≤ longest_value }
-        ensures { Replaces self.old self.new path.now revision stored result }
+        ensures { Replaces self.old self.new path.now revision stored check result }
     {
         let Some(last) = self.index.live(path) else {
             let revision = self.index.gone(path).unwrap_or(0);
@@ -202,21 +251,29 @@ impl<T: Tape> Store<T> {
         if last != revision {
             return Err(PutNo::Changed { revision: last });
         }
+        let check = self.format.keep(check);
         match resource_at(self.alloc, self.rows.as_slice(), last) {
-            Ok(resource) => self.append(path, Change::Put { resource, stored }),
+            Ok(resource) => self.append(
+                path,
+                Change::Put {
+                    resource,
+                    stored,
+                    check,
+                },
+            ),
             Err(NoMemory) => Err(PutNo::NoMemory),
         }
     }
 
-    // Appends a row that may stand behind the others, and answers its revision.
+    /// Appends a row that may stand behind the others, and answers its revision.
     fn append(&mut self, path: &str, change: Change) -> Result<u64, PutNo>
         requires path { IsPath path.now }
-        requires change { MayChange self.old.rows path.now change }
+        requires change { MayChange self.old.format self.old.rows path.now change }
         ensures { Puts self.old self.new (record { path = path.now; change = change }) result }
     {
         let at = self.log.end();
         let empty = at == 0;
-        let needed = at + row_length(empty, path, &change);
+        let needed = at + row_length(self.format, empty, path, &change);
         if needed > self.limit {
             return Err(PutNo::Full { needed });
         }
@@ -225,7 +282,7 @@ impl<T: Tape> Store<T> {
             Err(NoMemory) => return Err(PutNo::NoMemory),
         }
         let revision = self.rows.as_slice().len() as u64 + 1;
-        let made = match make_row(self.alloc, empty, revision, path, change) {
+        let made = match make_row(self.alloc, self.format, empty, revision, path, change) {
             Ok(made) => made,
             Err(NoMemory) => return Err(PutNo::NoMemory),
         };
@@ -252,7 +309,7 @@ impl<T: Tape> Store<T> {
     pub fn get(&self, path: &str) -> Result<Option<Shared<Row>>, NoMemory>
         requires { IsPath path.now }
         ensures live { IfOk result (λ found. found ≡ live self.now.rows path.now) }
-        ensures rules { IfOk result (λ found. IfSome found IsRow) }
+        ensures rules { IfOk result (λ found. IfSome found (IsRow self.now.format)) }
     {
         match self.index.live(path) {
             Some(revision) => share(self.rows.as_slice(), revision),
@@ -260,16 +317,38 @@ impl<T: Tape> Store<T> {
         }
     }
 
-    /// The live row with the least path above this one, which may be empty. It is shared, not copied.
+    /// The live row with the least path above this one, which may be empty. It is shared, not
+    /// copied.
     pub fn next_after(&self, path: &str) -> Result<Option<Shared<Row>>, NoMemory>
         ensures next { IfOk result (λ found. IsNext self.now.rows path.now found) }
-        ensures rules { IfOk result (λ found. IfSome found IsRow) }
+        ensures rules { IfOk result (λ found. IfSome found (IsRow self.now.format)) }
     {
         let key = key_of(self.alloc, path)?;
         match self.index.next_after(&key) {
             Some(revision) => share(self.rows.as_slice(), revision),
             None => Ok(None),
         }
+    }
+
+    /// Lends the row with this revision, if there is one.
+    pub fn row_at(&self, revision: u64) -> Option<RowRef<'_>>
+        ensures { LendsRow self.now.rows revision result }
+    {
+        if revision == 0 {
+            return None;
+        }
+        match self.rows.as_slice().get(revision as usize - 1) {
+            Some(KeptRow::Put(row)) => Some(RowRef::Put(row.get())),
+            Some(KeptRow::Delete(path)) => Some(RowRef::Delete(path.as_str())),
+            None => None,
+        }
+    }
+
+    /// How the file is written.
+    pub fn format(&self) -> Format
+        ensures { result ≡ self.now.format }
+    {
+        self.format
     }
 
     /// The revision of the last row, 0 where there is none.
@@ -296,6 +375,7 @@ impl<T: Tape> Store<T> {
             alloc: _,
             log,
             limit: _,
+            format: _,
             rows: _,
             index: _,
         } = self;

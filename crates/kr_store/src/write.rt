@@ -27,7 +27,8 @@ pub(crate) fn write_row<T: Tape>(
 ) -> Result<(), WriteNo>
     requires fits { log.old.end + length bytes.now < 2 ^ 64 }
     requires key { string_bytes key ≡ path.now }
-    ensures { Writes log.old log.new index.old index.new revision path.now kind bytes.now result }
+    ensures { Writes
+        log.old log.new index.old index.new revision path.now kind bytes.now result }
 {
     match kind {
         Kind::Put => write_put(log, index, path, key, revision, bytes),
@@ -35,7 +36,8 @@ pub(crate) fn write_row<T: Tape>(
     }
 }
 
-// Appends the bytes of a put, and notes it. What the index needs is taken before the tape is touched.
+/// Appends the bytes of a put, and notes it. What the index needs is taken before the tape is
+/// touched.
 fn write_put<T: Tape>(
     log: &mut Log<T>,
     index: &mut Index,
@@ -46,7 +48,8 @@ fn write_put<T: Tape>(
 ) -> Result<(), WriteNo>
     requires fits { log.old.end + length bytes.now < 2 ^ 64 }
     requires key { string_bytes key ≡ path.now }
-    ensures { Writes log.old log.new index.old index.new revision path.now Kind.Put bytes.now result }
+    ensures { Writes
+        log.old log.new index.old index.new revision path.now Kind.Put bytes.now result }
 {
     if index.live(path).is_some() {
         match log.append(bytes) {
@@ -71,7 +74,7 @@ fn write_put<T: Tape>(
     }
 }
 
-// Appends the bytes of a delete of a live row, and notes it.
+/// Appends the bytes of a delete of a live row, and notes it.
 fn write_delete<T: Tape>(
     log: &mut Log<T>,
     index: &mut Index,
@@ -82,7 +85,8 @@ fn write_delete<T: Tape>(
 ) -> Result<(), WriteNo>
     requires fits { log.old.end + length bytes.now < 2 ^ 64 }
     requires key { string_bytes key ≡ path.now }
-    ensures { Writes log.old log.new index.old index.new revision path.now Kind.Delete bytes.now result }
+    ensures { Writes
+        log.old log.new index.old index.new revision path.now Kind.Delete bytes.now result }
 {
     match index.set_gone(key, revision) {
         Ok(()) => {}

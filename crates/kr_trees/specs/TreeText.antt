@@ -1,8 +1,10 @@
--- The text of a tree. Nothing is `null`; a word is the hex of its bytes between quotes; a list stands in brackets and a
--- mapping in braces, with a comma before each part but the first. A key is written as a word, with a colon behind it.
+-- The text of a tree. Nothing is `null`; a word is the hex of its bytes between quotes; a list
+-- stands in brackets and a mapping in braces, with a comma before each part but the first. A key
+-- is written as a word, with a colon behind it.
 use Rattle.std.specs.Prelude.{◌≡◌, ⊤, ℕ, List, [], ◌++◌, codes}
 use Rattle.hex.specs.Hex.{IsBytes, encode_lower}
-use Rattle.kr_yaml.specs.Data.{Data, null, word, list, mapping, Items, no_items, item, Members, no_members, member}
+use Rattle.kr_yaml.specs.Data.{Data, null, word, list, mapping, Items, no_items, item}
+use Rattle.kr_yaml.specs.Data.{Members, no_members, member}
 
 abbrev pub word_text : List ℕ → List ℕ
 word_text bytes = codes "\"" ++ (encode_lower bytes ++ codes "\"")
@@ -24,13 +26,16 @@ abbrev mutual
 
   pub members_text : Members → List ℕ
   members_text no_members = []
-  members_text (member k d ms) = word_text k ++ (codes ":" ++ (tree_text d ++ more_members ms))
+  members_text (member k d ms) =
+      word_text k ++ (codes ":" ++ (tree_text d ++ more_members ms))
 
   pub more_members : Members → List ℕ
   more_members no_members = []
-  more_members (member k d ms) = codes "," ++ (word_text k ++ (codes ":" ++ (tree_text d ++ more_members ms)))
+  more_members (member k d ms) =
+      codes "," ++ (word_text k ++ (codes ":" ++ (tree_text d ++ more_members ms)))
 
--- ---- a law for a reader: a text is that of one tree alone. Words and keys are bytes, as those of each tree are
+-- A law for a reader: a text is that of one tree alone. Words and keys are bytes, as those of
+-- each tree are.
 
 abbrev mutual
   pub AreBytes : Data → Type 0

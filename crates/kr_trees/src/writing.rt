@@ -11,7 +11,8 @@ use std::alloc::{AllocError, Global};
 /// Adds the tree's text.
 #[cycle(tree)]
 pub fn write_tree(alloc: Global, out: &mut String, tree: &Tree) -> Result<(), AllocError>
-    ensures { IfOk result (λ done. string_bytes out.new ≡ string_bytes out.old ++ tree_text (view tree.now)) }
+    ensures { IfOk result (λ done. string_bytes out.new
+        ≡ string_bytes out.old ++ tree_text (view tree.now)) }
 {
     match tree {
         Tree::Null => out.push_str("null"),
@@ -22,7 +23,8 @@ pub fn write_tree(alloc: Global, out: &mut String, tree: &Tree) -> Result<(), Al
 }
 
 fn write_word(alloc: Global, out: &mut String, word: &str) -> Result<(), AllocError>
-    ensures { IfOk result (λ done. string_bytes out.new ≡ string_bytes out.old ++ word_text word.now) }
+    ensures { IfOk result (λ done. string_bytes out.new
+        ≡ string_bytes out.old ++ word_text word.now) }
 {
     let digits = hex::encode(alloc, word.as_bytes())?;
     out.push_str("\"")?;
@@ -32,7 +34,8 @@ fn write_word(alloc: Global, out: &mut String, word: &str) -> Result<(), AllocEr
 
 #[cycle(tree)]
 fn write_items(alloc: Global, out: &mut String, items: &[Tree]) -> Result<(), AllocError>
-    ensures { IfOk result (λ done. string_bytes out.new ≡ string_bytes out.old ++ tree_text (list (items_of (views items.now)))) }
+    ensures { IfOk result (λ done. string_bytes out.new
+        ≡ string_bytes out.old ++ tree_text (list (items_of (views items.now)))) }
 {
     let [first, rest @ ..] = items else {
         return out.push_str("[]");
@@ -48,7 +51,8 @@ fn write_items(alloc: Global, out: &mut String, items: &[Tree]) -> Result<(), Al
 
 #[cycle(tree)]
 fn write_members(alloc: Global, out: &mut String, members: &[Member]) -> Result<(), AllocError>
-    ensures { IfOk result (λ done. string_bytes out.new ≡ string_bytes out.old ++ tree_text (mapping (members_of (member_views members.now)))) }
+    ensures { IfOk result (λ done. string_bytes out.new
+        ≡ string_bytes out.old ++ tree_text (mapping (members_of (member_views members.now)))) }
 {
     let [first, rest @ ..] = members else {
         return out.push_str("{}");
@@ -65,7 +69,8 @@ fn write_members(alloc: Global, out: &mut String, members: &[Member]) -> Result<
 #[cycle(tree)]
 fn write_member(alloc: Global, out: &mut String, member: &Member) -> Result<(), AllocError>
     ensures { IfOk result (λ done. string_bytes out.new ≡ string_bytes out.old
-        ++ (word_text (view_member member.now).0 ++ (codes ":" ++ tree_text (view_member member.now).1))) }
+        ++ (word_text (view_member member.now).0
+        ++ (codes ":" ++ tree_text (view_member member.now).1))) }
 {
     write_word(alloc, out, member.key.as_str())?;
     out.push_str(":")?;

@@ -5,7 +5,8 @@ use Rattle.atomic_table.specs.declared.shared.Seat.{Seat}
 use Rattle.kr_turn.specs.declared.view.Stage.TheVariants.{Idle}
 use Rattle.kr_turn.specs.declared.view.Terms.{Terms}
 use Rattle.kr_turn.specs.declared.view.View.{View}
-use Rattle.kr_turn.specs.Lines.{of_seat, Acted}
+use Rattle.kr_base.specs.Lines.{of_seat}
+use Rattle.kr_turn.specs.Lines.{Acted}
 use Rattle.kr_turn.specs.inner.Steps.{SeatState, waiting_view, holding_view, served_to, view_after, carried_lines, IsServed, IsTurned}
 use Rattle.kr_turn.specs.Tokens.{resting_token}
 use Rattle.kr_turn.proofs.Orders.{drop_own, none_between, of_seat_own}

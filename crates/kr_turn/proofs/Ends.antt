@@ -10,7 +10,7 @@ use Rattle.kr_turn.specs.declared.view.Stage.TheVariants.{Blank, Filling, Idle, 
 use Rattle.kr_turn.specs.declared.view.Terms.{Terms}
 use Rattle.kr_turn.specs.declared.view.Part.{Part}
 use Rattle.kr_turn.specs.declared.view.View.{View}
-use Rattle.kr_turn.specs.Lines.{of_seat, Stands}
+use Rattle.kr_base.specs.Lines.{of_seat, Stands}
 use Rattle.kr_turn.specs.inner.Rule.{SpeaksFor, IsSeat, Knows, Has, IsOut, Ruled, lefts, gone_view}
 use Rattle.kr_turn.specs.inner.Steps.{joined_view, part_of}
 use Rattle.kr_turn.specs.inner.Endings.{Covers, Ending}

@@ -14,7 +14,7 @@ use Rattle.kr_turn.specs.declared.view.Stage.TheVariants.{Blank, Filling, Idle, 
 use Rattle.kr_turn.specs.declared.view.Terms.{Terms}
 use Rattle.kr_turn.specs.declared.view.Part.{Part}
 use Rattle.kr_turn.specs.declared.view.View.{View}
-use Rattle.kr_turn.specs.Lines.{of_seat}
+use Rattle.kr_base.specs.Lines.{of_seat}
 use Rattle.kr_turn.specs.inner.Rule.{IsSeat, Knows, Has, IsOut, Ruled, lefts}
 use Rattle.kr_turn.specs.inner.Steps.{SeatState, waiting_view, holding_view, served_to, view_after, carried_lines, Draws, Looks, Passes, IsTurned}
 use Rattle.kr_turn.proofs.Orders.{prefix_more, prefix_whole, drop_own, of_seat_own, of_seat_other, lefts_set, in_range, put, put_here, put_else}

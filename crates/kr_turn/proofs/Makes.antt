@@ -10,7 +10,7 @@ use Rattle.kr_turn.specs.declared.view.Stage.{Stage}
 use Rattle.kr_turn.specs.declared.view.Stage.TheVariants.{Blank, Filling, Idle, Waiting, Holding, Gone}
 use Rattle.kr_turn.specs.declared.view.Terms.{Terms}
 use Rattle.kr_turn.specs.declared.view.View.{View}
-use Rattle.kr_turn.specs.Lines.{of_seat}
+use Rattle.kr_base.specs.Lines.{of_seat}
 use Rattle.kr_turn.specs.inner.Rule.{IsSeat, Knows, Has, IsOut, Ruled, lefts, blank_view, idle_view}
 use Rattle.kr_turn.specs.Keys.{budget_of}
 use Rattle.kr_turn.specs.inner.Steps.{SeatState, filling_view, opening_view, next_of, new_of, Empties, Fills}

@@ -6,7 +6,7 @@ use lib.ListN.{get_elem?}
 use Rattle.std.proofs.lemmas.List.Elements.{filter-append}
 use Rattle.std.proofs.Math.Seq.{drop-append_seam}
 use Rattle.kr_turn.specs.declared.view.View.{View}
-use Rattle.kr_turn.specs.Lines.{of_seat}
+use Rattle.kr_base.specs.Lines.{of_seat}
 use Rattle.kr_turn.specs.inner.Rule.{lefts}
 
 pub in_range : {A : Type 0} (l : List A) (i : ℕ) (a : A) → get_elem? l i ≡ some a → i < length l

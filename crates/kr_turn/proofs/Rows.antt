@@ -17,7 +17,7 @@ use Rattle.kr_turn.specs.Keys.{budget_of}
 use Rattle.atomic_table.specs.Table.{Me}
 use Rattle.kr_turn.specs.inner.Endings.{Covers, IsEnd, Gathered, part_in}
 use Rattle.kr_turn.specs.Keys.{Home}
-use Rattle.kr_turn.specs.Lines.{Stands}
+use Rattle.kr_base.specs.Lines.{Stands}
 use Rattle.kr_turn.specs.Seats.{number_of, seen, mine, left_of, IsSeatOf, IsFresh, AreFresh, AreAll}
 
 module _ {A : Type 0} where

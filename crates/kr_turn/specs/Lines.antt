@@ -1,17 +1,12 @@
--- Lines of a history, and whose they are.
-use Rattle.std.specs.Prelude.{◌≡◌, ◌==◌, ℕ, List, [], ◌∷◌, ◌++◌}
-use Rattle.std.specs.List.{filter}
-use mathlib.Core.List.{IsPrefix}
-
--- the lines of one seat, in order
-abbrev pub of_seat : {L : Type 0} → (L → ℕ) → ℕ → List L → List L
-of_seat seat_of seat lines = filter (λ line. seat_of line == seat) lines
+-- A turn as a step in the common history.
+use Rattle.std.specs.Prelude.{◌≡◌, ℕ, List, [], ◌∷◌, ◌++◌}
+use Rattle.kr_base.specs.Lines.{of_seat}
 
 -- A turn of a seat that had seen `seen`, of which `mine` are its own lines.
--- Others' lines, none of them this seat's, and then exactly the line of this turn come behind what it
--- had seen, and that line behind its own. So the seat's own lines are just those that it has among the
--- lines seen. The answer and the line stand to all lines before as the state tells, and the law holds
--- before that line and with it.
+-- Others' lines, none of them this seat's, and then exactly the line of this turn come behind what
+-- it had seen, and that line behind its own. So the seat's own lines are just those that it has
+-- among the lines seen. The answer and the line stand to all lines before as the state tells, and
+-- the law holds before that line and with it.
 pub record Acted {L G E A : Type 0} (seat_of : L → ℕ) (law : G → List L → Type 0)
     (tells : G → List L → ℕ → E → A → L → Type 0) (basis : G) (seat : ℕ) (event : E) (answer : A)
     (seen mine seen' mine' : List L) : Type 0 where
@@ -25,10 +20,3 @@ pub record Acted {L G E A : Type 0} (seat_of : L → ℕ) (law : G → List L �
   pub told : tells basis (seen ++ others) seat event answer line
   pub law_before : law basis (seen ++ others)
   pub law_after : law basis seen'
-
--- a seat's view stands in a history: what it saw begins the history, which has of this seat the lines
--- `mine` and no others
-pub record Stands {L : Type 0} (seat_of : L → ℕ) (lines : List L) (seat : ℕ)
-    (seen mine : List L) : Type 0 where
-  pub front : IsPrefix seen lines
-  pub whole : of_seat seat_of seat lines ≡ mine

@@ -3,7 +3,7 @@ ghost use Rattle.std.specs.Prelude.{◌≡◌, ◌<◌, [], length, map, Some, A
 ghost use Rattle.kr_turn.specs.declared.view.Stage.TheVariants.{Idle};
 ghost use Rattle.kr_turn.specs.inner.Endings.{Covers, IsEnd, Gathered};
 ghost use Rattle.kr_turn.specs.Keys.{terms_of};
-ghost use Rattle.kr_turn.specs.Lines.{Stands, of_seat};
+ghost use Rattle.kr_base.specs.Lines.{Stands, of_seat};
 ghost use Rattle.kr_turn.specs.Tokens.{IsSized};
 
 use crate::lock::{Lock, Token};

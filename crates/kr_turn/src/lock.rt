@@ -2,7 +2,8 @@
 ghost use Rattle.std.specs.Prelude.{◌≡◌, ◌+◌, ◌-◌, ◌<◌, ◌^◌, [], ◌∷◌, ◌++◌, length, Some, None};
 ghost use Rattle.kr_turn.specs.declared.view.Stage.TheVariants.{Idle, Waiting, Holding};
 ghost use Rattle.kr_turn.specs.declared.view.Terms.{Terms};
-ghost use Rattle.kr_turn.specs.Lines.{of_seat, Acted};
+ghost use Rattle.kr_base.specs.Lines.{of_seat};
+ghost use Rattle.kr_turn.specs.Lines.{Acted};
 ghost use Rattle.kr_turn.specs.Keys.{budget_of};
 ghost use Rattle.kr_turn.specs.inner.Steps.{waiting_view, IsServed, IsTurned, carried_lines, view_after};
 ghost use Rattle.kr_turn.specs.Tokens.{IsSized, resting_token};

@@ -36,7 +36,8 @@ impl<S: Turned> Model for Turn<S> {
 }
 
 impl<S: Turned> Turn<S> {
-    ghost use Rattle.kr_turn.specs.Lines.{of_seat, Acted, Stands};
+    ghost use Rattle.kr_base.specs.Lines.{of_seat, Stands};
+    ghost use Rattle.kr_turn.specs.Lines.{Acted};
     ghost use Rattle.kr_turn.specs.Seats.{IsSeatOf, AreFresh, AreAll, number_of, seen, mine, left_of};
 
     /// Makes the lock and one seat for each budget: the seat of number `i` may make as many turns as

@@ -1,6 +1,6 @@
 //! What a state owes that stands under the lock.
 ghost use Rattle.std.specs.Prelude.{◌≡◌, ℕ, ◌<◌, List, [], ◌∷◌, ◌++◌, length};
-ghost use Rattle.kr_turn.specs.Lines.{of_seat};
+ghost use Rattle.kr_base.specs.Lines.{of_seat};
 
 /// A state that turns one event of one seat at a time, and keeps one line of each turn.
 ///

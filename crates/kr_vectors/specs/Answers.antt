@@ -44,4 +44,5 @@ ComesTo (Cipher key operation) outcome =
     → Tells outcome (answer (padded_schedule key.bytes.items) rounds operation))
 ComesTo (Hmac key message) outcome = Tells outcome (Ok (hmac key.bytes.items message.bytes.items))
 ComesTo (Hkdf key expansion) outcome =
-    Tells outcome (Ok (hkdf_expand key.bytes.items expansion.info.items (from_be_bytes w16 expansion.size)))
+    Tells outcome
+    (Ok (hkdf_expand key.bytes.items expansion.info.items (from_be_bytes w16 expansion.size)))

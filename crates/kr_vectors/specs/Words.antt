@@ -13,7 +13,8 @@ use Rattle.kr_vectors.specs.declared.outcome.Outcome.TheVariants.{Bytes, KeyLeng
 
 -- a word stands for the bytes: in hex, and by a dash where there are none
 abbrev pub StandsFor : List ℕ → List ℕ → Type 0
-StandsFor word bytes = ((word ≡ codes "-") × (bytes ≡ [])) ⊎ ((word ≢ []) × (decode_of word ≡ Ok bytes))
+StandsFor word bytes =
+    ((word ≡ codes "-") × (bytes ≡ [])) ⊎ ((word ≢ []) × (decode_of word ≡ Ok bytes))
 
 -- words stand for strings of bytes, one for one
 abbrev pub StandFor : List (List ℕ) → List (List ℕ) → Type 0
@@ -24,8 +25,10 @@ StandFor (word ∷ words) (bytes ∷ rest) = StandsFor word bytes × StandFor wo
 
 -- a name and the words behind the key ask for an operation
 abbrev pub AskFor : List ℕ → List (List ℕ) → Operation → Type 0
-AskFor name words (Encrypt block) = (name ≡ codes "aes") × (length block ≡ 16) × StandFor words (block ∷ [])
-AskFor name words (Decrypt block) = (name ≡ codes "unaes") × (length block ≡ 16) × StandFor words (block ∷ [])
+AskFor name words (Encrypt block) =
+    (name ≡ codes "aes") × (length block ≡ 16) × StandFor words (block ∷ [])
+AskFor name words (Decrypt block) =
+    (name ≡ codes "unaes") × (length block ≡ 16) × StandFor words (block ∷ [])
 AskFor name words (CbcSeal iv plain) =
     (name ≡ codes "cbc") × (length iv ≡ 16) × StandFor words (iv ∷ plain.bytes.items ∷ [])
 AskFor name words (CbcUnseal body) = (name ≡ codes "uncbc") × StandFor words (body.bytes.items ∷ [])
@@ -41,7 +44,8 @@ abbrev pub AskUnderKey : List ℕ → List ℕ → List (List ℕ) → Case → 
 AskUnderKey name key words (Cipher bytes operation) =
     StandsFor key bytes.bytes.items × AskFor name words operation
 AskUnderKey name key words (Hmac bytes message) =
-    StandsFor key bytes.bytes.items × (name ≡ codes "hmac") × StandFor words (message.bytes.items ∷ [])
+    StandsFor key bytes.bytes.items × (name ≡ codes "hmac")
+    × StandFor words (message.bytes.items ∷ [])
 AskUnderKey name key words (Hkdf bytes expansion) =
     StandsFor key bytes.bytes.items × (name ≡ codes "hkdf") × (length expansion.size ≡ 2)
     × StandFor words (expansion.info.items ∷ expansion.size ∷ [])
@@ -72,10 +76,10 @@ name_of BadPadding = codes "BadPadding"
 name_of BadTag = codes "BadTag"
 
 -- what is printed for an outcome
-abbrev pub printed : Outcome → List ℕ
-printed (Bytes bytes) = word_of bytes.items
-printed KeyLength = codes "KeyLength"
-printed (Refused why) = name_of why
+abbrev pub outcome_text : Outcome → List ℕ
+outcome_text (Bytes bytes) = word_of bytes.items
+outcome_text KeyLength = codes "KeyLength"
+outcome_text (Refused why) = name_of why
 
 -- ---- a law for a reader: the word that is printed for bytes stands for them where it is read
 

@@ -1,7 +1,7 @@
 //! What a case comes to, and how it is printed.
 
 ghost use Rattle.std.specs.Prelude.{◌≡◌, IfOk, string_bytes};
-ghost use Rattle.kr_vectors.specs.Words.{name_of, printed};
+ghost use Rattle.kr_vectors.specs.Words.{name_of, outcome_text};
 
 use kr_modes::ModeNo;
 use std::alloc::{AllocError, Global};
@@ -18,7 +18,7 @@ pub enum Outcome {
 impl Outcome {
     /// The bytes in hex, or `-` where there are none, or the refusal's name.
     pub fn text(&self, alloc: Global) -> Result<String, AllocError>
-        ensures { IfOk result (λ text. string_bytes text ≡ printed self.now) }
+        ensures { IfOk result (λ text. string_bytes text ≡ outcome_text self.now) }
     {
         match self {
             Outcome::Bytes(bytes) if bytes.is_empty() => "-".to_string(alloc),

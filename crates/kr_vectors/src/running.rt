@@ -109,7 +109,8 @@ fn decrypt(
     block: &[u8; 16],
 ) -> Result<Outcome, AllocError>
     requires { IsSchedule words.now rounds }
-    ensures { IfOk result (λ outcome. Tells outcome (Ok (inverse_cipher words.now rounds block.now))) }
+    ensures { IfOk result (λ outcome.
+        Tells outcome (Ok (inverse_cipher words.now rounds block.now))) }
 {
     let mut block = *block;
     kr_aes::decrypt_block(words, rounds, &mut block);

@@ -1,3 +1,4 @@
+-- The definitions that contracts name.
 pub mod Options
 pub mod Names
 pub mod Numerals

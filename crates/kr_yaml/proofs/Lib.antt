@@ -1,9 +1,19 @@
+-- Lemmas: of the reader's loops, of what is read and written, and of the open nodes.
 pub mod Allowed
 pub mod Behind
 pub mod Until
 pub mod Quotes
 pub mod Flows
 pub mod Heads
+pub mod Spaces
+pub mod Cuts
+pub mod QuotedRead
+pub mod PlainRead
+pub mod ScalarRead
+pub mod FlowRead
+pub mod ContentRead
+pub mod LineRead
+pub mod TextRead
 pub mod Grown
 pub mod Runs
 pub mod Shapes
@@ -15,4 +25,3 @@ pub mod Closing
 pub mod Putting
 pub mod Following
 pub mod SomeAnswer
-pub mod AsWritten

@@ -1,22 +1,30 @@
--- The steps of reading a quoted scalar: over the bytes up to the next one that counts, and over that.
-use Rattle.std.proofs.Common.{◌≡◌, ℕ, ◌<◌, ◌≤◌, Bool, true, false, List, [], ◌∷◌, ◌++◌, length, drop, take, Option, None, Some, refl, sym, ap, ◌∙◌, arith, suc}
+-- The steps of reading a quoted scalar: over the bytes up to the next one that counts, and over
+-- that.
+use Rattle.std.proofs.Common.{◌≡◌, ℕ, ◌<◌, ◌≤◌, Bool, true, false, List, [], ◌∷◌, ◌++◌, length}
+use Rattle.std.proofs.Common.{drop, take, Option, None, Some, refl, sym, ap, ◌∙◌, arith, suc}
 use Rattle.std.proofs.lemmas.List.{append_assoc, append-nil}
 use Rattle.std.specs.Prelude.{if◌then◌else◌, ◌==◌, ◌||◌, nat_lt}
 use Rattle.std.specs.Option.{option_map_or}
-use Rattle.kr_yaml.specs.Bytes.{behind, stops, length_until, at_stop, ascii_first}
+use Rattle.kr_yaml.specs.Bytes.{behind}
+use Rattle.kr_yaml.specs.inner.Stops.{stops, length_until, at_stop, ascii_first}
 use Rattle.kr_yaml.specs.declared.bytes.Stop.TheVariants.{SingleQuote, DoubleQuote}
-use Rattle.kr_yaml.specs.Scalars.{with_front, single, single_quote, double, escaped, escape}
+use Rattle.kr_yaml.specs.inner.ScalarReading.{with_front, single, single_quote, double}
+use Rattle.kr_yaml.specs.inner.ScalarReading.{behind_backslash}
+use Rattle.kr_yaml.specs.Written.{escape}
 
 pub nil_bytes : {X : Type 0} (o : Option (List X × List ℕ)) → with_front [] o ≡ o
 nil_bytes None = refl
 nil_bytes (Some x) = refl
 
-pub join_bytes : {X : Type 0} (xs ys : List X) (o : Option (List X × List ℕ)) → with_front (xs ++ ys) o ≡ with_front xs (with_front ys o)
+pub join_bytes : {X : Type 0} (xs ys : List X) (o : Option (List X × List ℕ))
+    → with_front (xs ++ ys) o ≡ with_front xs (with_front ys o)
 join_bytes xs ys None = refl
 join_bytes xs ys (Some x) = ap (λ l. Some (l, x.1)) (append_assoc xs ys x.0)
 
-chosen_cons : (c b : ℕ) (bs m : List ℕ) (v : Bool) → (b == c) ≡ v → Some m ≡ (if v then Some bs else None) → b ∷ bs ≡ c ∷ m
-chosen_cons c b bs m true e h = let same : b ≡ c = grind arith in let t : bs ≡ m = cc in ap (λ x. x ∷ bs) same ∙ ap (λ x. c ∷ x) t
+chosen_cons : (c b : ℕ) (bs m : List ℕ) (v : Bool) → (b == c) ≡ v
+    → Some m ≡ (if v then Some bs else None) → b ∷ bs ≡ c ∷ m
+chosen_cons c b bs m true e h = let same : b ≡ c = grind arith in let t : bs ≡ m =
+    cc in ap (λ x. x ∷ bs) same ∙ ap (λ x. c ∷ x) t
 chosen_cons c b bs m false e h = cc
 
 pub behind_cons : (c : ℕ) (bs m : List ℕ) → Some m ≡ behind c bs → bs ≡ c ∷ m
@@ -24,17 +32,26 @@ behind_cons c [] m h = cc
 behind_cons c (b ∷ bs) m h = chosen_cons c b bs m (b == c) refl h
 
 -- single quotes
-single_at : (b : ℕ) (bs : List ℕ) (v : Bool) → (b == 39) ≡ v → single bs ≡ with_front (take (length_until (stops SingleQuote) bs) bs) (single (drop (length_until (stops SingleQuote) bs) bs))
-    → single (b ∷ bs) ≡ with_front (take (if v then 0 else suc (length_until (stops SingleQuote) bs)) (b ∷ bs)) (single (drop (if v then 0 else suc (length_until (stops SingleQuote) bs)) (b ∷ bs)))
+single_at : (b : ℕ) (bs : List ℕ) (v : Bool) → (b == 39) ≡ v
+    → single bs ≡ with_front (take (length_until (stops SingleQuote) bs) bs)
+    (single (drop (length_until (stops SingleQuote) bs) bs))
+    → single (b ∷ bs) ≡ with_front
+    (take (if v then 0 else suc (length_until (stops SingleQuote) bs)) (b ∷ bs))
+    (single (drop (if v then 0 else suc (length_until (stops SingleQuote) bs)) (b ∷ bs)))
 single_at b bs true e rest = sym (nil_bytes (single (b ∷ bs)))
-single_at b bs false e rest = ap (λ v. if v then single_quote bs else with_front (b ∷ []) (single bs)) e ∙ ap (with_front (b ∷ [])) rest
-    ∙ sym (join_bytes (b ∷ []) (take (length_until (stops SingleQuote) bs) bs) (single (drop (length_until (stops SingleQuote) bs) bs)))
+single_at b bs false e rest = ap (λ v. if v then single_quote bs else with_front (b ∷ [])
+    (single bs)) e ∙ ap (with_front (b ∷ [])) rest
+    ∙ sym (join_bytes (b ∷ []) (take (length_until (stops SingleQuote) bs) bs)
+    (single (drop (length_until (stops SingleQuote) bs) bs)))
 
-pub single_jump : (bs : List ℕ) → single bs ≡ with_front (take (length_until (stops SingleQuote) bs) bs) (single (drop (length_until (stops SingleQuote) bs) bs))
+pub single_jump : (bs : List ℕ)
+    → single bs ≡ with_front (take (length_until (stops SingleQuote) bs) bs)
+    (single (drop (length_until (stops SingleQuote) bs) bs))
 single_jump [] = refl
 single_jump (b ∷ bs) = single_at b bs (b == 39) refl (single_jump bs)
 
-closed_at : (b : ℕ) (bs : List ℕ) (v : Bool) → None ≡ (if v then Some bs else None) → (if v then with_front (39 ∷ []) (single bs) else Some ([], b ∷ bs)) ≡ Some ([], b ∷ bs)
+closed_at : (b : ℕ) (bs : List ℕ) (v : Bool) → None ≡ (if v then Some bs else None)
+    → (if v then with_front (39 ∷ []) (single bs) else Some ([], b ∷ bs)) ≡ Some ([], b ∷ bs)
 closed_at b bs true h = cc
 closed_at b bs false h = refl
 
@@ -42,30 +59,42 @@ single_closed : (m : List ℕ) → None ≡ behind 39 m → single_quote m ≡ S
 single_closed [] h = refl
 single_closed (b ∷ bs) h = closed_at b bs (b == 39) h
 
-open_at : {P : Type 0} (v : Bool) (bs : List ℕ) → v ≡ true → None ≡ (if v then Some bs else None) → P
+open_at : {P : Type 0} (v : Bool) (bs : List ℕ) → v ≡ true → None ≡ (if v then Some bs else None)
+    → P
 open_at true bs e h = cc
 open_at false bs e h = cc
 
-single_open : (after : List ℕ) → at_stop SingleQuote after ≡ true → None ≡ behind 39 after → single after ≡ None
+single_open : (after : List ℕ) → at_stop SingleQuote after ≡ true → None ≡ behind 39 after
+    → single after ≡ None
 single_open [] e h = refl
 single_open (b ∷ bs) e h = open_at (b == 39) bs e h
 
-single_step : (text w rest piece after : List ℕ) → single text ≡ with_front w (single rest) → piece ≡ take (length_until (stops SingleQuote) rest) rest → after ≡ drop (length_until (stops SingleQuote) rest) rest
+single_step : (text w rest piece after : List ℕ) → single text ≡ with_front w (single rest)
+    → piece ≡ take (length_until (stops SingleQuote) rest) rest
+    → after ≡ drop (length_until (stops SingleQuote) rest) rest
     → single text ≡ with_front (w ++ piece) (single after)
 single_step text w rest piece after inv pe ae =
     inv ∙ ap (with_front w) (single_jump rest)
-    ∙ sym (join_bytes w (take (length_until (stops SingleQuote) rest) rest) (single (drop (length_until (stops SingleQuote) rest) rest)))
-    ∙ ap (λ p. with_front (w ++ p) (single (drop (length_until (stops SingleQuote) rest) rest))) (sym pe)
+    ∙ sym (join_bytes w (take (length_until (stops SingleQuote) rest) rest)
+    (single (drop (length_until (stops SingleQuote) rest) rest)))
+    ∙ ap (λ p. with_front (w ++ p) (single (drop (length_until (stops SingleQuote) rest) rest)))
+    (sym pe)
     ∙ ap (λ a. with_front (w ++ piece) (single a)) (sym ae)
 
-pub single_refused : (text w rest piece after : List ℕ) → single text ≡ with_front w (single rest) → piece ≡ take (length_until (stops SingleQuote) rest) rest → after ≡ drop (length_until (stops SingleQuote) rest) rest
+pub single_refused : (text w rest piece after : List ℕ) → single text ≡ with_front w (single rest)
+    → piece ≡ take (length_until (stops SingleQuote) rest) rest
+    → after ≡ drop (length_until (stops SingleQuote) rest) rest
     → at_stop SingleQuote after ≡ true → None ≡ behind 39 after → single text ≡ None
-single_refused text w rest piece after inv pe ae there none = single_step text w rest piece after inv pe ae ∙ ap (with_front (w ++ piece)) (single_open after there none)
+single_refused text w rest piece after inv pe ae there none = single_step text w rest piece after
+    inv pe ae ∙ ap (with_front (w ++ piece)) (single_open after there none)
 
 ended : (w : List ℕ) (m : List ℕ) → with_front w (Some ([], m)) ≡ Some (w, m)
 ended w m = ap (λ l. Some (l, m)) (append-nil w)
 
-pub single_ended : (text w rest piece after more : List ℕ) → single text ≡ with_front w (single rest) → piece ≡ take (length_until (stops SingleQuote) rest) rest → after ≡ drop (length_until (stops SingleQuote) rest) rest
+pub single_ended : (text w rest piece after more : List ℕ)
+    → single text ≡ with_front w (single rest)
+    → piece ≡ take (length_until (stops SingleQuote) rest) rest
+    → after ≡ drop (length_until (stops SingleQuote) rest) rest
     → Some more ≡ behind 39 after → None ≡ behind 39 more → single text ≡ Some (w ++ piece, more)
 single_ended text w rest piece after more inv pe ae some none =
     single_step text w rest piece after inv pe ae
@@ -73,8 +102,12 @@ single_ended text w rest piece after more inv pe ae some none =
     ∙ ap (with_front (w ++ piece)) (single_closed more none)
     ∙ ended (w ++ piece) more
 
-pub single_goes_on : (text w rest piece after more next : List ℕ) → single text ≡ with_front w (single rest) → piece ≡ take (length_until (stops SingleQuote) rest) rest → after ≡ drop (length_until (stops SingleQuote) rest) rest
-    → Some more ≡ behind 39 after → Some next ≡ behind 39 more → single text ≡ with_front ((w ++ piece) ++ (39 ∷ [])) (single next)
+pub single_goes_on : (text w rest piece after more next : List ℕ)
+    → single text ≡ with_front w (single rest)
+    → piece ≡ take (length_until (stops SingleQuote) rest) rest
+    → after ≡ drop (length_until (stops SingleQuote) rest) rest
+    → Some more ≡ behind 39 after → Some next ≡ behind 39 more
+    → single text ≡ with_front ((w ++ piece) ++ (39 ∷ [])) (single next)
 single_goes_on text w rest piece after more next inv pe ae some again =
     single_step text w rest piece after inv pe ae
     ∙ ap (λ a. with_front (w ++ piece) (single a)) (behind_cons 39 after more some)
@@ -90,52 +123,76 @@ or_false : (v w : Bool) → (v || w) ≡ false → (v ≡ false) × (w ≡ false
 or_false true w e = cc
 or_false false w e = (refl, e)
 
-double_at : (b : ℕ) (bs : List ℕ) (v : Bool) → (b == 34 || b == 92) ≡ v → double bs ≡ with_front (take (length_until (stops DoubleQuote) bs) bs) (double (drop (length_until (stops DoubleQuote) bs) bs))
-    → double (b ∷ bs) ≡ with_front (take (if v then 0 else suc (length_until (stops DoubleQuote) bs)) (b ∷ bs)) (double (drop (if v then 0 else suc (length_until (stops DoubleQuote) bs)) (b ∷ bs)))
+double_at : (b : ℕ) (bs : List ℕ) (v : Bool) → (b == 34 || b == 92) ≡ v
+    → double bs ≡ with_front (take (length_until (stops DoubleQuote) bs) bs)
+    (double (drop (length_until (stops DoubleQuote) bs) bs))
+    → double (b ∷ bs) ≡ with_front
+    (take (if v then 0 else suc (length_until (stops DoubleQuote) bs)) (b ∷ bs))
+    (double (drop (if v then 0 else suc (length_until (stops DoubleQuote) bs)) (b ∷ bs)))
 double_at b bs true e rest = sym (nil_bytes (double (b ∷ bs)))
 double_at b bs false e rest =
     let both = or_false (b == 34) (b == 92) e in
-    ap (λ v. if v then Some ([], bs) else (if b == 92 then escaped bs else with_front (b ∷ []) (double bs))) both.0
-    ∙ ap (λ v. if v then escaped bs else with_front (b ∷ []) (double bs)) both.1
+    ap (λ v. if v then Some ([], bs) else (if b == 92 then behind_backslash bs else with_front
+    (b ∷ []) (double bs))) both.0
+    ∙ ap (λ v. if v then behind_backslash bs else with_front (b ∷ []) (double bs)) both.1
     ∙ ap (with_front (b ∷ [])) rest
-    ∙ sym (join_bytes (b ∷ []) (take (length_until (stops DoubleQuote) bs) bs) (double (drop (length_until (stops DoubleQuote) bs) bs)))
+    ∙ sym (join_bytes (b ∷ []) (take (length_until (stops DoubleQuote) bs) bs)
+    (double (drop (length_until (stops DoubleQuote) bs) bs)))
 
-pub double_jump : (bs : List ℕ) → double bs ≡ with_front (take (length_until (stops DoubleQuote) bs) bs) (double (drop (length_until (stops DoubleQuote) bs) bs))
+pub double_jump : (bs : List ℕ)
+    → double bs ≡ with_front (take (length_until (stops DoubleQuote) bs) bs)
+    (double (drop (length_until (stops DoubleQuote) bs) bs))
 double_jump [] = refl
 double_jump (b ∷ bs) = double_at b bs (b == 34 || b == 92) refl (double_jump bs)
 
-double_step : (text w rest piece after : List ℕ) → double text ≡ with_front w (double rest) → piece ≡ take (length_until (stops DoubleQuote) rest) rest → after ≡ drop (length_until (stops DoubleQuote) rest) rest
+double_step : (text w rest piece after : List ℕ) → double text ≡ with_front w (double rest)
+    → piece ≡ take (length_until (stops DoubleQuote) rest) rest
+    → after ≡ drop (length_until (stops DoubleQuote) rest) rest
     → double text ≡ with_front (w ++ piece) (double after)
 double_step text w rest piece after inv pe ae =
     inv ∙ ap (with_front w) (double_jump rest)
-    ∙ sym (join_bytes w (take (length_until (stops DoubleQuote) rest) rest) (double (drop (length_until (stops DoubleQuote) rest) rest)))
-    ∙ ap (λ p. with_front (w ++ p) (double (drop (length_until (stops DoubleQuote) rest) rest))) (sym pe)
+    ∙ sym (join_bytes w (take (length_until (stops DoubleQuote) rest) rest)
+    (double (drop (length_until (stops DoubleQuote) rest) rest)))
+    ∙ ap (λ p. with_front (w ++ p) (double (drop (length_until (stops DoubleQuote) rest) rest)))
+    (sym pe)
     ∙ ap (λ a. with_front (w ++ piece) (double a)) (sym ae)
 
-two_open : {P : Type 0} (v w : Bool) (bs : List ℕ) → (v || w) ≡ true → None ≡ (if v then Some bs else None) → None ≡ (if w then Some bs else None) → P
+two_open : {P : Type 0} (v w : Bool) (bs : List ℕ) → (v || w) ≡ true
+    → None ≡ (if v then Some bs else None) → None ≡ (if w then Some bs else None) → P
 two_open true w bs e h k = cc
 two_open false true bs e h k = cc
 two_open false false bs e h k = cc
 
-double_open : (after : List ℕ) → at_stop DoubleQuote after ≡ true → None ≡ behind 34 after → None ≡ behind 92 after → double after ≡ None
+double_open : (after : List ℕ) → at_stop DoubleQuote after ≡ true → None ≡ behind 34 after
+    → None ≡ behind 92 after → double after ≡ None
 double_open [] e h k = refl
 double_open (b ∷ bs) e h k = two_open (b == 34) (b == 92) bs e h k
 
-pub double_refused : (text w rest piece after : List ℕ) → double text ≡ with_front w (double rest) → piece ≡ take (length_until (stops DoubleQuote) rest) rest → after ≡ drop (length_until (stops DoubleQuote) rest) rest
-    → at_stop DoubleQuote after ≡ true → None ≡ behind 34 after → None ≡ behind 92 after → double text ≡ None
-double_refused text w rest piece after inv pe ae there h k = double_step text w rest piece after inv pe ae ∙ ap (with_front (w ++ piece)) (double_open after there h k)
+pub double_refused : (text w rest piece after : List ℕ) → double text ≡ with_front w (double rest)
+    → piece ≡ take (length_until (stops DoubleQuote) rest) rest
+    → after ≡ drop (length_until (stops DoubleQuote) rest) rest
+    → at_stop DoubleQuote after ≡ true → None ≡ behind 34 after → None ≡ behind 92 after
+    → double text ≡ None
+double_refused text w rest piece after inv pe ae there h k = double_step text w rest piece after inv
+    pe ae ∙ ap (with_front (w ++ piece)) (double_open after there h k)
 
-pub double_ended : (text w rest piece after more : List ℕ) → double text ≡ with_front w (double rest) → piece ≡ take (length_until (stops DoubleQuote) rest) rest → after ≡ drop (length_until (stops DoubleQuote) rest) rest
+pub double_ended : (text w rest piece after more : List ℕ)
+    → double text ≡ with_front w (double rest)
+    → piece ≡ take (length_until (stops DoubleQuote) rest) rest
+    → after ≡ drop (length_until (stops DoubleQuote) rest) rest
     → Some more ≡ behind 34 after → double text ≡ Some (w ++ piece, more)
 double_ended text w rest piece after more inv pe ae some =
     double_step text w rest piece after inv pe ae
     ∙ ap (λ a. with_front (w ++ piece) (double a)) (behind_cons 34 after more some)
     ∙ ended (w ++ piece) more
 
-double_escape : (text w rest piece after more : List ℕ) → double text ≡ with_front w (double rest) → piece ≡ take (length_until (stops DoubleQuote) rest) rest → after ≡ drop (length_until (stops DoubleQuote) rest) rest
-    → Some more ≡ behind 92 after → double text ≡ with_front (w ++ piece) (escaped more)
+double_escape : (text w rest piece after more : List ℕ) → double text ≡ with_front w (double rest)
+    → piece ≡ take (length_until (stops DoubleQuote) rest) rest
+    → after ≡ drop (length_until (stops DoubleQuote) rest) rest
+    → Some more ≡ behind 92 after → double text ≡ with_front (w ++ piece) (behind_backslash more)
 double_escape text w rest piece after more inv pe ae some =
-    double_step text w rest piece after inv pe ae ∙ ap (λ a. with_front (w ++ piece) (double a)) (behind_cons 92 after more some)
+    double_step text w rest piece after inv pe ae ∙ ap (λ a. with_front (w ++ piece) (double a))
+    (behind_cons 92 after more some)
 
 -- a byte, and those behind it
 abbrev found : ℕ → List ℕ → Option (ℕ × List ℕ)
@@ -147,19 +204,25 @@ escape_large b h = grind arith
 large : (b : ℕ) (v : Bool) → nat_lt b 128 ≡ v → v ≡ false → 128 ≤ b
 large b v e f = grind arith
 
-no_escape_at : (b : ℕ) (bs : List ℕ) (v : Bool) → nat_lt b 128 ≡ v → None ≡ (if v then found b bs else None) → escaped (b ∷ bs) ≡ None
+no_escape_at : (b : ℕ) (bs : List ℕ) (v : Bool) → nat_lt b 128 ≡ v
+    → None ≡ (if v then found b bs else None) → behind_backslash (b ∷ bs) ≡ None
 no_escape_at b bs true e h = cc
-no_escape_at b bs false e h = ap (λ o. option_map_or (λ c. with_front (c ∷ []) (double bs)) o None) (escape_large b (large b false e refl))
+no_escape_at b bs false e h = ap (λ o. option_map_or (λ c. with_front (c ∷ []) (double bs)) o None)
+    (escape_large b (large b false e refl))
 
-no_escape : (more : List ℕ) → None ≡ ascii_first more → escaped more ≡ None
+no_escape : (more : List ℕ) → None ≡ ascii_first more → behind_backslash more ≡ None
 no_escape [] h = refl
 no_escape (b ∷ bs) h = no_escape_at b bs (nat_lt b 128) refl h
 
-pub double_cut : (text w rest piece after more : List ℕ) → double text ≡ with_front w (double rest) → piece ≡ take (length_until (stops DoubleQuote) rest) rest → after ≡ drop (length_until (stops DoubleQuote) rest) rest
+pub double_cut : (text w rest piece after more : List ℕ) → double text ≡ with_front w (double rest)
+    → piece ≡ take (length_until (stops DoubleQuote) rest) rest
+    → after ≡ drop (length_until (stops DoubleQuote) rest) rest
     → Some more ≡ behind 92 after → None ≡ ascii_first more → double text ≡ None
-double_cut text w rest piece after more inv pe ae some none = double_escape text w rest piece after more inv pe ae some ∙ ap (with_front (w ++ piece)) (no_escape more none)
+double_cut text w rest piece after more inv pe ae some none = double_escape text w rest piece after
+    more inv pe ae some ∙ ap (with_front (w ++ piece)) (no_escape more none)
 
-first_at : (b c : ℕ) (bs m : List ℕ) (v : Bool) → found b m ≡ (if v then found c bs else None) → c ∷ bs ≡ b ∷ m
+first_at : (b c : ℕ) (bs m : List ℕ) (v : Bool) → found b m ≡ (if v then found c bs else None)
+    → c ∷ bs ≡ b ∷ m
 first_at b c bs m true h = sym (ap (λ o. option_map_or (λ x. x.0 ∷ x.1) o []) h)
 first_at b c bs m false h = cc
 
@@ -170,17 +233,27 @@ first_cons b (c ∷ bs) m h = first_at b c bs m (nat_lt c 128) h
 pub first_less : (b : ℕ) (bs m : List ℕ) → found b m ≡ ascii_first bs → length m < length bs
 first_less b bs m h = let e = ap length (first_cons b bs m h) in omega arith
 
-pub double_unknown : (text w rest piece after more next : List ℕ) (b : ℕ) → double text ≡ with_front w (double rest) → piece ≡ take (length_until (stops DoubleQuote) rest) rest → after ≡ drop (length_until (stops DoubleQuote) rest) rest
-    → Some more ≡ behind 92 after → found b next ≡ ascii_first more → None ≡ escape b → double text ≡ None
+pub double_unknown : (text w rest piece after more next : List ℕ) (b : ℕ)
+    → double text ≡ with_front w (double rest)
+    → piece ≡ take (length_until (stops DoubleQuote) rest) rest
+    → after ≡ drop (length_until (stops DoubleQuote) rest) rest
+    → Some more ≡ behind 92 after → found b next ≡ ascii_first more → None ≡ escape b
+    → double text ≡ None
 double_unknown text w rest piece after more next b inv pe ae some first none =
     double_escape text w rest piece after more inv pe ae some
-    ∙ ap (λ a. with_front (w ++ piece) (escaped a)) (first_cons b more next first)
-    ∙ ap (λ o. with_front (w ++ piece) (option_map_or (λ c. with_front (c ∷ []) (double next)) o None)) (sym none)
+    ∙ ap (λ a. with_front (w ++ piece) (behind_backslash a)) (first_cons b more next first)
+    ∙ ap (λ o. with_front (w ++ piece) (option_map_or (λ c. with_front (c ∷ []) (double next)) o
+    None)) (sym none)
 
-pub double_goes_on : (text w rest piece after more next : List ℕ) (b c : ℕ) → double text ≡ with_front w (double rest) → piece ≡ take (length_until (stops DoubleQuote) rest) rest → after ≡ drop (length_until (stops DoubleQuote) rest) rest
-    → Some more ≡ behind 92 after → found b next ≡ ascii_first more → Some c ≡ escape b → double text ≡ with_front ((w ++ piece) ++ (c ∷ [])) (double next)
+pub double_goes_on : (text w rest piece after more next : List ℕ) (b c : ℕ)
+    → double text ≡ with_front w (double rest)
+    → piece ≡ take (length_until (stops DoubleQuote) rest) rest
+    → after ≡ drop (length_until (stops DoubleQuote) rest) rest
+    → Some more ≡ behind 92 after → found b next ≡ ascii_first more → Some c ≡ escape b
+    → double text ≡ with_front ((w ++ piece) ++ (c ∷ [])) (double next)
 double_goes_on text w rest piece after more next b c inv pe ae some first meant =
     double_escape text w rest piece after more inv pe ae some
-    ∙ ap (λ a. with_front (w ++ piece) (escaped a)) (first_cons b more next first)
-    ∙ ap (λ o. with_front (w ++ piece) (option_map_or (λ c. with_front (c ∷ []) (double next)) o None)) (sym meant)
+    ∙ ap (λ a. with_front (w ++ piece) (behind_backslash a)) (first_cons b more next first)
+    ∙ ap (λ o. with_front (w ++ piece) (option_map_or (λ c. with_front (c ∷ []) (double next)) o
+    None)) (sym meant)
     ∙ sym (join_bytes (w ++ piece) (c ∷ []) (double next))

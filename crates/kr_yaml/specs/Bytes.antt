@@ -1,88 +1,35 @@
--- Words on the bytes of a line. 32 is the space, 35 is `#`, 58 is `:`.
-use Rattle.std.specs.Prelude.{ℕ, suc, ◌==◌, ◌&&◌, ◌||◌, Bool, true, false, List, [], ◌∷◌, reverse, length, nat_lt, Option, None, Some, if◌then◌else◌}
-use Rattle.kr_yaml.specs.declared.bytes.Stop.{Stop}
-use Rattle.kr_yaml.specs.declared.bytes.Stop.TheVariants.{Colon, Comment, KeyEnd, FlowSign, SingleQuote, DoubleQuote}
+-- Words on the bytes of a line. 9 is the tab, 32 the space, 35 is `#`.
+use Rattle.std.specs.Prelude.{ℕ, zero, suc, ◌==◌, ◌||◌, Bool, true, List, [], ◌∷◌}
+use Rattle.std.specs.Prelude.{Option, None, Some, if◌then◌else◌, option_and_then}
 
 -- what stands behind this byte, where the bytes begin with it
 abbrev pub behind : ℕ → List ℕ → Option (List ℕ)
 behind c [] = None
 behind c (b ∷ bs) = if b == c then Some bs else None
 
+-- what stands behind three of this byte
+abbrev pub behind_three : ℕ → List ℕ → Option (List ℕ)
+behind_three c line = option_and_then (behind c) (option_and_then (behind c) (behind c line))
+
+-- so many spaces
+abbrev pub spaces : ℕ → List ℕ
+spaces zero = []
+spaces (suc n) = 32 ∷ spaces n
+
+-- a space or a tab
+abbrev pub is_blank : ℕ → Bool
+is_blank b = b == 32 || b == 9
+
 -- the bytes without the spaces that they begin with
 abbrev pub skip : List ℕ → List ℕ
 skip [] = []
 skip (b ∷ bs) = if b == 32 then skip bs else b ∷ bs
-
--- the bytes without the spaces that they end with
-abbrev pub trim : List ℕ → List ℕ
-trim bs = reverse (skip (reverse bs))
-
--- nothing or a space, as it stands behind a `-` or a `:` that counts
-abbrev pub opens : List ℕ → Bool
-opens [] = true
-opens (b ∷ bs) = b == 32
 
 -- nothing or a comment, where spaces or nothing stand before
 abbrev pub over : List ℕ → Bool
 over [] = true
 over (b ∷ bs) = b == 35
 
--- nothing, or spaces and perhaps a comment behind one of them
-abbrev pub closes : List ℕ → Bool
-closes [] = true
-closes (b ∷ bs) = b == 32 && over (skip bs)
-
-abbrev pub is_hash : List ℕ → Bool
-is_hash [] = false
-is_hash (b ∷ bs) = b == 35
-
--- a `:` at the end or before a space
-abbrev pub is_colon : List ℕ → Bool
-is_colon [] = false
-is_colon (b ∷ bs) = b == 58 && opens bs
-
--- a `#` behind a space
-abbrev pub is_comment : List ℕ → Bool
-is_comment [] = false
-is_comment (b ∷ bs) = b == 32 && is_hash bs
-
--- one of the bytes `,`, `[`, `]`, `{` and `}`
-abbrev pub is_flow : List ℕ → Bool
-is_flow [] = false
-is_flow (b ∷ bs) = b == 44 || b == 91 || b == 93 || b == 123 || b == 125
-
-abbrev pub is_single : List ℕ → Bool
-is_single [] = false
-is_single (b ∷ bs) = b == 39
-
--- a `"` or a backslash
-abbrev pub is_double : List ℕ → Bool
-is_double [] = false
-is_double (b ∷ bs) = b == 34 || b == 92
-
-abbrev pub stops : Stop → List ℕ → Bool
-stops Colon bs = is_colon bs
-stops Comment bs = is_comment bs
-stops KeyEnd bs = is_colon bs || is_comment bs
-stops FlowSign bs = is_flow bs
-stops SingleQuote bs = is_single bs
-stops DoubleQuote bs = is_double bs
-
--- how many bytes stand before the first place where this stands, or before the end
-abbrev pub length_until : (List ℕ → Bool) → List ℕ → ℕ
-length_until t [] = 0
-length_until t (b ∷ bs) = if t (b ∷ bs) then 0 else suc (length_until t bs)
-
--- it stands somewhere
-abbrev pub has : Stop → List ℕ → Bool
-has stop bs = nat_lt (length_until (stops stop) bs) (length bs)
-
--- nothing stands there, or this
-abbrev pub at_stop : Stop → List ℕ → Bool
-at_stop stop [] = true
-at_stop stop (b ∷ bs) = stops stop (b ∷ bs)
-
--- the first byte and those behind it, where it is ASCII
-abbrev pub ascii_first : List ℕ → Option (ℕ × List ℕ)
-ascii_first [] = None
-ascii_first (b ∷ bs) = if nat_lt b 128 then Some (b, bs) else None
+-- a line with nothing, or nothing but a comment
+abbrev pub is_empty : List ℕ → Bool
+is_empty line = over (skip line)

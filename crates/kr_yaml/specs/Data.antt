@@ -1,4 +1,5 @@
--- What a text says, whatever its form: nothing, a word, a list or a mapping in the order of the text.
+-- What a text says, whatever its form: nothing, a word, a list or a mapping in the order of the
+-- text.
 use Rattle.std.specs.Prelude.{ℕ, List, [], ◌∷◌}
 
 mutual

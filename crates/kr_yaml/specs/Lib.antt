@@ -1,19 +1,12 @@
+-- The definitions that public contracts and laws name; those of `inner` serve contracts inside.
 pub mod Data
 pub mod Shown
 pub mod Characters
 pub mod Bytes
-pub mod Scalars
 pub mod Written
 pub mod Lines
-pub mod Seen
-pub mod Forms
-pub mod Open
-pub mod Frames
-pub mod Standing
-pub mod Puts
 pub mod Texts
+pub mod Forms
 pub mod Reads
 pub mod Laws
-pub mod Progress
-pub mod Adds
-pub mod Gives
+pub mod inner

@@ -1,11 +1,10 @@
--- The tokens of a line.
-use Rattle.std.specs.Prelude.{ℕ, zero, suc, ◌+◌, ◌==◌, ◌&&◌, List, [], ◌∷◌, ◌++◌, length, map, Option, None, Some, if◌then◌else◌, is_some}
-use Rattle.std.specs.Option.{option_map, option_map_or}
-use Rattle.kr_yaml.specs.Bytes.{behind, skip, opens, closes, over}
+-- The tokens of a line: spaces, a content and a tail. 35 is `#`, 44 is `,`, 45 is `-`, 58 is `:`,
+-- 91, 93 and 123, 125 are brackets and braces.
+use Rattle.std.specs.Prelude.{◌≢◌, ℕ, suc, ◌+◌, List, [], ◌∷◌, ◌++◌, map, Option, None, Some}
+use Rattle.std.specs.Prelude.{Result, Ok, Err}
+use Rattle.kr_yaml.specs.Bytes.{spaces}
 use Rattle.kr_yaml.specs.Data.{Data, list, mapping, items_of, members_of}
-use Rattle.kr_yaml.specs.Scalars.{scalar_at, data_of, is_merge, with_front}
-use Rattle.kr_yaml.specs.declared.scalar.Scalar.{Scalar}
-use Rattle.kr_yaml.specs.declared.scalar.Context.TheVariants.{Line, Flow}
+use Rattle.kr_yaml.specs.Written.{IsScalar, IsPart, IsKey}
 
 -- A token, each with its column.
 pub data Token : Type 0 where
@@ -16,81 +15,55 @@ pub data Token : Type 0 where
   -- a scalar or a flow value
   leaf : ℕ → Data → Token
 
--- behind a scalar of a flow list: a comma and more scalars, or the closing bracket. The spaces around scalars are dropped.
--- Each scalar takes a byte at least, so as many steps as there are bytes are enough.
-abbrev pub scalars : ℕ → List ℕ → Option (List Data × List ℕ)
-scalars zero bs = None
-scalars (suc n) bs = option_map_or
-    (λ x. with_front (data_of x.0 ∷ []) (option_map_or (λ rest. scalars n rest) (behind 44 (skip x.1)) (option_map (λ rest. ([], rest)) (behind 93 (skip x.1)))))
-    (scalar_at Flow (skip bs)) None
+-- what may stand behind a content: spaces, and a comment behind one of them
+pub data IsTail : List ℕ → Type 0 where
+  spaces_alone : (n : ℕ) → IsTail (spaces n)
+  comment_behind : (n : ℕ) (text : List ℕ) → IsTail (spaces (suc n) ++ 35 ∷ text)
 
-abbrev pub list_of : List Data × List ℕ → Data × List ℕ
-list_of x = (list (items_of x.0), x.1)
+-- what stands between the brackets of a flow list: scalars, each with spaces around it, and
+-- commas between them
+pub data AreParts : List Data → List ℕ → Type 0 where
+  last_part : (before after : ℕ) (d : Data) (bytes : List ℕ) → IsPart d bytes
+      → AreParts (d ∷ []) (spaces before ++ (bytes ++ spaces after))
+  one_more_part : (before after : ℕ) (d : Data) (bytes : List ℕ) (ds : List Data)
+      (more : List ℕ) → IsPart d bytes → AreParts ds more
+      → AreParts (d ∷ ds) (spaces before ++ (bytes ++ (spaces after ++ 44 ∷ more)))
 
--- behind a `[`, and behind a `{`
-unfoldable pub flow_list : List ℕ → Option (Data × List ℕ)
-flow_list bs = option_map_or (λ rest. Some (list_of ([], rest))) (behind 93 bs) (option_map list_of (scalars (length bs) bs))
+-- a scalar or a flow value
+pub data IsLeaf : Data → List ℕ → Type 0 where
+  scalar : (d : Data) (bytes : List ℕ) → IsScalar d bytes → IsLeaf d bytes
+  empty_list : IsLeaf (list (items_of [])) (91 ∷ (93 ∷ []))
+  flow_list : (ds : List Data) (bytes : List ℕ) → AreParts ds bytes
+      → IsLeaf (list (items_of ds)) (91 ∷ (bytes ++ 93 ∷ []))
+  empty_mapping : IsLeaf (mapping (members_of [])) (123 ∷ (125 ∷ []))
 
-abbrev pub flow_mapping : List ℕ → Option (Data × List ℕ)
-flow_mapping bs = option_map (λ rest. (mapping (members_of []), rest)) (behind 125 bs)
+-- The tokens of a content that begins at this column: an item, which may have a content of its
+-- own behind it, a member, or else a scalar or a flow value.
+pub data IsContent : ℕ → List ℕ → List Token → Type 0 where
+  empty_item : (c : ℕ) → IsContent c (45 ∷ []) (dash c ∷ [])
+  item : (c n : ℕ) (bytes : List ℕ) (ts : List Token) → IsContent (c + 1 + suc n) bytes ts
+      → IsContent c (45 ∷ (spaces (suc n) ++ bytes)) (dash c ∷ ts)
+  empty_member : (c : ℕ) (key bytes : List ℕ) → IsKey key bytes
+      → IsContent c (bytes ++ 58 ∷ []) (pair c key None ∷ [])
+  member : (c n : ℕ) (key bytes : List ℕ) (d : Data) (more : List ℕ) → IsKey key bytes
+      → IsLeaf d more
+      → IsContent c (bytes ++ 58 ∷ (spaces (suc n) ++ more)) (pair c key (Some d) ∷ [])
+  value : (c : ℕ) (d : Data) (bytes : List ℕ) → IsLeaf d bytes → bytes ≢ 45 ∷ []
+      → IsContent c bytes (leaf c d ∷ [])
 
--- what is read, where nothing but a comment stands behind it
-abbrev pub alone : Data × List ℕ → Option Data
-alone x = if closes x.1 then Some x.0 else None
+-- The tokens of a line. One that is empty or a comment has none; no content follows a tab.
+pub data IsLine : List ℕ → List Token → Type 0 where
+  empty_line : (n : ℕ) → IsLine (spaces n) []
+  comment_line : (n : ℕ) (text : List ℕ) → IsLine (spaces n ++ 35 ∷ text) []
+  content_line : (n : ℕ) (bytes tail : List ℕ) (ts : List Token) → IsContent n bytes ts
+      → IsTail tail → ((more : List ℕ) → bytes ≢ 9 ∷ more)
+      → IsLine (spaces n ++ (bytes ++ tail)) ts
 
-abbrev pub list_alone : List ℕ → Option Data
-list_alone bs = option_map_or alone (flow_list bs) None
+-- tokens with the number of their line
+abbrev pub at_line : ℕ → List Token → List (ℕ × Token)
+at_line n ts = map (λ t. (n, t)) ts
 
-abbrev pub mapping_alone : List ℕ → Option Data
-mapping_alone bs = option_map_or alone (flow_mapping bs) None
-
-abbrev pub scalar_alone : Scalar × List ℕ → Option Data
-scalar_alone x = if closes x.1 then Some (data_of x.0) else None
-
--- a scalar or a flow value up to the end of the line
-unfoldable pub leaf_at : List ℕ → Option Data
-leaf_at bs = option_map_or list_alone (behind 91 bs) (option_map_or mapping_alone (behind 123 bs) (option_map_or scalar_alone (scalar_at Line bs) None))
-
--- behind the `:` of a key: nothing, or a value on the line
-unfoldable pub value_at : List ℕ → Option (Option Data)
-value_at bs = if over (skip bs) then Some None else option_map (λ d. Some d) (leaf_at (skip bs))
-
--- behind a scalar that begins a content: the end of the line, or the `:` of a key
-abbrev pub keyed : ℕ → List ℕ → List ℕ → Option Token
-keyed column key rest = if opens rest then option_map (λ value. pair column key value) (value_at rest) else None
-
-abbrev pub key_at : ℕ → Scalar → List ℕ → Option Token
-key_at column key rest = if is_merge key then None else keyed column key.text rest
-
-abbrev pub scalar_or_key : ℕ → Scalar × List ℕ → Option Token
-scalar_or_key column x = if closes x.1 then Some (leaf column (data_of x.0)) else option_map_or (λ rest. key_at column x.0 rest) (behind 58 x.1) None
-
--- the last token of a line
-unfoldable pub content_at : ℕ → List ℕ → Option Token
-content_at column bs = option_map_or (λ rest. option_map (leaf column) (list_alone rest)) (behind 91 bs)
-    (option_map_or (λ rest. option_map (leaf column) (mapping_alone rest)) (behind 123 bs) (option_map_or (scalar_or_key column) (scalar_at Line bs) None))
-
--- The columns of the dashes that a line begins with, and where its last content begins. A dash counts at the end or before
--- a space; what stands behind it is a content of its own, at its own column.
-pub record Head : Type 0 where
-  pub dashes : List ℕ
-  pub column : ℕ
-  pub rest : List ℕ
-
-abbrev pub onto : List ℕ → Head → Head
-onto dashes h = record { dashes = dashes ++ h.dashes; column = h.column; rest = h.rest }
-
-abbrev pub head : ℕ → List ℕ → Head
-head c [] = record { dashes = []; column = c; rest = [] }
-head c (b ∷ bs) = if b == 32 then head (c + 1) bs else if b == 45 && opens bs then onto (c ∷ []) (head (c + 1) bs)
-    else record { dashes = []; column = c; rest = b ∷ bs }
-
-abbrev pub dash_behind : List ℕ → Option (List ℕ)
-dash_behind bs = option_map_or (λ rest. if opens rest then Some rest else None) (behind 45 bs) None
-
-abbrev pub tokens_in : Head → Option (List Token)
-tokens_in h = if over h.rest then Some (map dash h.dashes) else option_map (λ t. map dash h.dashes ++ (t ∷ [])) (content_at h.column h.rest)
-
--- the tokens of a line; a tab among its leading spaces has none
-unfoldable pub tokens_of : List ℕ → Option (List Token)
-tokens_of bs = if is_some (behind 9 (skip bs)) then None else tokens_in (head 0 bs)
+-- the tokens of a line before what the lines behind it have
+abbrev pub with_line : ℕ → List Token → Result (List (ℕ × Token)) ℕ → Result (List (ℕ × Token)) ℕ
+with_line n ts (Ok us) = Ok (at_line n ts ++ us)
+with_line n ts (Err m) = Err m

@@ -1,12 +1,15 @@
 -- What reading a text answers.
-use Rattle.std.specs.Prelude.{◌≡◌, ℕ, ◌<◌, ◌≤◌, ⊤, true, false, List, [], ◌∷◌, ◌++◌, map, Result, Ok, Err}
+use Rattle.std.specs.Prelude.{◌≡◌, ℕ, ◌<◌, ◌≤◌, ⊤, true, false, List, [], ◌∷◌, ◌++◌, map}
+use Rattle.std.specs.Prelude.{Result, Ok, Err}
 use Rattle.kr_yaml.specs.Data.{Data}
 use Rattle.kr_yaml.specs.Lines.{Token}
+use Rattle.kr_yaml.specs.Texts.{TextHas}
 use Rattle.kr_yaml.specs.Forms.{Shape, Form}
 use Rattle.kr_yaml.specs.Shown.{view}
 use Rattle.kr_yaml.specs.declared.tree.Tree.{Tree}
 use Rattle.kr_yaml.specs.declared.yaml_no.YamlNo.{YamlNo}
-use Rattle.kr_yaml.specs.declared.yaml_no.YamlNo.TheVariants.{Outside, Indent, DuplicateKey, Deep, NoMemory}
+use Rattle.kr_yaml.specs.declared.yaml_no.YamlNo.TheVariants.{Outside, Indent, DuplicateKey}
+use Rattle.kr_yaml.specs.declared.yaml_no.YamlNo.TheVariants.{Deep, NoMemory}
 
 -- the tokens without the numbers of their lines
 abbrev pub plain : List (ℕ × Token) → List Token
@@ -31,9 +34,10 @@ FormTwice ts = (d : Data) × (s : Shape) × Form ts d s × (s.twice ≡ true)
 abbrev pub FormDeep : List Token → Type 0
 FormDeep ts = (d : Data) × (s : Shape) × Form ts d s × (16 < s.levels)
 
--- The tokens make a tree up to one on this line, and with that one there is this breach. The breach that comes first in the
--- text is also the first in the order Indent, DuplicateKey, Deep on its line: only the first token of a line can be one that
--- can't go on, or go on with a mapping, since what stands behind a dash on its line begins a node of its own.
+-- The tokens make a tree up to one on this line, and with that one there is this breach. The
+-- breach that comes first in the text is also the first in the order Indent, DuplicateKey, Deep on
+-- its line: only the first token of a line can be one that can't go on, or go on with a mapping,
+-- since what stands behind a dash on its line begins a node of its own.
 pub record Breaks (us : List (ℕ × Token)) (line : ℕ) (Breach : List Token → Type 0) : Type 0 where
   pub before : List (ℕ × Token)
   pub token : Token
@@ -61,8 +65,8 @@ Refuses (Ok us) why = IsFirst us why
 Refuses (Err n) (Outside line) = line ≡ n
 Refuses (Err n) why = ⊥
 
--- Each line has tokens, and they make the tree; or a line has none, and the first such line is named; or the first breach of
--- the tokens is. Want of memory may take the place of any answer.
+-- Each line has tokens, and they make the tree; or a line has none, and the first such line is
+-- named; or the first breach of the tokens is. Want of memory may take the place of any answer.
 abbrev pub Reads : Result (List (ℕ × Token)) ℕ → Result Tree YamlNo → Type 0
 Reads wanted (Ok tree) = ReadsTree wanted tree
 Reads wanted (Err why) = Refuses wanted why
@@ -81,3 +85,16 @@ HasTree (Err n) d = ⊥
 abbrev pub NoTree : Result (List (ℕ × Token)) ℕ → YamlNo → Type 0
 NoTree wanted NoMemory = ⊤
 NoTree wanted why = (d : Data) → HasTree wanted d → ⊥
+
+-- The answer for a text: what its lines have, and what reading that answers.
+abbrev pub ReadsText : List ℕ → Result Tree YamlNo → Type 0
+ReadsText text result =
+    (wanted : Result (List (ℕ × Token)) ℕ) × TextHas text wanted × Reads wanted result
+
+abbrev pub IsOnlyTree : List ℕ → Data → Type 0
+IsOnlyTree text tree =
+    (wanted : Result (List (ℕ × Token)) ℕ) → TextHas text wanted → OnlyTree wanted tree
+
+abbrev pub HasNoTree : List ℕ → YamlNo → Type 0
+HasNoTree text why =
+    (wanted : Result (List (ℕ × Token)) ℕ) → TextHas text wanted → NoTree wanted why

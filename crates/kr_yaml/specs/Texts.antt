@@ -1,72 +1,54 @@
--- The tokens of a text, each with the number of its line, from 1.
-use Rattle.std.specs.Prelude.{ℕ, ◌+◌, ◌-◌, ◌^◌, min, ◌==◌, ◌&&◌, ◌||◌, not, Bool, true, false, List, [], ◌∷◌, ◌++◌, map, Option, None, Some, Result, Ok, Err, if◌then◌else◌, option_and_then}
+-- The tokens of a text, each with the number of its line, from 1. 45 is `-`, 46 is `.`.
+use Rattle.std.specs.Prelude.{◌≡◌, ℕ, ◌&&◌, Bool, true, false, List, [], ◌∷◌, Result, Ok, Err}
 use Rattle.std.specs.Option.{option_map_or}
 use Rattle.std.specs.List.{list_all}
 use Rattle.std.specs.Str.{chars}
 use Rattle.std.specs.Str.Lines.{lines}
+use Rattle.kr_base.specs.Numbering.{next_place}
 use Rattle.kr_yaml.specs.Characters.{is_allowed}
-use Rattle.kr_yaml.specs.Bytes.{behind, skip, over, closes}
-use Rattle.kr_yaml.specs.Lines.{Token, tokens_of}
+use Rattle.kr_yaml.specs.Bytes.{behind_three, is_blank, is_empty}
+use Rattle.kr_yaml.specs.Lines.{Token, IsTail, IsLine, with_line}
+use Rattle.kr_yaml.specs.inner.TextReading.{tokens_from}
 
--- what stands behind three of this byte
-abbrev pub behind_three : ℕ → List ℕ → Option (List ℕ)
-behind_three c line = option_and_then (behind c) (option_and_then (behind c) (behind c line))
+-- nothing, or a blank first
+abbrev pub is_parted : List ℕ → Bool
+is_parted [] = true
+is_parted (b ∷ bs) = is_blank b
 
--- three of this byte, and nothing else but a comment
-abbrev pub marks : ℕ → List ℕ → Bool
-marks c line = option_map_or closes (behind_three c line) false
+-- A line that begins with three of this byte, and behind them ends or goes on with a blank. With
+-- `---` and `...` YAML begins and ends documents so.
+abbrev pub is_mark : ℕ → List ℕ → Bool
+is_mark c line = option_map_or is_parted (behind_three c line) false
 
--- a space or a tab comes first
-abbrev pub begins_blank : List ℕ → Bool
-begins_blank [] = false
-begins_blank (b ∷ bs) = b == 32 || b == 9
+-- The tokens that a line stands for, where nothing but empty lines and comments stands before it,
+-- or where more does. The first line may be `---`, which counts for nothing, and `...`, which is
+-- a text, but no other line is a mark.
+pub data StandsFor : Bool → List ℕ → List Token → Type 0 where
+  first_mark : (tail : List ℕ) → IsTail tail → StandsFor true (45 ∷ (45 ∷ (45 ∷ tail))) []
+  first_dots : (tail : List ℕ) (ts : List Token) → IsTail tail
+      → IsLine (46 ∷ (46 ∷ (46 ∷ tail))) ts → StandsFor true (46 ∷ (46 ∷ (46 ∷ tail))) ts
+  no_mark : (first : Bool) (line : List ℕ) (ts : List Token) → is_mark 45 line ≡ false
+      → is_mark 46 line ≡ false → IsLine line ts → StandsFor first line ts
 
--- behind a marker a space or a tab, and more than a comment
-abbrev pub goes_on : List ℕ → Bool
-goes_on rest = begins_blank rest && not (closes rest)
+-- of a line that holds no character but allowed ones
+abbrev pub HasTokens : Bool → List ℕ → List Token → Type 0
+HasTokens first line ts = (list_all is_allowed (chars line) ≡ true) × StandsFor first line ts
 
--- three of this byte, a space or a tab, and more than a comment
-abbrev pub marks_more : ℕ → List ℕ → Bool
-marks_more c line = option_map_or goes_on (behind_three c line) false
+-- What lines have from this number on: the tokens of all, or the number of the first line that has
+-- none.
+pub data HaveTokens : ℕ → Bool → List (List ℕ) → Result (List (ℕ × Token)) ℕ → Type 0 where
+  no_lines : (n : ℕ) (first : Bool) → HaveTokens n first [] (Ok [])
+  line_without : (n : ℕ) (first : Bool) (line : List ℕ) (rest : List (List ℕ))
+      → ((ts : List Token) → HasTokens first line ts → ⊥)
+      → HaveTokens n first (line ∷ rest) (Err n)
+  line_with : (n : ℕ) (first : Bool) (line : List ℕ) (rest : List (List ℕ)) (ts : List Token)
+      (wanted : Result (List (ℕ × Token)) ℕ) → HasTokens first line ts
+      → HaveTokens (next_place n) (first && is_empty line) rest wanted
+      → HaveTokens n first (line ∷ rest) (with_line n ts wanted)
 
--- `---` or `...` with more behind it, which YAML reads as a document's end or begin
-abbrev pub is_marker : List ℕ → Bool
-is_marker line = marks_more 45 line || marks_more 46 line
+abbrev pub TextHas : List ℕ → Result (List (ℕ × Token)) ℕ → Type 0
+TextHas text wanted = HaveTokens 1 true (lines text) wanted
 
--- a line holds a character that it may not hold, or such a marker
-abbrev pub is_foreign : List ℕ → Bool
-is_foreign line = not (list_all is_allowed (chars line)) || is_marker line
-
--- The tokens of a line, where only empty lines and comments stand before it or not. A `---` before all else has none, and
--- counts for nothing; behind that, neither `---` nor `...` may stand.
-abbrev pub unmarked : Bool → List ℕ → Option (List Token)
-unmarked first line = if marks 45 line then (if first then Some [] else None)
-    else if marks 46 line && not first then None else tokens_of line
-
-abbrev pub line_tokens : Bool → List ℕ → Option (List Token)
-line_tokens first line = if is_foreign line then None else unmarked first line
-
--- a line with nothing, or nothing but a comment
-abbrev pub is_empty : List ℕ → Bool
-is_empty line = over (skip line)
-
--- a line's number stands still at the end of its type
-abbrev pub next_number : ℕ → ℕ
-next_number n = min (n + 1) (2 ^ 32 - 1)
-
-abbrev pub numbered : ℕ → List Token → List (ℕ × Token)
-numbered n ts = map (λ t. (n, t)) ts
-
--- the tokens of a line and of the lines behind it, or the number of the first line that has none
-abbrev pub before_rest : ℕ → Option (List Token) → Result (List (ℕ × Token)) ℕ → Result (List (ℕ × Token)) ℕ
-before_rest n None rest = Err n
-before_rest n (Some ts) (Err m) = Err m
-before_rest n (Some ts) (Ok us) = Ok (numbered n ts ++ us)
-
-abbrev pub tokens_from : ℕ → Bool → List (List ℕ) → Result (List (ℕ × Token)) ℕ
-tokens_from n first [] = Ok []
-tokens_from n first (line ∷ rest) = before_rest n (line_tokens first line) (tokens_from (next_number n) (first && is_empty line) rest)
-
--- of the lines of a text
+-- What the lines of a text have, as it is read. By the law `ReadAsWritten` this is `TextHas`.
 unfoldable pub text_tokens : List ℕ → Result (List (ℕ × Token)) ℕ
 text_tokens text = tokens_from 1 true (lines text)

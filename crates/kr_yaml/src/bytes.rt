@@ -1,7 +1,10 @@
 //! Words on the bytes of a line.
 ghost use Rattle.std.specs.Prelude.{◌≡◌, true, ◌<◌, ◌≤◌, length, take, drop, slice_index};
 ghost use Rattle.std.specs.Option.{option_map};
-ghost use Rattle.kr_yaml.specs.Bytes.{behind, skip, trim, opens, over, closes, is_hash, is_colon, is_comment, is_flow, is_single, is_double, stops, length_until, has, at_stop, ascii_first};
+ghost use Rattle.kr_yaml.specs.Bytes.{behind, skip, over};
+ghost use Rattle.kr_yaml.specs.inner.Stops.{trim, opens, closes, is_hash, is_colon, is_comment};
+ghost use Rattle.kr_yaml.specs.inner.Stops.{is_flow, is_single, is_double, stops, length_until};
+ghost use Rattle.kr_yaml.specs.inner.Stops.{has, at_stop, ascii_first};
 
 /// What ends a part of a line.
 #[derive(Clone, Copy)]

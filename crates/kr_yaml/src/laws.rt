@@ -1,9 +1,8 @@
-//! Laws of the definitions, for a reader and for callers' proofs. The function does nothing.
-ghost use Rattle.kr_yaml.specs.Laws.{OneForm, SomeAnswer, OneAnswer, OnALine};
-ghost use Rattle.kr_yaml.specs.Written.{AsWritten};
+//! Laws of the definitions, for a reader and for callers' proofs. The functions do nothing.
+ghost use Rattle.kr_yaml.specs.Laws.{ReadAsWritten, OneForm, SomeAnswer, OneAnswer, OnALine};
 
-/// Tokens form one tree at most, and a text has one answer: its tree, or its first breach. Of the breaches on one line the
-/// first is also the first in the order Indent, DuplicateKey, Deep.
+/// Tokens form one tree at most, and a text has one answer: its tree, or its first breach. Of the
+/// breaches on one line the first is also the first in the order Indent, DuplicateKey, Deep.
 pub fn one_answer()
     ensures form { OneForm }
     ensures some { SomeAnswer }
@@ -11,7 +10,8 @@ pub fn one_answer()
     ensures order { OnALine }
 {}
 
-/// Scalars are read as the profile says that they are written.
+/// The tokens of a line are read exactly as the profile says that they are written, and a line
+/// that has none by the profile is read as none.
 pub fn read_as_written()
-    ensures { AsWritten }
+    ensures { ReadAsWritten }
 {}

@@ -1,10 +1,15 @@
 //! The tokens of a line.
 ghost use Rattle.std.specs.Prelude.{◌≡◌, IfOk, length, map};
 ghost use Rattle.std.specs.Option.{option_map};
-ghost use Rattle.kr_yaml.specs.Lines.{Token, dash, leaf, pair, scalars, flow_list, flow_mapping, list_alone, mapping_alone, leaf_at, value_at, keyed, key_at, content_at, Head, head, dash_behind, tokens_in, tokens_of};
+ghost use Rattle.kr_yaml.specs.Lines.{Token, dash, leaf, pair};
+ghost use Rattle.kr_yaml.specs.inner.LineReading.{scalars, flow_list, flow_mapping, list_alone};
+ghost use Rattle.kr_yaml.specs.inner.LineReading.{mapping_alone, leaf_at, value_at, member_at};
+ghost use Rattle.kr_yaml.specs.inner.LineReading.{key_at, content_at, Head, head, dash_behind};
+ghost use Rattle.kr_yaml.specs.inner.LineReading.{tokens_in, tokens_of};
 ghost use Rattle.kr_yaml.specs.Shown.{view};
-ghost use Rattle.kr_yaml.specs.Seen.{token_view, token_views, lent_trees, lent_tree, list_tokens, IsHead};
-ghost use Rattle.kr_yaml.specs.Gives.{Gives};
+ghost use Rattle.kr_yaml.specs.inner.Seen.{token_view, token_views, lent_trees, lent_tree};
+ghost use Rattle.kr_yaml.specs.inner.Seen.{list_tokens, IsHead};
+ghost use Rattle.kr_yaml.specs.inner.Gives.{Gives};
 
 use crate::bytes::{behind, closes, opens, over, skip};
 use crate::line_error::LineError;
@@ -43,7 +48,7 @@ fn scalars(alloc: Global, text: &str) -> Result<(List<Tree>, &str), LineError>
 }
 
 /// The flow list behind its opening bracket, and what stands behind it.
-#[tactic(auto, unfolding(crate::specs::Lines::flow_list))]
+#[tactic(auto, unfolding(crate::specs::inner::LineReading::flow_list))]
 fn flow_list(alloc: Global, text: &str) -> Result<(Tree, &str), LineError>
     ensures { Gives lent_tree (flow_list text.now) result }
 {
@@ -56,6 +61,7 @@ fn flow_list(alloc: Global, text: &str) -> Result<(Tree, &str), LineError>
     }
 }
 
+/// A flow list behind its opening bracket, up to the end of the line.
 fn list_alone(alloc: Global, text: &str) -> Result<Tree, LineError>
     ensures { Gives view (list_alone text.now) result }
 {
@@ -71,6 +77,7 @@ fn list_alone(alloc: Global, text: &str) -> Result<Tree, LineError>
     }
 }
 
+/// An empty mapping behind its opening brace, up to the end of the line.
 fn mapping_alone(alloc: Global, text: &str) -> Result<Tree, LineError>
     ensures { Gives view (mapping_alone text.now) result }
 {
@@ -87,7 +94,7 @@ fn mapping_alone(alloc: Global, text: &str) -> Result<Tree, LineError>
 }
 
 /// A scalar or a flow value up to the end of the line.
-#[tactic(auto, unfolding(crate::specs::Lines::leaf_at))]
+#[tactic(auto, unfolding(crate::specs::inner::LineReading::leaf_at))]
 fn leaf_at(alloc: Global, text: &str) -> Result<Tree, LineError>
     ensures { Gives view (leaf_at text.now) result }
 {
@@ -110,7 +117,7 @@ fn leaf_at(alloc: Global, text: &str) -> Result<Tree, LineError>
 }
 
 /// What stands behind the `:` of a key.
-#[tactic(auto, unfolding(crate::specs::Lines::value_at))]
+#[tactic(auto, unfolding(crate::specs::inner::LineReading::value_at))]
 fn value_at(alloc: Global, text: &str) -> Result<Option<Tree>, LineError>
     ensures { Gives (λ value. option_map view value) (value_at text.now) result }
 {
@@ -118,10 +125,7 @@ fn value_at(alloc: Global, text: &str) -> Result<Option<Tree>, LineError>
     if over(text.as_bytes()) {
         return Ok(None);
     }
-    match leaf_at(alloc, text) {
-        Ok(tree) => Ok(Some(tree)),
-        Err(why) => Err(why),
-    }
+    Ok(Some(leaf_at(alloc, text)?))
 }
 
 /// A key and what stands behind its `:`.
@@ -131,37 +135,31 @@ fn key_at(alloc: Global, column: usize, key: Scalar, rest: &str) -> Result<LineT
     if is_merge(&key) {
         return Err(LineError::Form);
     }
-    keyed(alloc, column, key.text, rest)
+    member_at(alloc, column, key.text, rest)
 }
 
-fn keyed(alloc: Global, column: usize, key: Text, rest: &str) -> Result<LineToken, LineError>
-    ensures { Gives token_view (keyed column key rest.now) result }
+fn member_at(alloc: Global, column: usize, key: Text, rest: &str) -> Result<LineToken, LineError>
+    ensures { Gives token_view (member_at column key rest.now) result }
 {
     if !opens(rest.as_bytes()) {
         return Err(LineError::Form);
     }
-    match value_at(alloc, rest) {
-        Ok(value) => Ok(LineToken::Pair { column, key, value }),
-        Err(why) => Err(why),
-    }
+    let value = value_at(alloc, rest)?;
+    Ok(LineToken::Pair { column, key, value })
 }
 
 /// The last token of a line.
-#[tactic(auto, unfolding(crate::specs::Lines::content_at))]
+#[tactic(auto, unfolding(crate::specs::inner::LineReading::content_at))]
 fn content_at(alloc: Global, column: usize, text: &str) -> Result<LineToken, LineError>
     ensures { Gives token_view (content_at column text.now) result }
 {
     if let Some(rest) = behind(text, '[') {
-        return match list_alone(alloc, rest) {
-            Ok(value) => Ok(LineToken::Leaf { column, value }),
-            Err(why) => Err(why),
-        };
+        let value = list_alone(alloc, rest)?;
+        return Ok(LineToken::Leaf { column, value });
     }
     if let Some(rest) = behind(text, '{') {
-        return match mapping_alone(alloc, rest) {
-            Ok(value) => Ok(LineToken::Leaf { column, value }),
-            Err(why) => Err(why),
-        };
+        let value = mapping_alone(alloc, rest)?;
+        return Ok(LineToken::Leaf { column, value });
     }
     let (scalar, rest) = match scalar_at(alloc, Context::Line, text) {
         Ok(found) => found,
@@ -198,7 +196,8 @@ fn dash_behind(text: &str) -> Option<&str>
 /// The dashes that a line begins with, and the column and the text of its last content.
 #[tactic(auto, using(crate::proofs::Heads::heads_begin, crate::proofs::Heads::heads_space, crate::proofs::Heads::heads_dash, crate::proofs::Heads::heads_end, crate::proofs::Heads::dash_less, crate::proofs::Quotes::behind_less))]
 fn head(alloc: Global, text: &str) -> Result<(List<LineToken>, usize, &str), NoMemory>
-    ensures { IfOk result (λ found. IsHead (head 0 text.now) (token_views found.0.0) found.1 found.2.now) }
+    ensures { IfOk result
+        (λ found. IsHead (head 0 text.now) (token_views found.0.0) found.1 found.2.now) }
 {
     let mut tokens = List::new(alloc);
     let mut rest = text;
@@ -220,7 +219,7 @@ fn head(alloc: Global, text: &str) -> Result<(List<LineToken>, usize, &str), NoM
 }
 
 /// The tokens of a line.
-#[tactic(auto, unfolding(crate::specs::Lines::tokens_of))]
+#[tactic(auto, unfolding(crate::specs::inner::LineReading::tokens_of))]
 pub fn tokens_of(alloc: Global, line: &str) -> Result<List<LineToken>, LineError>
     ensures { Gives list_tokens (tokens_of line.now) result }
 {
@@ -234,10 +233,7 @@ pub fn tokens_of(alloc: Global, line: &str) -> Result<List<LineToken>, LineError
     if over(rest.as_bytes()) {
         return Ok(tokens);
     }
-    let token = match content_at(alloc, column, rest) {
-        Ok(token) => token,
-        Err(why) => return Err(why),
-    };
+    let token = content_at(alloc, column, rest)?;
     match tokens.push(token) {
         Ok(()) => Ok(tokens),
         Err(_) => Err(LineError::NoMemory),

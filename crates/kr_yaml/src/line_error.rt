@@ -1,4 +1,5 @@
 //! Why a part of a line wasn't read.
+
 /// Why a part of a line wasn't read.
 #[derive(Clone, Copy, Debug, PartialEq, Eq)]
 pub enum LineError {

@@ -1,11 +1,14 @@
 //! The nodes that are open while tokens are read.
-ghost use Rattle.std.specs.Prelude.{◌≡◌, ◌<◌, ◌≤◌, ◌+◌, true, false, [], ◌∷◌, length, take, drop, vec_len, IfOk};
+ghost use Rattle.std.specs.Prelude.{◌≡◌, ◌<◌, ◌≤◌, ◌+◌, true, false, [], ◌∷◌, length, take, drop};
+ghost use Rattle.std.specs.Prelude.{vec_len, IfOk};
 ghost use Rattle.std.specs.Option.{option_map};
 ghost use Rattle.kr_yaml.specs.Shown.{view};
-ghost use Rattle.kr_yaml.specs.Seen.{token_view};
-ghost use Rattle.kr_yaml.specs.Open.{Frame, items, members, column_of, is_dash_at, is_inside, close, closed, begun, next, put, is_repeated, doubles, place};
-ghost use Rattle.kr_yaml.specs.Frames.{frame_view, frame_views, state_view};
-ghost use Rattle.kr_yaml.specs.Puts.{GoesOn, Puts};
+ghost use Rattle.kr_yaml.specs.inner.Seen.{token_view};
+ghost use Rattle.kr_yaml.specs.inner.Open.{Frame, items, members, column_of, is_dash_at, is_inside};
+ghost use Rattle.kr_yaml.specs.inner.Open.{close, closed_value, first_state, next, put};
+ghost use Rattle.kr_yaml.specs.inner.Open.{is_repeated, doubles, place};
+ghost use Rattle.kr_yaml.specs.inner.Frames.{frame_view, frame_views, state_view};
+ghost use Rattle.kr_yaml.specs.inner.Puts.{GoesOn, Puts};
 
 use crate::open_mapping::OpenMapping;
 use crate::place_error::PlaceError;

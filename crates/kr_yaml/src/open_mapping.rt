@@ -25,15 +25,16 @@ pub struct OpenMapping {
     pub key: Text,
     /// All keys, in order, so that a key that stands twice is found at once.
     pub keys: BTreeSet<Text>,
-    ghost known: { (k : List ℕ) → contains (slice_cmp nat_cmp) keys k ≡ list_any (λ x. bytes_eq x k) (keys_of (member_views done.0) ++ key ∷ []) },
+    ghost known: { (k : List ℕ) → contains (slice_cmp nat_cmp) keys k
+        ≡ list_any (λ x. bytes_eq x k) (keys_of (member_views done.0) ++ key ∷ []) },
 }
 
 impl OpenMapping {
     ghost use Rattle.std.specs.Prelude.{IfOk, MatchResult, true, false};
     ghost use Rattle.kr_yaml.specs.Shown.{view};
-    ghost use Rattle.kr_yaml.specs.Open.{members, close};
-    ghost use Rattle.kr_yaml.specs.Frames.{mapping_frame};
-    ghost use Rattle.kr_yaml.specs.Adds.{Adds};
+    ghost use Rattle.kr_yaml.specs.inner.Open.{members, close};
+    ghost use Rattle.kr_yaml.specs.inner.Frames.{mapping_frame};
+    ghost use Rattle.kr_yaml.specs.inner.Adds.{Adds};
 
     /// A mapping with a first key.
     pub fn begin(alloc: Global, column: usize, key: Text) -> Result<OpenMapping, NoMemory>

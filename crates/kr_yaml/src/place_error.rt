@@ -1,4 +1,5 @@
 //! Why a token wasn't put.
+
 /// Why a token wasn't put.
 #[derive(Clone, Copy, Debug, PartialEq, Eq)]
 pub enum PlaceError {

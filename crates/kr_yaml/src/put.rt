@@ -1,12 +1,14 @@
 //! Putting a token into the open nodes.
-ghost use Rattle.std.specs.Prelude.{◌≡◌, ◌<◌, ◌≤◌, ◌+◌, true, false, [], ◌∷◌, length, take, drop, IfOk, OnOk, None, unwrap_or};
+ghost use Rattle.std.specs.Prelude.{◌≡◌, ◌<◌, ◌≤◌, ◌+◌, true, false, [], ◌∷◌, length, take, drop};
+ghost use Rattle.std.specs.Prelude.{IfOk, OnOk, None, unwrap_or};
 ghost use Rattle.std.specs.Option.{option_map};
 ghost use Rattle.kr_yaml.specs.Data.{null};
 ghost use Rattle.kr_yaml.specs.Shown.{view};
-ghost use Rattle.kr_yaml.specs.Seen.{token_view};
-ghost use Rattle.kr_yaml.specs.Open.{closed, begun, next, put, is_repeated, doubles, place};
-ghost use Rattle.kr_yaml.specs.Frames.{frame_view, frame_views, state_view};
-ghost use Rattle.kr_yaml.specs.Puts.{GoesOn, Begins, Puts};
+ghost use Rattle.kr_yaml.specs.inner.Seen.{token_view};
+ghost use Rattle.kr_yaml.specs.inner.Open.{closed_value, first_state, next, put, is_repeated};
+ghost use Rattle.kr_yaml.specs.inner.Open.{doubles, place};
+ghost use Rattle.kr_yaml.specs.inner.Frames.{frame_view, frame_views, state_view};
+ghost use Rattle.kr_yaml.specs.inner.Puts.{GoesOn, Begins, Puts};
 
 use crate::open::{OpenNode, close, place};
 use crate::open_mapping::OpenMapping;
@@ -36,7 +38,8 @@ pub fn close_from(
     value: Option<Tree>,
 ) -> Result<Tree, NoMemory>
     requires { at ≤ length nodes.old.items }
-    ensures tree { IfOk result (λ tree. view tree ≡ closed (frame_views (drop at nodes.old.items)) (option_map view value)) }
+    ensures tree { IfOk result (λ tree. view tree
+        ≡ closed_value (frame_views (drop at nodes.old.items)) (option_map view value)) }
     ensures rest { OnOk result (nodes.new.items ≡ take at nodes.old.items) }
 {
     let mut tree = or_null(value);
@@ -59,7 +62,8 @@ fn go_on(
     value: Tree,
     token: LineToken,
 ) -> Result<(OpenNode, Option<Tree>), PlaceError>
-    ensures { GoesOn (next (token_view token) (frame_view node) (view value)) (is_repeated (token_view token) (frame_view node)) result }
+    ensures { GoesOn (next (token_view token) (frame_view node) (view value))
+        (is_repeated (token_view token) (frame_view node)) result }
 {
     match (node, token) {
         (OpenNode::Items { column, mut done }, LineToken::Dash { column: own }) => {
@@ -93,7 +97,7 @@ fn go_on(
 
 /// What a token begins where nothing stands yet: a node, or a value.
 fn begin(alloc: Global, token: LineToken) -> Result<(Option<OpenNode>, Option<Tree>), NoMemory>
-    ensures { IfOk result (λ x. Begins (begun (token_view token)) x.0 x.1) }
+    ensures { IfOk result (λ x. Begins (first_state (token_view token)) x.0 x.1) }
 {
     match token {
         LineToken::Dash { column } => Ok((
@@ -120,7 +124,8 @@ fn put_inside(
 ) -> Result<(Vec<OpenNode>, Option<Tree>), PlaceError>
     requires few { length nodes.items ≤ 16 }
     requires inside { place (token_view token) (frame_views nodes.items) ≡ length nodes.items }
-    ensures { Puts (put (token_view token) (frame_views nodes.items) (option_map view value)) (doubles (token_view token) (frame_views nodes.items)) result }
+    ensures { Puts (put (token_view token) (frame_views nodes.items) (option_map view value))
+        (doubles (token_view token) (frame_views nodes.items)) result }
 {
     let mut nodes = nodes;
     let None = value else {
@@ -153,7 +158,8 @@ fn put_at(
     requires few { length nodes.items ≤ 16 }
     requires inside { at ≡ place (token_view token) (frame_views nodes.items) }
     requires within { at < length nodes.items }
-    ensures { Puts (put (token_view token) (frame_views nodes.items) (option_map view value)) (doubles (token_view token) (frame_views nodes.items)) result }
+    ensures { Puts (put (token_view token) (frame_views nodes.items) (option_map view value))
+        (doubles (token_view token) (frame_views nodes.items)) result }
 {
     let mut nodes = nodes;
     let tree = match close_from(&mut nodes, at + 1, value) {
@@ -181,7 +187,8 @@ pub fn put(
     token: LineToken,
 ) -> Result<(Vec<OpenNode>, Option<Tree>), PlaceError>
     requires { length nodes.items ≤ 16 }
-    ensures { Puts (put (token_view token) (frame_views nodes.items) (option_map view value)) (doubles (token_view token) (frame_views nodes.items)) result }
+    ensures { Puts (put (token_view token) (frame_views nodes.items) (option_map view value))
+        (doubles (token_view token) (frame_views nodes.items)) result }
 {
     let at = place(&token, nodes.as_slice());
     if at == nodes.len() {

@@ -1,12 +1,17 @@
 //! Reading a text.
 ghost use Rattle.std.specs.Prelude.{◌≡◌, ◌<◌, ◌&&◌, true, IfOk, IfErr};
 ghost use Rattle.std.specs.Str.Lines.{lines};
-ghost use Rattle.kr_yaml.specs.Seen.{token_view, token_views, list_tokens};
-ghost use Rattle.kr_yaml.specs.Gives.{Gives};
+ghost use Rattle.kr_yaml.specs.inner.Seen.{token_view, token_views, list_tokens};
+ghost use Rattle.kr_yaml.specs.inner.Gives.{Gives};
 ghost use Rattle.std.specs.Option.{option_map};
-ghost use Rattle.kr_yaml.specs.Texts.{behind_three, marks, begins_blank, goes_on, marks_more, is_foreign, line_tokens, is_empty, tokens_from, text_tokens};
-ghost use Rattle.kr_yaml.specs.Progress.{Moves, Extends, ReadsLines};
-ghost use Rattle.kr_yaml.specs.Reads.{Reads, OnlyTree, NoTree};
+ghost use Rattle.kr_yaml.specs.Bytes.{behind_three};
+ghost use Rattle.kr_yaml.specs.inner.TextReading.{marks, begins_blank, goes_on, marks_more};
+ghost use Rattle.kr_yaml.specs.inner.TextReading.{is_foreign, line_tokens};
+ghost use Rattle.kr_yaml.specs.Bytes.{is_empty};
+ghost use Rattle.kr_yaml.specs.inner.TextReading.{tokens_from};
+ghost use Rattle.kr_yaml.specs.Texts.{text_tokens};
+ghost use Rattle.kr_yaml.specs.inner.Progress.{Moves, Extends, ReadsLines};
+ghost use Rattle.kr_yaml.specs.Reads.{Reads, OnlyTree, NoTree, ReadsText, IsOnlyTree, HasNoTree};
 ghost use Rattle.kr_yaml.specs.Shown.{view};
 
 use crate::bytes::{behind, closes, over, skip};
@@ -74,7 +79,8 @@ fn marks_more(mark: char, line: &str) -> bool
     }
 }
 
-/// Whether a line holds what a reader of YAML might take for the end of the line or of the document.
+/// Whether a line holds what a reader of YAML might take for the end of the line or of the
+/// document.
 fn is_foreign(line: &str) -> bool
     ensures { result ≡ is_foreign line.now }
 {
@@ -181,19 +187,27 @@ fn read_lines(alloc: Global, text: &str) -> Result<Progress, YamlNo>
     Ok(progress)
 }
 
-/// Reads a text of the profile. The first line that isn't of it is looked for in all lines; then the first breach of the
-/// tokens decides. Where it refuses, but for want of memory, there is no tree. It takes time in proportion to the text, and
-/// finds a doubled key by a sorted set.
-#[tactic(auto, unfolding(crate::specs::Texts::text_tokens))]
+/// Reads a text of the profile. The first line that isn't of it is looked for in all lines; then
+/// the first breach of the tokens decides. Where it refuses, but for want of memory, there is no
+/// tree. It takes time in proportion to the text, and finds a key that stands twice by a sorted
+/// set. The clause `tokens` is for callers' proofs: `text_tokens` computes what the lines have.
 pub fn read(alloc: Global, text: &str) -> Result<Tree, YamlNo>
+    ensures reads { ReadsText text.now result }
+    ensures only { IfOk result (λ tree. IsOnlyTree text.now (view tree)) }
+    ensures none { IfErr result (λ why. HasNoTree text.now why) }
+    ensures tokens { Reads (text_tokens text.now) result }
+{
+    read_tokens(alloc, text)
+}
+
+/// The same by the tokens as they are computed.
+#[tactic(auto, unfolding(crate::specs::Texts::text_tokens))]
+fn read_tokens(alloc: Global, text: &str) -> Result<Tree, YamlNo>
     ensures reads { Reads (text_tokens text.now) result }
     ensures only { IfOk result (λ tree. OnlyTree (text_tokens text.now) (view tree)) }
     ensures none { IfErr result (λ why. NoTree (text_tokens text.now) why) }
 {
-    let progress = match read_lines(alloc, text) {
-        Ok(progress) => progress,
-        Err(why) => return Err(why),
-    };
+    let progress = read_lines(alloc, text)?;
     let standing = match progress {
         Progress::Going(standing) => standing,
         Progress::Broken(why) => return Err(why),

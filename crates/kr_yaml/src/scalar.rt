@@ -1,9 +1,13 @@
 //! Scalars: plain, in single quotes and in double quotes.
 ghost use Rattle.std.specs.Prelude.{◌≡◌, ◌<◌, IfSome};
 ghost use Rattle.std.specs.List.{list_all};
-ghost use Rattle.kr_yaml.specs.Scalars.{is_blank, is_merge, single, double, escape, is_indicator, is_plain, is_space, is_null, plain_text, plain_scalar, plain_at, scalar_at, data_of, quoted};
+ghost use Rattle.kr_yaml.specs.Bytes.{is_blank};
+ghost use Rattle.kr_yaml.specs.inner.ScalarReading.{is_merge, single, double, is_plain, is_space};
+ghost use Rattle.kr_yaml.specs.inner.ScalarReading.{is_null, plain_text, plain_scalar, plain_at};
+ghost use Rattle.kr_yaml.specs.inner.ScalarReading.{scalar_at, data_of, quoted_scalar};
+ghost use Rattle.kr_yaml.specs.Written.{escape, is_indicator};
 ghost use Rattle.kr_yaml.specs.Shown.{view};
-ghost use Rattle.kr_yaml.specs.Gives.{Gives, lent};
+ghost use Rattle.kr_yaml.specs.inner.Gives.{Gives, with_rest};
 
 use crate::bytes::{Stop, ascii_first, behind, cut_before, has, trim};
 use crate::line_error::LineError;
@@ -32,7 +36,7 @@ pub enum Context {
 /// The text behind an opening single quote up to the closing one, and what stands behind that.
 #[tactic(auto, using(crate::proofs::Quotes::single_refused, crate::proofs::Quotes::single_ended, crate::proofs::Quotes::single_goes_on, crate::proofs::Quotes::behind_less))]
 fn single(alloc: Global, text: &str) -> Result<(Text, &str), LineError>
-    ensures { Gives lent (single text.now) result }
+    ensures { Gives with_rest (single text.now) result }
 {
     let mut word = String::new(alloc);
     let mut rest = text;
@@ -74,7 +78,7 @@ fn escape(byte: u8) -> Option<char>
 /// The text behind an opening double quote up to the closing one, and what stands behind that.
 #[tactic(auto, using(crate::proofs::Quotes::double_refused, crate::proofs::Quotes::double_ended, crate::proofs::Quotes::double_cut, crate::proofs::Quotes::double_unknown, crate::proofs::Quotes::double_goes_on, crate::proofs::Quotes::behind_less, crate::proofs::Quotes::first_less))]
 fn double(alloc: Global, text: &str) -> Result<(Text, &str), LineError>
-    ensures { Gives lent (double text.now) result }
+    ensures { Gives with_rest (double text.now) result }
 {
     let mut word = String::new(alloc);
     let mut rest = text;
@@ -137,7 +141,7 @@ fn plain_scalar<'a>(
     text: &str,
     rest: &'a str,
 ) -> Result<(Scalar, &'a str), LineError>
-    ensures { Gives lent (plain_scalar text.now rest.now) result }
+    ensures { Gives with_rest (plain_scalar text.now rest.now) result }
 {
     if !is_plain(text) {
         return Err(LineError::Form);
@@ -157,9 +161,9 @@ fn plain_text<'a>(front: &'a str, rest: &str) -> &'a str
     }
 }
 
-#[tactic(auto, unfolding(crate::specs::Scalars::plain_at))]
+#[tactic(auto, unfolding(crate::specs::inner::ScalarReading::plain_at))]
 fn plain_at(alloc: Global, context: Context, text: &str) -> Result<(Scalar, &str), LineError>
-    ensures { Gives lent (plain_at context text.now) result }
+    ensures { Gives with_rest (plain_at context text.now) result }
 {
     match context {
         Context::Line => {
@@ -177,9 +181,9 @@ fn plain_at(alloc: Global, context: Context, text: &str) -> Result<(Scalar, &str
 }
 
 /// The scalar that the text begins with, and what stands behind it.
-#[tactic(auto, unfolding(crate::specs::Scalars::scalar_at))]
+#[tactic(auto, unfolding(crate::specs::inner::ScalarReading::scalar_at))]
 pub fn scalar_at(alloc: Global, context: Context, text: &str) -> Result<(Scalar, &str), LineError>
-    ensures { Gives lent (scalar_at context text.now) result }
+    ensures { Gives with_rest (scalar_at context text.now) result }
 {
     if let Some(rest) = behind(text, '\'') {
         return match single(alloc, rest) {

@@ -1,4 +1,5 @@
 //! Why a text wasn't read.
+
 /// Why a text wasn't read. A line's number counts from 1.
 #[derive(Clone, Copy, Debug, PartialEq, Eq)]
 pub enum YamlNo {
@@ -17,7 +18,8 @@ pub enum YamlNo {
         /// The line.
         line: u32,
     },
-    /// The tree has more than 16 levels of lists and mappings from this line on. A flow value counts none.
+    /// The tree has more than 16 levels of lists and mappings from this line on. A flow value
+    /// counts none.
     Deep {
         /// The line.
         line: u32,

@@ -9,17 +9,19 @@ block_of_columns columns = state_of (λ row column. word_byte (slice_index colum
 
 -- the word has these bytes, each added to the key's
 abbrev pub IsKeyed : (ℕ → ℕ) → ℕ → ℕ → Type 0
-IsKeyed byte key word = (row : ℕ) → row < 4 → word_byte word row ≡ bit_xor (byte row) (word_byte key row)
+IsKeyed byte key word = (row : ℕ) → row < 4
+    → word_byte word row ≡ bit_xor (byte row) (word_byte key row)
 
 -- the S-boxes of one byte of each word, from the first row on
-abbrev pub boxed : (ℕ → ℕ) → ℕ → ℕ → ℕ → ℕ → List ℕ
-boxed box a b c d =
+abbrev pub sbox_column : (ℕ → ℕ) → ℕ → ℕ → ℕ → ℕ → List ℕ
+sbox_column box a b c d =
     box (word_byte a 0) ∷ box (word_byte b 1) ∷ box (word_byte c 2) ∷ box (word_byte d 3) ∷ []
 
 -- what MixColumns makes of the S-boxes
 abbrev pub forward_byte : ℕ → ℕ → ℕ → ℕ → ℕ → ℕ
-forward_byte a b c d row = column_sum (2 ∷ 3 ∷ 1 ∷ 1 ∷ []) (boxed sbox a b c d) row 0
+forward_byte a b c d row = column_sum (2 ∷ 3 ∷ 1 ∷ 1 ∷ []) (sbox_column sbox a b c d) row 0
 
 -- what InvMixColumns makes of the inverse S-boxes
 abbrev pub inverse_byte : ℕ → ℕ → ℕ → ℕ → ℕ → ℕ
-inverse_byte a b c d row = column_sum (0xe ∷ 0xb ∷ 0xd ∷ 0x9 ∷ []) (boxed inverse_sbox a b c d) row 0
+inverse_byte a b c d row =
+    column_sum (0xe ∷ 0xb ∷ 0xd ∷ 0x9 ∷ []) (sbox_column inverse_sbox a b c d) row 0

@@ -1,1 +1,2 @@
+-- The list.
 pub mod List

@@ -46,13 +46,13 @@ abbrev pub with_annotation : Raw → List ℕ → List ℕ → Raw
 with_annotation raw key value = record raw { annotations = with_pair raw.annotations key value }
 
 -- the object with one more item
-abbrev pub merged : Raw → message.Item → Raw
-merged raw (message.encrypted content) = record raw { encrypted = content }
-merged raw (message.key_id content) = record raw { key_id = content }
-merged raw (message.source content) = record raw { source = content }
-merged raw (message.annotation key value) = with_annotation raw key value
-merged raw (message.kind n) = record raw { kind = n }
-merged raw message.other = raw
+abbrev pub with_item : Raw → message.Item → Raw
+with_item raw (message.encrypted content) = record raw { encrypted = content }
+with_item raw (message.key_id content) = record raw { key_id = content }
+with_item raw (message.source content) = record raw { source = content }
+with_item raw (message.annotation key value) = with_annotation raw key value
+with_item raw (message.kind n) = record raw { kind = n }
+with_item raw message.other = raw
 
 -- the annotations are kept until there are too many, which they stay
 abbrev pub Keeps : Bool → Pairs → Pairs → Type 0

@@ -42,7 +42,8 @@ fn writes_a_prefix(rt: HostRuntime) {
 const WHOLE: &[u8] =
     b"\x0a\x02\xaa\xbb\x12\x02k1\x1a\x01\xcc\x22\x09\x0a\x04a.io\x12\x01\x01\x28\x01";
 
-/// The same without annotations, out of order, with another key id before and a field of no meaning.
+/// The same without annotations, out of order, with another key id before and a field of no
+/// meaning.
 const STRAY: &[u8] = b"\x28\x01\x12\x01x\x1a\x01\xcc\x30\x07\x0a\x02\xaa\xbb\x12\x02k1";
 
 /// Why a message isn't an object.

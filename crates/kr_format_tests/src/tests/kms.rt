@@ -135,7 +135,9 @@ fn makes_a_seed(rt: HostRuntime) -> Result<(), Fail> {
     let mut link = plugin_with(alloc, "v2", "ok", "k1").ok_or("memory")?;
     let zeros = vec![in alloc; 0; 40]?;
     let mut dice = MemDice::new(Bytes::from_vec(zeros), List::new(alloc));
-    let row = make_seed(alloc, &mut link, &mut dice).ok().ok_or("no seed")?;
+    let row = make_seed(alloc, &mut link, &mut dice)
+        .ok()
+        .ok_or("no seed")?;
     assert_eq!(rt; row.key_id.as_str(), "k1");
     assert!(rt; row.seed.as_slice() == [0; 32].as_slice());
     assert!(rt; row.source.as_slice() == [0x9d; 32].as_slice());
@@ -148,11 +150,14 @@ fn makes_a_seed(rt: HostRuntime) -> Result<(), Fail> {
 
 /// The first byte of what is fetched for a source of 32 bytes 9d under a key id, and whether all
 /// are the same.
-fn fetched(alloc: Global, cache: &mut SeedCache, link: &mut TablePlugin, key_id: &str) -> Option<u8> {
+fn fetched(
+    alloc: Global,
+    cache: &mut SeedCache,
+    link: &mut TablePlugin,
+    key_id: &str,
+) -> Option<u8> {
     let annotations = salted(alloc, &[1]).ok()?;
-    let seed = cache
-        .fetch(link, key_id, &annotations, &[0x9d; 32])
-        .ok()?;
+    let seed = cache.fetch(link, key_id, &annotations, &[0x9d; 32]).ok()?;
     let first = *seed.as_slice().first()?;
     if seed.as_slice().len() == 32 && seed.as_slice().iter().all(|byte| *byte == first) {
         Some(first)

@@ -25,7 +25,8 @@ fn writes_requests(rt: HostRuntime) -> Result<(), Fail> {
         annotations: Annotations::new(alloc),
         uid: u64::MAX,
     };
-    let line = b"{\"annotations\":{},\"call\":\"decrypt\",\"ciphertext\":\"aGk=\",\"key_id\":\"k1\",\"uid\":\"18446744073709551615\"}\n";
+    let line =
+        b"{\"annotations\":{},\"call\":\"decrypt\",\"ciphertext\":\"aGk=\",\"key_id\":\"k1\",\"uid\":\"18446744073709551615\"}\n";
     assert!(rt; asks(alloc, &decrypt, line)?);
     Ok(())
 }
@@ -42,7 +43,8 @@ fn writes_annotations_in_order(rt: HostRuntime) -> Result<(), Fail> {
         annotations,
         uid: 0,
     };
-    let line = b"{\"annotations\":{\"a.io\":\"AQ==\",\"b.io\":\"\"},\"call\":\"decrypt\",\"ciphertext\":\"\",\"key_id\":\"\\\"\",\"uid\":\"0\"}\n";
+    let line =
+        b"{\"annotations\":{\"a.io\":\"AQ==\",\"b.io\":\"\"},\"call\":\"decrypt\",\"ciphertext\":\"\",\"key_id\":\"\\\"\",\"uid\":\"0\"}\n";
     assert!(rt; asks(alloc, &decrypt, line)?);
     Ok(())
 }
@@ -79,7 +81,15 @@ fn reads_replies(rt: HostRuntime) {
     assert!(rt; reads(alloc, call, line, "wrapped", b"hi"));
     let call = PluginCall::Decrypt;
     assert!(rt; reads(alloc, call, b"{\"plaintext\":\"aGk=\"}", "plain", b"hi"));
-    assert!(rt; reads(alloc, call, b"{\"plaintext\":\"\",\"error\":1}", "plain", b""));
+    assert!(rt;
+        reads(
+            alloc,
+            call,
+            b"{\"plaintext\":\"\",\"error\":1}",
+            "plain",
+            b""
+        )
+    );
 }
 
 #[test]
@@ -87,7 +97,15 @@ fn refuses_replies(rt: HostRuntime) {
     let alloc = rt.alloc();
     let call = PluginCall::Decrypt;
     assert!(rt; reads(alloc, call, b"{\"error\":\"no\"}", "error", b"no"));
-    assert!(rt; reads(alloc, call, b"{\"plaintext\":\"aGk=\",\"error\":\"\"}", "error", b""));
+    assert!(rt;
+        reads(
+            alloc,
+            call,
+            b"{\"plaintext\":\"aGk=\",\"error\":\"\"}",
+            "error",
+            b""
+        )
+    );
     assert!(rt; reads(alloc, call, b"[]", "shape", b""));
     assert!(rt; reads(alloc, call, b"{\"call\":\"status\"}", "shape", b""));
     // The padding is missing, and bits behind the end aren't zero.

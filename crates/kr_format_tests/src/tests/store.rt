@@ -1,12 +1,23 @@
-//! A store over a tape in memory: its file, failing writes and cuts, lookups, breaches, and files that are read ahead.
+//! A store over a tape in memory: its file in both formats, failing writes and cuts, lookups,
+//! breaches, and files that are read ahead.
 use kr_base::{Bytes, List, MemTape, path_ok, resource_ok};
-use kr_store::{PutNo, Store, StoreNo, one_breach, one_file, some_answer};
+use kr_store::{
+    Check, Format, PutNo, RowRef, Store, StoreNo, one_breach, one_file, one_row, some_answer,
+};
 use std::alloc::Global;
 use std::test::Fail;
 
-// The put of `hi` for `secrets` at `/s` into an empty file, in hexadecimal digits:
-// 4b5253544f524531 01 0000000000000001 0002 2f73 0007 73656372657473 00000002 6869.
-const ONE_ROW: &[u8] = b"KRSTORE1\x01\0\0\0\0\0\0\0\x01\0\x02/s\0\x07secrets\0\0\0\x02hi";
+/// The put of `hi` for `secrets` at `/s` with a check of zero bytes into an empty file:
+/// 4b5253544f524532 01 0000000000000001 0002 2f73 0007 73656372657473 0000000000000000 00000002 6869.
+const ONE_ROW: &[u8] =
+    b"KRSTORE2\x01\0\0\0\0\0\0\0\x01\0\x02/s\0\x07secrets\0\0\0\0\0\0\0\0\0\0\0\x02hi";
+
+/// The same put in a file of the first format: 4b5253544f524531 01 0000000000000001 0002 2f73
+/// 0007 73656372657473 00000002 6869.
+const OLD_ROW: &[u8] = b"KRSTORE1\x01\0\0\0\0\0\0\0\x01\0\x02/s\0\x07secrets\0\0\0\x02hi";
+
+/// Zero bytes, as where no secret seals.
+const NO_SECRET: Check = Check { value: 0 };
 
 fn numbers(alloc: Global, numbers: &[u64]) -> Option<List<u64>> {
     Some(List::from_vec(Vec::from_slice(alloc, numbers).ok()?))
@@ -45,7 +56,7 @@ fn put(alloc: Global, store: &mut Store<MemTape>, path: &str, stored: &[u8]) -> 
         return Err(PutNo::NoMemory);
     };
     if path_ok(path) && resource_ok("secrets") && stored.as_slice().len() <= 10_000 {
-        store.put(path, "secrets", stored)
+        store.put(path, "secrets", stored, NO_SECRET)
     } else {
         Err(PutNo::NoMemory)
     }
@@ -62,7 +73,7 @@ fn replaces(alloc: Global, store: &mut Store<MemTape>, path: &str, revision: u64
     if !path_ok(path) || stored.as_slice().len() > 10_000 {
         return None;
     }
-    match store.replace_if(path, revision, stored) {
+    match store.replace_if(path, revision, stored, Check { value: 7 }) {
         Ok(revision) => Some(revision),
         Err(_) => None,
     }
@@ -103,12 +114,12 @@ fn after(store: &Store<MemTape>, path: &str) -> u64 {
 fn writes_the_file(rt: HostRuntime) -> Result<(), Fail> {
     let alloc = rt.alloc();
     let tape = tape(alloc, b"", &[]).ok_or("memory")?;
-    let mut store = Store::load(alloc, tape, 36).ok().ok_or("not loaded")?;
+    let mut store = Store::load(alloc, tape, 44).ok().ok_or("not loaded")?;
     assert_eq!(rt; puts(alloc, &mut store, "/s", b"hi"), 1);
     let full = put(alloc, &mut store, "/t", b"");
-    assert!(rt; matches!(full, Err(PutNo::Full { needed: 62 })));
+    assert!(rt; matches!(full, Err(PutNo::Full { needed: 78 })));
     let full = deletes(&mut store, "/s");
-    assert!(rt; matches!(full, Err(PutNo::Full { needed: 49 })));
+    assert!(rt; matches!(full, Err(PutNo::Full { needed: 57 })));
     let tape = store.close();
     assert!(rt; tape.bytes() == ONE_ROW);
     Ok(())
@@ -156,12 +167,12 @@ fn replaces_the_last_revision(rt: HostRuntime) -> Result<(), Fail> {
     Ok(())
 }
 
-/// Whether the first bytes of the row are answered as they must be.
-fn is_torn_right(alloc: Global, length: usize) -> bool {
-    let Some(cut) = ONE_ROW.get(..length) else {
+/// Whether the first bytes of a file of one row are answered as they must be.
+fn is_torn_right(alloc: Global, row: &[u8], length: usize) -> bool {
+    let Some(cut) = row.get(..length) else {
         return false;
     };
-    match rows_of(alloc, cut, 36) {
+    match rows_of(alloc, cut, 44) {
         Ok(rows) => rows == 0 && (length == 0 || length == 8),
         Err(StoreNo::Torn { at: 0 }) => length < 8,
         Err(StoreNo::Torn { at: 8 }) => length > 8,
@@ -174,12 +185,86 @@ fn refuses_every_cut_of_a_row(rt: HostRuntime) {
     one_file();
     one_breach();
     some_answer();
+    one_row();
     let alloc = rt.alloc();
-    for length in 0..36usize {
-        assert!(rt; is_torn_right(alloc, length), "{length}");
+    for length in 0..44usize {
+        assert!(rt; is_torn_right(alloc, ONE_ROW, length), "{length}");
     }
-    assert!(rt; matches!(rows_of(alloc, ONE_ROW, 36), Ok(1)));
-    assert!(rt; matches!(rows_of(alloc, ONE_ROW, 35), Err(StoreNo::TooLong)));
+    for length in 0..36usize {
+        assert!(rt; is_torn_right(alloc, OLD_ROW, length), "{length}");
+    }
+    assert!(rt; matches!(rows_of(alloc, ONE_ROW, 44), Ok(1)));
+    assert!(rt; matches!(rows_of(alloc, ONE_ROW, 43), Err(StoreNo::TooLong)));
+}
+
+/// The format of the file, and how a put at `/t` lets it grow.
+fn grows(alloc: Global, bytes: &[u8]) -> Option<(Format, usize)> {
+    let mut store = loaded(alloc, bytes, &[])?;
+    let format = store.format();
+    if puts(alloc, &mut store, "/t", b"") == 0 {
+        return None;
+    }
+    let tape = store.close();
+    Some((format, tape.bytes().len()))
+}
+
+// The first format keeps no check, so its rows are 8 bytes shorter.
+#[test]
+fn keeps_the_format(rt: HostRuntime) {
+    let alloc = rt.alloc();
+    assert_eq!(rt; grows(alloc, b""), Some((Format::Two, 42)));
+    assert_eq!(rt; grows(alloc, b"KRSTORE2"), Some((Format::Two, 42)));
+    assert_eq!(rt; grows(alloc, b"KRSTORE1"), Some((Format::One, 34)));
+    assert_eq!(rt; grows(alloc, OLD_ROW), Some((Format::One, 62)));
+}
+
+/// The check of the path's live row: none where the row has none, or there is no row.
+fn check(store: &Store<MemTape>, path: &str) -> Option<Check> {
+    if !path_ok(path) {
+        return None;
+    }
+    match store.get(path) {
+        Ok(Some(row)) => row.get().check,
+        _ => None,
+    }
+}
+
+#[test]
+fn keeps_checks_in_the_second_format(rt: HostRuntime) -> Result<(), Fail> {
+    let alloc = rt.alloc();
+    let mut store = loaded(alloc, ONE_ROW, &[]).ok_or("not loaded")?;
+    assert_eq!(rt; check(&store, "/s"), Some(NO_SECRET));
+    assert_eq!(rt; replaces(alloc, &mut store, "/s", 1), Some(2));
+    assert_eq!(rt; check(&store, "/s"), Some(Check { value: 7 }));
+    let mut old = loaded(alloc, OLD_ROW, &[]).ok_or("not loaded")?;
+    assert!(rt; has(&old, "/s", 1, b"hi"));
+    assert_eq!(rt; replaces(alloc, &mut old, "/s", 1), Some(2));
+    assert_eq!(rt; check(&old, "/s"), None);
+    Ok(())
+}
+
+/// Whether the row with this revision puts a value with this length, or deletes `/s` where none is
+/// given.
+fn lends(store: &Store<MemTape>, revision: u64, length: Option<usize>) -> bool {
+    match store.row_at(revision) {
+        Some(RowRef::Put(row)) => {
+            row.revision == revision && Some(row.stored.as_slice().len()) == length
+        }
+        Some(RowRef::Delete(path)) => path == "/s" && length.is_none(),
+        None => false,
+    }
+}
+
+#[test]
+fn lends_rows_by_their_revisions(rt: HostRuntime) -> Result<(), Fail> {
+    let alloc = rt.alloc();
+    let mut store = loaded(alloc, ONE_ROW, &[]).ok_or("not loaded")?;
+    assert!(rt; matches!(deletes(&mut store, "/s"), Ok(Some(2))));
+    assert!(rt; lends(&store, 1, Some(2)));
+    assert!(rt; lends(&store, 2, None));
+    assert!(rt; store.row_at(0).is_none());
+    assert!(rt; store.row_at(3).is_none());
+    Ok(())
 }
 
 /// The rows of a file of one row in which one byte is another.
@@ -190,13 +275,14 @@ fn rows_with(alloc: Global, at: usize, byte: u8) -> Result<u64, StoreNo> {
     if let Some(place) = changed.get_mut(at) {
         *place = byte;
     }
-    rows_of(alloc, changed.as_slice(), 36)
+    rows_of(alloc, changed.as_slice(), 44)
 }
 
 #[test]
 fn refuses_other_bytes(rt: HostRuntime) {
     let alloc = rt.alloc();
     assert!(rt; matches!(rows_with(alloc, 0, 0), Err(StoreNo::Magic)));
+    assert!(rt; matches!(rows_with(alloc, 7, b'3'), Err(StoreNo::Magic)));
     assert!(rt; matches!(rows_with(alloc, 8, 3), Err(StoreNo::BadRow { at: 8 })));
     assert!(rt; matches!(rows_with(alloc, 16, 2), Err(StoreNo::Order { at: 8 })));
     assert!(rt; matches!(rows_with(alloc, 17, 5), Err(StoreNo::BadRow { at: 8 })));
@@ -215,7 +301,8 @@ fn long_tape(alloc: Global, half: &[u8], long: &[u8]) -> Option<MemTape> {
     Some(store.close())
 }
 
-// The file is longer than what is read ahead: its parts are read from what was read, behind a refill, and by themselves.
+// The file is longer than what is read ahead: its parts are read from what was read, behind a
+// refill, and by themselves.
 #[test]
 fn reads_long_files(rt: HostRuntime) -> Result<(), Fail> {
     let alloc = rt.alloc();
@@ -243,7 +330,8 @@ fn refusals(alloc: Global, store: &mut Store<MemTape>) -> Option<u64> {
     Some(refused)
 }
 
-/// Whether of six writes the one with that number is refused, and the others are there when the tape is loaded again.
+/// Whether of six writes the one with that number is refused, and the others are there when the
+/// tape is loaded again.
 fn loses_one(alloc: Global, fails: u64) -> Option<bool> {
     let mut store = loaded(alloc, b"", &[fails])?;
     let refused = refusals(alloc, &mut store)?;

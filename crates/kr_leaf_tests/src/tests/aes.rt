@@ -1,4 +1,5 @@
-//! The vectors of FIPS 197, appendix C, by the tables and byte by byte, and each cause of a refusal.
+//! The vectors of FIPS 197, appendix C, by the tables and byte by byte, and each cause of a
+//! refusal.
 
 use kr_aes::{
     KeyLength, Rounds, decrypt_block, decrypt_block_by_inverse, encrypt_block, expand, invert,

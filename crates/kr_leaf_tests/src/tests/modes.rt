@@ -62,8 +62,8 @@ fn opens_as(words: &[u32; 60], rounds: Rounds, body: &[u8]) -> Result<usize, Mod
     cbc_unseal(words, rounds, body, &mut out[..size])
 }
 
-// The second block is the cipher of 0011 .. ff of FIPS 197, appendix C.1, so the IV decides what the
-// blocks decrypt to: here all bytes are 0.
+// The second block is the cipher of 0011 .. ff of FIPS 197, appendix C.1, so the IV decides what
+// the blocks decrypt to: here all bytes are 0.
 #[test]
 fn cbc_refusals(rt: HostRuntime) {
     let mut words = [0; 60];

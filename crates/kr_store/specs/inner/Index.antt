@@ -25,16 +25,18 @@ abbrev pub gone_at : Index → List ℕ → Option ℕ
 gone_at index path = get_by_text index.gone path
 
 abbrev pub StandsAt : ℕ → Change → Option ℕ → Option ℕ → Type 0
-StandsAt k (Put resource stored) standing deleted = standing ≡ Some k
+StandsAt k (Put resource stored check) standing deleted = standing ≡ Some k
 StandsAt k Delete standing deleted = (standing ≡ None) × (deleted ≡ Some k)
 
--- what the index has at a path is its last row; where that is live, the last delete counts for nothing
+-- what the index has at a path is its last row; where that is live, the last delete counts for
+-- nothing
 abbrev pub Stands : Option (ℕ × LogRow) → Option ℕ → Option ℕ → Type 0
 Stands None standing deleted = (standing ≡ None) × (deleted ≡ None)
 Stands (Some found) standing deleted = StandsAt found.0 found.1.change standing deleted
 
 abbrev pub IsIndexOf : List LogRow → Index → Type 0
-IsIndexOf rows index = (path : List ℕ) → Stands (latest rows path) (live_at index path) (gone_at index path)
+IsIndexOf rows index =
+    (path : List ℕ) → Stands (latest rows path) (live_at index path) (gone_at index path)
 
 abbrev pub SetsLive : Index → Index → List ℕ → Option ℕ → Type 0
 SetsLive old new path to =
@@ -69,7 +71,8 @@ Same old new =
     ((q : List ℕ) → live_at new q ≡ live_at old q)
     × ((q : List ℕ) → gone_at new q ≡ gone_at old q)
 
--- the index has the same rows; the last delete of a live path counts for nothing, so a delete may have changed it
+-- the index has the same rows; the last delete of a live path counts for nothing, so a delete may
+-- have changed it
 abbrev pub StaysAs : Index → Index → List ℕ → Kind → Type 0
 StaysAs old new path kind.Put = Same old new
 StaysAs old new path kind.Delete = SameBut old new path

@@ -1,16 +1,16 @@
 -- Reading a tape from front to back, part by part.
-use Rattle.std.specs.Prelude.{◌≡◌, ◌≢◌, ℕ, ◌+◌, ◌<◌, ◌≤◌, ◌⊎◌, List, ◌∷◌, ◌++◌, length, take, Option, None, IfSome, Result, Ok, Err, ⊤}
-use Rattle.std.specs.Io.KnownBytes.{Consumes}
-use Rattle.kr_base.specs.Told.{Agrees}
+use Rattle.std.specs.Prelude.{◌≡◌, ◌≢◌, ℕ, ◌+◌, ◌<◌, ◌≤◌, ◌⊎◌, List, ◌∷◌, ◌++◌, length, take, Option, None, IfSome, Result, IsErrOf, Ok, Err, ⊤}
 use Rattle.std.specs.Prelude.{Vec}
 use Rattle.std.specs.declared.alloc.Global.{Global}
-use Rattle.kr_store.specs.File.{magic, IsFile, text_bytes, value_bytes, row_bytes, byte_of}
-use Rattle.kr_store.specs.inner.KeptRows.{log_row_of, log_rows_of, AreKeptRows}
 use Rattle.std.specs.Int.{w64, to_be_bytes}
+use Rattle.std.specs.Io.KnownBytes.{Consumes}
+use Rattle.kr_base.specs.Faults.{Rose}
+use Rattle.kr_base.specs.Told.{Agrees}
+use Rattle.kr_store.specs.declared.format.Check.{Check}
+use Rattle.kr_store.specs.declared.format.Format.{Format}
 use Rattle.kr_store.specs.declared.kept_row.Kind.{Kind}
 use Rattle.kr_store.specs.declared.kept_row.KeptRow.{KeptRow}
-use Rattle.kr_store.specs.Breaches.{Read, part, IsBreach}
-use Rattle.kr_store.specs.inner.Index.{IsIndexOf}
+use Rattle.kr_store.specs.declared.load.Contents.{Contents}
 use Rattle.kr_store.specs.declared.index.Index.{Index}
 use Rattle.kr_store.specs.declared.answers.StoreNo.{StoreNo}
 use Rattle.kr_store.specs.declared.answers.StoreNo.TheVariants as no
@@ -18,8 +18,13 @@ use Rattle.kr_store.specs.declared.answers.Cause.{Cause}
 use Rattle.kr_store.specs.declared.answers.Cause.TheVariants.{Torn, BadRow, Order}
 use Rattle.kr_store.specs.declared.answers.Stop.{Stop}
 use Rattle.kr_store.specs.declared.answers.Stop.TheVariants.{Breach, Failed, NoMemory}
+use Rattle.kr_store.specs.File.{store_name, magic, IsFile, text_bytes, value_bytes, check_bytes, row_bytes, byte_of}
+use Rattle.kr_store.specs.Breaches.{Read, part, IsBreach}
+use Rattle.kr_store.specs.inner.Index.{IsIndexOf}
+use Rattle.kr_store.specs.inner.KeptRows.{log_row_of, log_rows_of, AreKeptRows}
 
--- what the tape tells, and of it what is left; the place that is read next, the end, and how often the tape failed
+-- what the tape tells, and of it what is left; the place that is read next, the end, and how often
+-- the tape failed
 pub record Ahead : Type 0 where
   pub told : Option (List ℕ)
   pub left : Option (List ℕ)
@@ -35,19 +40,26 @@ pub record Moves (old new : Ahead) : Type 0 where
   pub known : IfSome new.left (λ bytes. new.place + length bytes ≡ new.end)
   pub later : old.count ≤ new.count
 
+-- reading leaves the tape as it is, and where it answers that the tape failed, its count rose
+pub record Advances {A E : Type 0} (failure : E) (old new : Ahead) (result : Result A E)
+    : Type 0 where
+  pub moves : Moves old new
+  pub failed : IsErrOf result failure → Rose old.count new.count
+
 -- bytes that may be those that are left can't be read so
-pub record Breaks {A : Type 0} (old : Ahead) (reads : List ℕ → Read A) (cause : Cause) : Type 0 where
+pub record Breaks {A : Type 0} (old : Ahead) (reads : List ℕ → Read A) (cause : Cause)
+    : Type 0 where
   pub bytes : List ℕ
   pub agrees : Agrees old.left bytes
   pub within : old.place + length bytes ≤ old.end
   pub breaks : reads bytes ≡ Err cause
 
 -- bytes that may be those that are left have this first breach
-pub record MayBreak (old : Ahead) (cause : StoreNo) : Type 0 where
+pub record MayBreak (old : Ahead) (why : StoreNo) : Type 0 where
   pub bytes : List ℕ
   pub agrees : Agrees old.left bytes
   pub within : length bytes ≤ old.end
-  pub breach : IsBreach bytes cause
+  pub breach : IsBreach bytes why
 
 -- bytes were taken from the front
 pub record Takes (old new : Ahead) (front : List ℕ) : Type 0 where
@@ -75,20 +87,21 @@ IsShort old n (Err (Breach cause)) = (old.end < old.place + n) ⊎ (old.left ≡
 IsShort old n (Err Failed) = ⊤
 IsShort old n (Err NoMemory) = ⊥
 
--- the front of a file, at most 8 bytes, is the magic, or differs from it, or ends inside it
-abbrev pub IsNamed : {A : Type 0} → List ℕ → Result A StoreNo → Type 0
-IsNamed front (Ok x) = front ≡ magic
-IsNamed front (Err no.Magic) = front ≢ take (length front) magic
-IsNamed front (Err (no.Torn at)) = (at ≡ 0) × (front ≡ take (length front) magic) × (length front < length magic)
+-- the front of a file, at most 8 bytes, is a magic, or differs from each, or ends inside them
+abbrev pub IsNamed : List ℕ → Result Format StoreNo → Type 0
+IsNamed front (Ok format) = front ≡ magic format
+IsNamed front (Err no.Magic) = (format : Format) → front ≢ take (length front) (magic format)
+IsNamed front (Err (no.Torn at)) =
+    (at ≡ 0) × (length front ≤ length store_name) × (front ≡ take (length front) store_name)
 IsNamed front (Err (no.BadRow at)) = ⊥
 IsNamed front (Err (no.Order at)) = ⊥
 IsNamed front (Err no.TooLong) = ⊥
 IsNamed front (Err no.Failed) = ⊥
 IsNamed front (Err no.NoMemory) = ⊥
 
--- the file begins with the magic, or is broken there
-abbrev pub Names : {A : Type 0} → Ahead → Ahead → Result A StoreNo → Type 0
-Names old new (Ok x) = Takes old new magic
+-- the file begins with the magic of this format, or is broken there
+abbrev pub Names : Ahead → Ahead → Result Format StoreNo → Type 0
+Names old new (Ok format) = Takes old new (magic format)
 Names old new (Err no.Magic) = MayBreak old no.Magic
 Names old new (Err (no.Torn at)) = MayBreak old (no.Torn at)
 Names old new (Err (no.BadRow at)) = ⊥
@@ -98,17 +111,18 @@ Names old new (Err no.Failed) = ⊤
 Names old new (Err no.NoMemory) = ⊤
 
 -- the rows of a whole file, with their index
-pub record AreLoaded (old : Ahead) (rows : List KeptRow) (index : Index) : Type 0 where
+pub record AreLoaded (old : Ahead) (format : Format) (rows : List KeptRow) (index : Index)
+    : Type 0 where
   pub bytes : List ℕ
   pub agrees : Agrees old.left bytes
   pub length : length bytes ≡ old.end
-  pub file : IsFile (log_rows_of rows) bytes
-  pub kept_rows : AreKeptRows 1 rows
+  pub file : IsFile format (log_rows_of rows) bytes
+  pub kept_rows : AreKeptRows format 1 rows
   pub indexed : IsIndexOf (log_rows_of rows) index
 
 -- the rows were loaded, or this is the first breach
-abbrev pub LoadsRows : Ahead → Result ((List KeptRow × ℕ) × Index) StoreNo → Type 0
-LoadsRows old (Ok loaded) = AreLoaded old loaded.0.0 loaded.1
+abbrev pub LoadsRows : Ahead → Result Contents StoreNo → Type 0
+LoadsRows old (Ok contents) = AreLoaded old contents.format contents.rows.0 contents.index
 LoadsRows old (Err no.Magic) = MayBreak old no.Magic
 LoadsRows old (Err (no.Torn at)) = MayBreak old (no.Torn at)
 LoadsRows old (Err (no.BadRow at)) = MayBreak old (no.BadRow at)
@@ -118,7 +132,8 @@ LoadsRows old (Err no.Failed) = ⊤
 LoadsRows old (Err no.NoMemory) = ⊤
 
 -- something was read, whose bytes are these, or it can't be read
-abbrev pub Gives : {A B : Type 0} → Ahead → Ahead → (A → List ℕ) → (List ℕ → Read B) → Result A Stop → Type 0
+abbrev pub Gives :
+    {A B : Type 0} → Ahead → Ahead → (A → List ℕ) → (List ℕ → Read B) → Result A Stop → Type 0
 Gives old new written reads (Ok x) = Takes old new (written x)
 Gives old new written reads (Err (Breach cause)) = Breaks old reads cause
 Gives old new written reads (Err Failed) = ⊤
@@ -134,16 +149,16 @@ sized_bytes bytes = text_bytes bytes.items
 abbrev pub head_bytes : ℕ → Kind × List ℕ → List ℕ
 head_bytes k head = byte_of head.0 ∷ (to_be_bytes w64 k ++ text_bytes head.1)
 
-abbrev pub put_bytes : List ℕ × List ℕ → List ℕ
-put_bytes put = text_bytes put.0 ++ value_bytes put.1
+abbrev pub put_bytes : List ℕ × Option Check × List ℕ → List ℕ
+put_bytes put = text_bytes put.0 ++ (check_bytes put.1 ++ value_bytes put.2)
 
 abbrev pub kept_bytes : ℕ → KeptRow → List ℕ
-kept_bytes k entry = row_bytes k (log_row_of entry)
+kept_bytes k row = row_bytes k (log_row_of row)
 
--- why a row can't be loaded, with its place
-abbrev pub placed : Stop → ℕ → StoreNo
-placed (Breach Torn) at = no.Torn at
-placed (Breach BadRow) at = no.BadRow at
-placed (Breach Order) at = no.Order at
-placed Failed at = no.Failed
-placed NoMemory at = no.NoMemory
+-- why a row that begins at this place can't be loaded
+abbrev pub no_at : Stop → ℕ → StoreNo
+no_at (Breach Torn) at = no.Torn at
+no_at (Breach BadRow) at = no.BadRow at
+no_at (Breach Order) at = no.Order at
+no_at Failed at = no.Failed
+no_at NoMemory at = no.NoMemory

@@ -8,7 +8,7 @@ use Rattle.kr_turn.specs.declared.view.Stage.TheVariants.{Idle}
 use Rattle.kr_turn.specs.declared.view.Terms.{Terms}
 use Rattle.kr_turn.specs.declared.view.Part.{Part}
 use Rattle.kr_turn.specs.declared.view.View.{View}
-use Rattle.kr_turn.specs.Lines.{of_seat, Stands}
+use Rattle.kr_base.specs.Lines.{of_seat, Stands}
 
 -- each seat of the turn is this one, or ended in it
 abbrev pub Covers : {L G : Type 0} → Terms G → View L G → Type 0

@@ -12,7 +12,7 @@ use Rattle.kr_turn.specs.declared.view.Stage.TheVariants.{Blank, Filling, Idle, 
 use Rattle.kr_turn.specs.declared.view.Terms.{Terms}
 use Rattle.kr_turn.specs.declared.view.Part.{Part}
 use Rattle.kr_turn.specs.declared.view.View.{View}
-use Rattle.kr_turn.specs.Lines.{of_seat}
+use Rattle.kr_base.specs.Lines.{of_seat}
 
 -- a seat that is neither waiting nor served
 abbrev pub idle_view : {L G : Type 0} → Option (Terms G) → ℕ → List L → List L → ℕ

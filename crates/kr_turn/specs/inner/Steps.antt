@@ -8,7 +8,7 @@ use Rattle.kr_turn.specs.declared.view.Stage.TheVariants.{Blank, Filling, Idle, 
 use Rattle.kr_turn.specs.declared.view.Terms.{Terms}
 use Rattle.kr_turn.specs.declared.view.Part.{Part}
 use Rattle.kr_turn.specs.declared.view.View.{View}
-use Rattle.kr_turn.specs.Lines.{of_seat}
+use Rattle.kr_base.specs.Lines.{of_seat}
 use Rattle.kr_turn.specs.inner.Rule.{idle_view}
 use Rattle.kr_turn.specs.Keys.{budget_of}
 

@@ -1,3 +1,4 @@
+-- What the loop of `exact_place` keeps.
 use Rattle.std.proofs.Common.{◌≡◌, take, false}
 use Rattle.std.specs.List.{list_any}
 use Rattle.kr_config.specs.Classes.{is_exact}

@@ -1,3 +1,4 @@
+-- What the tactic leaves open of `one_meaning`.
 use Rattle.kr_config.proofs.OneMeaning.{one_meaning, some_meaning}
 use Rattle.kr_config.proofs.laws.one_meaning.Goals as goal
 

@@ -1,3 +1,4 @@
+-- What the loop of `next_in` keeps.
 use Rattle.std.proofs.Common.{take}
 use Rattle.std.specs.Option.{option_map}
 use Rattle.std.specs.List.{flat_map}
@@ -6,4 +7,5 @@ use Rattle.kr_config.specs.Nexts.{IsNextName}
 use Rattle.kr_config.proofs.next_plugin.next_in.Given as goal
 
 abbrev pub invariant-loop-entry : goal.invariant-loop-entry
-invariant-loop-entry l = IsNextName (flat_map entry_names (take l.entry-index l.entries)) l.after (option_map (λ name. name.now) l.next)
+invariant-loop-entry l = IsNextName (flat_map entry_names (take l.entry-index l.entries)) l.after
+    (option_map (λ name. name.now) l.next)

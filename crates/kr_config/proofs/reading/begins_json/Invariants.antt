@@ -1,3 +1,4 @@
+-- What the loop of `begins_json` keeps.
 use Rattle.std.proofs.Common.{◌≡◌, drop}
 use Rattle.kr_config.specs.Meanings.{begins_json}
 use Rattle.kr_config.proofs.reading.begins_json.Given as goal

@@ -1,3 +1,4 @@
+-- What the tactic leaves open of the reading of a tree's parts.
 use Rattle.std.proofs.Common.{map, ap, ◌∙◌}
 use Rattle.std.proofs.lemmas.List.{take_all}
 use Rattle.serde_json.specs.View.{items_of}
@@ -7,4 +8,6 @@ use Rattle.kr_config.proofs.Conversions.{items_same}
 use Rattle.kr_config.proofs.yaml.+value.Goals as goal
 
 pub values_of-returns : goal.values_of-returns
-values_of-returns t c = ap items_of (c.loop-item.invariant ∙ ap (map (λ tree. json_of (shown.view tree))) (take_all _ c.args.items.now c.loop-item-test.false)) ∙ items_same c.args.items.now
+values_of-returns t c = ap items_of
+    (c.loop-item.invariant ∙ ap (map (λ tree. json_of (shown.view tree)))
+    (take_all _ c.args.items.now c.loop-item-test.false)) ∙ items_same c.args.items.now

@@ -1,3 +1,4 @@
+-- What the loops over a tree's parts keep.
 use Rattle.std.proofs.Common.{◌≡◌, take, drop, map}
 use Rattle.serde_json.specs.Data.{no_members}
 use Rattle.serde_json.specs.View.{view, members_view}
@@ -7,7 +8,11 @@ use Rattle.kr_config.specs.Yaml.{json_of, json_members}
 use Rattle.kr_config.proofs.yaml.+value.Given as goal
 
 abbrev pub invariant-values_of-loop-item : goal.invariant-values_of-loop-item
-invariant-values_of-loop-item l = map view l.values.items ≡ map (λ tree. json_of (shown.view tree)) (take l.item-index l.items)
+invariant-values_of-loop-item l =
+    map view l.values.items ≡ map (λ tree. json_of (shown.view tree)) (take l.item-index l.items)
 
 abbrev pub invariant-map_of-loop-member : goal.invariant-map_of-loop-member
-invariant-map_of-loop-member l = json_members (members_view l.map.entries) (members_of (shown.member_views (drop l.member-index l.members))) ≡ json_members no_members (members_of (shown.member_views l.members))
+invariant-map_of-loop-member l =
+    json_members (members_view l.map.entries)
+    (members_of (shown.member_views (drop l.member-index l.members)))
+    ≡ json_members no_members (members_of (shown.member_views l.members))

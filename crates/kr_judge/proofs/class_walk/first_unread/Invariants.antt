@@ -2,7 +2,7 @@ use Rattle.std.proofs.Common.{length}
 use Rattle.std.specs.Option.{option_map}
 use Rattle.kr_config.specs.Kept.{rows_of}
 use Rattle.kr_config.specs.Nexts.{lent_class}
-use Rattle.kr_judge.specs.Boards.{generations_of}
+use Rattle.kr_judge.specs.inner.Views.{generations_of}
 use Rattle.kr_judge.specs.Verdicts.{judged_classes}
 use Rattle.kr_judge.proofs.Tables.{rest_after}
 use Rattle.kr_judge.proofs.ClassSteps.{IsLeft}

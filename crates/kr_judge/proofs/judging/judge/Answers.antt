@@ -1,6 +1,6 @@
 use Rattle.kr_config.specs.Kept.{rows_of}
 use Rattle.kr_config.specs.Nexts.{lent_class}
-use Rattle.kr_judge.specs.Boards.{generations_of}
+use Rattle.kr_judge.specs.inner.Views.{generations_of}
 use Rattle.kr_judge.proofs.Verdicts.{tells_stored, tells_writer, tells_unread}
 use Rattle.kr_judge.proofs.judging.judge.Goals as goal
 
@@ -18,4 +18,4 @@ pub returns-in-Some-first_unread_writer : goal.returns-in-Some-first_unread_writ
 returns-in-Some-first_unread_writer c =
     let lost = c.in-Some-first_unread_writer in
     tells_unread c.args.needs.now (generations_of c.args.generations.now) c.args.replica (rows_of c.args.settings.now.entries.0)
-    lost.generation (lent_class lost.class) lost.who.now c.isnt_read.result c.in-None.ensures c.in-None-first_lost_writer.ensures lost.ensures c.isnt_read.ensures
+    lost.generation (lent_class lost.class) lost.who.now c.unread.result c.in-None.ensures c.in-None-first_lost_writer.ensures lost.ensures c.unread.ensures

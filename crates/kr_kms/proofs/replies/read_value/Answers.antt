@@ -1,5 +1,5 @@
 -- A line's value, or that it has none.
-use Rattle.std.proofs.Common.{Some, None}
+use Rattle.std.proofs.Common.{Some}
 use Rattle.serde_json.specs.View.{view}
 use Rattle.kr_kms.proofs.Shapes.{value_is, no_value}
 use Rattle.kr_kms.proofs.replies.read_value.Goals as goal

@@ -1,5 +1,5 @@
 -- The pair at hand goes behind the others.
-use Rattle.std.proofs.Common.{◌≡◌, ◌∙◌, sym, subst}
+use Rattle.std.proofs.Common.{sym, subst}
 use Rattle.serde_json.specs.View.{members_view}
 use Rattle.kr_base.specs.Pairs.{IsSortedByKey}
 use Rattle.kr_kms.proofs.Lines.{member_more}

@@ -1,5 +1,5 @@
 -- A wrap that failed: the seed was drawn.
-use Rattle.std.proofs.Common.{◌≡◌, length, inr, rules, Err, ap, sym, ◌∙◌}
+use Rattle.std.proofs.Common.{◌≡◌, length, inr, rules, Err, ap}
 use Rattle.kr_base.proofs.Counting.{Rose-later}
 use Rattle.kr_kms.proofs.seeds.make_seed.Goals as goal
 

@@ -1,5 +1,5 @@
 -- The parts' types keep their rules.
-use Rattle.std.proofs.Common.{List, subst}
+use Rattle.std.proofs.Common.{subst}
 use Rattle.std.specs.Prelude.{All}
 use Rattle.std.specs.Str.{IsUtf8}
 use Rattle.kr_base.specs.Pairs.{Pairs}

@@ -1,5 +1,5 @@
 -- The key at hand is a text too.
-use Rattle.std.proofs.Common.{ℕ, List, get_or, below_more, subst, ◌∙◌}
+use Rattle.std.proofs.Common.{ℕ, List, below_more, subst, ◌∙◌}
 use Rattle.std.specs.Str.{IsUtf8}
 use Rattle.std.proofs.lemmas.List.{get_or_default}
 use Rattle.kr_kms.proofs.seeds.tell_texts.Goals as goal

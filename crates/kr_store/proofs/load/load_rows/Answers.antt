@@ -1,33 +1,73 @@
+-- Answers of load_rows.
 use Rattle.std.proofs.Common.{List, length, ◌+◌, Err, subst, sym, ◌∙◌, arith, ap}
-use Rattle.kr_store.specs.inner.Reading.{AreLoaded, LoadsRows, kept_bytes}
 use Rattle.kr_store.specs.declared.answers.StoreNo.{StoreNo}
+use Rattle.kr_store.specs.declared.format.Format.TheVariants.{Two}
 use Rattle.kr_store.specs.declared.kept_row.KeptRow.{KeptRow}
-use Rattle.kr_store.proofs.Loading.{Loading, nothing_loaded, loading_more, loading_ended, row_stops, row_refused, rows_before}
+use Rattle.kr_store.specs.inner.Reading.{AreLoaded, LoadsRows, kept_bytes}
+use Rattle.kr_store.proofs.Loading.{IsReadTo, nothing_loaded, loading_more, loading_ended, row_stops, row_refused, rows_before}
 use Rattle.kr_store.proofs.load.load_rows.Goals as goal
 
-pub returns-then-is_at_end-clause-moves : goal.returns-then-is_at_end-clause-moves
-returns-then-is_at_end-clause-moves g c = c.is_at_end.ensures.moves
+pub returns-then-is_at_end-clause-advances : goal.returns-then-is_at_end-clause-advances
+returns-then-is_at_end-clause-advances g c =
+    record { moves = c.is_at_end.ensures.moves; failed = λ e. cc }
 
 pub returns-then-is_at_end-clause-loads : goal.returns-then-is_at_end-clause-loads
-returns-then-is_at_end-clause-loads g c = subst (λ (rows : List KeptRow). AreLoaded c.args.reader.now rows c.new-index.result) (sym c.new-rows.ensures)
-    (nothing_loaded c.args.reader.now c.new-index.result c.is_at_end.ensures.moves c.requires (c.is_at_end.ensures.at.0 c.if-is_at_end.true) c.new-index.ensures)
+returns-then-is_at_end-clause-loads g c =
+    subst (λ (rows : List KeptRow). AreLoaded c.args.reader.now Two rows c.new-index.result)
+    (sym c.new-rows.ensures)
+    (nothing_loaded c.args.reader.now c.new-index.result c.is_at_end.ensures.moves c.requires
+    (c.is_at_end.ensures.at.0 c.if-is_at_end.true) c.new-index.ensures)
 
-pub returns-in-Err-row-clause-loads : goal.returns-in-Err-row-clause-loads
-returns-in-Err-row-clause-loads g c = let k = length c.as_slice.result.now + 1 in
+pub returns-in-Err-clause-loads : goal.returns-in-Err-clause-loads
+returns-in-Err-clause-loads g c =
+    let l = c.loop-alloc in
+    let k = length c.as_slice.result.now + 1 in
     subst (λ (no : StoreNo). LoadsRows c.args.reader.now (Err no)) (sym c.no_at.ensures)
-    (row_stops c.args.reader.now c.loop-alloc.reader c.row.new.self c.loop-alloc.rows.0 c.loop-alloc.index k (kept_bytes k) c.in-Err-row.stop c.place-at.result c.loop-alloc.invariant
-    (ap (λ (l : List KeptRow). length l + 1) c.as_slice.ensures) (λ e. let t = c.is_at_end-in-loop-alloc.ensures.at.1 e in let f = c.loop-alloc-test.true in cc) c.place-at.ensures c.in-Err-row.ensures.read)
+    (row_stops c.args.reader.now l.reader c.row.new.self c.in_ok-format.format l.rows.0 l.index k
+    (kept_bytes k) c.in-Err.stop c.place-at.result l.invariant
+    (ap (λ (l : List KeptRow). length l + 1) c.as_slice.ensures)
+    (λ e. let t = c.is_at_end-in-loop-alloc.ensures.at.1 e in let f = c.loop-alloc-test.true in cc)
+    c.place-at.ensures c.in-Err.ensures.read)
 
 pub returns-then-not-allows-clause-loads : goal.returns-then-not-allows-clause-loads
-returns-then-not-allows-clause-loads g c = let k = length c.as_slice.result.now + 1 in
-    row_refused c.args.reader.now c.loop-alloc.reader c.loop-alloc.rows.0 c.loop-alloc.index c.in-Ok-row.row k c.place-at.result c.row.new.self c.loop-alloc.invariant
-    (ap (λ (l : List KeptRow). length l + 1) c.as_slice.ensures) (omega (arith, c.place-at.type_inv, c.place-at.ensures, ap (λ (l : List KeptRow). length l) c.as_slice.ensures, rows_before c.args.reader.now c.loop-alloc.reader c.loop-alloc.rows.0 c.loop-alloc.index c.loop-alloc.invariant)) c.place-at.ensures c.in-Ok-row.ensures.read c.row.ensures.moves c.in-Ok-row.ensures.rule (sym c.allows.ensures ∙ c.if-not-allows.true)
+returns-then-not-allows-clause-loads g c =
+    let l = c.loop-alloc in
+    let k = length c.as_slice.result.now + 1 in
+    row_refused c.args.reader.now l.reader c.row.new.self c.in_ok-format.format l.rows.0 l.index
+    c.in-Ok.row k c.place-at.result l.invariant
+    (ap (λ (l : List KeptRow). length l + 1) c.as_slice.ensures)
+    (omega (
+      arith,
+      c.place-at.type_inv,
+      c.place-at.ensures,
+      ap (λ (l : List KeptRow). length l) c.as_slice.ensures,
+      rows_before c.args.reader.now l.reader c.in_ok-format.format l.rows.0 l.index l.invariant,
+    ))
+    c.place-at.ensures c.in-Ok.ensures.read c.row.ensures.advances.moves
+    c.in-Ok.ensures.rule (sym c.allows.ensures ∙ c.if-not-allows.true)
 
 pub loop-alloc-preserved : goal.loop-alloc-preserved
-loop-alloc-preserved g c = let k = length c.as_slice.result.now + 1 in
-    subst (λ (rows : List KeptRow). Loading c.args.reader.now c.row.new.self rows c.note.new.self) (sym c.in-Ok-push.ensures.ok)
-    (loading_more c.args.reader.now c.loop-alloc.reader c.row.new.self c.loop-alloc.rows.0 c.loop-alloc.index c.note.new.self c.in-Ok-row.row k c.loop-alloc.invariant
-    (ap (λ (l : List KeptRow). length l + 1) c.as_slice.ensures) (omega (arith, c.place-at.type_inv, c.place-at.ensures, ap (λ (l : List KeptRow). length l) c.as_slice.ensures, rows_before c.args.reader.now c.loop-alloc.reader c.loop-alloc.rows.0 c.loop-alloc.index c.loop-alloc.invariant)) c.row.ensures.moves c.in-Ok-row.ensures.read c.in-Ok-row.ensures.rule (sym c.allows.ensures ∙ c.if-not-allows.false) c.in-Ok-note.ensures)
+loop-alloc-preserved g c =
+    let l = c.loop-alloc in
+    let k = length c.as_slice.result.now + 1 in
+    subst (λ (rows : List KeptRow). IsReadTo c.args.reader.now c.row.new.self c.in_ok-format.format
+    rows
+    c.note.new.self) (sym c.in-Ok-push.ensures.ok)
+    (loading_more c.args.reader.now l.reader c.row.new.self c.in_ok-format.format l.rows.0 l.index
+    c.note.new.self c.in-Ok.row k l.invariant
+    (ap (λ (l : List KeptRow). length l + 1) c.as_slice.ensures)
+    (omega (
+      arith,
+      c.place-at.type_inv,
+      c.place-at.ensures,
+      ap (λ (l : List KeptRow). length l) c.as_slice.ensures,
+      rows_before c.args.reader.now l.reader c.in_ok-format.format l.rows.0 l.index l.invariant,
+    ))
+    c.row.ensures.advances.moves c.in-Ok.ensures.read c.in-Ok.ensures.rule
+    (sym c.allows.ensures ∙ c.if-not-allows.false) c.in-Ok-note.ensures)
 
 pub returns-clause-loads : goal.returns-clause-loads
-returns-clause-loads g c = loading_ended c.args.reader.now c.loop-alloc.reader c.loop-alloc.rows.0 c.loop-alloc.index c.loop-alloc.invariant (c.is_at_end-in-loop-alloc.ensures.at.0 c.loop-alloc-test.false)
+returns-clause-loads g c =
+    let l = c.loop-alloc in
+    loading_ended c.args.reader.now l.reader c.in_ok-format.format l.rows.0 l.index l.invariant
+    (c.is_at_end-in-loop-alloc.ensures.at.0 c.loop-alloc-test.false)

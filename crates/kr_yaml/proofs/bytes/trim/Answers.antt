@@ -4,4 +4,5 @@ use Rattle.kr_yaml.proofs.Behind.{trim_same}
 use Rattle.kr_yaml.proofs.bytes.trim.Goals as goal
 
 pub returns : goal.returns
-returns c = sym (trim_same c.loop-less.rest.now (λ front e. c.in_default.ensures.cases front (e ∙ ap (λ x. front ++ x) (sym (encode_ascii 32 (lit< tt)))))) ∙ c.loop-less.invariant.1
+returns c = sym (trim_same c.loop-less.rest.now (λ front e. c.in_default.ensures.cases front (e
+    ∙ ap (λ x. front ++ x) (sym (encode_ascii 32 (lit< tt)))))) ∙ c.loop-less.invariant.1

@@ -1,7 +1,7 @@
 use Rattle.std.proofs.Common.{◌≡◌, length}
 use denote.Text.{Utf8}
 use denote.Shadow.{shadow}
-use Rattle.kr_yaml.specs.Bytes.{trim}
+use Rattle.kr_yaml.specs.inner.Stops.{trim}
 use Rattle.kr_yaml.proofs.bytes.trim.Given as goal
 
 abbrev pub invariant-loop-less : goal.invariant-loop-less

@@ -1,7 +1,7 @@
 use Rattle.std.proofs.Common.{length}
 use denote.Text.{Utf8}
 use denote.Shadow.{shadow}
-use Rattle.kr_yaml.specs.Seen.{token_views}
+use Rattle.kr_yaml.specs.inner.Seen.{token_views}
 use Rattle.kr_yaml.proofs.Heads.{Heads}
 use Rattle.kr_yaml.proofs.line.head.Given as goal
 

@@ -1,13 +1,10 @@
-use Rattle.kr_yaml.specs.Texts.{text_tokens}
-use Rattle.kr_yaml.proofs.Following.{read_made, reads_only, broken_none}
+use Rattle.kr_yaml.proofs.TextRead.{reads_text, only_text, none_text}
 use Rattle.kr_yaml.proofs.reading.read.Goals as goal
 
-pub returns-in-Ok-close_from : goal.returns-in-Ok-close_from
-unfolding text_tokens
-returns-in-Ok-close_from c =
-    let made = read_made (text_tokens c.args.text.now) c.in-Ok.progress c.in-Going.standing c.in-Ok-close_from.tree c.in-Ok.ensures c.in-Going.is c.in-Ok-close_from.ensures.tree in
-    record { reads = made; only = reads_only (text_tokens c.args.text.now) c.in-Ok-close_from.tree made; none = tt }
-
-pub returns-in-Broken-clause-none : goal.returns-in-Broken-clause-none
-unfolding text_tokens
-returns-in-Broken-clause-none c = broken_none (text_tokens c.args.text.now) c.in-Ok.progress c.in-Broken.why c.in-Ok.ensures c.in-Broken.is
+pub returns : goal.returns
+returns c = record {
+  reads = reads_text c.args.text.now c.read_tokens.result c.read_tokens.ensures.reads;
+  only = only_text c.args.text.now c.read_tokens.result c.read_tokens.ensures.only;
+  none = none_text c.args.text.now c.read_tokens.result c.read_tokens.ensures.none;
+  tokens = c.read_tokens.ensures.reads;
+}

@@ -1,5 +1,5 @@
-use Rattle.kr_yaml.specs.Seen.{token_views}
-use Rattle.kr_yaml.specs.Progress.{Extends}
+use Rattle.kr_yaml.specs.inner.Seen.{token_views}
+use Rattle.kr_yaml.specs.inner.Progress.{Extends}
 use Rattle.kr_yaml.proofs.reading.steps.Given as goal
 
 abbrev pub invariant-tokens : goal.invariant-tokens

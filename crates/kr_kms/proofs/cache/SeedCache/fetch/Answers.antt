@@ -1,5 +1,5 @@
 -- A kept seed, or the link's answer.
-use Rattle.std.proofs.Common.{◌≡◌, ℕ, List, Ok, Err, Some, None, inl, ap, subst, ◌∙◌}
+use Rattle.std.proofs.Common.{◌≡◌, ℕ, List, Ok, Err, None, inl, ap, subst, ◌∙◌}
 use Rattle.kr_kms.specs.Cache.{Fetches, seed_at}
 use Rattle.kr_kms.specs.Calls.{asked_key}
 use Rattle.kr_kms.specs.inner.Keeping.{AreAmongWith}

@@ -1,3 +1,4 @@
+-- The loop of Reader::fill.
 use Rattle.std.proofs.Common.{length, ◌-◌}
 use Rattle.kr_store.proofs.Steps.{Filling}
 use Rattle.kr_store.proofs.reader.Reader.fill.Given as goal

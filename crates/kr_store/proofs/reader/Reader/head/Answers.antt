@@ -1,3 +1,4 @@
+-- Answers of Reader::head.
 use Rattle.std.proofs.Common.{ℕ, List, Ok}
 use Rattle.std.specs.Int.{w64, to_be_bytes}
 use Rattle.kr_store.specs.Breaches.{Read, behind, kind_part, revision_part, path_part}
@@ -15,16 +16,24 @@ behind_revision kind k rest = behind (path_part rest) (λ path rest. Ok ((kind, 
 abbrev behind_kind : ℕ → Kind → List ℕ → Read (Kind × List ℕ)
 behind_kind k kind rest = behind (revision_part k rest) (behind_revision kind)
 
-pub returns-in-Err-revision-clause-read : goal.returns-in-Err-revision-clause-read
-returns-in-Err-revision-clause-read g c = let k = c.args.revision in
-    stops_behind _ c.kind.new.self c.revision.new.self _ kind_part (behind_kind k) c.in-Ok.kind (λ (u : Unit {0}). to_be_bytes w64 k) (head_bytes k) c.in-Err-revision.stop
-    c.in-Ok.ensures.read c.kind.ensures.moves (reads_kind c.in-Ok.kind)
-    (stops_first c.kind.new.self c.revision.new.self (revision_part k) (behind_revision c.in-Ok.kind) (λ (u : Unit {0}). to_be_bytes w64 k) (λ (u : Unit {0}). to_be_bytes w64 k) c.in-Err-revision.stop c.in-Err-revision.ensures.read)
+pub returns-in-Err-clause-read : goal.returns-in-Err-clause-read
+returns-in-Err-clause-read g c = let k = c.args.revision in
+    stops_behind _ c.kind.new.self c.revision.new.self _ kind_part (behind_kind k) c.in_ok-kind.kind
+    (λ (u : Unit {0}). to_be_bytes w64 k) (head_bytes k) c.in-Err.stop
+    c.in_ok-kind.ensures.read c.kind.ensures.advances.moves (reads_kind c.in_ok-kind.kind)
+    (stops_first c.kind.new.self c.revision.new.self (revision_part k)
+    (behind_revision c.in_ok-kind.kind) (λ (u : Unit {0}). to_be_bytes w64 k)
+    (λ (u : Unit {0}). to_be_bytes w64 k) c.in-Err.stop c.in-Err.ensures.read)
 
 pub returns-in-Err-path-clause-read : goal.returns-in-Err-path-clause-read
 returns-in-Err-path-clause-read g c = let k = c.args.revision in
-    stops_behind _ c.kind.new.self c.path.new.self _ kind_part (behind_kind k) c.in-Ok.kind text_bytes (head_bytes k) c.in-Err-path.stop
-    c.in-Ok.ensures.read c.kind.ensures.moves (reads_kind c.in-Ok.kind)
-    (stops_behind c.kind.new.self c.revision.new.self c.path.new.self _ (revision_part k) (behind_revision c.in-Ok.kind) k text_bytes text_bytes c.in-Err-path.stop
-    c.in-Ok-revision.ensures.read c.revision.ensures.moves (λ rest. reads_revision k rest c.ranges.revision.fits)
-    (stops_first c.revision.new.self c.path.new.self path_part (λ path rest. Ok ((c.in-Ok.kind, path), rest)) text_bytes text_bytes c.in-Err-path.stop c.in-Err-path.ensures.read))
+    stops_behind _ c.kind.new.self c.path.new.self _ kind_part
+    (behind_kind k) c.in_ok-kind.kind text_bytes (head_bytes k) c.in-Err-path.stop
+    c.in_ok-kind.ensures.read c.kind.ensures.advances.moves (reads_kind c.in_ok-kind.kind)
+    (stops_behind c.kind.new.self c.revision.new.self c.path.new.self _ (revision_part k)
+    (behind_revision c.in_ok-kind.kind) k text_bytes text_bytes c.in-Err-path.stop
+    c.in-Ok.ensures.read c.revision.ensures.advances.moves
+    (λ rest. reads_revision k rest c.ranges.revision.fits)
+    (stops_first c.revision.new.self c.path.new.self path_part
+    (λ path rest. Ok ((c.in_ok-kind.kind, path), rest)) text_bytes text_bytes c.in-Err-path.stop
+    c.in-Err-path.ensures.read))

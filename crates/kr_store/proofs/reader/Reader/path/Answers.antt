@@ -1,3 +1,4 @@
+-- Answers of Reader::path.
 use Rattle.std.proofs.Common.{◌≡◌, true, false, sym, ◌∙◌, subst, ap}
 use Rattle.kr_base.specs.Rules.{is_path}
 use Rattle.kr_store.proofs.Parts.{bad_path, not_path}
@@ -5,9 +6,16 @@ use Rattle.kr_store.proofs.Steps.{breaks_here}
 use Rattle.kr_store.proofs.reader.Reader.path.Goals as goal
 
 pub returns-in_default-clause-read : goal.returns-in_default-clause-read
-returns-in_default-clause-read g c = breaks_here _ c.sized.new.self _ _ _ c.in-Ok.ensures.read c.sized.ensures.moves
-    (λ rest. bad_path c.in-Ok.bytes.items rest c.in-Ok.ensures.length (not_path c.in-Ok.bytes.items (λ u. let e : false ≡ true = c.in_default.ensures.succeeds u in cc)))
+returns-in_default-clause-read g c = breaks_here _ c.sized.new.self _ _ _ c.in_ok-bytes.ensures.read
+    c.sized.ensures.advances.moves
+    (λ rest. bad_path c.in_ok-bytes.bytes.items rest c.in_ok-bytes.ensures.length
+    (not_path c.in_ok-bytes.bytes.items
+    (λ u. let e : false ≡ true = c.in_default.ensures.succeeds u in cc)))
 
 pub returns-then-not-path_ok-clause-read : goal.returns-then-not-path_ok-clause-read
-returns-then-not-path_ok-clause-read g c = breaks_here _ c.sized.new.self _ _ _ c.in-Ok.ensures.read c.sized.ensures.moves
-    (λ rest. bad_path c.in-Ok.bytes.items rest c.in-Ok.ensures.length (subst (λ p. is_path p ≡ false) (c.as_str.ensures.value ∙ ap (λ v. v.items) c.in-Ok-from_utf8.ensures.ok) (sym c.path_ok.ensures.test ∙ c.if-not-path_ok.true)))
+returns-then-not-path_ok-clause-read g c = breaks_here _ c.sized.new.self _ _ _
+    c.in_ok-bytes.ensures.read c.sized.ensures.advances.moves
+    (λ rest. bad_path c.in_ok-bytes.bytes.items rest c.in_ok-bytes.ensures.length
+    (subst (λ p. is_path p ≡ false) (c.as_str.ensures.value
+    ∙ ap (λ v. v.items) c.in-Ok.ensures.ok) (sym c.path_ok.ensures.test
+    ∙ c.if-not-path_ok.true)))

@@ -1,3 +1,4 @@
+-- Answers of Reader::sized.
 use Rattle.std.proofs.Common.{if◌then◌else◌, Err, nat_le, subst, sym}
 use Rattle.kr_store.specs.Breaches.{number_16, part}
 use Rattle.kr_store.specs.inner.Reading.{Gives, items_of, sized_bytes}
@@ -7,9 +8,16 @@ use Rattle.kr_store.proofs.Steps.{breaks_here, stops_behind}
 use Rattle.kr_store.proofs.reader.Reader.sized.Goals as goal
 
 pub returns-then-n-most-clause-read : goal.returns-then-n-most-clause-read
-returns-then-n-most-clause-read g c = breaks_here _ c.number_16.new.self _ _ _ c.in-Ok.ensures.read c.number_16.ensures.moves
-    (λ rest. bad_size c.args.most c.in-Ok.n rest c.in-Ok.ensures.fits c.if-n-most.true)
+returns-then-n-most-clause-read g c = breaks_here _ c.number_16.new.self _ _ _
+    c.in_ok-n.ensures.read
+    c.number_16.ensures.advances.moves
+    (λ rest. bad_size c.args.most c.in_ok-n.n rest c.in_ok-n.ensures.fits c.if-n-most.true)
 
-pub returns-in-Err-part-clause-read : goal.returns-in-Err-part-clause-read
-returns-in-Err-part-clause-read g c = stops_behind _ c.number_16.new.self c.part.new.self _ number_16 (λ n rest. if nat_le n c.args.most then part n rest else Err BadRow) c.in-Ok.n items_of sized_bytes c.in-Err-part.stop c.in-Ok.ensures.read c.number_16.ensures.moves (λ rest. reads_16 c.in-Ok.n rest c.in-Ok.ensures.fits)
-    (subst (λ b. Gives c.number_16.new.self c.part.new.self items_of (λ rest. if b then part c.in-Ok.n rest else Err BadRow) (Err c.in-Err-part.stop)) (sym (at_most c.in-Ok.n c.args.most c.if-n-most.false)) c.in-Err-part.ensures.read)
+pub returns-in-Err-clause-read : goal.returns-in-Err-clause-read
+returns-in-Err-clause-read g c = stops_behind _ c.number_16.new.self c.part.new.self _
+    number_16 (λ n rest. if nat_le n c.args.most then part n rest else Err BadRow) c.in_ok-n.n
+    items_of sized_bytes c.in-Err.stop c.in_ok-n.ensures.read c.number_16.ensures.advances.moves
+    (λ rest. reads_16 c.in_ok-n.n rest c.in_ok-n.ensures.fits)
+    (subst (λ b. Gives c.number_16.new.self c.part.new.self items_of
+    (λ rest. if b then part c.in_ok-n.n rest else Err BadRow) (Err c.in-Err.stop))
+    (sym (at_most c.in_ok-n.n c.args.most c.if-n-most.false)) c.in-Err.ensures.read)

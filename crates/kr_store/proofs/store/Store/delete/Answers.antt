@@ -1,18 +1,28 @@
+-- Answers of Store::delete.
 use Rattle.std.proofs.Common.{sym, ◌∙◌}
 use Rattle.kr_store.proofs.Shared.{deletes_by}
 use Rattle.kr_store.proofs.Written.{live_seen}
 use Rattle.kr_store.proofs.store.Store.delete.Goals as goal
 
 pub append-requires-clause-change : goal.append-requires-clause-change
-append-requires-clause-change g c = live_seen c.self.inside.rows.0 c.self.inside.limit c.self.inside.log c.args.self.now c.self.inside.index c.args.path.now c.in-Some._live c.self.view_is c.self.invariant.indexed (sym c.live.ensures ∙ c.in-Some.is)
+append-requires-clause-change g c =
+    let r = c.self.inside in
+    live_seen r.format r.rows.0 r.limit r.log c.args.self.now r.index c.args.path.now
+    c.in-Some._live c.self.view_is c.self.invariant.indexed (sym c.live.ensures ∙ c.in-Some.is)
 
 pub returns-in-Ok : goal.returns-in-Ok
-returns-in-Ok g c = (
-  live_seen c.self.inside.rows.0 c.self.inside.limit c.self.inside.log c.args.self.now c.self.inside.index c.args.path.now c.in-Some._live c.self.view_is c.self.invariant.indexed (sym c.live.ensures ∙ c.in-Some.is),
-  c.in-Ok.ensures,
-)
+returns-in-Ok g c =
+    let r = c.self.inside in (
+      live_seen r.format r.rows.0 r.limit r.log c.args.self.now r.index c.args.path.now
+          c.in-Some._live c.self.view_is c.self.invariant.indexed (sym c.live.ensures
+          ∙ c.in-Some.is),
+      c.in-Ok.ensures,
+    )
 
 pub returns-in-Err : goal.returns-in-Err
 returns-in-Err g c =
+    let r = c.self.inside in
     deletes_by c.args.self.now c.append.new.self c.args.path.now c.in-Err.why
-    (live_seen c.self.inside.rows.0 c.self.inside.limit c.self.inside.log c.args.self.now c.self.inside.index c.args.path.now c.in-Some._live c.self.view_is c.self.invariant.indexed (sym c.live.ensures ∙ c.in-Some.is)) c.in-Err.ensures
+    (live_seen r.format r.rows.0 r.limit r.log c.args.self.now r.index c.args.path.now
+    c.in-Some._live c.self.view_is c.self.invariant.indexed (sym c.live.ensures ∙ c.in-Some.is))
+    c.in-Err.ensures

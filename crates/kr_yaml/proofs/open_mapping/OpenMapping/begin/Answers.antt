@@ -12,8 +12,11 @@ pub invariant_of-result : goal.invariant_of-result
 invariant_of-result c = record {
   known = λ k.
       c.in-Ok-insert.ensures.updates.0 k
-      ∙ ap (λ ks. cond (is_eq (slice_cmp nat_cmp c.in-Ok.copy k)) true (list_any (λ x. is_eq (slice_cmp nat_cmp k x)) ks)) c.new-keys.ensures.empty
-      ∙ ap (λ key. cond (is_eq (slice_cmp nat_cmp key k)) true (list_any (λ x. bytes_eq x k) [])) (c.in-Ok.ensures ∙ c.as_str.ensures)
+      ∙ ap (λ ks. cond (is_eq (slice_cmp nat_cmp c.in-Ok.copy k)) true
+      (list_any (λ x. is_eq (slice_cmp nat_cmp k x)) ks)) c.new-keys.ensures.empty
+      ∙ ap (λ key. cond (is_eq (slice_cmp nat_cmp key k)) true (list_any (λ x. bytes_eq x k) []))
+      (c.in-Ok.ensures ∙ c.as_str.ensures)
       ∙ with_key [] c.args.key k
-      ∙ ap (λ l. list_any (λ x. bytes_eq x k) (keys (member_views l) ++ c.args.key ∷ [])) (sym c.new.ensures);
+      ∙ ap (λ l. list_any (λ x. bytes_eq x k) (keys (member_views l) ++ c.args.key ∷ []))
+      (sym c.new.ensures);
 }

@@ -1,0 +1,3 @@
+-- The definitions that inner contracts alone need.
+pub mod Reads
+pub mod Finds

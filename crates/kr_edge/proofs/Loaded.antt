@@ -1,0 +1,16 @@
+-- A file that holds more than a limit, where the files are told.
+use Rattle.std.proofs.Common.{◌≡◌, ℕ, ◌+◌, ◌<◌, ◌≤◌, List, [], ◌++◌, length, Option, None, Some, refl, sym, ◌∙◌, ap, append-nil, length-append, arith}
+use Rattle.std.specs.Io.KnownBytes.{Consumes, IsAtEnd}
+use Rattle.kr_base.specs.Told.{Agrees}
+use Rattle.kr_base.specs.Streams.{TakesCount}
+use Rattle.kr_edge.specs.Opened.{Holds}
+
+pub long_file : (file : Option (Option (List ℕ))) (old new : Option (List ℕ)) (limit : ℕ) → Holds file old → TakesCount old new (limit + 1) → (bytes : List ℕ) × (limit < length bytes) × Agrees file (Some bytes)
+long_file None old new limit h t = (t.0, omega (arith, t.2), tt)
+long_file (Some None) old new limit h t = absurd h
+long_file (Some (Some all)) old new limit h t = (all, longer old new h t.1, refl)
+  where
+    longer : (old new : Option (List ℕ)) → old ≡ Some all → Consumes old new t.0 → limit < length all
+    longer None new h c = absurd cc
+    longer (Some x) None h c = absurd c
+    longer (Some x) (Some y) h c = let e : all ≡ t.0 ++ y = cc in omega (arith, ap length e, length-append t.0 y, t.2)

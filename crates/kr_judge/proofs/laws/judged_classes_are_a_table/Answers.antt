@@ -1,5 +1,0 @@
-use Rattle.kr_judge.proofs.Tables.{table_computes}
-use Rattle.kr_judge.proofs.laws.judged_classes_are_a_table.Goals as goal
-
-pub returns : goal.returns
-returns c = table_computes

@@ -1,0 +1,9 @@
+-- Answers of one_row.
+use Rattle.kr_store.proofs.Places.{row_stays, live_at_revision}
+use Rattle.kr_store.proofs.laws.one_row.Goals as goal
+
+pub returns-clause-stays : goal.returns-clause-stays
+returns-clause-stays c = row_stays
+
+pub returns-clause-live : goal.returns-clause-live
+returns-clause-live c = live_at_revision
