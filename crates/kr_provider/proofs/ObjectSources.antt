@@ -6,12 +6,13 @@ use Rattle.kr_envelope.specs.declared.object.EncryptedObject.{EncryptedObject}
 use Rattle.kr_envelope.specs.Limits.{Reads, raw_in}
 use Rattle.kr_envelope.specs.Messages.{Item, IsItem, encrypted, key_id, source, annotation, kind, other, encrypted_in, last_or, of_bytes, raw_of}
 use Rattle.kr_envelope.specs.Wire.{IsField, Spells}
-use Rattle.kr_kms.specs.Cache.{AreOpen, CacheState, Fetches}
+use Rattle.kr_kms.specs.Cache.{AreOpen, CacheState, Fetches, key_eq}
 use Rattle.kr_kms.specs.Calls.{Link, asked_key}
 use Rattle.kr_kms.specs.Truth.{Truth, TellsOf, key_of}
 use Rattle.kr_kms.specs.declared.plugin.KmsNo.{KmsNo}
 use Rattle.kr_kms.specs.declared.plugin.KmsNo.TheVariants as kms
 use Rattle.kr_kms.specs.declared.seeds.SeedRow.{SeedRow}
+use Rattle.kr_kms.proofs.Keys.{same_key}
 use Rattle.kr_provider.specs.AskedLinks.{AsksOne}
 use Rattle.kr_provider.specs.Envelopes.{seed_key}
 use Rattle.kr_provider.specs.Reading.{Gives, source_reading}
@@ -95,6 +96,11 @@ data_within text found (items, message, judged) =
     (last_fits items text [] (length text) message.0 (omega arith) (omega arith))
 
 -- ---- sources
+
+pub another_seed : (row : SeedRow) (name : List ℕ) (found : EncryptedObject) (b : Bool)
+    → b ≡ key_eq (key_of row) (seed_key name found) → b ≡ false → IsSeedOf row name found → ⊥
+another_seed row name found b e f s =
+    let t = (same_key (key_of row) (seed_key name found)).1 s in cc
 
 module _ {L : Type 0} (truth : Truth) (link : L → Link) (row : SeedRow) (name : List ℕ)
     (found : EncryptedObject) (path : List ℕ) where

@@ -1,5 +1,5 @@
 -- The reader of a value, by its place in the list.
-use Rattle.std.proofs.Common.{◌≡◌, ℕ, zero, suc, ◌<◌, ◌≤◌, Bool, true, false, List, [], ◌∷◌, length, get_or, Option, Some, None, Ok, Err, refl, sym, ◌∙◌, ap, arith}
+use Rattle.std.proofs.Common.{◌≡◌, ℕ, zero, suc, ◌<◌, ◌≤◌, Bool, true, false, List, [], ◌∷◌, length, get_or, Option, Some, None, Ok, Err, refl, sym, ◌∙◌, ap, subst, arith}
 use Rattle.std.specs.Prelude.{◌&&◌, ◌||◌, cond, not, nat_eq, nat_lt, find, position, slice_get}
 use Rattle.std.specs.List.{list_any, position_or_len}
 use Rattle.std.proofs.lemmas.Bool.Decides.{nat_tests}
@@ -98,6 +98,20 @@ read_by (first ∷ rest) bytes body place who some e is b =
         → is_reader bytes first ≡ nat_eq i 0
     by_place zero t f = t
     by_place (suc i) t f = f 0 (omega arith) ∙ sym (later i)
+
+pub read_by_plugin : (list : List Who) (bytes body : List ℕ) (place : ℕ) (who : Who)
+    (name asked : List ℕ) → 1 ≤ length list → reader_place list bytes ≡ Some place
+    → who ≡ get_or list place who → body ≡ body_by who bytes → who ≡ Kms name → asked ≡ name
+    → IsReadBy list bytes (Kms asked) body (nat_eq place 0)
+read_by_plugin list bytes body place who name asked some e is b k s =
+    subst (λ w. IsReadBy list bytes w body (nat_eq place 0)) (k ∙ ap (λ n. Kms n) (sym s))
+    (read_by list bytes body place who some e is b)
+
+pub no_plugin : (who : Who) → ((name : List ℕ) → who ≡ Kms name → ⊥) → is_kms who ≡ false
+no_plugin Identity n = refl
+no_plugin (Aescbc name secret) n = refl
+no_plugin (Aesgcm name secret) n = refl
+no_plugin (Kms name) n = absurd (n name refl)
 
 not_rotated : (envelope : Envelope) (seeds : List SeedRow) (who : Who) → is_kms who ≡ false
     → is_rotated envelope seeds who ≡ false

@@ -1,7 +1,7 @@
 -- The names of the plugins in settings that keep their rules, and the seeds that were made for
 -- them.
 use Rattle.std.proofs.Common.{◌≡◌, ℕ, zero, suc, ◌+◌, ◌≤◌, ◌<◌, Bool, true, false, List, [], ◌∷◌, ◌++◌, length, map, refl, sym, ◌∙◌, ap, subst, arith, Contains, inl, inr, IsTrue}
-use Rattle.std.specs.Prelude.{◌⊎◌, ◌&&◌, cond, find, get_or, if◌then◌else◌, IsSome, Some}
+use Rattle.std.specs.Prelude.{◌⊎◌, ◌&&◌, cond, find, get_or, if◌then◌else◌, IsSome, Option, None, Some}
 use Rattle.std.specs.List.{list_all, list_any}
 use Rattle.std.specs.Str.{bytes_eq}
 use Rattle.std.proofs.lemmas.Slice.Eq.{bytes_eq-Decides}
@@ -185,3 +185,23 @@ all_published truth link links rows seeds k s = record {
   names = λ name. (λ c. ((s.named name).0 c).0, λ c. (s.named name).1 (c, refl));
   seeds = s.rows;
 }
+
+-- ---- what a list's plugin has
+
+pub unseeded : (seeds : List SeedRow) (list : List Who) (i : ℕ) (who : Who) (name asked : List ℕ)
+    → HaveSeeds seeds list → i < length list → who ≡ get_or list i who → who ≡ Kms name
+    → asked ≡ name → seed_of asked seeds ≡ None → ⊥
+unseeded seeds list i who name asked a h is k s none =
+    let has : HasSeed seeds (Kms name) =
+    subst (HasSeed seeds) k (seeded_at seeds list i who a h is) in
+    let found : IsSome (seed_of asked seeds) =
+    subst (λ n. IsSome (seed_of n seeds)) (sym s) has in
+    let nothing = subst (λ (o : Option SeedRow). IsSome o) none found in cc
+
+pub linked : (names : List (List ℕ)) (list : List Who) (i : ℕ) (who : Who) (name asked : List ℕ)
+    → AreNamedIn names list → i < length list → who ≡ get_or list i who → who ≡ Kms name
+    → asked ≡ name → Contains names asked
+linked names list i who name asked a h is k s =
+    let there : IsNamedIn names (Kms name) =
+    subst (IsNamedIn names) k (named_at names list i who a h is) in
+    subst (Contains names) (sym s) there

@@ -1,13 +1,13 @@
 -- A plugin's value: its parts in front of the sealed bytes and behind them.
 use Rattle.std.proofs.Common.{◌≡◌, ℕ, ◌+◌, ◌-◌, ◌*◌, ◌≤◌, ◌<◌, List, [], ◌∷◌, ◌++◌, length, take, drop, replicate, Some, refl, sym, ◌∙◌, ap, subst, arith, append_assoc, take_at, drop_at}
 use borrow.Rule.Slice.PartMut.{put_mid}
-use Rattle.std.proofs.lemmas.List.{length-replicate}
+use Rattle.std.proofs.lemmas.List.{length-replicate, length-take-le}
 use Rattle.kr_envelope.specs.declared.prefix.Kind.TheVariants as kind
 use Rattle.kr_envelope.specs.declared.object.SourceKind.TheVariants.{Seed}
 use Rattle.kr_envelope.specs.Canonical.{canonical, content_field, fields_behind, shortest}
 use Rattle.kr_envelope.specs.Prefixes.{prefix}
 use Rattle.kr_kms.specs.declared.seeds.SeedRow.{SeedRow}
-use Rattle.kr_provider.specs.Envelopes.{object_of, seed_body}
+use Rattle.kr_provider.specs.Envelopes.{gcm_body, object_of, seed_body, value_key}
 use Rattle.kr_provider.proofs.SealedSizes.{seed_size}
 
 field_is : (body : List ℕ) (size : ℕ) → length body ≡ size → 1 ≤ size
@@ -26,6 +26,19 @@ put_between front behind body start size e =
     ap (drop size) (drop_at front (zeros ++ behind) start (sym e))
     ∙ drop_at zeros behind size (length-replicate size 0) in
     (λ i. first i ++ (body ++ rest i))
+
+-- what stands behind the info is under the key that it makes
+pub body_written : (seed path plain drawn info first rest nonce key value : List ℕ)
+    → length drawn ≡ 44 → info ≡ take 32 drawn → first ≡ info → key ≡ value_key seed info
+    → nonce ≡ drop 32 drawn → value ≡ take 32 (first ++ rest) ++ gcm_body key path plain nonce
+    → value ≡ seed_body seed path plain drawn
+body_written seed path plain drawn info first rest nonce key value size i f k n v =
+    let short : length (take 32 drawn) ≡ 32 = length-take-le 32 drawn (omega (arith, size)) in
+    let same : first ≡ take 32 drawn = f ∙ i in
+    let keyed : key ≡ value_key seed (take 32 drawn) = k ∙ ap (value_key seed) i in
+    v ∙ (λ j. take 32 (same j ++ rest) ++ gcm_body (keyed j) path plain (n j))
+    ∙ ap (λ l. l ++ gcm_body (value_key seed (take 32 drawn)) path plain (drop 32 drawn))
+    (take_at (take 32 drawn) rest 32 short)
 
 pub value_between : (name path plain drawn : List ℕ) (row : SeedRow) (size : ℕ)
     → length drawn ≡ 44 → size ≡ 32 + (12 + (length plain + 16))

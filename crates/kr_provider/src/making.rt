@@ -1,5 +1,6 @@
 //! The seeds of a configuration's plugins, made in the order of their names.
 ghost use Rattle.std.specs.Prelude.{◌≡◌, ◌≤◌, ◌⊎◌, [], false, Contains, IfOk, IsOk};
+ghost use Rattle.std.specs.Str.{IsUtf8};
 ghost use Rattle.kr_config.specs.Kept.{plugins_in, rows_of};
 ghost use Rattle.kr_provider.specs.AskedLinks.{AskedOnly};
 ghost use Rattle.kr_provider.specs.Names.{HasLinks, names_of};
@@ -42,10 +43,16 @@ pub(crate) fn make_seeds<L: Kms, D: Dice>(
             Ok(()) => {}
             Err(_) => return Err(PublishNo::NoMemory),
         }
+        tell_text(name);
         after = name;
     }
     Ok(made)
 }
+
+/// Tells that a text is one.
+fn tell_text(text: &str)
+    ensures { IsUtf8 text.now }
+{}
 
 /// A seed of the plugin of this name.
 fn make_one<L: Kms, D: Dice>(

@@ -18,13 +18,13 @@ loop-name-init g c =
           (sym c.new-made.ensures) (begins_at g.L.Kms.truth g.L.Kms.link g.D.Dice.left
           g.D.Dice.count rows c.args.links.now c.args.dice.now
           (names_some rows c.args.settings.now.kept)),
-      ?,
+      ([], refl, refl),
       c.requires.links,
       λ e. (c.new-made.ensures, refl, refl),
     )
 
 pub next_plugin-requires-text-after : goal.next_plugin-requires-text-after
-next_plugin-requires-text-after g c = c.loop-name.invariant.1
+next_plugin-requires-text-after g c = λ κs. c.loop-name.invariant.1
 
 pub returns-in-Err-clause-made : goal.returns-in-Err-clause-made
 returns-in-Err-clause-made g c = ends g.L.Kms.truth g.L.Kms.link g.D.Dice.left g.D.Dice.count
@@ -88,7 +88,7 @@ loop-name-preserved g c =
       subst (λ l. ComesTo g.L.Kms.truth g.L.Kms.link g.D.Dice.left g.D.Dice.count rows
           c.args.links.now c.args.dice.now c.in-Some.name.now l c.make_one.new.links
           c.make_one.new.dice) (sym c.in-Ok-push.ensures.ok) to,
-      ?,
+      c.tell_text.ensures,
       links_stay g.L.Kms.link (plugins_in rows) c.args.links.now c.make_one.new.links rows to.asked
           c.requires.links,
       λ e. absurd (omega (
