@@ -4,6 +4,7 @@ mod Bodies
 mod Booleans
 mod Filled
 mod LinkNames
+mod Serving
 pub mod Lists
 mod Places
 pub mod Rivals

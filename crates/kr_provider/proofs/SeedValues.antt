@@ -1,13 +1,18 @@
 -- A plugin's value: its parts in front of the sealed bytes and behind them.
 use Rattle.std.proofs.Common.{◌≡◌, ℕ, ◌+◌, ◌-◌, ◌*◌, ◌≤◌, ◌<◌, List, [], ◌∷◌, ◌++◌, length, take, drop, replicate, Some, refl, sym, ◌∙◌, ap, subst, arith, append_assoc, take_at, drop_at}
+use Rattle.std.specs.Option.{option_map}
 use borrow.Rule.Slice.PartMut.{put_mid}
 use Rattle.std.proofs.lemmas.List.{length-replicate, length-take-le}
 use Rattle.kr_envelope.specs.declared.prefix.Kind.TheVariants as kind
 use Rattle.kr_envelope.specs.declared.object.SourceKind.TheVariants.{Seed}
 use Rattle.kr_envelope.specs.Canonical.{canonical, content_field, fields_behind, shortest}
 use Rattle.kr_envelope.specs.Prefixes.{prefix}
+use Rattle.kr_config.specs.declared.who.Who.TheVariants.{Kms}
 use Rattle.kr_kms.specs.declared.seeds.SeedRow.{SeedRow}
 use Rattle.kr_provider.specs.Envelopes.{gcm_body, object_of, seed_body, value_key}
+use Rattle.kr_provider.specs.Publication.{seed_of}
+use Rattle.kr_provider.specs.Sealing.{sealed_by}
+use Rattle.kr_provider.proofs.Filled.{sealed_fits}
 use Rattle.kr_provider.proofs.SealedSizes.{seed_size}
 
 field_is : (body : List ℕ) (size : ℕ) → length body ≡ size → 1 ≤ size
@@ -26,6 +31,18 @@ put_between front behind body start size e =
     ap (drop size) (drop_at front (zeros ++ behind) start (sym e))
     ∙ drop_at zeros behind size (length-replicate size 0) in
     (λ i. first i ++ (body ++ rest i))
+
+-- what was written into a vector that kept its length
+pub filled_between : (result new now items front behind body : List ℕ) (count start size : ℕ)
+    → result ≡ take count (new ++ drop (length new) items) → length new ≡ length now
+    → now ≡ items → count ≡ length items → start ≡ length front
+    → items ≡ front ++ (replicate size 0 ++ behind) → new ≡ put_mid start size now body
+    → result ≡ front ++ (body ++ behind)
+filled_between result new now items front behind body count start size r long same counted at made n =
+    r ∙ take_at new (drop (length new) items) count
+    (long ∙ ap (λ (l : List ℕ). length l) same ∙ sym counted)
+    ∙ n ∙ ap (λ l. put_mid start size l body) (same ∙ made)
+    ∙ put_between front behind body start size at
 
 -- what stands behind the info is under the key that it makes
 pub body_written : (seed path plain drawn info first rest nonce key value : List ℕ)
@@ -53,3 +70,12 @@ value_between name path plain drawn row size d s =
     append_assoc start (10 ∷ shortest size) (body ++ behind)
     ∙ ap (λ l. start ++ 10 ∷ l) (sym (append_assoc (shortest size) body behind))
     ∙ ap (λ l. start ++ (l ++ behind)) (sym (field_is body size long (omega (arith, s))))
+
+pub sealed_by_row : (seeds : List SeedRow) (name path plain drawn value : List ℕ) (row : SeedRow)
+    → length plain ≤ 2097152 → seed_of name seeds ≡ Some row
+    → value ≡ prefix kind.Kms name ++ canonical (object_of row path plain drawn)
+    → sealed_by seeds (Kms name) path plain drawn ≡ Some value
+sealed_by_row seeds name path plain drawn value row h is v =
+    sealed_fits seeds (Kms name) path plain drawn h
+    ∙ ap (option_map (λ r. prefix kind.Kms name ++ canonical (object_of r path plain drawn))) is
+    ∙ ap (λ l. Some l) (sym v)

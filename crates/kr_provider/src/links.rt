@@ -1,15 +1,18 @@
 //! Links to plugins.
 ghost use Rattle.std.specs.Prelude.{◌≡◌, ◌↔◌, ◌≤◌, [], ◌∷◌, ◌++◌, Contains, IsTrue, IfErr, OnOk, OnErr, MatchOption, position};
-ghost use Rattle.std.specs.List.{list_any};
+ghost use Rattle.std.specs.List.{list_all, list_any};
 ghost use Rattle.std.specs.Str.{bytes_eq};
+ghost use Rattle.kr_config.specs.Kept.{rows_of};
 ghost use Rattle.kr_kms.specs.Cache.{Fetches};
 ghost use Rattle.kr_kms.specs.Calls.{asked_key};
 ghost use Rattle.kr_kms.specs.Health.{TellsKeyId};
 ghost use Rattle.kr_kms.specs.Seeds.{MakesSeed};
 ghost use Rattle.kr_provider.specs.AskedLinks.{AsksOne};
-ghost use Rattle.kr_provider.specs.Names.{AreDistinct, names_of};
+ghost use Rattle.kr_provider.specs.Names.{AreDistinct, HasLinks, names_of};
+ghost use Rattle.kr_provider.specs.inner.Scan.{is_served};
 
 use kr_base::{Bytes, Dice, NoMemory, Text};
+use kr_config::{Entry, Settings, Who};
 use kr_envelope::EncryptedObject;
 use kr_kms::{Kms, KmsNo, SeedCache, SeedNo, SeedRow, key_id_of, make_seed};
 use std::alloc::Global;
@@ -62,6 +65,14 @@ impl<L: Kms> Links<L> {
         ensures distinct { AreDistinct L.link self.now }
     {
         any_named(self.items.as_slice(), name)
+    }
+
+    /// Whether there is a link to each plugin that the settings name.
+    pub fn serve(&self, settings: &Settings) -> bool
+        ensures { IsTrue result ↔ HasLinks (names_of L.link self.now)
+            (rows_of settings.now.entries.0) }
+    {
+        serve_entries(self.items.as_slice(), settings.entries.as_slice())
     }
 
     /// Takes the last link.
@@ -139,6 +150,35 @@ fn any_named<L: Kms>(links: &[L], name: &str) -> bool
     ensures { result ≡ list_any (λ link. bytes_eq (L.link link).name name.now) links.now }
 {
     links.iter().any(|link| link.name() == name)
+}
+
+/// Whether there is a link to each plugin of the entries.
+fn serve_entries<L: Kms>(links: &[L], entries: &[Entry]) -> bool
+    ensures { result ≡ list_all
+        (λ entry. list_all (is_served L.link links.now) entry.providers.0) entries.now }
+{
+    entries
+        .iter()
+        .all(|entry| serve_list(links, entry.providers.as_slice()))
+}
+
+/// Whether there is a link to each plugin of the list.
+fn serve_list<L: Kms>(links: &[L], list: &[Who]) -> bool
+    ensures { result ≡ list_all (is_served L.link links.now) list.now }
+{
+    list.iter().all(|who| is_served(links, who))
+}
+
+/// Whether the provider is no plugin, or there is a link to it.
+fn is_served<L: Kms>(links: &[L], who: &Who) -> bool
+    ensures { result ≡ is_served L.link links.now who.now }
+{
+    match who {
+        Who::Identity => true,
+        Who::Aescbc(_, _) => true,
+        Who::Aesgcm(_, _) => true,
+        Who::Kms(name) => any_named(links, name.as_str()),
+    }
 }
 
 /// Where the link to the plugin of this name stands.

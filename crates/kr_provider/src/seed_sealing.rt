@@ -1,6 +1,6 @@
 //! Seals of a plugin: the data under a key of their own, which its seed makes, in an encrypted
 //! object.
-ghost use Rattle.std.specs.Prelude.{◌≡◌, ℕ, ◌≤◌, ◌+◌, ◌++◌, ◌∷◌, [], List, Some, length, replicate, IfSome};
+ghost use Rattle.std.specs.Prelude.{◌≡◌, ℕ, ◌≤◌, ◌+◌, ◌++◌, ◌∷◌, [], List, Some, length, take, drop, replicate, IfSome};
 ghost use Rattle.kr_base.specs.Limits.{data_limit, path_limit};
 ghost use Rattle.kr_config.specs.declared.who.Who.{Who};
 ghost use Rattle.kr_envelope.specs.Canonical.{fields_behind, shortest};
@@ -49,8 +49,7 @@ pub(crate) fn by_seed<D: Dice>(
         Ok(()) => {}
         Err(Failed) => return Err(SealNo::DiceFailed),
     }
-    let room = &mut value[start..start + size];
-    write_body(row.seed.as_slice(), &drawn, path, plain, room);
+    fill(row.seed.as_slice(), &drawn, path, plain, &mut value, start);
     Ok(Bytes::from_vec(value))
 }
 
@@ -77,6 +76,25 @@ fn framed(alloc: Global, name: &Text, row: &SeedRow, size: usize) -> Option<(Vec
     )
     .ok()?;
     Some((value, start))
+}
+
+/// Writes the sealed bytes from `start` on; what stands behind them stays.
+fn fill(
+    seed: &[u8],
+    drawn: &[u8; 44],
+    path: &str,
+    plain: &[u8],
+    value: &mut [u8],
+    start: usize,
+)
+    requires fits { length plain.now ≤ data_limit }
+    requires path { length path.now ≤ path_limit }
+    requires size { start + (32 + 12 + length plain.now + 16) ≤ length value.old }
+    ensures { value.new ≡ take start value.old ++ (seed_body seed.now path.now plain.now drawn.now
+        ++ drop (32 + 12 + length plain.now + 16) (drop start value.old)) }
+{
+    let size = SEED + NONCE + plain.len() + TAG;
+    write_body(seed, drawn, path, plain, &mut value[start..start + size]);
 }
 
 /// Writes the info, and behind it the body under the key that the seed makes with it.

@@ -18,7 +18,7 @@ loop-name-init g c =
           (sym c.new-made.ensures) (begins_at g.L.Kms.truth g.L.Kms.link g.D.Dice.left
           g.D.Dice.count rows c.args.links.now c.args.dice.now
           (names_some rows c.args.settings.now.kept)),
-      ([], refl, refl),
+      ([], (refl, refl)),
       c.requires.links,
       λ e. (c.new-made.ensures, refl, refl),
     )
