@@ -1,7 +1,7 @@
 //! The world in memory, of which calls fail by their numbers too.
 ghost use Rattle.std.specs.Prelude.{None, Some};
 
-use kr_base::{Bytes, List, MemDice, Text};
+use kr_base::{Bytes, FaultCount, List, MemDice, Text};
 use kr_kms::{Asked, FileNo, MemWorld, TablePlugin, World};
 use std::alloc::Global;
 
@@ -20,25 +20,26 @@ impl Numbering {
     }
 }
 
-/// A world in memory whose calls for a file or a random source fail by their numbers, which go on over both. It keeps
-/// what it was asked for.
+/// A world in memory whose calls for a file or a random source fail by their numbers, which go on
+/// over both. It keeps what it was asked for.
 #[derive(Drop)]
 pub struct FailingWorld {
     inner: MemWorld<TablePlugin>,
     calls: Numbering,
     asked: Vec<Asked>,
-    load_faults: u64,
-    open_faults: u64,
+    load_faults: FaultCount,
+    open_faults: FaultCount,
 }
 
 impl FailingWorld {
+    /// The world in which the calls of these numbers fail; none was made so far.
     pub fn new(alloc: Global, inner: MemWorld<TablePlugin>, fails: List<u64>) -> FailingWorld {
         FailingWorld {
             inner,
             calls: Numbering { fails, made: 0 },
             asked: Vec::new(alloc),
-            load_faults: 0,
-            open_faults: 0,
+            load_faults: FaultCount::new(),
+            open_faults: FaultCount::new(),
         }
     }
 
@@ -54,10 +55,20 @@ impl World for FailingWorld {
     type Link = TablePlugin;
 
     // It tells nothing of its files, since a load may fail.
-    ghost told = { λ world. record { file = λ name. None; asked = Some world.asked.items; load_faults = world.load_faults; open_faults = world.open_faults; dice = λ seat. (⟦<MemWorld<TablePlugin> as World>⟧.told world.inner).dice seat; dice_faults = λ seat. (⟦<MemWorld<TablePlugin> as World>⟧.told world.inner).dice_faults seat; out = λ seat. (⟦<MemWorld<TablePlugin> as World>⟧.told world.inner).out seat } };
+    ghost told = { λ world. record {
+      file = λ name. None;
+      asked = Some world.asked.items;
+      load_faults = world.load_faults;
+      open_faults = world.open_faults;
+      dice = λ seat. (⟦<MemWorld<TablePlugin> as World>⟧.told world.inner).dice seat;
+      dice_faults = λ seat. (⟦<MemWorld<TablePlugin> as World>⟧.told world.inner).dice_faults seat;
+      out = λ seat. (⟦<MemWorld<TablePlugin> as World>⟧.told world.inner).out seat;
+    } };
 
     fn faults(&self) -> u64 {
-        self.load_faults.saturating_add(self.open_faults)
+        self.load_faults
+            .count()
+            .saturating_add(self.open_faults.count())
     }
 
     fn load(&mut self, alloc: Global, name: &str, limit: u64) -> Result<Bytes, FileNo> {
@@ -68,7 +79,7 @@ impl World for FailingWorld {
             return Err(FileNo::NoMemory);
         }
         if self.calls.next_fails() {
-            self.load_faults = self.load_faults.saturating_add(1);
+            self.load_faults.rise();
             return Err(FileNo::Failed);
         }
         match self.inner.load(alloc, name, limit) {
@@ -77,7 +88,7 @@ impl World for FailingWorld {
             Err(FileNo::TooLong) => Err(FileNo::TooLong),
             Err(FileNo::NoMemory) => Err(FileNo::NoMemory),
             Err(FileNo::Failed) => {
-                self.load_faults = self.load_faults.saturating_add(1);
+                self.load_faults.rise();
                 Err(FileNo::Failed)
             }
         }
@@ -88,14 +99,14 @@ impl World for FailingWorld {
             return Err(FileNo::NoMemory);
         }
         if self.calls.next_fails() {
-            self.open_faults = self.open_faults.saturating_add(1);
+            self.open_faults.rise();
             return Err(FileNo::Failed);
         }
         match self.inner.dice(alloc, seat) {
             Ok(dice) => Ok(dice),
             Err(FileNo::NoMemory) => Err(FileNo::NoMemory),
             Err(_) => {
-                self.open_faults = self.open_faults.saturating_add(1);
+                self.open_faults.rise();
                 Err(FileNo::Failed)
             }
         }

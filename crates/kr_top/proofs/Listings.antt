@@ -1,6 +1,6 @@
 -- Texts that are written a piece at a time.
 use Rattle.std.proofs.Common.{◌≡◌, ℕ, suc, ◌+◌, ◌<◌, ◌≤◌, List, [], ◌∷◌, ◌++◌, length, get_or, drop, sym, ◌∙◌, ap, append_assoc, append-nil, drop-cons, map, add-one}
-use Rattle.std.specs.Prelude.{codes, Result, Ok, Err, IfOk}
+use Rattle.std.specs.Prelude.{codes}
 use Rattle.std.specs.List.{concat}
 use Rattle.std.proofs.lemmas.List.{drop_all}
 use Rattle.kr_config.specs.declared.settings.Entry.{Entry}
@@ -9,36 +9,49 @@ use Rattle.kr_config.specs.Kept.{row_of, rows_of}
 use Rattle.kr_top.specs.Check.{provider_text, with_commas, entry_line, lines_from, provider_lines}
 
 -- a piece more was written, and what is left is one piece less
-pub went_on : {new before whole : List ℕ} (text piece behind : List ℕ) → new ≡ text ++ piece → before ≡ piece ++ behind → text ++ before ≡ whole → new ++ behind ≡ whole
-went_on text piece behind e s i = ap (λ t. t ++ behind) e ∙ append_assoc text piece behind ∙ ap (λ t. text ++ t) (sym s) ∙ i
+pub went_on : {new before whole : List ℕ} (text piece behind : List ℕ) → new ≡ text ++ piece
+    → before ≡ piece ++ behind → text ++ before ≡ whole → new ++ behind ≡ whole
+went_on text piece behind e s i = ap (λ t. t ++ behind) e ∙ append_assoc text piece behind
+    ∙ ap (λ t. text ++ t) (sym s) ∙ i
 
--- two pieces
-pub pair : {middle new : List ℕ} (text first second : List ℕ) → middle ≡ text ++ first → new ≡ middle ++ second → new ≡ text ++ (first ++ second)
-pair text first second e f = f ∙ ap (λ t. t ++ second) e ∙ append_assoc text first second
-
-pub entries_more : (entries : List Entry) (i n : ℕ) (e : Entry) → i < length entries → e ≡ get_or entries i e → lines_from n (rows_of (drop i entries)) ≡ entry_line n (row_of e) ++ lines_from (n + 1) (rows_of (drop (i + 1) entries))
+pub entries_more : (entries : List Entry) (i n : ℕ) (e : Entry) → i < length entries
+    → e ≡ get_or entries i e → lines_from n (rows_of (drop i entries)) ≡ entry_line n (row_of e)
+    ++ lines_from (n + 1) (rows_of (drop (i + 1) entries))
 entries_more entries i n e h is = ap (λ l. lines_from n (rows_of l)) (drop-cons entries i e h)
-    ∙ ap (λ x. entry_line n (row_of x) ++ lines_from (suc n) (rows_of (drop (suc i) entries))) (sym is)
-    ∙ ap (λ k. entry_line n (row_of e) ++ lines_from k (rows_of (drop (suc i) entries))) (sym (add-one n))
-    ∙ ap (λ k. entry_line n (row_of e) ++ lines_from (n + 1) (rows_of (drop k entries))) (sym (add-one i))
+    ∙ ap (λ x. entry_line n (row_of x) ++ lines_from (suc n) (rows_of (drop (suc i) entries)))
+    (sym is)
+    ∙ ap (λ k. entry_line n (row_of e) ++ lines_from k (rows_of (drop (suc i) entries)))
+    (sym (add-one n))
+    ∙ ap (λ k. entry_line n (row_of e) ++ lines_from (n + 1) (rows_of (drop k entries)))
+    (sym (add-one i))
 
-pub entries_all : {text whole : List ℕ} (entries : List Entry) (i n : ℕ) → length entries ≤ i → text ++ lines_from n (rows_of (drop i entries)) ≡ whole → text ≡ whole
-entries_all {text} entries i n h e = sym (append-nil text) ∙ ap (λ l. text ++ lines_from n (rows_of l)) (sym (drop_all i entries h)) ∙ e
+pub entries_all : {text whole : List ℕ} (entries : List Entry) (i n : ℕ) → length entries ≤ i → text
+    ++ lines_from n (rows_of (drop i entries)) ≡ whole → text ≡ whole
+entries_all {text} entries i n h e = sym (append-nil text)
+    ∙ ap (λ l. text ++ lines_from n (rows_of l)) (sym (drop_all i entries h)) ∙ e
 
 -- one piece for each item
 module _ {T : Type 0} (f : T → List ℕ) where
-  pub concat_more : (xs : List T) (i : ℕ) (x : T) → i < length xs → x ≡ get_or xs i x → concat (map f (drop i xs)) ≡ f x ++ concat (map f (drop (i + 1) xs))
+  pub concat_more : (xs : List T) (i : ℕ) (x : T) → i < length xs → x ≡ get_or xs i x
+      → concat (map f (drop i xs)) ≡ f x ++ concat (map f (drop (i + 1) xs))
   concat_more xs i x h is = ap (λ l. concat (map f l)) (drop-cons xs i x h)
       ∙ ap (λ y. f y ++ concat (map f (drop (suc i) xs))) (sym is)
       ∙ ap (λ k. f x ++ concat (map f (drop k xs))) (sym (add-one i))
 
-  pub concat_all : {text whole : List ℕ} (xs : List T) (i : ℕ) → length xs ≤ i → text ++ concat (map f (drop i xs)) ≡ whole → text ≡ whole
-  concat_all {text} xs i h e = sym (append-nil text) ∙ ap (λ l. text ++ concat (map f l)) (sym (drop_all i xs h)) ∙ e
+  pub concat_all : {text whole : List ℕ} (xs : List T) (i : ℕ) → length xs ≤ i → text
+      ++ concat (map f (drop i xs)) ≡ whole → text ≡ whole
+  concat_all {text} xs i h e = sym (append-nil text)
+      ∙ ap (λ l. text ++ concat (map f l)) (sym (drop_all i xs h)) ∙ e
 
-pub lines_more : (providers : List Who) (i : ℕ) (who : Who) → i < length providers → who ≡ get_or providers i who → provider_lines (drop i providers) ≡ (provider_text who ++ codes "\n") ++ provider_lines (drop (i + 1) providers)
-lines_more providers i who h is = concat_more (λ who. provider_text who ++ codes "\n") providers i who h is
+pub lines_more : (providers : List Who) (i : ℕ) (who : Who) → i < length providers
+    → who ≡ get_or providers i who
+    → provider_lines (drop i providers) ≡ (provider_text who ++ codes "\n")
+    ++ provider_lines (drop (i + 1) providers)
+lines_more providers i who h is =
+    concat_more (λ who. provider_text who ++ codes "\n") providers i who h is
 
-pub lines_all : {text whole : List ℕ} (providers : List Who) (i : ℕ) → length providers ≤ i → text ++ provider_lines (drop i providers) ≡ whole → text ≡ whole
+pub lines_all : {text whole : List ℕ} (providers : List Who) (i : ℕ) → length providers ≤ i → text
+    ++ provider_lines (drop i providers) ≡ whole → text ≡ whole
 lines_all providers i h e = concat_all (λ who. provider_text who ++ codes "\n") providers i h e
 
 -- the pieces behind the first, each with its comma
@@ -51,33 +64,18 @@ with_tail x [] = sym (append-nil x)
 with_tail x (y ∷ ys) = ap (λ l. x ++ (0x2C ∷ l)) (with_tail y ys)
 
 module _ {T : Type 0} (f : T → List ℕ) where
-  pub tail_more : (xs : List T) (i : ℕ) (x : T) → i < length xs → x ≡ get_or xs i x → tail (map f (drop i xs)) ≡ (0x2C ∷ f x) ++ tail (map f (drop (i + 1) xs))
+  pub tail_more : (xs : List T) (i : ℕ) (x : T) → i < length xs → x ≡ get_or xs i x
+      → tail (map f (drop i xs)) ≡ (0x2C ∷ f x) ++ tail (map f (drop (i + 1) xs))
   tail_more xs i x h is = ap (λ l. tail (map f l)) (drop-cons xs i x h)
       ∙ ap (λ y. (0x2C ∷ f y) ++ tail (map f (drop (suc i) xs))) (sym is)
       ∙ ap (λ k. (0x2C ∷ f x) ++ tail (map f (drop k xs))) (sym (add-one i))
 
   -- the first was written, and then the others
-  pub tail_all : {first now : List ℕ} (text : List ℕ) (x : T) (xs all : List T) (i : ℕ) → length xs ≤ i → now ++ tail (map f (drop i xs)) ≡ first ++ tail (map f xs) → first ≡ text ++ f x → all ≡ x ∷ xs → now ≡ text ++ with_commas (map f all)
-  tail_all {first} {now} text x xs all i h e begun is = sym (append-nil now) ∙ ap (λ l. now ++ tail (map f l)) (sym (drop_all i xs h)) ∙ e
-      ∙ ap (λ t. t ++ tail (map f xs)) begun ∙ append_assoc text (f x) (tail (map f xs)) ∙ ap (λ t. text ++ t) (sym (with_tail (f x) (map f xs))) ∙ ap (λ l. text ++ with_commas (map f l)) (sym is)
-
--- the pieces of an entry's line
-pub entry_pieces : {t1 t2 t3 t4 t5 t6 t7 : List ℕ} (t0 digits patterns providers : List ℕ) → t1 ≡ t0 ++ codes "entry " → t2 ≡ t1 ++ digits → t3 ≡ t2 ++ codes ": " → t4 ≡ t3 ++ patterns → t5 ≡ t4 ++ codes ": " → t6 ≡ t5 ++ providers → t7 ≡ t6 ++ codes "\n"
-    → t7 ≡ t0 ++ (codes "entry " ++ (digits ++ (codes ": " ++ (patterns ++ (codes ": " ++ (providers ++ codes "\n"))))))
-entry_pieces t0 digits patterns providers e1 e2 e3 e4 e5 e6 e7 =
-    pair t0 (codes "entry ") _ e1 (pair _ digits _ e2 (pair _ (codes ": ") _ e3 (pair _ patterns _ e4 (pair _ (codes ": ") _ e5 (pair _ providers (codes "\n") e6 e7)))))
-
--- what holds by the last piece holds where it was written
-pub last_piece : {T E : Type 0} (r : Result T E) (P Q : Type 0) → IfOk r (λ done. P) → (P → Q) → IfOk r (λ done. Q)
-last_piece (Ok done) P Q h f = f h
-last_piece (Err why) P Q h f = tt
-
--- the pieces of the lines of an annotation and of an object
-pub annotation_pieces : {t1 t2 t3 t4 t5 : List ℕ} (t0 key digits : List ℕ) → t1 ≡ t0 ++ codes "annotation " → t2 ≡ t1 ++ key → t3 ≡ t2 ++ codes " " → t4 ≡ t3 ++ digits → t5 ≡ t4 ++ codes "\n"
-    → t5 ≡ t0 ++ ((codes "annotation " ++ (key ++ (codes " " ++ digits))) ++ codes "\n")
-annotation_pieces t0 key digits e1 e2 e3 e4 e5 = pair t0 (codes "annotation " ++ (key ++ (codes " " ++ digits))) (codes "\n") (pair t0 (codes "annotation ") _ e1 (pair _ key _ e2 (pair _ (codes " ") digits e3 e4))) e5
-
-pub object_pieces : {t1 t2 t3 t4 t5 t6 t7 : List ℕ} (t0 id source annotations kind content : List ℕ) → t1 ≡ t0 ++ codes "key-id " → t2 ≡ t1 ++ id → t3 ≡ t2 ++ codes "\n" → t4 ≡ t3 ++ source → t5 ≡ t4 ++ annotations → t6 ≡ t5 ++ kind → t7 ≡ t6 ++ content
-    → t7 ≡ t0 ++ (((codes "key-id " ++ id) ++ codes "\n") ++ (source ++ (annotations ++ (kind ++ content))))
-object_pieces t0 id source annotations kind content e1 e2 e3 e4 e5 e6 e7 =
-    pair t0 ((codes "key-id " ++ id) ++ codes "\n") _ (pair t0 (codes "key-id " ++ id) (codes "\n") (pair t0 (codes "key-id ") id e1 e2) e3) (pair _ source _ e4 (pair _ annotations _ e5 (pair _ kind content e6 e7)))
+  pub tail_all : {first now : List ℕ} (text : List ℕ) (x : T) (xs all : List T) (i : ℕ)
+      → length xs ≤ i → now ++ tail (map f (drop i xs)) ≡ first ++ tail (map f xs) → first ≡ text
+      ++ f x → all ≡ x ∷ xs → now ≡ text ++ with_commas (map f all)
+  tail_all {first} {now} text x xs all i h e begun is = sym (append-nil now)
+      ∙ ap (λ l. now ++ tail (map f l)) (sym (drop_all i xs h)) ∙ e
+      ∙ ap (λ t. t ++ tail (map f xs)) begun ∙ append_assoc text (f x) (tail (map f xs))
+      ∙ ap (λ t. text ++ t) (sym (with_tail (f x) (map f xs)))
+      ∙ ap (λ l. text ++ with_commas (map f l)) (sym is)

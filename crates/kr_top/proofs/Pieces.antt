@@ -5,61 +5,62 @@ use Rattle.std.proofs.lemmas.List.{take-append-le, drop_all, length-append}
 use Rattle.std.specs.Io.KnownBytes.{Appends}
 use Rattle.std.proofs.KnownBytes.{Appends-trans}
 use Rattle.kr_base.specs.Streams.{AppendsFront}
-use Rattle.std.specs.Prelude.{codes, decimal}
-use Rattle.kr_config.specs.declared.refusal.ConfigNo.{ConfigNo}
-use Rattle.std.specs.Prelude.{if◌then◌else◌}
-use Rattle.std.proofs.lemmas.Bool.Decides.{Decides-eqb}
-use Rattle.kr_top.specs.inner.Phases.{joined}
-use Rattle.kr_top.specs.Message.{object_text, fault_line, counted_text, configuration_line}
-use Rattle.kr_top.specs.declared.refusal.Object.{Object}
+use Rattle.kr_top.specs.inner.Phases.{whole}
 
 -- the first pieces were written, and how many bytes they are in all is left open
-pub record Spoke (before now : Option (List ℕ)) (pieces : List (Bor (List ℕ))) (done faults count : ℕ) : Type 0 where
+pub record Spoke (before now : Option (List ℕ)) (pieces : List (Bor (List ℕ)))
+    (done faults count : ℕ) : Type 0 where
   pub written : List ℕ
   pub appended : Appends before now written
-  pub split : joined pieces ≡ written ++ joined (drop done pieces)
+  pub split : whole pieces ≡ written ++ whole (drop done pieces)
   pub later : faults ≤ count
 
-joined-drop : (pieces : List (Bor (List ℕ))) (i : ℕ) (d : Bor (List ℕ)) → i < length pieces → joined (drop i pieces) ≡ (get_or pieces i d).now ++ joined (drop (suc i) pieces)
-joined-drop pieces i d h = ap joined (drop-cons pieces i d h)
+whole-drop : (pieces : List (Bor (List ℕ))) (i : ℕ) (d : Bor (List ℕ)) → i < length pieces
+    → whole (drop i pieces) ≡ (get_or pieces i d).now ++ whole (drop (suc i) pieces)
+whole-drop pieces i d h = ap whole (drop-cons pieces i d h)
 
-pub spoke-more : {a b : Option (List ℕ)} {pieces : List (Bor (List ℕ))} {i faults count : ℕ} (c : Option (List ℕ)) (d : Bor (List ℕ)) (piece : List ℕ) (after : ℕ) → Spoke a b pieces i faults count → i < length pieces
-    → piece ≡ (get_or pieces i d).now → Appends b c piece → count ≤ after → Spoke a c pieces (i + 1) faults after
+pub spoke-more : {a b : Option (List ℕ)} {pieces : List (Bor (List ℕ))} {i faults count : ℕ}
+    (c : Option (List ℕ)) (d : Bor (List ℕ)) (piece : List ℕ) (after : ℕ)
+    → Spoke a b pieces i faults count → i < length pieces
+    → piece ≡ (get_or pieces i d).now → Appends b c piece → count ≤ after
+    → Spoke a c pieces (i + 1) faults after
 spoke-more {a} {b} {pieces} {i} c d piece after s h e p later = record {
   written = s.written ++ piece;
   appended = Appends-trans a b c _ _ s.appended p;
-  split = rw add-one (s.split ∙ ap (λ l. s.written ++ l) (joined-drop pieces i d h ∙ ap (λ l. l ++ joined (drop (suc i) pieces)) (sym e)) ∙ sym (append_assoc s.written _ _));
+  split = rw add-one
+      (s.split ∙ ap (λ l. s.written ++ l)
+      (whole-drop pieces i d h ∙ ap (λ l. l ++ whole (drop (suc i) pieces)) (sym e))
+      ∙ sym (append_assoc s.written _ _));
   later = omega (arith, s.later);
 }
 
 -- a fault leaves a prefix of what comes next
-pub spoke-front : {a b : Option (List ℕ)} {pieces : List (Bor (List ℕ))} {i faults count : ℕ} (c : Option (List ℕ)) (d : Bor (List ℕ)) (next : List ℕ) → Spoke a b pieces i faults count → i < length pieces
-    → next ≡ (get_or pieces i d).now → AppendsFront b c next → AppendsFront a c (joined pieces)
+pub spoke-front : {a b : Option (List ℕ)} {pieces : List (Bor (List ℕ))} {i faults count : ℕ}
+    (c : Option (List ℕ)) (d : Bor (List ℕ)) (next : List ℕ) → Spoke a b pieces i faults count
+    → i < length pieces
+    → next ≡ (get_or pieces i d).now → AppendsFront b c next → AppendsFront a c (whole pieces)
 spoke-front {a} {b} {pieces} {i} c d next s h e (n, short, appended) =
-    let whole : joined pieces ≡ s.written ++ (next ++ joined (drop (suc i) pieces)) =
-    s.split ∙ ap (λ l. s.written ++ l) (joined-drop pieces i d h ∙ ap (λ l. l ++ joined (drop (suc i) pieces)) (sym e)) in
-    let front : take (length s.written + n) (joined pieces) ≡ s.written ++ take n next =
-    ap (take (length s.written + n)) whole ∙ take-append-add s.written (next ++ joined (drop (suc i) pieces)) n ∙ ap (λ l. s.written ++ l) (take-append-le n next (joined (drop (suc i) pieces)) short) in (
+    let all : whole pieces ≡ s.written ++ (next ++ whole (drop (suc i) pieces)) =
+    s.split ∙ ap (λ l. s.written ++ l)
+    (whole-drop pieces i d h ∙ ap (λ l. l ++ whole (drop (suc i) pieces)) (sym e)) in
+    let front : take (length s.written + n) (whole pieces) ≡ s.written ++ take n next =
+    ap (take (length s.written + n)) all
+    ∙ take-append-add s.written (next ++ whole (drop (suc i) pieces)) n
+    ∙ ap (λ l. s.written ++ l) (take-append-le n next (whole (drop (suc i) pieces)) short) in (
       length s.written + n,
-      omega (arith, ap length whole, length-append s.written (next ++ joined (drop (suc i) pieces)), length-append next (joined (drop (suc i) pieces))),
+      omega (
+        arith,
+        ap length all,
+        length-append s.written
+            (next ++ whole (drop (suc i) pieces)),
+        length-append next (whole (drop (suc i) pieces)),
+      ),
       subst (Appends a c) (sym front) (Appends-trans a b c _ _ s.appended appended),
     )
 
-pub spoke-all : {a b : Option (List ℕ)} {pieces : List (Bor (List ℕ))} {i faults count : ℕ} → Spoke a b pieces i faults count → length pieces ≤ i → Appends a b (joined pieces)
-spoke-all {a} {b} {pieces} {i} s h = subst (Appends a b) (sym (s.split ∙ ap (λ l. s.written ++ joined l) (drop_all i pieces h) ∙ append-nil s.written)) s.appended
-
--- the pieces of a fault's line are its line
-pub fault_pieces : (name seat digits : List ℕ) (object : Object) (count : ℕ) → name ++ seat ≡ object_text object → digits ≡ decimal count
-    → codes "kmsrest: fault " ++ (name ++ (seat ++ (codes " " ++ (digits ++ codes "\n")))) ≡ fault_line object count
-fault_pieces name seat digits object count named numbered =
-    ap (λ l. codes "kmsrest: fault " ++ l) (sym (append_assoc name seat (codes " " ++ (digits ++ codes "\n"))) ∙ ap (λ l. l ++ (codes " " ++ (digits ++ codes "\n"))) named
-    ∙ ap (λ d. object_text object ++ (codes " " ++ (d ++ codes "\n"))) numbered)
-
--- the pieces of the line of a limit of configurations
-pub limit_pieces : (why : ConfigNo) (which digits : List ℕ) → why.code ≡ 39 → which ≡ counted_text why.first → digits ≡ decimal why.second
-    → codes "kmsrest: limit " ++ (which ++ (codes " " ++ (digits ++ codes "\n"))) ≡ configuration_line why
-limit_pieces why which digits code named numbered =
-    ap (λ w. codes "kmsrest: limit " ++ (w ++ (codes " " ++ (digits ++ codes "\n")))) named
-    ∙ ap (λ d. codes "kmsrest: limit " ++ (counted_text why.first ++ (codes " " ++ (d ++ codes "\n")))) numbered
-    ∙ ap (λ q. if q then codes "kmsrest: limit " ++ (counted_text why.first ++ (codes " " ++ (decimal why.second ++ codes "\n")))
-    else codes "kmsrest: text " ++ (decimal why.code ++ (codes " " ++ (decimal why.first ++ (codes " " ++ (decimal why.second ++ codes "\n")))))) (sym ((Decides-eqb why.code 39).1 code))
+pub spoke-all : {a b : Option (List ℕ)} {pieces : List (Bor (List ℕ))} {i faults count : ℕ}
+    → Spoke a b pieces i faults count → length pieces ≤ i → Appends a b (whole pieces)
+spoke-all {a} {b} {pieces} {i} s h =
+    subst (Appends a b)
+    (sym (s.split ∙ ap (λ l. s.written ++ whole l) (drop_all i pieces h) ∙ append-nil s.written))
+    s.appended

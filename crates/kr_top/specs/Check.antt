@@ -25,7 +25,9 @@ with_commas texts = join_with_byte 0x2C texts
 
 -- `entry I: PATTERNS: PROVIDERS`
 abbrev pub entry_line : ℕ → Row → List ℕ
-entry_line i row = codes "entry " ++ (decimal i ++ (codes ": " ++ (with_commas (map pattern_text row.patterns) ++ (codes ": " ++ (with_commas (map provider_text row.providers) ++ codes "\n")))))
+entry_line i row =
+    codes "entry " ++ (decimal i ++ (codes ": " ++ (with_commas (map pattern_text row.patterns)
+    ++ (codes ": " ++ (with_commas (map provider_text row.providers) ++ codes "\n")))))
 
 -- a line for each entry; the first has the number 0
 abbrev pub lines_from : ℕ → List Row → List ℕ

@@ -1,5 +1,5 @@
 -- What a stored value says of itself.
-use Rattle.std.specs.Prelude.{◌≡◌, ◌⊎◌, ℕ, List, ◌++◌, length, codes, decimal, map, Result, Ok, Err}
+use Rattle.std.specs.Prelude.{◌≡◌, ◌⊎◌, ℕ, List, ◌++◌, length, codes, decimal, map, Option, None, Some, Result, Ok, Err}
 use Rattle.std.specs.List.{concat}
 use Rattle.kr_base.specs.Rules.{IsName}
 use Rattle.kr_envelope.specs.Prefixes.{mark, prefix, Begins}
@@ -10,7 +10,7 @@ use Rattle.kr_envelope.specs.declared.object.EncryptedObject.{EncryptedObject}
 use Rattle.kr_envelope.specs.declared.object.ObjectNo.{ObjectNo}
 use Rattle.kr_envelope.specs.declared.object.ObjectNo.TheVariants.{Wire, KeyId, Source, Annotations, SourceType, NoData, NotUtf8, NoMemory}
 use Rattle.kr_provider.specs.declared.refusal.ValueNo.TheVariants as value
-use Rattle.kr_top.specs.Configuration.{printed}
+use Rattle.kr_top.specs.Configuration.{visible}
 use Rattle.kr_top.specs.declared.refusal.Refusal.{Refusal}
 use Rattle.kr_top.specs.declared.refusal.Refusal.TheVariants.{Value, Placed}
 
@@ -18,8 +18,8 @@ abbrev pub line : List ℕ → List ℕ
 line text = text ++ codes "\n"
 
 -- a word, and a number or a printed text behind it
-abbrev pub numbered : List ℕ → ℕ → List ℕ
-numbered word n = word ++ (codes " " ++ decimal n)
+abbrev pub word_and_number : List ℕ → ℕ → List ℕ
+word_and_number word n = word ++ (codes " " ++ decimal n)
 
 abbrev pub kind_text : Kind → List ℕ
 kind_text Aescbc = codes "aescbc"
@@ -28,43 +28,52 @@ kind_text Kms = codes "kms"
 
 -- the kind, the name, and how long the body is
 abbrev pub tag_line : Kind → (name body : List ℕ) → List ℕ
-tag_line kind name body = line (kind_text kind ++ (codes " " ++ numbered name (length body)))
+tag_line kind name body = line (kind_text kind ++ (codes " " ++ word_and_number name (length body)))
 
 abbrev pub annotation_line : List ℕ × List ℕ → List ℕ
-annotation_line pair = line (codes "annotation " ++ numbered (printed pair.0) (length pair.1))
+annotation_line pair =
+    line (codes "annotation " ++ word_and_number (visible pair.0) (length pair.1))
 
 abbrev pub object_lines : EncryptedObject → List ℕ
-object_lines object = line (codes "key-id " ++ printed object.key_id) ++ (line (numbered (codes "source") (length object.source)) ++ (concat (map annotation_line object.annotations)
-    ++ (line (numbered (codes "type") (number_of object.kind)) ++ line (numbered (codes "data") (length object.encrypted)))))
+object_lines object =
+    line (codes "key-id " ++ visible object.key_id)
+    ++ (line (word_and_number (codes "source") (length object.source))
+    ++ (concat (map annotation_line object.annotations)
+    ++ (line (word_and_number (codes "type") (number_of object.kind))
+    ++ line (word_and_number (codes "data") (length object.encrypted)))))
 
 -- why bytes are no object; a breach of the wire format and of UTF-8 has its place
-abbrev pub IsObjectRefusal : ObjectNo → Refusal → Type 0
-IsObjectRefusal (Wire at) why = why ≡ Placed value.Wire at
-IsObjectRefusal KeyId why = why ≡ Value value.KeyId
-IsObjectRefusal Source why = why ≡ Value value.Source
-IsObjectRefusal Annotations why = why ≡ Value value.Annotations
-IsObjectRefusal SourceType why = why ≡ Value value.SourceType
-IsObjectRefusal NoData why = why ≡ Value value.NoData
-IsObjectRefusal (NotUtf8 at) why = why ≡ Placed value.NotUtf8 at
-IsObjectRefusal NoMemory why = ⊥
+abbrev pub object_refusal : ObjectNo → Option Refusal
+object_refusal (Wire at) = Some (Placed value.Wire at)
+object_refusal KeyId = Some (Value value.KeyId)
+object_refusal Source = Some (Value value.Source)
+object_refusal Annotations = Some (Value value.Annotations)
+object_refusal SourceType = Some (Value value.SourceType)
+object_refusal NoData = Some (Value value.NoData)
+object_refusal (NotUtf8 at) = Some (Placed value.NotUtf8 at)
+object_refusal NoMemory = None
 
-abbrev pub ShowsObject : (name body : List ℕ) → Result EncryptedObject ObjectNo → Result (List ℕ) Refusal → Type 0
-ShowsObject name body (Ok object) (Ok text) = text ≡ tag_line Kms name body ++ object_lines object
-ShowsObject name body (Ok object) (Err why) = ⊥
-ShowsObject name body (Err breach) (Ok text) = ⊥
-ShowsObject name body (Err breach) (Err why) = IsObjectRefusal breach why
+abbrev pub ShowsObject : (name body : List ℕ) → Result EncryptedObject ObjectNo
+    → Result (List ℕ) Refusal → Type 0
+ShowsObject name body (Ok object) shown =
+    shown ≡ Ok (tag_line Kms name body ++ object_lines object)
+ShowsObject name body (Err breach) shown =
+    (why : Refusal) × (object_refusal breach ≡ Some why) × (shown ≡ Err why)
 
 -- the line of a value with a prefix; a plugin's has those of its object behind it
 abbrev pub ShowsBody : Kind → (name body : List ℕ) → Result (List ℕ) Refusal → Type 0
 ShowsBody Aescbc name body shown = shown ≡ Ok (tag_line Aescbc name body)
 ShowsBody Aesgcm name body shown = shown ≡ Ok (tag_line Aesgcm name body)
-ShowsBody Kms name body shown = (read : Result EncryptedObject ObjectNo) × Reads body read × ShowsObject name body read shown
+ShowsBody Kms name body shown =
+    (read : Result EncryptedObject ObjectNo) × Reads body read × ShowsObject name body read shown
 
--- a value without a prefix; one of a kind and a name; one that begins as a prefix does and has none is refusal 12
+-- a value without a prefix; one of a kind and a name; one that begins as a prefix does and has none
+-- is refusal 12
 abbrev pub Inspects : List ℕ → Result (List ℕ) Refusal → Type 0
 Inspects bytes shown =
-    ((Begins mark bytes → ⊥) × (shown ≡ Ok (line (numbered (codes "plain") (length bytes)))))
-    ⊎ ((kind : Kind) × (name : List ℕ) × (body : List ℕ) × IsName name × (bytes ≡ prefix kind name ++ body)
-    × ShowsBody kind name body shown)
-    ⊎ (Begins mark bytes × ((kind : Kind) (name : List ℕ) → IsName name → Begins (prefix kind name) bytes → ⊥)
+    ((Begins mark bytes → ⊥) × (shown ≡ Ok (line (word_and_number (codes "plain") (length bytes)))))
+    ⊎ ((kind : Kind) × (name : List ℕ) × (body : List ℕ) × IsName name
+    × (bytes ≡ prefix kind name ++ body) × ShowsBody kind name body shown)
+    ⊎ (Begins mark bytes
+    × ((kind : Kind) (name : List ℕ) → IsName name → Begins (prefix kind name) bytes → ⊥)
     × (shown ≡ Err (Value value.NoProvider)))

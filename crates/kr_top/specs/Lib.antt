@@ -1,3 +1,4 @@
+-- The definitions that contracts cite.
 pub mod Check
 pub mod Command
 pub mod Commands

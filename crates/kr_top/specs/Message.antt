@@ -1,11 +1,17 @@
 -- What a command says at its end: its status, and its line on the errors sink.
-use Rattle.std.specs.Prelude.{ℕ, ◌==◌, List, [], ◌++◌, codes, decimal, Result, Ok, Err, if◌then◌else◌}
+use Rattle.std.specs.Prelude.{ℕ, List, [], ◌++◌, codes, decimal, Result, Ok, Err}
 use Rattle.kr_config.specs.declared.refusal.ConfigNo.{ConfigNo}
+use Rattle.kr_config.specs.declared.refusal.ConfigNo.TheVariants as config
+use Rattle.kr_config.specs.declared.refusal.Counted.{Counted}
+use Rattle.kr_config.specs.declared.refusal.Counted.TheVariants.{Entries, Patterns, Keys, Plugins}
+use Rattle.kr_config.specs.Refusals.{limit_of, code_of, first_number, second_number}
 use Rattle.kr_provider.specs.Refusals.{number_of, name_of}
 use Rattle.kr_top.specs.declared.refusal.Object.{Object}
 use Rattle.kr_top.specs.declared.refusal.Object.TheVariants.{Input, Output, Files, Dice}
 use Rattle.kr_top.specs.declared.refusal.Refusal.{Refusal}
-use Rattle.kr_top.specs.declared.refusal.Refusal.TheVariants.{Absent, LongConfiguration, Configuration, NotServed, LongData, LongValue, Value, Placed}
+use Rattle.kr_top.specs.declared.refusal.Refusal.TheVariants.{Absent, Configuration, NotServed, Limit, Value, Placed}
+use Rattle.kr_top.specs.declared.refusal.Limit as limits
+use Rattle.kr_top.specs.declared.refusal.Limit.TheVariants as limit
 use Rattle.kr_top.specs.declared.refusal.BadWords.{BadWords}
 use Rattle.kr_top.specs.declared.refusal.BadWords.TheVariants.{Usage, Replicas, Size}
 use Rattle.kr_top.specs.declared.refusal.Stop.{Stop}
@@ -24,14 +30,16 @@ status_of_done Silent = 0
 status_of_done Fresh = 0
 status_of_done Stale = 0
 
--- code 39 of a configuration is a limit
+abbrev pub status_of_configuration : ConfigNo → ℕ
+status_of_configuration (config.Breach broken place) = 3
+status_of_configuration (config.Yaml broken line) = 3
+status_of_configuration (config.Limit counted) = 6
+
 abbrev pub status_of_refusal : Refusal → ℕ
 status_of_refusal (Absent name) = 3
-status_of_refusal LongConfiguration = 6
-status_of_refusal (Configuration why) = if why.code == 39 then 6 else 3
+status_of_refusal (Configuration why) = status_of_configuration why
 status_of_refusal NotServed = 3
-status_of_refusal LongData = 6
-status_of_refusal LongValue = 6
+status_of_refusal (Limit which) = 6
 status_of_refusal (Value why) = 1
 status_of_refusal (Placed why at) = 1
 
@@ -43,29 +51,46 @@ status_of (Err (Fault object count)) = 4
 status_of (Err NoMemory) = 5
 
 -- what a configuration has too many of
-abbrev pub counted_text : ℕ → List ℕ
-counted_text which = if which == 1 then codes "entries" else if which == 2 then codes "patterns" else if which == 3 then codes "keys" else codes "kms"
+abbrev pub counted_text : Counted → List ℕ
+counted_text Entries = codes "entries"
+counted_text Patterns = codes "patterns"
+counted_text Keys = codes "keys"
+counted_text Plugins = codes "kms"
+
+abbrev pub too_many_line : Counted → List ℕ
+too_many_line counted = codes "kmsrest: limit " ++ (counted_text counted
+    ++ (codes " " ++ (decimal (limit_of counted) ++ codes "\n")))
+
+abbrev pub breach_line : ConfigNo → List ℕ
+breach_line why = codes "kmsrest: text " ++ (decimal (code_of why)
+    ++ (codes " " ++ (decimal (first_number why)
+    ++ (codes " " ++ (decimal (second_number why) ++ codes "\n")))))
 
 abbrev pub configuration_line : ConfigNo → List ℕ
-configuration_line why = if why.code == 39
-    then codes "kmsrest: limit " ++ (counted_text why.first ++ (codes " " ++ (decimal why.second ++ codes "\n")))
-    else codes "kmsrest: text " ++ (decimal why.code ++ (codes " " ++ (decimal why.first ++ (codes " " ++ (decimal why.second ++ codes "\n")))))
+configuration_line (config.Breach broken place) = breach_line (config.Breach broken place)
+configuration_line (config.Yaml broken line) = breach_line (config.Yaml broken line)
+configuration_line (config.Limit counted) = too_many_line counted
 
 abbrev pub words_line : BadWords → List ℕ
 words_line Usage = codes "kmsrest: usage: kmsrest COMMAND OPTIONS\n"
 words_line Replicas = codes "kmsrest: limit replicas 16\n"
 words_line Size = codes "kmsrest: limit size 10000\n"
 
+abbrev pub limit_line : limits.Limit → List ℕ
+limit_line limit.Config = codes "kmsrest: limit config 1048576\n"
+limit_line limit.Data = codes "kmsrest: limit data 2097152\n"
+limit_line limit.Value = codes "kmsrest: limit value 2162688\n"
+
 abbrev pub refusal_line : Refusal → List ℕ
 refusal_line (Absent name) = codes "kmsrest: text 40 " ++ (name ++ codes "\n")
-refusal_line LongConfiguration = codes "kmsrest: limit config 1048576\n"
 refusal_line (Configuration why) = configuration_line why
 refusal_line NotServed = codes "kmsrest: text 50 0 0\n"
-refusal_line LongData = codes "kmsrest: limit data 2097152\n"
-refusal_line LongValue = codes "kmsrest: limit value 2162688\n"
-refusal_line (Value why) = codes "kmsrest: refused " ++ (decimal (number_of why) ++ (codes " " ++ (name_of why ++ codes "\n")))
+refusal_line (Limit which) = limit_line which
+refusal_line (Value why) = codes "kmsrest: refused " ++ (decimal (number_of why)
+    ++ (codes " " ++ (name_of why ++ codes "\n")))
 refusal_line (Placed why at) =
-    codes "kmsrest: refused " ++ (decimal (number_of why) ++ (codes " " ++ (name_of why ++ (codes " " ++ (decimal at ++ codes "\n")))))
+    codes "kmsrest: refused " ++ (decimal (number_of why)
+    ++ (codes " " ++ (name_of why ++ (codes " " ++ (decimal at ++ codes "\n")))))
 
 abbrev pub object_text : Object → List ℕ
 object_text Input = codes "input"
@@ -74,7 +99,8 @@ object_text Files = codes "files"
 object_text (Dice seat) = codes "dice " ++ decimal seat
 
 abbrev pub fault_line : Object → ℕ → List ℕ
-fault_line object count = codes "kmsrest: fault " ++ (object_text object ++ (codes " " ++ (decimal count ++ codes "\n")))
+fault_line object count = codes "kmsrest: fault " ++ (object_text object
+    ++ (codes " " ++ (decimal count ++ codes "\n")))
 
 -- decrypt says whether the value is one that the resource's writer would write today
 abbrev pub done_line : Done → List ℕ

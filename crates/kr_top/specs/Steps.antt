@@ -6,32 +6,41 @@ use Rattle.kr_kms.specs.Outside.{noted}
 use Rattle.kr_kms.specs.declared.world.Asked.{Asked}
 use Rattle.kr_kms.specs.declared.world.Asked.TheVariants.{File, RandomSource}
 use Rattle.kr_top.specs.declared.refusal.Object.{Object}
-use Rattle.kr_top.specs.declared.refusal.Object.TheVariants.{Input, Output, Files, Dice}
+use Rattle.kr_top.specs.declared.refusal.Object.TheVariants.{Input, Files, Dice}
 use Rattle.kr_top.specs.declared.refusal.Refusal.{Refusal}
-use Rattle.kr_top.specs.declared.refusal.Done.{Done}
 
-pub data Steps : Type 1 where
+-- steps that give an A
+pub data Steps (A : Type 0) : Type 1 where
   -- a file by its name: absent, or its bytes
-  load : List ℕ → (Option (List ℕ) → Steps) → Steps
+  load : List ℕ → (Option (List ℕ) → Steps A) → Steps A
   -- the whole input of at most so many bytes; more are refused so
-  take_input : ℕ → Refusal → (List ℕ → Steps) → Steps
+  take_input : ℕ → Refusal → (List ℕ → Steps A) → Steps A
   -- the random source of a seat
-  borrow_dice : ℕ → Steps → Steps
+  borrow_dice : ℕ → Steps A → Steps A
   -- so many bytes of the random source of a seat
-  draw : (seat size : ℕ) → (List ℕ → Steps) → Steps
-  -- nothing is asked: a thing of which this holds
-  find : (A : Type 0) → (A → Type 0) → (A → Steps) → Steps
-  refuse : Refusal → Steps
-  -- the output, and what is said beside it
-  give : List ℕ → Done → Steps
+  draw : (seat size : ℕ) → (List ℕ → Steps A) → Steps A
+  -- nothing is asked: a thing of which this holds, where there is memory for it
+  find : (B : Type 0) → (B → Type 0) → (B → Steps A) → Steps A
+  refuse : Refusal → Steps A
+  give : A → Steps A
 
--- the calls on the outside; each kind has a count of faults
+-- what the first steps give, the others go on from
+abbrev pub and_then : {A B : Type 0} → Steps A → (A → Steps B) → Steps B
+and_then (load name next) others = load name (λ bytes. and_then (next bytes) others)
+and_then (take_input limit long next) others =
+    take_input limit long (λ bytes. and_then (next bytes) others)
+and_then (borrow_dice seat next) others = borrow_dice seat (and_then next others)
+and_then (draw seat size next) others = draw seat size (λ bytes. and_then (next bytes) others)
+and_then (find B P next) others = find B P (λ b. and_then (next b) others)
+and_then (refuse why) others = refuse why
+and_then (give x) others = others x
+
+-- the calls on the world and the input; each kind has a count of faults
 pub data Call : Type 0 where
   loading : (name : List ℕ) → Call
   reading : Call
   opening : (seat : ℕ) → Call
   drawing : (seat : ℕ) → Call
-  writing : Call
 
 -- the object that a call is made on
 abbrev pub object_of : Call → Object
@@ -39,18 +48,18 @@ object_of (loading name) = Files
 object_of reading = Input
 object_of (opening seat) = Files
 object_of (drawing seat) = Dice seat
-object_of writing = Output
 
 -- where steps may end: at a call that was made, between two of them, or at their last
-pub data Point : Type 0 where
-  awaits : Call → Point
-  amid : Point
-  refuses : Refusal → Point
-  gives : List ℕ → Done → Point
+pub data Point (A : Type 0) : Type 0 where
+  awaits : Call → Point A
+  amid : Point A
+  refuses : Refusal → Point A
+  gives : A → Point A
 
--- what the steps so far left of the input and of the random source of each seat, and the calls that they made on the world,
--- where these are told
+-- the files by their names, which stay; what the steps so far left of the input and of the random
+-- source of each seat; and the calls that they made on the world: all this where it is told
 pub record Left : Type 0 where
+  pub file : List ℕ → Option (Option (List ℕ))
   pub input : Option (List ℕ)
   pub dice : ℕ → Option (List ℕ)
   pub asked : Option (List Asked)
@@ -59,33 +68,37 @@ abbrev pub with_input : Option (List ℕ) → Left → Left
 with_input rest left = record left { input = rest }
 
 abbrev pub with_dice : ℕ → Option (List ℕ) → Left → Left
-with_dice seat rest left = record left { dice = λ other. if seat == other then rest else left.dice other }
+with_dice seat rest left =
+    record left { dice = λ other. if seat == other then rest else left.dice other }
 
 abbrev pub with_asked : Asked → Left → Left
 with_asked call left = record left { asked = noted call left.asked }
 
--- the steps went over the files of a world to some point, where this holds of what is left; `file` is a file by its name,
--- where the world tells it
-module _ (file : List ℕ → Option (Option (List ℕ))) (At : Point → Left → Type 0) where
-  abbrev pub Goes : Steps → Left → Type 0
+-- from what is left the steps went to this point, and left this
+module _ {A : Type 0} (point : Point A) (end : Left) where
+  abbrev pub IsAt : Point A → Left → Type 0
+  IsAt here left = (point ≡ here) × (end ≡ left)
+
+  abbrev pub Goes : Steps A → Left → Type 0
   Goes (load name next) left =
-      At amid left
-      ⊎ At (awaits (loading name)) (with_asked (File name) left)
-      ⊎ ((bytes : Option (List ℕ)) × Agrees (file name) bytes × Goes (next bytes) (with_asked (File name) left))
+      IsAt amid left
+      ⊎ IsAt (awaits (loading name)) (with_asked (File name) left)
+      ⊎ ((bytes : Option (List ℕ)) × Agrees (left.file name) bytes
+      × Goes (next bytes) (with_asked (File name) left))
   Goes (take_input limit long next) left =
       (bytes : List ℕ) × (rest : Option (List ℕ)) × Consumes left.input rest bytes × (
-      ((length bytes ≤ limit) × At (awaits reading) (with_input rest left))
-      ⊎ ((length bytes ≡ limit + 1) × At (refuses long) (with_input rest left))
+      ((length bytes ≤ limit) × IsAt (awaits reading) (with_input rest left))
+      ⊎ ((length bytes ≡ limit + 1) × IsAt (refuses long) (with_input rest left))
       ⊎ ((length bytes ≤ limit) × IsAtEnd rest × Goes (next bytes) (with_input rest left))
       )
   Goes (borrow_dice seat next) left =
-      At amid left
-      ⊎ At (awaits (opening seat)) (with_asked (RandomSource seat) left)
+      IsAt amid left
+      ⊎ IsAt (awaits (opening seat)) (with_asked (RandomSource seat) left)
       ⊎ Goes next (with_asked (RandomSource seat) left)
   Goes (draw seat size next) left =
-      At (awaits (drawing seat)) left
-      ⊎ ((bytes : List ℕ) × (rest : Option (List ℕ)) × Consumes (left.dice seat) rest bytes × (length bytes ≡ size)
-      × Goes (next bytes) (with_dice seat rest left))
-  Goes (find A P next) left = At amid left ⊎ ((a : A) × P a × Goes (next a) left)
-  Goes (refuse why) left = At (refuses why) left
-  Goes (give value done) left = At (gives value done) left
+      IsAt (awaits (drawing seat)) left
+      ⊎ ((bytes : List ℕ) × (rest : Option (List ℕ)) × Consumes (left.dice seat) rest bytes
+      × (length bytes ≡ size) × Goes (next bytes) (with_dice seat rest left))
+  Goes (find B P next) left = IsAt amid left ⊎ ((b : B) × P b × Goes (next b) left)
+  Goes (refuse why) left = IsAt (refuses why) left
+  Goes (give x) left = IsAt (gives x) left

@@ -1,1 +1,2 @@
+-- The definitions of inner contracts.
 pub mod Phases

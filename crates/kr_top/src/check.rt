@@ -1,15 +1,17 @@
-//! `check`: configuration, write what it says.
+//! `check`: configuration, what it says.
 ghost use Rattle.std.specs.Prelude.{◌≡◌, ℕ, Option, List, IfOk};
 ghost use Rattle.std.specs.Option.{option_copied};
 ghost use Rattle.kr_config.specs.Kept.{rows_of};
 ghost use Rattle.kr_top.specs.Check.{listing};
 ghost use Rattle.kr_top.specs.Command.{check};
-ghost use Rattle.kr_top.specs.Ran.{around, Did};
+ghost use Rattle.kr_top.specs.Commands.{steps};
+ghost use Rattle.kr_top.specs.Ran.{around};
+ghost use Rattle.kr_top.specs.inner.Phases.{Does};
 
 use crate::listing::{entry_lines, provider_lines};
-use crate::phases::{configure, write_output};
-use crate::refusal::{Done, Stop};
-use kr_base::{Bytes, NoMemory, Sink};
+use crate::phases::configure;
+use crate::refusal::{Done, Outcome, Stop};
+use kr_base::{Bytes, NoMemory};
 use kr_config::Settings;
 use kr_kms::World;
 use std::alloc::Global;
@@ -23,35 +25,31 @@ pub struct CheckWords<'a> {
     pub resource: Option<&'a str>,
 }
 
-/// Shows a configuration on the output.
-pub fn check<W: World, O: Sink>(
-    alloc: Global,
-    words: CheckWords<'_>,
-    world: &mut W,
-    output: &mut O,
-) -> Result<Done, Stop>
-    ensures { (input : Option (List ℕ)) (faults : ℕ) → Did (check words.entry.config.now (option_copied words.entry.resource))
-        (around (W.told world.old) input faults (O.held output.old) (O.count output.old))
-        (around (W.told world.new) input faults (O.held output.new) (O.count output.new))
+/// Makes the text that shows a configuration.
+pub fn check<W: World>(alloc: Global, words: CheckWords<'_>, world: &mut W) -> Result<Outcome, Stop>
+    ensures { (input : Option (List ℕ)) (faults : ℕ)
+        → Does (steps (check words.entry.config.now (option_copied words.entry.resource)))
+        (around (W.told world.old) input faults)
+        (around (W.told world.new) input faults)
         result }
 {
     let settings = match configure(alloc, world, words.config) {
         Ok(settings) => settings,
         Err(stop) => return Err(stop),
     };
-    let text = match listing(alloc, &settings, words.resource) {
-        Ok(text) => text,
-        Err(_) => return Err(Stop::NoMemory),
-    };
-    match write_output(output, text.as_slice()) {
-        Ok(()) => Ok(Done::Silent),
-        Err(stop) => Err(stop),
+    match listing(alloc, &settings, words.resource) {
+        Ok(bytes) => Ok(Outcome {
+            bytes,
+            done: Done::Silent,
+        }),
+        Err(_) => Err(Stop::NoMemory),
     }
 }
 
 /// All entries, or the provider list of the resource.
 fn listing(alloc: Global, settings: &Settings, resource: Option<&str>) -> Result<Bytes, NoMemory>
-    ensures { IfOk result (λ text. text ≡ listing (rows_of settings.now.entries.0) (option_copied resource.entry)) }
+    ensures { IfOk result
+        (λ text. text ≡ listing (rows_of settings.now.entries.0) (option_copied resource.entry)) }
 {
     match resource {
         Some(resource) => provider_lines(alloc, settings.list_for(resource)),

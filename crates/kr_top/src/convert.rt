@@ -1,13 +1,14 @@
-//! `encrypt` and `decrypt`: configuration, input, random source, seal or unseal, write.
+//! `encrypt` and `decrypt`: configuration, input, random source, seal or unseal.
 ghost use Rattle.std.specs.Prelude.{◌≡◌, ◌≤◌, length};
-ghost use Rattle.kr_top.specs.Commands.{limit_of, long_input};
-ghost use Rattle.kr_top.specs.inner.Phases.{command_of};
-ghost use Rattle.kr_top.specs.Ran.{around, Did};
+ghost use Rattle.kr_base.specs.Limits.{path_limit};
+ghost use Rattle.kr_top.specs.Commands.{limit_of, long_input, converting};
+ghost use Rattle.kr_top.specs.Ran.{around};
+ghost use Rattle.kr_top.specs.inner.Phases.{Does, TakesInput};
 
-use crate::phases::{open_dice, serve, take_input, write_output};
-use crate::refusal::{Done, Refusal, Stop};
+use crate::phases::{serve, take_input};
+use crate::refusal::{Limit, Outcome, Refusal, Stop};
 use crate::work::make;
-use kr_base::{DATA_LIMIT, Sink, Source, VALUE_LIMIT};
+use kr_base::{Bytes, DATA_LIMIT, Source, VALUE_LIMIT};
 use kr_kms::World;
 use std::alloc::Global;
 
@@ -21,22 +22,21 @@ pub enum Direction {
 }
 
 impl Direction {
-    /// The most bytes of the input: of an object's data, or of a stored value.
-    fn limit(self) -> u64
-        ensures { result ≡ limit_of self }
+    /// Takes the input: an object's data, or a stored value.
+    fn take<I: Source>(self, alloc: Global, input: &mut I) -> Result<Bytes, Stop>
+        ensures taken { TakesInput (limit_of self) (long_input self)
+            (I.left input.old) (I.left input.new) (I.count input.old) (I.count input.new)
+            result }
+        ensures later { I.count input.old ≤ I.count input.new }
     {
         match self {
-            Direction::Encrypt => DATA_LIMIT,
-            Direction::Decrypt => VALUE_LIMIT,
-        }
-    }
-
-    fn long_input(self) -> Refusal
-        ensures { result ≡ long_input self }
-    {
-        match self {
-            Direction::Encrypt => Refusal::LongData,
-            Direction::Decrypt => Refusal::LongValue,
+            Direction::Encrypt => take_input(alloc, input, DATA_LIMIT, Refusal::Limit(Limit::Data)),
+            Direction::Decrypt => take_input(
+                alloc,
+                input,
+                VALUE_LIMIT,
+                Refusal::Limit(Limit::Value),
+            ),
         }
     }
 }
@@ -52,49 +52,36 @@ pub struct ObjectWords<'a> {
     pub path: &'a str,
 }
 
-/// Encrypts or decrypts the input to the output.
-pub fn convert<W: World, I: Source, O: Sink>(
+/// Encrypts or decrypts the input.
+pub fn convert<W: World, I: Source>(
     alloc: Global,
     direction: Direction,
     words: ObjectWords<'_>,
     world: &mut W,
     input: &mut I,
-    output: &mut O,
-) -> Result<Done, Stop>
-    requires path { length words.path.now ≤ 1024 }
-    ensures { Did (command_of direction words.entry.config.now words.entry.resource.now words.entry.path.now)
-        (around (W.told world.old) (I.left input.old) (I.count input.old) (O.held output.old) (O.count output.old))
-        (around (W.told world.new) (I.left input.new) (I.count input.new) (O.held output.new) (O.count output.new))
+) -> Result<Outcome, Stop>
+    requires path { length words.path.now ≤ path_limit }
+    ensures { Does
+        (converting direction words.entry.config.now words.entry.resource.now words.entry.path.now)
+        (around (W.told world.old) (I.left input.old) (I.count input.old))
+        (around (W.told world.new) (I.left input.new) (I.count input.new))
         result }
 {
     let settings = match serve(alloc, world, words.config) {
         Ok(settings) => settings,
         Err(stop) => return Err(stop),
     };
-    let bytes = match take_input(alloc, input, direction.limit(), direction.long_input()) {
+    let bytes = match direction.take(alloc, input) {
         Ok(bytes) => bytes,
         Err(stop) => return Err(stop),
     };
-    let dice = match open_dice(alloc, world, 0) {
-        Ok(dice) => dice,
-        Err(stop) => return Err(stop),
-    };
-    let (made, dice) = make::<W::Link, W::Rand>(
+    make(
         alloc,
         direction,
         settings,
-        dice,
+        world,
         words.resource,
         words.path,
         bytes.as_slice(),
-    );
-    world.back_dice(0, dice);
-    let made = match made {
-        Ok(made) => made,
-        Err(stop) => return Err(stop),
-    };
-    match write_output(output, made.bytes.as_slice()) {
-        Ok(()) => Ok(made.done),
-        Err(stop) => Err(stop),
-    }
+    )
 }

@@ -1,54 +1,52 @@
-//! `inspect`: input, split and read, write what the value says of itself.
-ghost use Rattle.std.specs.Prelude.{◌≡◌, ◌≢◌, ◌++◌, IfOk, map};
+//! `inspect`: input, split and read, what the value says of itself.
+ghost use Rattle.std.specs.Prelude.{◌≡◌, ◌≢◌, ◌++◌, codes, decimal, Some, IfOk, map};
 ghost use Rattle.std.specs.List.{concat};
 ghost use Rattle.kr_kms.specs.Outside.{Outside};
 ghost use Rattle.kr_envelope.specs.Limits.{number_of};
 ghost use Rattle.kr_top.specs.Command.{inspect};
-ghost use Rattle.kr_top.specs.Inspect.{line, numbered, kind_text, tag_line, annotation_line, object_lines, IsObjectRefusal};
-ghost use Rattle.kr_top.specs.inner.Phases.{InspectsTo, ShowsTo};
-ghost use Rattle.kr_top.specs.Ran.{around, Did};
+ghost use Rattle.kr_top.specs.Commands.{steps};
+ghost use Rattle.kr_top.specs.Inspect.{line, word_and_number, kind_text, tag_line, annotation_line, object_lines, object_refusal};
+ghost use Rattle.kr_top.specs.Inspect.{Inspects, ShowsBody};
+ghost use Rattle.kr_top.specs.Configuration.{visible};
+ghost use Rattle.kr_top.specs.inner.Phases.{Does, Yields};
+ghost use Rattle.kr_top.specs.Ran.{around};
 
-use crate::phases::{take_input, write_output};
-use crate::refusal::{Done, Refusal, Stop};
-use crate::text::{add, add_number, add_pair, add_printed};
-use kr_base::{Bytes, NoMemory, Sink, Source, Text, VALUE_LIMIT};
+use crate::phases::take_input;
+use crate::refusal::{Done, Limit, Outcome, Refusal, Stop};
+use crate::text::{add, add_number, add_pair, add_visible};
+use kr_base::{Bytes, NoMemory, Source, Text, VALUE_LIMIT};
 use kr_envelope::{EncryptedObject, Kind, ObjectNo, SourceKind, Tagged, split};
 use kr_provider::ValueNo;
 use std::alloc::Global;
 
-/// Shows on the output what the input, a stored value, says of itself.
-pub fn inspect<I: Source, O: Sink>(
-    alloc: Global,
-    input: &mut I,
-    output: &mut O,
-) -> Result<Done, Stop>
-    ensures { (world : Outside) → Did inspect
-        (around world (I.left input.old) (I.count input.old) (O.held output.old) (O.count output.old))
-        (around world (I.left input.new) (I.count input.new) (O.held output.new) (O.count output.new))
+/// Makes the text of what the input, a stored value, says of itself.
+pub fn inspect<I: Source>(alloc: Global, input: &mut I) -> Result<Outcome, Stop>
+    ensures { (world : Outside) → Does (steps inspect)
+        (around world (I.left input.old) (I.count input.old))
+        (around world (I.left input.new) (I.count input.new))
         result }
 {
-    let bytes = match take_input(alloc, input, VALUE_LIMIT, Refusal::LongValue) {
+    let bytes = match take_input(alloc, input, VALUE_LIMIT, Refusal::Limit(Limit::Value)) {
         Ok(bytes) => bytes,
         Err(stop) => return Err(stop),
     };
-    let text = match inspected(alloc, bytes.as_slice()) {
-        Ok(text) => text,
-        Err(stop) => return Err(stop),
-    };
-    match write_output(output, text.as_slice()) {
-        Ok(()) => Ok(Done::Silent),
+    match inspected(alloc, bytes.as_slice()) {
+        Ok(bytes) => Ok(Outcome {
+            bytes,
+            done: Done::Silent,
+        }),
         Err(stop) => Err(stop),
     }
 }
 
 /// What a value says of itself.
 fn inspected(alloc: Global, bytes: &[u8]) -> Result<Bytes, Stop>
-    ensures { InspectsTo bytes.now result }
+    ensures { Yields (Inspects bytes.now) result }
 {
     match split(bytes) {
         Tagged::Plain(content) => {
             let mut text = Vec::new(alloc);
-            match add_numbered(&mut text, "plain", content.len()) {
+            match add_count(&mut text, "plain", content.len()) {
                 Ok(()) => Ok(Bytes::from_vec(text)),
                 Err(_) => Err(Stop::NoMemory),
             }
@@ -60,7 +58,7 @@ fn inspected(alloc: Global, bytes: &[u8]) -> Result<Bytes, Stop>
 
 /// The lines of a value with a prefix.
 fn known_lines(alloc: Global, kind: Kind, name: &str, body: &[u8]) -> Result<Bytes, Stop>
-    ensures { ShowsTo kind name.now body.now result }
+    ensures { Yields (ShowsBody kind name.now body.now) result }
 {
     let mut text = Vec::new(alloc);
     match add_tag(&mut text, kind, name, body) {
@@ -87,7 +85,7 @@ fn known_lines(alloc: Global, kind: Kind, name: &str, body: &[u8]) -> Result<Byt
 /// Why bytes are no object.
 fn object_refusal(why: ObjectNo) -> Refusal
     requires { why ≢ ObjectNo.NoMemory }
-    ensures { IsObjectRefusal why result }
+    ensures { object_refusal why ≡ Some result }
 {
     match why {
         ObjectNo::Wire { at } => Refusal::Placed(ValueNo::Wire, at),
@@ -122,27 +120,36 @@ fn kind_number(kind: SourceKind) -> usize
 
 /// Adds the line of the kind, the name and the length of the body.
 fn add_tag(text: &mut Vec<u8>, kind: Kind, name: &str, body: &[u8]) -> Result<(), NoMemory>
-    ensures { IfOk result (λ done. text.new.items ≡ text.old.items ++ tag_line kind name.now body.now) }
+    ensures { IfOk result
+        (λ done. text.new.items ≡ text.old.items ++ tag_line kind name.now body.now) }
 {
     add_pair(text, kind_text(kind), " ")?;
-    add_numbered(text, name, body.len())
+    add_count(text, name, body.len())
 }
 
 /// Adds the lines of an object.
 fn add_object(text: &mut Vec<u8>, object: &EncryptedObject) -> Result<(), NoMemory>
     ensures { IfOk result (λ done. text.new.items ≡ text.old.items ++ object_lines object.now) }
 {
-    add(text, "key-id ")?;
-    add_printed(text, object.key_id.as_str())?;
-    add(text, "\n")?;
-    add_numbered(text, "source", object.source.as_slice().len())?;
+    add_key_id(text, object.key_id.as_str())?;
+    add_count(text, "source", object.source.as_slice().len())?;
     add_annotations(text, object.annotations.pairs())?;
-    add_numbered(text, "type", kind_number(object.kind))?;
-    add_numbered(text, "data", object.encrypted.as_slice().len())
+    add_count(text, "type", kind_number(object.kind))?;
+    add_count(text, "data", object.encrypted.as_slice().len())
+}
+
+fn add_key_id(text: &mut Vec<u8>, key_id: &str) -> Result<(), NoMemory>
+    ensures { IfOk result (λ done. text.new.items
+        ≡ text.old.items ++ line (codes "key-id " ++ visible key_id.now)) }
+{
+    add(text, "key-id ")?;
+    add_visible(text, key_id)?;
+    add(text, "\n")
 }
 
 fn add_annotations(text: &mut Vec<u8>, pairs: &[(Text, Bytes)]) -> Result<(), NoMemory>
-    ensures { IfOk result (λ done. text.new.items ≡ text.old.items ++ concat (map annotation_line pairs.now)) }
+    ensures { IfOk result (λ done. text.new.items
+        ≡ text.old.items ++ concat (map annotation_line pairs.now)) }
 {
     for pair in pairs {
         add_annotation(text, pair.0.as_str(), pair.1.as_slice())?;
@@ -151,20 +158,36 @@ fn add_annotations(text: &mut Vec<u8>, pairs: &[(Text, Bytes)]) -> Result<(), No
 }
 
 fn add_annotation(text: &mut Vec<u8>, key: &str, value: &[u8]) -> Result<(), NoMemory>
-    ensures { IfOk result (λ done. text.new.items ≡ text.old.items ++ annotation_line (key.now, value.now)) }
+    ensures { IfOk result (λ done. text.new.items
+        ≡ text.old.items ++ annotation_line (key.now, value.now)) }
 {
     add(text, "annotation ")?;
-    add_printed(text, key)?;
-    add(text, " ")?;
-    add_number(text, value.len())?;
-    add(text, "\n")
+    add_visible_count(text, key, value.len())
+}
+
+/// Adds a line of a foreign text and a number.
+fn add_visible_count(text: &mut Vec<u8>, foreign: &str, number: usize) -> Result<(), NoMemory>
+    ensures { IfOk result (λ done. text.new.items
+        ≡ text.old.items ++ line (word_and_number (visible foreign.now) number)) }
+{
+    add_visible(text, foreign)?;
+    add_size(text, number)
 }
 
 /// Adds a line of a word and a number.
-fn add_numbered(text: &mut Vec<u8>, word: &str, number: usize) -> Result<(), NoMemory>
-    ensures { IfOk result (λ done. text.new.items ≡ text.old.items ++ line (numbered word.now number)) }
+fn add_count(text: &mut Vec<u8>, word: &str, number: usize) -> Result<(), NoMemory>
+    ensures { IfOk result (λ done. text.new.items
+        ≡ text.old.items ++ line (word_and_number word.now number)) }
 {
     add(text, word)?;
+    add_size(text, number)
+}
+
+/// Adds the end of such a line.
+fn add_size(text: &mut Vec<u8>, number: usize) -> Result<(), NoMemory>
+    ensures { IfOk result (λ done. text.new.items
+        ≡ text.old.items ++ (codes " " ++ (decimal number ++ codes "\n"))) }
+{
     add(text, " ")?;
     add_number(text, number)?;
     add(text, "\n")

@@ -1,5 +1,5 @@
 //! The texts of a configuration: its entries, patterns and providers.
-ghost use Rattle.std.specs.Prelude.{◌≡◌, ◌++◌, List, [], IfOk, map, drop};
+ghost use Rattle.std.specs.Prelude.{◌≡◌, ◌++◌, codes, decimal, List, [], IfOk, map, drop};
 ghost use Rattle.kr_config.specs.Kept.{rows_of, row_of};
 ghost use Rattle.kr_top.specs.Check.{pattern_text, provider_text, with_commas, entry_line, lines_from, provider_lines};
 
@@ -8,7 +8,8 @@ use kr_base::{Bytes, NoMemory};
 use kr_config::{Entry, Pattern, Who};
 use std::alloc::Global;
 
-/// A line for each entry: `entry I: PATTERNS: PROVIDERS`, each list parted by commas. The first has the number 0.
+/// A line for each entry: `entry I: PATTERNS: PROVIDERS`, each list parted by commas. The first has
+/// the number 0.
 #[tactic(auto, using(crate::proofs::Listings::entries_more, crate::proofs::Listings::entries_all))]
 pub fn entry_lines(alloc: Global, entries: &[Entry]) -> Result<Bytes, NoMemory>
     ensures { IfOk result (λ text. text ≡ lines_from 0 (rows_of entries.now)) }
@@ -36,19 +37,28 @@ pub fn provider_lines(alloc: Global, providers: &[Who]) -> Result<Bytes, NoMemor
 }
 
 fn add_entry(text: &mut Vec<u8>, number: usize, entry: &Entry) -> Result<(), NoMemory>
-    ensures { IfOk result (λ done. text.new.items ≡ text.old.items ++ entry_line number (row_of entry.now)) }
+    ensures { IfOk result (λ done. text.new.items
+        ≡ text.old.items ++ entry_line number (row_of entry.now)) }
 {
-    add(text, "entry ")?;
-    add_number(text, number)?;
-    add(text, ": ")?;
+    add_entry_number(text, number)?;
     add_patterns(text, entry.patterns.as_slice())?;
     add(text, ": ")?;
     add_providers(text, entry.providers.as_slice())?;
     add(text, "\n")
 }
 
+fn add_entry_number(text: &mut Vec<u8>, number: usize) -> Result<(), NoMemory>
+    ensures { IfOk result (λ done. text.new.items
+        ≡ text.old.items ++ (codes "entry " ++ (decimal number ++ codes ": "))) }
+{
+    add(text, "entry ")?;
+    add_number(text, number)?;
+    add(text, ": ")
+}
+
 fn add_patterns(text: &mut Vec<u8>, patterns: &[Pattern]) -> Result<(), NoMemory>
-    ensures { IfOk result (λ done. text.new.items ≡ text.old.items ++ with_commas (map pattern_text patterns.now)) }
+    ensures { IfOk result
+        (λ done. text.new.items ≡ text.old.items ++ with_commas (map pattern_text patterns.now)) }
 {
     let Some((first, rest)) = patterns.split_first() else {
         return Ok(());
@@ -62,7 +72,8 @@ fn add_patterns(text: &mut Vec<u8>, patterns: &[Pattern]) -> Result<(), NoMemory
 }
 
 fn add_providers(text: &mut Vec<u8>, providers: &[Who]) -> Result<(), NoMemory>
-    ensures { IfOk result (λ done. text.new.items ≡ text.old.items ++ with_commas (map provider_text providers.now)) }
+    ensures { IfOk result
+        (λ done. text.new.items ≡ text.old.items ++ with_commas (map provider_text providers.now)) }
 {
     let Some((first, rest)) = providers.split_first() else {
         return Ok(());

@@ -1,20 +1,18 @@
 //! What a command says at its end.
-ghost use Rattle.std.specs.Prelude.{◌≡◌, ◌≤◌, ◌++◌, OnOk, OnErr, List, [], ◌∷◌};
+ghost use Rattle.std.specs.Prelude.{◌≡◌, ◌≤◌, ◌++◌, OnOk, OnErr, List, [], ◌∷◌, codes, decimal};
 ghost use Rattle.std.specs.Io.KnownBytes.{Appends};
 ghost use Rattle.kr_base.specs.Faults.{IsCounted};
 ghost use Rattle.kr_base.specs.Streams.{AppendsFront};
-ghost use Rattle.kr_top.specs.Message.{status_of, status_of_words, status_of_refusal, status_of_done, words_line, refusal_line, done_line, counted_text, configuration_line, object_text, fault_line, line_of};
-ghost use Rattle.kr_top.specs.Ran.{sunk, Tells};
-ghost use Rattle.kr_top.specs.inner.Phases.{joined};
+ghost use Rattle.kr_top.specs.Message.{status_of, status_of_words, status_of_configuration, status_of_refusal, status_of_done};
+ghost use Rattle.kr_top.specs.Message.{words_line, limit_line, refusal_line, done_line, counted_text, too_many_line, breach_line, configuration_line, fault_line, line_of};
+ghost use Rattle.kr_top.specs.Ran.{receipt, Tells};
+ghost use Rattle.kr_top.specs.inner.Phases.{whole};
 
-use crate::refusal::{BadWords, Done, Object, Refusal, Stop};
+use crate::refusal::{BadWords, Done, Limit, Object, Refusal, Stop};
 use itoa::Buffer;
 use kr_base::{Failed, Sink, write_all};
-use kr_config::ConfigNo;
+use kr_config::{ConfigNo, Counted};
 use kr_provider::ValueNo;
-
-/// The number of the limit of a configuration among its codes.
-const LIMIT_PASSED: u8 = 39;
 
 fn status_of_words(why: BadWords) -> u8
     ensures { result ≡ status_of_words why }
@@ -36,6 +34,16 @@ fn status_of_done(done: Done) -> u8
     }
 }
 
+fn status_of_configuration(why: ConfigNo) -> u8
+    ensures { result ≡ status_of_configuration why }
+{
+    match why {
+        ConfigNo::Breach(_, _) => 3,
+        ConfigNo::Yaml(_, _) => 3,
+        ConfigNo::Limit(_) => 6,
+    }
+}
+
 fn status_of_refusal(why: &Refusal) -> u8
     ensures { result ≡ status_of_refusal why.now }
 {
@@ -44,10 +52,8 @@ fn status_of_refusal(why: &Refusal) -> u8
         Refusal::Placed(_, _) => 1,
         Refusal::Absent(_) => 3,
         Refusal::NotServed => 3,
-        Refusal::Configuration(why) => { if why.code == LIMIT_PASSED { 6 } else { 3 } }
-        Refusal::LongConfiguration => 6,
-        Refusal::LongData => 6,
-        Refusal::LongValue => 6,
+        Refusal::Configuration(why) => status_of_configuration(*why),
+        Refusal::Limit(_) => 6,
     }
 }
 
@@ -64,10 +70,12 @@ fn status_of(answer: &Result<Done, Stop>) -> u8
     }
 }
 
-/// Writes the line of how a command ended, and answers its status; 4 where the line can't be written. It takes no
-/// memory.
+/// Writes the line of how a command ended, and answers its status; 4 where the line can't be
+/// written. It takes no memory.
 pub fn tell<E: Sink>(errors: &mut E, answer: &Result<Done, Stop>) -> u8
-    ensures told { Tells (line_of answer.now) (status_of answer.now) (sunk (E.held errors.old) (E.held errors.new) (E.count errors.old) (E.count errors.new)) result }
+    ensures told { Tells (line_of answer.now) (status_of answer.now)
+        (receipt (E.held errors.old) (E.held errors.new) (E.count errors.old) (E.count errors.new))
+        result }
     ensures later { E.count errors.old ≤ E.count errors.new }
 {
     match write_line(errors, answer) {
@@ -77,8 +85,10 @@ pub fn tell<E: Sink>(errors: &mut E, answer: &Result<Done, Stop>) -> u8
 }
 
 fn write_line<E: Sink>(errors: &mut E, answer: &Result<Done, Stop>) -> Result<(), Failed>
-    ensures ok { OnOk result (Appends (E.held errors.old) (E.held errors.new) (line_of answer.now)) }
-    ensures err { OnErr result (AppendsFront (E.held errors.old) (E.held errors.new) (line_of answer.now)) }
+    ensures ok { OnOk result
+        (Appends (E.held errors.old) (E.held errors.new) (line_of answer.now)) }
+    ensures err { OnErr result
+        (AppendsFront (E.held errors.old) (E.held errors.new) (line_of answer.now)) }
     ensures cause { IsCounted (E.count errors.old) (E.count errors.new) result }
 {
     match answer {
@@ -91,17 +101,17 @@ fn write_line<E: Sink>(errors: &mut E, answer: &Result<Done, Stop>) -> Result<()
 }
 
 fn write_refusal<E: Sink>(errors: &mut E, why: &Refusal) -> Result<(), Failed>
-    ensures ok { OnOk result (Appends (E.held errors.old) (E.held errors.new) (refusal_line why.now)) }
-    ensures err { OnErr result (AppendsFront (E.held errors.old) (E.held errors.new) (refusal_line why.now)) }
+    ensures ok { OnOk result
+        (Appends (E.held errors.old) (E.held errors.new) (refusal_line why.now)) }
+    ensures err { OnErr result
+        (AppendsFront (E.held errors.old) (E.held errors.new) (refusal_line why.now)) }
     ensures cause { IsCounted (E.count errors.old) (E.count errors.new) result }
 {
     match why {
         Refusal::Absent(name) => write_each(errors, &["kmsrest: text 40 ", name.as_str(), "\n"]),
-        Refusal::LongConfiguration => write_all(errors, b"kmsrest: limit config 1048576\n"),
         Refusal::Configuration(why) => write_configuration(errors, *why),
         Refusal::NotServed => write_all(errors, b"kmsrest: text 50 0 0\n"),
-        Refusal::LongData => write_all(errors, b"kmsrest: limit data 2097152\n"),
-        Refusal::LongValue => write_all(errors, b"kmsrest: limit value 2162688\n"),
+        Refusal::Limit(which) => write_all(errors, limit_line(*which).as_bytes()),
         Refusal::Value(why) => write_value(errors, *why),
         Refusal::Placed(why, at) => write_placed(errors, *why, *at),
     }
@@ -117,6 +127,16 @@ fn words_line(why: BadWords) -> &'static str
     }
 }
 
+fn limit_line(which: Limit) -> &'static str
+    ensures { result.now ≡ limit_line which }
+{
+    match which {
+        Limit::Config => "kmsrest: limit config 1048576\n",
+        Limit::Data => "kmsrest: limit data 2097152\n",
+        Limit::Value => "kmsrest: limit value 2162688\n",
+    }
+}
+
 fn done_line(done: Done) -> &'static str
     ensures { result.now ≡ done_line done }
 {
@@ -129,8 +149,10 @@ fn done_line(done: Done) -> &'static str
 
 /// Writes the line of a refused value.
 fn write_value<E: Sink>(errors: &mut E, why: ValueNo) -> Result<(), Failed>
-    ensures ok { OnOk result (Appends (E.held errors.old) (E.held errors.new) (refusal_line (Refusal.Value why))) }
-    ensures err { OnErr result (AppendsFront (E.held errors.old) (E.held errors.new) (refusal_line (Refusal.Value why))) }
+    ensures ok { OnOk result
+        (Appends (E.held errors.old) (E.held errors.new) (refusal_line (Refusal.Value why))) }
+    ensures err { OnErr result
+        (AppendsFront (E.held errors.old) (E.held errors.new) (refusal_line (Refusal.Value why))) }
     ensures cause { IsCounted (E.count errors.old) (E.count errors.new) result }
 {
     let mut buffer = Buffer::new();
@@ -143,8 +165,11 @@ fn write_value<E: Sink>(errors: &mut E, why: ValueNo) -> Result<(), Failed>
 
 /// Writes the line of a refused value with its place.
 fn write_placed<E: Sink>(errors: &mut E, why: ValueNo, at: u64) -> Result<(), Failed>
-    ensures ok { OnOk result (Appends (E.held errors.old) (E.held errors.new) (refusal_line (Refusal.Placed why at))) }
-    ensures err { OnErr result (AppendsFront (E.held errors.old) (E.held errors.new) (refusal_line (Refusal.Placed why at))) }
+    ensures ok { OnOk result
+        (Appends (E.held errors.old) (E.held errors.new) (refusal_line (Refusal.Placed why at))) }
+    ensures err { OnErr result
+        (AppendsFront (E.held errors.old) (E.held errors.new)
+        (refusal_line (Refusal.Placed why at))) }
     ensures cause { IsCounted (E.count errors.old) (E.count errors.new) result }
 {
     let mut buffer = Buffer::new();
@@ -165,76 +190,118 @@ fn write_placed<E: Sink>(errors: &mut E, why: ValueNo, at: u64) -> Result<(), Fa
     )
 }
 
-/// Writes the line of a configuration's breach.
+/// Writes the line of what a configuration breaks.
 fn write_configuration<E: Sink>(errors: &mut E, why: ConfigNo) -> Result<(), Failed>
-    ensures ok { OnOk result (Appends (E.held errors.old) (E.held errors.new) (configuration_line why)) }
-    ensures err { OnErr result (AppendsFront (E.held errors.old) (E.held errors.new) (configuration_line why)) }
+    ensures ok { OnOk result
+        (Appends (E.held errors.old) (E.held errors.new) (configuration_line why)) }
+    ensures err { OnErr result
+        (AppendsFront (E.held errors.old) (E.held errors.new) (configuration_line why)) }
     ensures cause { IsCounted (E.count errors.old) (E.count errors.new) result }
 {
-    let mut second_buffer = Buffer::new();
-    let second = second_buffer.format(why.second);
-    if why.code == LIMIT_PASSED {
-        return write_each(
-            errors,
-            &[
-                "kmsrest: limit ",
-                counted_text(why.first),
-                " ",
-                second,
-                "\n",
-            ],
-        );
+    match why {
+        ConfigNo::Breach(_, _) => write_breach(errors, why),
+        ConfigNo::Yaml(_, _) => write_breach(errors, why),
+        ConfigNo::Limit(counted) => write_too_many(errors, counted),
     }
+}
+
+/// Writes the line of a breach with its code and numbers.
+fn write_breach<E: Sink>(errors: &mut E, why: ConfigNo) -> Result<(), Failed>
+    ensures ok { OnOk result
+        (Appends (E.held errors.old) (E.held errors.new) (breach_line why)) }
+    ensures err { OnErr result
+        (AppendsFront (E.held errors.old) (E.held errors.new) (breach_line why)) }
+    ensures cause { IsCounted (E.count errors.old) (E.count errors.new) result }
+{
     let mut code_buffer = Buffer::new();
-    let code = code_buffer.format(why.code);
+    let code = code_buffer.format(why.code());
     let mut first_buffer = Buffer::new();
-    let first = first_buffer.format(why.first);
+    let first = first_buffer.format(why.first_number());
+    let mut second_buffer = Buffer::new();
+    let second = second_buffer.format(why.second_number());
     write_each(
         errors,
         &["kmsrest: text ", code, " ", first, " ", second, "\n"],
     )
 }
 
-/// What a configuration has too many of.
-fn counted_text(which: u32) -> &'static str
-    ensures { result.now ≡ counted_text which }
+/// Writes the line of a limit that a configuration passes.
+fn write_too_many<E: Sink>(errors: &mut E, counted: Counted) -> Result<(), Failed>
+    ensures ok { OnOk result
+        (Appends (E.held errors.old) (E.held errors.new) (too_many_line counted)) }
+    ensures err { OnErr result
+        (AppendsFront (E.held errors.old) (E.held errors.new) (too_many_line counted)) }
+    ensures cause { IsCounted (E.count errors.old) (E.count errors.new) result }
 {
-    match which {
-        1 => "entries",
-        2 => "patterns",
-        3 => "keys",
-        _ => "kms",
+    let mut buffer = Buffer::new();
+    let limit = buffer.format(counted.limit());
+    write_each(
+        errors,
+        &["kmsrest: limit ", counted_text(counted), " ", limit, "\n"],
+    )
+}
+
+/// What a configuration has too many of.
+fn counted_text(counted: Counted) -> &'static str
+    ensures { result.now ≡ counted_text counted }
+{
+    match counted {
+        Counted::Entries => "entries",
+        Counted::Patterns => "patterns",
+        Counted::Keys => "keys",
+        Counted::Plugins => "kms",
     }
 }
 
 fn write_fault<E: Sink>(errors: &mut E, object: Object, count: u64) -> Result<(), Failed>
-    ensures ok { OnOk result (Appends (E.held errors.old) (E.held errors.new) (fault_line object count)) }
-    ensures err { OnErr result (AppendsFront (E.held errors.old) (E.held errors.new) (fault_line object count)) }
+    ensures ok { OnOk result
+        (Appends (E.held errors.old) (E.held errors.new) (fault_line object count)) }
+    ensures err { OnErr result
+        (AppendsFront (E.held errors.old) (E.held errors.new) (fault_line object count)) }
+    ensures cause { IsCounted (E.count errors.old) (E.count errors.new) result }
+{
+    match object {
+        Object::Input => write_named_fault(errors, "input", count),
+        Object::Output => write_named_fault(errors, "output", count),
+        Object::Files => write_named_fault(errors, "files", count),
+        Object::Dice(seat) => write_dice_fault(errors, seat, count),
+    }
+}
+
+fn write_named_fault<E: Sink>(errors: &mut E, name: &str, count: u64) -> Result<(), Failed>
+    ensures ok { OnOk result (Appends (E.held errors.old) (E.held errors.new)
+        (codes "kmsrest: fault " ++ (name.now ++ (codes " " ++ (decimal count ++ codes "\n"))))) }
+    ensures err { OnErr result (AppendsFront (E.held errors.old) (E.held errors.new)
+        (codes "kmsrest: fault " ++ (name.now ++ (codes " " ++ (decimal count ++ codes "\n"))))) }
+    ensures cause { IsCounted (E.count errors.old) (E.count errors.new) result }
+{
+    let mut buffer = Buffer::new();
+    let digits = buffer.format(count);
+    write_each(errors, &["kmsrest: fault ", name, " ", digits, "\n"])
+}
+
+fn write_dice_fault<E: Sink>(errors: &mut E, seat: u32, count: u64) -> Result<(), Failed>
+    ensures ok { OnOk result (Appends (E.held errors.old) (E.held errors.new)
+        (fault_line (Object.Dice seat) count)) }
+    ensures err { OnErr result (AppendsFront (E.held errors.old) (E.held errors.new)
+        (fault_line (Object.Dice seat) count)) }
     ensures cause { IsCounted (E.count errors.old) (E.count errors.new) result }
 {
     let mut seat_buffer = Buffer::new();
-    let (name, seat) = object_words(&mut seat_buffer, object);
+    let seat = seat_buffer.format(seat);
     let mut buffer = Buffer::new();
     let digits = buffer.format(count);
-    write_each(errors, &["kmsrest: fault ", name, seat, " ", digits, "\n"])
-}
-
-/// The name of an object, and the digits behind it where it is a seat's.
-fn object_words(buffer: &mut Buffer, object: Object) -> (&'static str, &str)
-    ensures { result.0.now ++ result.1.now ≡ object_text object }
-{
-    match object {
-        Object::Input => ("input", ""),
-        Object::Output => ("output", ""),
-        Object::Files => ("files", ""),
-        Object::Dice(seat) => ("dice ", buffer.format(seat)),
-    }
+    write_each(
+        errors,
+        &["kmsrest: fault ", "dice ", seat, " ", digits, "\n"],
+    )
 }
 
 /// Writes the pieces, one behind another.
 fn write_each<E: Sink>(errors: &mut E, pieces: &[&str]) -> Result<(), Failed>
-    ensures ok { OnOk result (Appends (E.held errors.old) (E.held errors.new) (joined pieces.now)) }
-    ensures err { OnErr result (AppendsFront (E.held errors.old) (E.held errors.new) (joined pieces.now)) }
+    ensures ok { OnOk result (Appends (E.held errors.old) (E.held errors.new) (whole pieces.now)) }
+    ensures err { OnErr result
+        (AppendsFront (E.held errors.old) (E.held errors.new) (whole pieces.now)) }
     ensures cause { IsCounted (E.count errors.old) (E.count errors.new) result }
 {
     for piece in pieces {

@@ -5,32 +5,35 @@ ghost use Rattle.kr_config.specs.Kept.{rows_of};
 ghost use Rattle.kr_provider.specs.Publication.{names_plugin};
 ghost use Rattle.kr_kms.specs.Outside.{KeepsFiles, KeepsDice, HandsOut};
 ghost use Rattle.kr_kms.specs.declared.world.Asked.{Asked};
-ghost use Rattle.kr_top.specs.inner.Phases.{AskedFor, Configures, Serves, ReadsRows, TakesInput, NoDice, WritesOutput};
+ghost use Rattle.kr_top.specs.Configuration.{any, without_plugin};
+ghost use Rattle.kr_top.specs.Ran.{receipt};
+ghost use Rattle.kr_top.specs.inner.Phases.{AskedFor, Configures, ReadsRows, TakesInput, NoDice, Writes};
 
-use crate::refusal::{Object, Refusal, Stop};
-use crate::text::printed;
+use crate::refusal::{Done, Limit, Object, Outcome, Refusal, Stop};
+use crate::text::visible;
 use kr_base::{Bytes, CONFIG_LIMIT, Failed, ReadNo, Sink, Source, read_all, write_all};
 use kr_config::{ConfigErr, Settings, read};
 use kr_kms::{FileNo, World};
 use kr_provider::names_plugin;
 use std::alloc::Global;
 
-/// Loads a configuration. What is printed where there is no such file is made first, so that this refusal needs no
-/// memory.
+/// Loads a configuration. What is printed where there is no such file is made first, so that this
+/// refusal needs no memory.
 pub fn configure<W: World>(alloc: Global, world: &mut W, name: &str) -> Result<Settings, Stop>
-    ensures settings { Configures (W.told world.old) (W.told world.new) name.now result }
-    ensures asked { AskedFor (W.told world.old).asked (W.told world.new).asked (Asked.File name.now) result }
+    ensures settings { Configures (W.told world.old) (W.told world.new) any name.now result }
+    ensures asked { AskedFor (W.told world.old).asked (W.told world.new).asked
+        (Asked.File name.now) result }
     ensures files { KeepsFiles (W.told world.old) (W.told world.new) }
     ensures dice { KeepsDice (W.told world.old) (W.told world.new) }
 {
-    let absent = match printed(alloc, name) {
+    let absent = match visible(alloc, name) {
         Ok(text) => text,
         Err(_) => return Err(Stop::NoMemory),
     };
     let file: Bytes = match world.load(alloc, name, CONFIG_LIMIT) {
         Ok(file) => file,
         Err(FileNo::Absent) => return Err(Stop::Refused(Refusal::Absent(absent))),
-        Err(FileNo::TooLong) => return Err(Stop::Refused(Refusal::LongConfiguration)),
+        Err(FileNo::TooLong) => return Err(Stop::Refused(Refusal::Limit(Limit::Config))),
         Err(FileNo::Failed) => return Err(Stop::Fault(Object::Files, world.faults())),
         Err(FileNo::NoMemory) => return Err(Stop::NoMemory),
     };
@@ -39,9 +42,12 @@ pub fn configure<W: World>(alloc: Global, world: &mut W, name: &str) -> Result<S
 
 /// Loads a configuration that is served: one that names no plugin.
 pub fn serve<W: World>(alloc: Global, world: &mut W, name: &str) -> Result<Settings, Stop>
-    ensures settings { Serves (W.told world.old) (W.told world.new) name.now result }
-    ensures asked { AskedFor (W.told world.old).asked (W.told world.new).asked (Asked.File name.now) result }
-    ensures no_plugin { IfOk result (λ settings. names_plugin (rows_of settings.entries.0) ≡ false) }
+    ensures settings { Configures (W.told world.old) (W.told world.new)
+        without_plugin name.now result }
+    ensures asked { AskedFor (W.told world.old).asked (W.told world.new).asked
+        (Asked.File name.now) result }
+    ensures no_plugin { IfOk result
+        (λ settings. names_plugin (rows_of settings.entries.0) ≡ false) }
     ensures files { KeepsFiles (W.told world.old) (W.told world.new) }
     ensures dice { KeepsDice (W.told world.old) (W.told world.new) }
 {
@@ -73,7 +79,8 @@ pub fn take_input<I: Source>(
     limit: u64,
     long: Refusal,
 ) -> Result<Bytes, Stop>
-    ensures taken { TakesInput limit long (I.left input.old) (I.left input.new) (I.count input.old) (I.count input.new) result }
+    ensures taken { TakesInput limit long (I.left input.old) (I.left input.new) (I.count input.old)
+        (I.count input.new) result }
     ensures later { I.count input.old ≤ I.count input.new }
 {
     match read_all(alloc, input, limit) {
@@ -86,10 +93,13 @@ pub fn take_input<I: Source>(
 
 /// Asks the world for the random source of the seat.
 pub fn open_dice<W: World>(alloc: Global, world: &mut W, seat: u32) -> Result<W::Rand, Stop>
-    ensures ok { IfOk result (λ dice. HandsOut (W.told world.old) (W.told world.new) seat (W.Rand.left dice) (W.Rand.count dice)) }
+    ensures ok { IfOk result
+        (λ dice. HandsOut (W.told world.old) (W.told world.new) seat (W.Rand.left dice)
+        (W.Rand.count dice)) }
     ensures err { OnErr result (KeepsDice (W.told world.old) (W.told world.new)) }
     ensures why { IfErr result (NoDice (W.told world.old) (W.told world.new)) }
-    ensures asked { AskedFor (W.told world.old).asked (W.told world.new).asked (Asked.RandomSource seat) result }
+    ensures asked { AskedFor (W.told world.old).asked (W.told world.new).asked
+        (Asked.RandomSource seat) result }
     ensures files { KeepsFiles (W.told world.old) (W.told world.new) }
 {
     match world.dice(alloc, seat) {
@@ -101,13 +111,19 @@ pub fn open_dice<W: World>(alloc: Global, world: &mut W, seat: u32) -> Result<W:
     }
 }
 
-/// Writes the value to the output.
-pub fn write_output<O: Sink>(output: &mut O, value: &[u8]) -> Result<(), Stop>
-    ensures written { WritesOutput value.now (O.held output.old) (O.held output.new) (O.count output.old) (O.count output.new) result }
+/// Writes what a command made to the output.
+pub fn write_output<O: Sink>(output: &mut O, made: Result<Outcome, Stop>) -> Result<Done, Stop>
+    ensures written { Writes
+        (receipt (O.held output.old) (O.held output.new) (O.count output.old) (O.count output.new))
+        made result }
     ensures later { O.count output.old ≤ O.count output.new }
 {
-    match write_all(output, value) {
-        Ok(()) => Ok(()),
+    let Outcome { bytes, done } = match made {
+        Ok(made) => made,
+        Err(stop) => return Err(stop),
+    };
+    match write_all(output, bytes.as_slice()) {
+        Ok(()) => Ok(done),
         Err(Failed) => Err(Stop::Fault(Object::Output, output.faults())),
     }
 }

@@ -1,6 +1,6 @@
 //! How a command ends: done, refused by what it saw, or cut short.
 
-use kr_base::Text;
+use kr_base::{Bytes, Text};
 use kr_config::ConfigNo;
 use kr_provider::ValueNo;
 
@@ -28,21 +28,28 @@ pub enum BadWords {
     Size,
 }
 
+/// A limit of bytes.
+#[derive(Clone, Copy, Debug, PartialEq, Eq)]
+pub enum Limit {
+    /// That of a configuration file: 1,048,576.
+    Config,
+    /// That of an object's data: 2,097,152.
+    Data,
+    /// That of a stored value: 2,162,688.
+    Value,
+}
+
 /// Why a step of a command refuses what it saw.
 #[derive(Debug, Drop, PartialEq, Eq)]
 pub enum Refusal {
     /// There is no file of this name, which stands here as it is printed.
     Absent(Text),
-    /// The configuration file has more than 1,048,576 bytes.
-    LongConfiguration,
     /// The configuration breaks a rule or passes a limit.
     Configuration(ConfigNo),
     /// The configuration names a plugin.
     NotServed,
-    /// The input has more bytes than an object may have.
-    LongData,
-    /// The input has more bytes than a stored value may have.
-    LongValue,
+    /// More bytes than this limit.
+    Limit(Limit),
     /// The data can't be sealed or the value can't be read.
     Value(ValueNo),
     /// The same of a value that is inspected, with the place of the breach in its body.
@@ -71,4 +78,11 @@ pub enum Done {
     Fresh,
     /// The value is of another provider than the writer.
     Stale,
+}
+
+/// What a command makes: the bytes of its output, and what is said beside them.
+#[derive(Debug, Drop)]
+pub struct Outcome {
+    pub bytes: Bytes,
+    pub done: Done,
 }

@@ -1,6 +1,6 @@
 //! Texts that are written a piece at a time.
 ghost use Rattle.std.specs.Prelude.{◌≡◌, ◌++◌, IfOk, decimal};
-ghost use Rattle.kr_top.specs.Configuration.{printed, printed_byte};
+ghost use Rattle.kr_top.specs.Configuration.{visible, visible_byte};
 
 use itoa::Buffer;
 use kr_base::{NoMemory, Text};
@@ -33,11 +33,11 @@ pub fn add_number(text: &mut Vec<u8>, number: usize) -> Result<(), NoMemory>
 }
 
 /// Adds a foreign text as it is printed: a byte outside 20 to 7E hex is a `?`.
-pub fn add_printed(text: &mut Vec<u8>, foreign: &str) -> Result<(), NoMemory>
-    ensures { IfOk result (λ done. text.new.items ≡ text.old.items ++ printed foreign.now) }
+pub fn add_visible(text: &mut Vec<u8>, foreign: &str) -> Result<(), NoMemory>
+    ensures { IfOk result (λ done. text.new.items ≡ text.old.items ++ visible foreign.now) }
 {
     for byte in foreign.as_bytes() {
-        if text.push(printed_byte(*byte)).is_err() {
+        if text.push(visible_byte(*byte)).is_err() {
             return Err(NoMemory);
         }
     }
@@ -45,21 +45,21 @@ pub fn add_printed(text: &mut Vec<u8>, foreign: &str) -> Result<(), NoMemory>
 }
 
 /// A foreign text as it is printed.
-pub fn printed(alloc: Global, foreign: &str) -> Result<Text, NoMemory>
-    ensures { IfOk result (λ copy. copy ≡ printed foreign.now) }
+pub fn visible(alloc: Global, foreign: &str) -> Result<Text, NoMemory>
+    ensures { IfOk result (λ copy. copy ≡ visible foreign.now) }
 {
     let Ok(mut bytes) = Vec::with_capacity(alloc, foreign.len()) else {
         return Err(NoMemory);
     };
-    add_printed(&mut bytes, foreign)?;
+    add_visible(&mut bytes, foreign)?;
     match String::from_utf8(bytes) {
         Ok(string) => Ok(Text::from_string(string)),
         Err(_) => unreachable!(),
     }
 }
 
-fn printed_byte(byte: u8) -> u8
-    ensures { result ≡ printed_byte byte }
+fn visible_byte(byte: u8) -> u8
+    ensures { result ≡ visible_byte byte }
 {
     if byte >= 0x20 && byte <= 0x7E {
         byte

@@ -1,15 +1,19 @@
 //! Seals or unseals by a bench of one configuration.
-ghost use Rattle.std.specs.Prelude.{◌≡◌, ◌≤◌, length, Some, [], false, IsSome, IfSome};
+ghost use Rattle.std.specs.Prelude.{◌≡◌, ℕ, ◌≤◌, length, Option, Some, List, [], false, IsSome, IfSome};
+ghost use Rattle.kr_base.specs.Limits.{path_limit};
 ghost use Rattle.kr_config.specs.Kept.{rows_of};
 ghost use Rattle.kr_provider.specs.Publication.{names_plugin};
 ghost use Rattle.kr_top.specs.Commands.{freshness, working, limit_of};
-ghost use Rattle.kr_top.specs.inner.Phases.{Works, Makes};
+ghost use Rattle.kr_top.specs.Ran.{around};
+ghost use Rattle.kr_top.specs.Steps.{borrow_dice};
+ghost use Rattle.kr_top.specs.inner.Phases.{Does, Makes, seal_outcome, unseal_outcome};
 
 use crate::convert::Direction;
-use crate::refusal::{Done, Object, Refusal, Stop};
+use crate::phases::open_dice;
+use crate::refusal::{Done, Object, Outcome, Refusal, Stop};
 use kr_base::{Bytes, Dice, Shared};
 use kr_config::Settings;
-use kr_kms::Kms;
+use kr_kms::{Kms, World};
 use kr_provider::{Bench, Links, Opened, SealNo, UnsealNo, ValueNo, publish};
 use std::alloc::Global;
 
@@ -18,26 +22,40 @@ const PAGES: u32 = 64;
 
 const CACHE: u32 = 64;
 
-/// What is written, and what is said beside it.
-#[derive(Debug, Drop)]
-pub struct Made {
-    pub bytes: Bytes,
-    pub done: Done,
+/// Borrows the random source of seat 0 for what the direction makes of the bytes by these settings.
+pub fn make<W: World>(
+    alloc: Global,
+    direction: Direction,
+    settings: Settings,
+    world: &mut W,
+    resource: &str,
+    path: &str,
+    bytes: &[u8],
+) -> Result<Outcome, Stop>
+    requires no_plugin { names_plugin (rows_of settings.entries.0) ≡ false }
+    requires path { length path.now ≤ path_limit }
+    requires fits { length bytes.now ≤ limit_of direction }
+    ensures { (input : Option (List ℕ)) (faults : ℕ) → Does
+        (borrow_dice 0
+        (working direction resource.now path.now (rows_of settings.entries.0) bytes.now))
+        (around (W.told world.old) input faults)
+        (around (W.told world.new) input faults)
+        result }
+{
+    let dice = match open_dice(alloc, world, 0) {
+        Ok(dice) => dice,
+        Err(stop) => return Err(stop),
+    };
+    let (made, dice) = make_by::<W::Link, W::Rand>(
+        alloc, direction, settings, dice, resource, path, bytes,
+    );
+    world.back_dice(0, dice);
+    made
 }
 
-/// Why a bench made nothing.
-#[derive(Debug, Drop)]
-pub enum WorkNo {
-    /// It refuses the bytes.
-    Refused(Refusal),
-    /// Its random source failed.
-    DiceFailed,
-    /// There was no memory.
-    NoMemory,
-}
-
-/// What the direction makes of the bytes by these settings. The random source comes back.
-pub fn make<L: Kms, D: Dice>(
+/// What the direction makes of the bytes by a bench of these settings. The random source comes
+/// back.
+fn make_by<L: Kms, D: Dice>(
     alloc: Global,
     direction: Direction,
     settings: Settings,
@@ -45,11 +63,14 @@ pub fn make<L: Kms, D: Dice>(
     resource: &str,
     path: &str,
     bytes: &[u8],
-) -> (Result<Made, Stop>, D)
+) -> (Result<Outcome, Stop>, D)
     requires no_plugin { names_plugin (rows_of settings.entries.0) ≡ false }
-    requires path { length path.now ≤ 1024 }
+    requires path { length path.now ≤ path_limit }
     requires fits { length bytes.now ≤ limit_of direction }
-    ensures made { Makes (working direction resource.now path.now (rows_of settings.entries.0) bytes.now) (D.left dice) (D.left result.1) (D.count dice) (D.count result.1) result.0 }
+    ensures made { Makes
+        (working direction resource.now path.now (rows_of settings.entries.0) bytes.now)
+        (D.left dice) (D.left result.1) (D.count dice) (D.count result.1)
+        result.0 }
     ensures later { D.count dice ≤ D.count result.1 }
 {
     let settings = match Shared::new(alloc, settings) {
@@ -78,57 +99,77 @@ pub fn make<L: Kms, D: Dice>(
     let Ok(()) = bench.adopt(published) else {
         unreachable!();
     };
-    let worked = work(alloc, direction, &mut bench, resource, path, bytes);
-    let (links, dice) = bench.close();
+    let (made, links, dice) = work(alloc, direction, bench, resource, path, bytes);
     links.end();
-    let made = match worked {
-        Ok(made) => Ok(made),
-        Err(WorkNo::Refused(why)) => Err(Stop::Refused(why)),
-        Err(WorkNo::DiceFailed) => Err(Stop::Fault(Object::Dice(0), dice.faults())),
-        Err(WorkNo::NoMemory) => Err(Stop::NoMemory),
-    };
     (made, dice)
 }
 
-/// What a bench that adopted a configuration makes of the bytes.
+/// What a bench that adopted a configuration makes of the bytes. Its links and its random source
+/// come back.
 fn work<L: Kms, D: Dice>(
     alloc: Global,
     direction: Direction,
-    bench: &mut Bench<L, D>,
+    mut bench: Bench<L, D>,
     resource: &str,
     path: &str,
     bytes: &[u8],
-) -> Result<Made, WorkNo>
-    requires adopted { IsSome bench.old.published }
-    requires bare { IfSome bench.old.published (λ p. p.seeds ≡ []) }
-    requires path { length path.now ≤ 1024 }
+) -> (Result<Outcome, Stop>, Links<L>, D)
+    requires adopted { IsSome bench.published }
+    requires bare { IfSome bench.published (λ p. p.seeds ≡ []) }
+    requires path { length path.now ≤ path_limit }
     requires fits { length bytes.now ≤ limit_of direction }
-    ensures made { IfSome bench.old.published (λ p. Works (working direction resource.now path.now p.rows bytes.now) (D.left bench.old.dice) (D.left bench.new.dice) (D.count bench.old.dice) (D.count bench.new.dice) result) }
-    ensures later { D.count bench.old.dice ≤ D.count bench.new.dice }
-    ensures kept { bench.new ≡ record bench.old { dice = bench.new.dice } }
+    ensures made { IfSome bench.published
+        (λ p. Makes (working direction resource.now path.now p.rows bytes.now)
+        (D.left bench.dice) (D.left result.2) (D.count bench.dice) (D.count result.2)
+        result.0) }
+    ensures later { D.count bench.dice ≤ D.count result.2 }
+    ensures links { result.1 ≡ bench.links }
 {
     match direction {
-        Direction::Encrypt => match bench.seal(alloc, resource, path, bytes) {
-            Ok(bytes) => Ok(Made {
-                bytes,
-                done: Done::Silent,
-            }),
-            Err(SealNo::LooksEncrypted) => Err(WorkNo::Refused(Refusal::Value(
-                ValueNo::LooksEncrypted,
-            ))),
-            Err(SealNo::TooLarge { length: _length }) => unreachable!(),
-            Err(SealNo::DiceFailed) => Err(WorkNo::DiceFailed),
-            Err(SealNo::NoMemory) => Err(WorkNo::NoMemory),
-        },
-        Direction::Decrypt => match bench.unseal(alloc, resource, path, bytes) {
-            Ok(Opened { plain, stale }) => Ok(Made {
-                bytes: plain,
-                done: freshness(stale),
-            }),
-            Err(UnsealNo::Refused(why)) => Err(WorkNo::Refused(Refusal::Value(why))),
-            Err(UnsealNo::PluginFailed { name: _name }) => unreachable!(),
-            Err(UnsealNo::NoMemory) => Err(WorkNo::NoMemory),
-        },
+        Direction::Encrypt => {
+            let sealed = bench.seal(alloc, resource, path, bytes);
+            let (links, dice) = bench.close();
+            let faults = dice.faults();
+            (seal_outcome(sealed, faults), links, dice)
+        }
+        Direction::Decrypt => {
+            let opened = bench.unseal(alloc, resource, path, bytes);
+            let (links, dice) = bench.close();
+            (unseal_outcome(opened), links, dice)
+        }
+    }
+}
+
+/// What a bench sealed, as a command says it, by the faults of its random source.
+fn seal_outcome(sealed: Result<Bytes, SealNo>, faults: u64) -> Result<Outcome, Stop>
+    ensures { result ≡ seal_outcome faults sealed }
+{
+    match sealed {
+        Ok(bytes) => Ok(Outcome {
+            bytes,
+            done: Done::Silent,
+        }),
+        Err(SealNo::LooksEncrypted) => Err(Stop::Refused(Refusal::Value(ValueNo::LooksEncrypted))),
+        Err(SealNo::TooLarge { length: _length }) => {
+            Err(Stop::Refused(Refusal::Value(ValueNo::TooLarge)))
+        }
+        Err(SealNo::DiceFailed) => Err(Stop::Fault(Object::Dice(0), faults)),
+        Err(SealNo::NoMemory) => Err(Stop::NoMemory),
+    }
+}
+
+/// What a bench read, as a command says it.
+fn unseal_outcome(opened: Result<Opened, UnsealNo>) -> Result<Outcome, Stop>
+    ensures { result ≡ unseal_outcome opened }
+{
+    match opened {
+        Ok(Opened { plain, stale }) => Ok(Outcome {
+            bytes: plain,
+            done: freshness(stale),
+        }),
+        Err(UnsealNo::Refused(why)) => Err(Stop::Refused(Refusal::Value(why))),
+        Err(UnsealNo::PluginFailed { name: _name }) => Err(Stop::Refused(Refusal::NotServed)),
+        Err(UnsealNo::NoMemory) => Err(Stop::NoMemory),
     }
 }
 

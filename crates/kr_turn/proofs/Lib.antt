@@ -1,3 +1,4 @@
+-- The lemmas of kr_turn.
 pub mod Orders
 pub mod Stays
 pub mod Keeps

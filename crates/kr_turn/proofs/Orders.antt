@@ -1,5 +1,7 @@
 -- Lines of seats, beginnings of histories, and what is left over all seats.
-use Rattle.std.proofs.Common.{◌≡◌, ℕ, zero, suc, ◌+◌, ◌<◌, ◌≢◌, cond, eqb, List, [], ◌∷◌, ◌++◌, length, drop, set, sym, refl, ap, ◌∙◌, arith, append_assoc, append-nil, eq-eqb, ne_eqb, length-append}
+use Rattle.std.proofs.Common.{◌≡◌, ℕ, zero, suc, ◌+◌, ◌<◌, ◌≢◌, cond, eqb, List, [], ◌∷◌, ◌++◌}
+use Rattle.std.proofs.Common.{length, drop, set, sym, refl, ap, ◌∙◌, arith, append_assoc}
+use Rattle.std.proofs.Common.{append-nil, eq-eqb, ne_eqb, length-append}
 use mathlib.Core.Option.{some, some-injective, some-ne-none}
 use mathlib.Core.List.{IsPrefix}
 use lib.ListN.{get_elem?}
@@ -16,7 +18,11 @@ in_range (x ∷ xs) (suc i) a e = let more = in_range xs i a e in omega arith
 
 module _ {L : Type 0} where
   pub prefix_more : (xs ys : List L) (x : L) → IsPrefix xs ys → IsPrefix xs (ys ++ x ∷ [])
-  prefix_more xs ys x pre = (pre.0 ++ x ∷ [], sym (append_assoc xs pre.0 (x ∷ [])) ∙ ap (λ (l : List L). l ++ x ∷ []) pre.1)
+  prefix_more xs ys x pre = (
+    pre.0 ++ x ∷ [],
+    sym (append_assoc xs pre.0 (x ∷ []))
+        ∙ ap (λ (l : List L). l ++ x ∷ []) pre.1,
+  )
 
   pub prefix_whole : (xs ys : List L) → xs ≡ ys → IsPrefix xs ys
   prefix_whole xs ys same = ([], append-nil xs ∙ same)
@@ -26,26 +32,38 @@ module _ {L : Type 0} where
 
   append_nothing : (xs ys zs : List L) → zs ≡ xs → xs ++ ys ≡ zs → ys ≡ []
   append_nothing xs [] zs e f = refl
-  append_nothing xs (y ∷ ys) zs e f = let long = ap length f ∙ ap length e in absurd (omega (arith, length-append xs (y ∷ ys), long))
+  append_nothing xs (y ∷ ys) zs e f = let long = ap length f ∙ ap length e in
+      absurd (omega (arith, length-append xs (y ∷ ys), long))
 
 module _ {L : Type 0} (seat_of : L → ℕ) where
-  pub of_seat_own : (seat : ℕ) (log : List L) (x : L) → seat_of x ≡ seat → of_seat seat_of seat (log ++ x ∷ []) ≡ of_seat seat_of seat log ++ x ∷ []
-  of_seat_own seat log x own = filter-append (λ (y : L). eqb (seat_of y) seat) log (x ∷ []) ∙ ap (λ b. of_seat seat_of seat log ++ cond b (x ∷ []) []) (eq-eqb (seat_of x) seat own)
+  pub of_seat_own : (seat : ℕ) (log : List L) (x : L) → seat_of x ≡ seat
+      → of_seat seat_of seat (log ++ x ∷ []) ≡ of_seat seat_of seat log ++ x ∷ []
+  of_seat_own seat log x own =
+      filter-append (λ (y : L). eqb (seat_of y) seat) log (x ∷ [])
+      ∙ ap (λ b. of_seat seat_of seat log ++ cond b (x ∷ []) []) (eq-eqb (seat_of x) seat own)
 
-  pub of_seat_other : (seat : ℕ) (log : List L) (x : L) → seat_of x ≢ seat → of_seat seat_of seat (log ++ x ∷ []) ≡ of_seat seat_of seat log
+  pub of_seat_other : (seat : ℕ) (log : List L) (x : L) → seat_of x ≢ seat
+      → of_seat seat_of seat (log ++ x ∷ []) ≡ of_seat seat_of seat log
   of_seat_other seat log x other = filter-append (λ (y : L). eqb (seat_of y) seat) log (x ∷ [])
-      ∙ (ap (λ b. of_seat seat_of seat log ++ cond b (x ∷ []) []) (ne_eqb (seat_of x) seat other) ∙ append-nil (of_seat seat_of seat log))
+      ∙ (ap (λ b. of_seat seat_of seat log ++ cond b (x ∷ []) []) (ne_eqb (seat_of x) seat other)
+      ∙ append-nil (of_seat seat_of seat log))
 
   -- what a seat hadn't seen has none of its lines, where it had seen all of them
-  pub none_between : (seat : ℕ) (seen between log mine : List L) → seen ++ between ≡ log → of_seat seat_of seat log ≡ mine → of_seat seat_of seat seen ≡ mine → of_seat seat_of seat between ≡ []
+  pub none_between : (seat : ℕ) (seen between log mine : List L) → seen ++ between ≡ log
+      → of_seat seat_of seat log ≡ mine → of_seat seat_of seat seen ≡ mine
+      → of_seat seat_of seat between ≡ []
   none_between seat seen between log mine split whole own =
-      append_nothing (of_seat seat_of seat seen) (of_seat seat_of seat between) (of_seat seat_of seat log) (whole ∙ sym own)
-      (sym (filter-append (λ (y : L). eqb (seat_of y) seat) seen between) ∙ ap (of_seat seat_of seat) split)
+      append_nothing (of_seat seat_of seat seen) (of_seat seat_of seat between)
+      (of_seat seat_of seat log) (whole ∙ sym own)
+      (sym (filter-append (λ (y : L). eqb (seat_of y) seat) seen between)
+      ∙ ap (of_seat seat_of seat) split)
 
 module _ {L G : Type 0} where
-  pub lefts_set : (vs : List (View L G)) (j : ℕ) (v w : View L G) → get_elem? vs j ≡ some v → lefts (set vs j w) + v.left ≡ lefts vs + w.left
+  pub lefts_set : (vs : List (View L G)) (j : ℕ) (v w : View L G) → get_elem? vs j ≡ some v
+      → lefts (set vs j w) + v.left ≡ lefts vs + w.left
   lefts_set [] j v w e = absurd (some-ne-none v (sym e))
-  lefts_set (x ∷ xs) zero v w e = let same : x.left ≡ v.left = ap (λ (z : View L G). z.left) (some-injective x v e) in omega arith
+  lefts_set (x ∷ xs) zero v w e = let same : x.left ≡ v.left =
+      ap (λ (z : View L G). z.left) (some-injective x v e) in omega arith
   lefts_set (x ∷ xs) (suc j) v w e = let more = lefts_set xs j v w e in omega arith
 
   pub lefts_more : (vs : List (View L G)) (w : View L G) → lefts (vs ++ w ∷ []) ≡ lefts vs + w.left

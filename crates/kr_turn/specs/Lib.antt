@@ -1,6 +1,5 @@
 -- The definitions that contracts name.
 pub mod Lines
-pub mod Tokens
 pub mod Keys
 pub mod Seats
 pub mod inner

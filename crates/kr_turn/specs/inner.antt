@@ -1,4 +1,5 @@
 -- What inner contracts alone name.
+pub mod Tokens
 pub mod Rule
 pub mod Steps
 pub mod Endings

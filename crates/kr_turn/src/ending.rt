@@ -1,10 +1,10 @@
 //! How a lock ends.
 ghost use Rattle.std.specs.Prelude.{◌≡◌, ◌<◌, [], length, map, Some, All};
 ghost use Rattle.kr_turn.specs.declared.view.Stage.TheVariants.{Idle};
-ghost use Rattle.kr_turn.specs.inner.Endings.{Covers, IsEnd, Gathered};
+ghost use Rattle.kr_turn.specs.inner.Endings.{Covers, IsEnd, IsGathered};
 ghost use Rattle.kr_turn.specs.Keys.{terms_of};
 ghost use Rattle.kr_base.specs.Lines.{Stands, of_seat};
-ghost use Rattle.kr_turn.specs.Tokens.{IsSized};
+ghost use Rattle.kr_turn.specs.inner.Tokens.{IsSized};
 
 use crate::lock::{Lock, Token};
 use crate::rule::{About, End, TurnRule};
@@ -24,7 +24,7 @@ pub(crate) fn gather<S: Turned>(
     requires lock { (first.token.table_id ≡ lock.now.table_id) × IsSized lock.now.table_id }
     requires seats { All (λ seat. seat.token.table_id ≡ lock.now.table_id) seats.0 }
     ensures lock { result.table_id ≡ lock.now.table_id }
-    ensures gathered { Gathered first seats.0 [] result.me }
+    ensures gathered { IsGathered first seats.0 [] result.me }
 {
     let Place {
         mut token,

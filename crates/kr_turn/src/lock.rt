@@ -3,10 +3,11 @@ ghost use Rattle.std.specs.Prelude.{◌≡◌, ◌+◌, ◌-◌, ◌<◌, ◌^�
 ghost use Rattle.kr_turn.specs.declared.view.Stage.TheVariants.{Idle, Waiting, Holding};
 ghost use Rattle.kr_turn.specs.declared.view.Terms.{Terms};
 ghost use Rattle.kr_base.specs.Lines.{of_seat};
-ghost use Rattle.kr_turn.specs.Lines.{Acted};
+ghost use Rattle.kr_turn.specs.Lines.{IsTurn};
 ghost use Rattle.kr_turn.specs.Keys.{budget_of};
-ghost use Rattle.kr_turn.specs.inner.Steps.{waiting_view, IsServed, IsTurned, carried_lines, view_after};
-ghost use Rattle.kr_turn.specs.Tokens.{IsSized, resting_token};
+ghost use Rattle.kr_turn.specs.inner.Steps.{waiting_view, IsServed, IsTurned, carried_lines};
+ghost use Rattle.kr_turn.specs.inner.Steps.{view_after};
+ghost use Rattle.kr_turn.specs.inner.Tokens.{IsSized, resting_token};
 
 use crate::rule::{About, Draw, Look, PassOn, TurnRule};
 use crate::turned::Turned;
@@ -15,8 +16,10 @@ use atomic_table::Shared;
 use std::sync::Wait;
 use std::thread;
 
+/// The shared part of a lock's table.
 pub(crate) type Lock<S: Turned> = Shared<Option<S>, View<S::Line, S::Ground>, About<S>, TurnRule>;
 
+/// The token of a seat of that table.
 pub(crate) type Token<S: Turned> = atomic_table::Seat<Option<S>, View<S::Line, S::Ground>>;
 
 /// Draws a ticket. There is one, since a seat that has a turn left draws fewer than the budgets'
@@ -77,7 +80,7 @@ pub(crate) fn take_turn<S: Turned, R: Wait>(
     ensures rests { token.new ≡ resting_token token.new number (token.old.me.0.left - 1) }
     ensures terms { token.new.me.0.terms ≡ token.old.me.0.terms }
     ensures acted { (terms : Terms S.Ground) → token.old.me.0.terms ≡ Some terms
-        → Acted S.seat_of S.law S.tells terms.basis number event result
+        → IsTurn S.seat_of S.law S.tells terms.basis number event result
         token.old.me.0.seen token.old.me.0.mine token.new.me.0.seen token.new.me.0.mine }
 {
     let ticket = draw(lock, token);

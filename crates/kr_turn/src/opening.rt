@@ -5,7 +5,7 @@ ghost use Rattle.kr_turn.specs.inner.Rule.{blank_view};
 ghost use Rattle.kr_turn.specs.Keys.{budget_of};
 ghost use Rattle.kr_turn.specs.Seats.{AreFresh};
 ghost use Rattle.kr_turn.specs.inner.Steps.{maker};
-ghost use Rattle.kr_turn.specs.Tokens.{IsSized, resting_token};
+ghost use Rattle.kr_turn.specs.inner.Tokens.{IsSized, resting_token};
 
 use crate::lock::{Lock, Token};
 use crate::rule::{Empty, Fill, Make};
@@ -14,8 +14,8 @@ use crate::turned::Turned;
 use crate::view::View;
 use kr_base::List;
 
-/// Puts the state into the empty slot. The token is then that of the seat of number 0, which makes the
-/// others.
+/// Puts the state into the empty slot. The token is then that of the seat of number 0, which makes
+/// the others.
 pub(crate) fn fill<S: Turned>(lock: &Lock<S>, token: &mut Token<S>, state: S)
     requires lock { (token.old.table_id ≡ lock.now.table_id) × IsSized lock.now.table_id }
     requires first { token.old.me ≡ (blank_view (terms_of S.basis S.room lock.now.key), []) }

@@ -8,7 +8,9 @@ use atomic_table::{Join, Play, Split, TableRule};
 /// What the table is told once. It has the state itself, so that the rule knows its ground and room
 /// from the start; the state is taken out again and put into the slot.
 pub struct About<S> {
+    /// The state before any line.
     pub state: S,
+    /// How many turns each seat may make, by its number.
     pub budgets: Vec<u64>,
 }
 
@@ -16,10 +18,11 @@ pub struct About<S> {
 pub struct TurnRule;
 
 impl<S: Turned> TableRule<Option<S>, View<S::Line, S::Ground>, About<S>> for TurnRule {
-    ghost use Rattle.kr_turn.specs.inner.Rule.{Ruled, blank_view};
+    ghost use Rattle.kr_turn.specs.inner.Rule.{KeepsRule, blank_view};
     ghost use Rattle.kr_turn.specs.Keys.{terms_of};
 
-    ghost holds = { λ key. Ruled S.lines S.basis S.room S.seat_of (terms_of S.basis S.room key) };
+    ghost holds = { λ key.
+        KeepsRule S.lines S.basis S.room S.seat_of (terms_of S.basis S.room key) };
 
     ghost first = { λ key. blank_view (terms_of S.basis S.room key) };
 }

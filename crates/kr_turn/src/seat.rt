@@ -1,13 +1,13 @@
 //! A seat of a turn.
 ghost use Rattle.std.specs.Prelude.{◌≡◌, ◌+◌, length};
 ghost use Rattle.kr_turn.specs.Keys.{budget_of};
-ghost use Rattle.kr_turn.specs.Tokens.{resting_token};
+ghost use Rattle.kr_turn.specs.inner.Tokens.{resting_token};
 
 use crate::turned::Turned;
 use crate::view::View;
 
-/// A seat, at the types of the state, the lines and the ground. It may go to another thread. It may be
-/// dropped where a state may; the lock of a dropped seat can't be closed.
+/// A seat, at the types of the state, the lines and the ground. It may go to another thread. It may
+/// be dropped where a state may; the lock of a dropped seat can't be closed.
 #[derive(Drop)]
 pub struct Place<S, L, G> {
     pub(crate) token: atomic_table::Seat<Option<S>, View<L, G>>,

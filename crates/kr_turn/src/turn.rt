@@ -1,5 +1,6 @@
 //! A ticket lock round one state.
-ghost use Rattle.std.specs.Prelude.{◌≡◌, ℕ, ◌+◌, ◌^◌, ◌<◌, ◌≤◌, ◌↔◌, [], length, sum, slice_index, All, IsErr, IfOk, IfErr, OnOk, OnErr};
+ghost use Rattle.std.specs.Prelude.{◌≡◌, ℕ, ◌+◌, ◌^◌, ◌<◌, ◌≤◌, ◌↔◌, [], length, sum, slice_index};
+ghost use Rattle.std.specs.Prelude.{All, IsErr, IfOk, IfErr, OnOk, OnErr};
 
 use crate::ending::{gather, take_back};
 use crate::lock::take_turn;
@@ -24,7 +25,7 @@ pub struct Turn<S: Turned> {
 impl<S: Turned> Model for Turn<S> {
     ghost use Rattle.std.specs.Prelude.{◌<◌, length};
     ghost use Rattle.kr_turn.specs.Keys.{Home, home_of};
-    ghost use Rattle.kr_turn.specs.Tokens.{IsSized};
+    ghost use Rattle.kr_turn.specs.inner.Tokens.{IsSized};
 
     ghost Value = { Home S.Ground };
 
@@ -37,11 +38,12 @@ impl<S: Turned> Model for Turn<S> {
 
 impl<S: Turned> Turn<S> {
     ghost use Rattle.kr_base.specs.Lines.{of_seat, Stands};
-    ghost use Rattle.kr_turn.specs.Lines.{Acted};
-    ghost use Rattle.kr_turn.specs.Seats.{IsSeatOf, AreFresh, AreAll, number_of, seen, mine, left_of};
+    ghost use Rattle.kr_turn.specs.Lines.{IsTurn};
+    ghost use Rattle.kr_turn.specs.Seats.{IsSeatOf, AreFresh, AreAll, number_of, seen, mine};
+    ghost use Rattle.kr_turn.specs.Seats.{left_of};
 
-    /// Makes the lock and one seat for each budget: the seat of number `i` may make as many turns as
-    /// the budget at `i`. Where there is no memory the state comes back.
+    /// Makes the lock and one seat for each budget: the seat of number `i` may make as many turns
+    /// as the budget at `i`. Where there is no memory the state comes back.
     pub fn new(
         alloc: Global,
         state: S,
@@ -80,9 +82,9 @@ impl<S: Turned> Turn<S> {
         Ok((Turn { table }, seats))
     }
 
-    /// Makes one turn: draws a ticket, waits until it is served, turns the state and passes on. It may
-    /// wait for others, and takes no memory of its own. A seat whose budget is used up draws nothing,
-    /// and the event is dropped.
+    /// Makes one turn: draws a ticket, waits until it is served, turns the state and passes on. It
+    /// may wait for others, and takes no memory of its own. A seat whose budget is used up draws
+    /// nothing, and the event is dropped.
     pub fn act<R: Wait>(
         &self,
         rt: &R,
@@ -91,7 +93,7 @@ impl<S: Turned> Turn<S> {
     ) -> Result<S::Answer, Spent>
         requires seat { IsSeatOf self.now seat.old }
         requires may { S.may self.now.terms.basis (number_of seat.old) (mine seat.old) event }
-        ensures acted { IfOk result (λ answer. Acted S.seat_of S.law S.tells
+        ensures acted { IfOk result (λ answer. IsTurn S.seat_of S.law S.tells
             self.now.terms.basis (number_of seat.old) event answer
             (seen seat.old) (mine seat.old) (seen seat.new) (mine seat.new)) }
         ensures spent { IsErr result
@@ -108,8 +110,9 @@ impl<S: Turned> Turn<S> {
         Ok(answer)
     }
 
-    /// Ends the lock with all its seats, in any order, and gives the state back. It takes no memory.
-    /// What each seat saw begins the state's lines, of which its own are just those of its number.
+    /// Ends the lock with all its seats, in any order, and gives the state back. It takes no
+    /// memory. What each seat saw begins the state's lines, of which its own are just those of its
+    /// number.
     pub fn close(self, mut seats: List<Seat<S>>) -> S
         requires { AreAll self seats.0 }
         ensures kept { (S.basis result ≡ self.terms.basis) × (S.room result ≡ self.terms.room) }

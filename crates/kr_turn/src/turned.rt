@@ -4,17 +4,21 @@ ghost use Rattle.kr_base.specs.Lines.{of_seat};
 
 /// A state that turns one event of one seat at a time, and keeps one line of each turn.
 ///
-/// `Line` and `Ground` are for contracts alone: the lock makes no value of them, and looks no further
-/// into a line than to whose it is. Events and answers may cross threads and may be dropped. What
-/// `turn` asks of an event may stand on the ground and on the seat's own lines, which the seat knows;
-/// the rest is up to the state's own type.
+/// `Line` and `Ground` are for contracts alone: the lock makes no value of them, and looks no
+/// further into a line than to whose it is. Events and answers may cross threads and may be
+/// dropped. What `turn` asks of an event may stand on the ground and on the seat's own lines, which
+/// the seat knows; the rest is up to the state's own type.
 pub trait Turned {
+    /// What a seat does in a turn.
     type Event: Drop + Send;
 
+    /// What the seat is told of it.
     type Answer: Drop + Send;
 
+    /// What the history keeps of a turn.
     type Line;
 
+    /// What the lines stand on, which no turn changes.
     type Ground;
 
     /// The lines so far.

@@ -19,7 +19,9 @@ pub enum Stage<L> {
 
 /// What never changes under one lock.
 pub struct Terms<G> {
+    /// What the lines stand on.
     pub basis: G,
+    /// How many lines there may be.
     pub room: u64,
     /// How many turns each seat may make, by its number.
     pub budgets: LinkedList<u64>,
@@ -27,16 +29,21 @@ pub struct Terms<G> {
 
 /// What an ended seat knew.
 pub struct Part<L> {
+    /// The seat's number.
     pub number: u32,
+    /// The lines up to its latest one.
     pub seen: LinkedList<L>,
+    /// Its own lines.
     pub mine: LinkedList<L>,
 }
 
 /// What a seat knows.
 pub struct View<L, G> {
+    /// Where it is.
     pub stage: Stage<L>,
     /// None for a joined seat alone.
     pub terms: Option<Terms<G>>,
+    /// The number that it speaks for.
     pub number: u32,
     /// The lines up to this seat's latest one.
     pub seen: LinkedList<L>,

@@ -1,12 +1,15 @@
 -- The rules of a command, one by one.
-use Rattle.std.proofs.Common.{◌≡◌, ℕ, ◌≤◌, ◌⊎◌, List, [], ◌∷◌, All, AllPairs, inl, inr, arith, Bool, false, IsTrue, ◌↔◌, leb}
+use Rattle.std.proofs.Common.{◌≡◌, ℕ, ◌≤◌, ◌⊎◌, List, [], ◌∷◌, All, AllPairs, inl, inr, arith, Bool}
+use Rattle.std.proofs.Common.{false, IsTrue, ◌↔◌, leb}
 use Rattle.std.proofs.lemmas.Bool.{leb-true, le-leb}
 use Rattle.kr_words.specs.declared.command.Verb.{Verb}
 use Rattle.kr_words.specs.Names.{text_of, required, IsRepeatable}
 use Rattle.kr_words.specs.Options.{count_of}
 use Rattle.kr_words.specs.Rules.{IsOption, HaveTwoNames, IsCommand}
 use Rattle.kr_words.specs.declared.name.OptionName.{OptionName}
-use Rattle.kr_words.specs.declared.name.OptionName.TheVariants.{Config, Resource, Path, Plugin, Store, Replica, Reload, File, Seed, Size}
+use Rattle.kr_words.specs.declared.name.OptionName.TheVariants.{Config, Resource, Path, Plugin}
+use Rattle.kr_words.specs.declared.name.OptionName.TheVariants.{Store, Replica, Reload, File, Seed}
+use Rattle.kr_words.specs.declared.name.OptionName.TheVariants.{Size}
 
 abbrev pub all_names : List OptionName
 all_names = Config ∷ Resource ∷ Path ∷ Plugin ∷ Store ∷ Replica ∷ Reload ∷ File ∷ Seed ∷ Size ∷ []
@@ -24,10 +27,17 @@ each_name P h File = h 7 Config (omega arith)
 each_name P h Seed = h 8 Config (omega arith)
 each_name P h Size = h 9 Config (omega arith)
 
-pub or_few : (P : Type 0) (b : Bool) (n m : ℕ) → IsTrue b ↔ P → b ≡ false → n ≡ m → IsTrue (leb n 1) ↔ (P ⊎ (m ≤ 1))
-or_few P b n m is no_p e =
-    (λ t. inr (omega (arith, e, leb-true n 1 t)), elim [ inl p ↦ (let a = is.1 p in cc) | inr few ↦ le-leb n 1 (omega (arith, e, few)) ])
+pub or_few : (P : Type 0) (b : Bool) (n m : ℕ) → IsTrue b ↔ P → b ≡ false → n ≡ m
+    → IsTrue (leb n 1) ↔ (P ⊎ (m ≤ 1))
+or_few P b n m is no_p e = (
+  λ t. inr (omega (arith, e, leb-true n 1 t)),
+  elim [ inl p ↦ (let a = is.1 p in cc) | inr few ↦ le-leb n 1 (omega (arith, e, few)) ],
+)
 
-pub joins : {verb : Verb} {options : List (List ℕ × List ℕ)} → All (IsOption verb (count_of options (text_of Replica))) options → All (λ name. 1 ≤ count_of options (text_of name)) (required verb)
-    → ((name : OptionName) → IsRepeatable name ⊎ (count_of options (text_of name) ≤ 1)) → AllPairs HaveTwoNames options → IsCommand verb options
-joins each whole once plugins = record { each = each; whole = whole; once = once; plugins = plugins }
+pub joins : {verb : Verb} {options : List (List ℕ × List ℕ)}
+    → All (IsOption verb (count_of options (text_of Replica))) options
+    → All (λ name. 1 ≤ count_of options (text_of name)) (required verb)
+    → ((name : OptionName) → IsRepeatable name ⊎ (count_of options (text_of name) ≤ 1))
+    → AllPairs HaveTwoNames options → IsCommand verb options
+joins each whole once plugins =
+    record { each = each; whole = whole; once = once; plugins = plugins }

@@ -1,5 +1,6 @@
 -- What a command's options give is there: the numbers and the reload of a command that was read.
-use Rattle.std.proofs.Common.{◌≡◌, ℕ, ◌^◌, ◌<◌, ◌≤◌, List, Option, Some, None, IfSome, IsSome, IsSomeAnd, MatchOption, refl, sym, subst, arith, Contains}
+use Rattle.std.proofs.Common.{◌≡◌, ℕ, ◌^◌, ◌<◌, ◌≤◌, List, Option, Some, None, IfSome, IsSome}
+use Rattle.std.proofs.Common.{IsSomeAnd, MatchOption, refl, sym, subst, arith, Contains}
 use Rattle.kr_words.specs.declared.command.Verb.{Verb}
 use Rattle.kr_words.specs.declared.command.Verb.TheVariants.{Judge, Gen}
 use Rattle.kr_words.specs.declared.name.OptionName.{OptionName}
@@ -17,39 +18,60 @@ both P None s p = cc
 both P (Some v) s p = p
 
 -- the value at a required option, by its rule
-given : (P : List ℕ → Type 0) (options : List (List ℕ × List ℕ)) (verb wanted : Verb) (name : OptionName) → IsCommand verb options → verb ≡ wanted → Contains (required wanted) name
+given : (P : List ℕ → Type 0) (options : List (List ℕ × List ℕ)) (verb wanted : Verb)
+    (name : OptionName) → IsCommand verb options → verb ≡ wanted → Contains (required wanted) name
     → IfSome (value_of options (text_of name)) P → IsSomeAnd (value_of options (text_of name)) P
 given P options verb wanted name command e has rule =
-    both P (value_of options (text_of name)) (value_some {verb = verb} {options = options} name command (subst (λ v. Contains (required v) name) (sym e) has)) rule
+    both P (value_of options (text_of name))
+    (value_some {verb = verb} {options = options} name command
+    (subst (λ v. Contains (required v) name) (sym e) has)) rule
 
-some_number : (o : Option (List ℕ)) (r : Option ℕ) (most : ℕ) → most < 2 ^ 64 → MatchOption r ((n : ℕ) → IsSomeAnd o (λ t. IsDecimal t n) → 2 ^ 64 ≤ n) (λ n. IsSomeAnd o (λ t. IsDecimal t n))
+some_number : (o : Option (List ℕ)) (r : Option ℕ) (most : ℕ) → most < 2 ^ 64
+    → MatchOption r ((n : ℕ) → IsSomeAnd o (λ t. IsDecimal t n) → 2 ^ 64 ≤ n)
+    (λ n. IsSomeAnd o (λ t. IsDecimal t n))
     → IsSomeAnd o (λ t. (n : ℕ) × IsDecimal t n × (n ≤ most)) → IsSome r
 some_number None r most small m h = absurd h
 some_number (Some t) (Some n) most small m h = refl
 some_number (Some t) None most small m h = absurd (omega (arith, m h.0 h.1, h.2))
 
-pub seed_given : (verb : Verb) (options : List (List ℕ × List ℕ)) (r : Option ℕ) → IsCommand verb options → verb ≡ Gen → MatchOption r ((n : ℕ) → IsNumberAt options (text_of Seed) n → 2 ^ 64 ≤ n) (λ n. IsNumberAt options (text_of Seed) n) → IsSome r
+pub seed_given : (verb : Verb) (options : List (List ℕ × List ℕ)) (r : Option ℕ)
+    → IsCommand verb options → verb ≡ Gen
+    → MatchOption r ((n : ℕ) → IsNumberAt options (text_of Seed) n → 2 ^ 64 ≤ n)
+    (λ n. IsNumberAt options (text_of Seed) n) → IsSome r
 seed_given verb options r command e m =
     some_number (value_of options (text_of Seed)) r 18446744073709551615 (omega arith) m
-    (given (λ t. (n : ℕ) × IsDecimal t n × (n ≤ 18446744073709551615)) options verb Gen Seed command e (0, omega arith, refl) (value_rule {verb = verb} {options = options} Seed command))
+    (given (λ t. (n : ℕ) × IsDecimal t n × (n ≤ 18446744073709551615)) options verb Gen Seed command
+    e (0, omega arith, refl) (value_rule {verb = verb} {options = options} Seed command))
 
-pub size_given : (verb : Verb) (options : List (List ℕ × List ℕ)) (r : Option ℕ) → IsCommand verb options → verb ≡ Gen → IsWithin options (text_of Size) 10000
-    → MatchOption r ((n : ℕ) → IsNumberAt options (text_of Size) n → 2 ^ 64 ≤ n) (λ n. IsNumberAt options (text_of Size) n) → IsSome r
+pub size_given : (verb : Verb) (options : List (List ℕ × List ℕ)) (r : Option ℕ)
+    → IsCommand verb options → verb ≡ Gen → IsWithin options (text_of Size) 10000
+    → MatchOption r ((n : ℕ) → IsNumberAt options (text_of Size) n → 2 ^ 64 ≤ n)
+    (λ n. IsNumberAt options (text_of Size) n) → IsSome r
 size_given verb options r command e within m =
     some_number (value_of options (text_of Size)) r 10000 (omega arith) m
-    (given (λ t. (n : ℕ) × IsDecimal t n × (n ≤ 10000)) options verb Gen Size command e (1, omega arith, refl) within)
+    (given (λ t. (n : ℕ) × IsDecimal t n × (n ≤ 10000)) options verb Gen Size command e
+    (1, omega arith, refl) within)
 
-small_reload : {R : Type 0} (number : R → ℕ) (file : R → List ℕ) (o : Option (List ℕ)) (r : Option R) (replicas : ℕ) → replicas ≤ 16
-    → MatchOption r ((n : ℕ) (f : List ℕ) → IsSomeAnd o (λ v. IsReloadOf v n × (f ≡ after_equals v)) → 2 ^ 64 ≤ n) (λ x. IsSomeAnd o (λ v. IsReloadOf v (number x) × (file x ≡ after_equals v)))
+small_reload : {R : Type 0} (number : R → ℕ) (file : R → List ℕ) (o : Option (List ℕ))
+    (r : Option R) (replicas : ℕ) → replicas ≤ 16
+    → MatchOption r ((n : ℕ) (f : List ℕ) → IsSomeAnd o (λ v. IsReloadOf v n × (f ≡ after_equals v))
+    → 2 ^ 64 ≤ n) (λ x. IsSomeAnd o (λ v. IsReloadOf v (number x) × (file x ≡ after_equals v)))
     → IsSomeAnd o (IsReload replicas) → IsSomeAnd r (λ x. number x < replicas)
 small_reload number file None r replicas few m h = absurd h
 small_reload number file (Some v) (Some x) replicas few m h = omega (arith, m.0.1.1, h.2.1, h.3)
-small_reload number file (Some v) None replicas few m h = absurd (omega (arith, m h.1 (after_equals v) ((h.0, h.2), refl), h.3))
+small_reload number file (Some v) None replicas few m h =
+    absurd (omega (arith, m h.1 (after_equals v) ((h.0, h.2), refl), h.3))
 
-pub reload_given : {R : Type 0} (number : R → ℕ) (file : R → List ℕ) (verb : Verb) (options : List (List ℕ × List ℕ)) (r : Option R) → IsCommand verb options → verb ≡ Judge → replicas_of options ≤ 16
-    → MatchOption r ((n : ℕ) (f : List ℕ) → IsSomeAnd (value_of options (text_of Reload)) (λ v. IsReloadOf v n × (f ≡ after_equals v)) → 2 ^ 64 ≤ n)
-    (λ x. IsSomeAnd (value_of options (text_of Reload)) (λ v. IsReloadOf v (number x) × (file x ≡ after_equals v)))
+pub reload_given : {R : Type 0} (number : R → ℕ) (file : R → List ℕ) (verb : Verb)
+    (options : List (List ℕ × List ℕ)) (r : Option R) → IsCommand verb options → verb ≡ Judge
+    → replicas_of options ≤ 16
+    → MatchOption r ((n : ℕ) (f : List ℕ)
+    → IsSomeAnd (value_of options (text_of Reload)) (λ v. IsReloadOf v n × (f ≡ after_equals v))
+    → 2 ^ 64 ≤ n)
+    (λ x. IsSomeAnd (value_of options (text_of Reload))
+    (λ v. IsReloadOf v (number x) × (file x ≡ after_equals v)))
     → IsSomeAnd r (λ x. number x < replicas_of options)
 reload_given number file verb options r command e few m =
     small_reload number file (value_of options (text_of Reload)) r (replicas_of options) few m
-    (given (IsReload (replicas_of options)) options verb Judge Reload command e (2, omega arith, refl) (value_rule {verb = verb} {options = options} Reload command))
+    (given (IsReload (replicas_of options)) options verb Judge Reload command e
+    (2, omega arith, refl) (value_rule {verb = verb} {options = options} Reload command))

@@ -1,3 +1,4 @@
+-- The lemmas of kr_words.
 pub mod Loops
 pub mod Decimals
 pub mod Commands

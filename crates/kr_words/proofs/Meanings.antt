@@ -1,11 +1,15 @@
 -- Words mean at most one command, and what follows for each refusal.
-use Rattle.std.proofs.Common.{◌≡◌, ℕ, ◌≤◌, ◌<◌, List, ◌∷◌, Option, Some, None, IfSome, IsSomeAnd, codes, refl, sym, ap, ◌∙◌, subst, arith, if◌then◌else◌}
+use Rattle.std.proofs.Common.{◌≡◌, ℕ, ◌≤◌, ◌<◌, List, ◌∷◌, Option, Some, None, IfSome, IsSomeAnd}
+use Rattle.std.proofs.Common.{codes, refl, sym, ap, ◌∙◌, subst, arith, if◌then◌else◌}
 use Rattle.std.specs.Str.{bytes_eq}
 use Rattle.std.proofs.lemmas.List.Elements.{All-weaker, recursion_from_All}
 use Rattle.kr_words.specs.declared.command.Verb.{Verb}
-use Rattle.kr_words.specs.declared.command.Verb.TheVariants.{Encrypt, Decrypt, Check, Inspect, Put, Get, Rows, Judge, Rewrite, Fleet, Gen}
+use Rattle.kr_words.specs.declared.command.Verb.TheVariants.{Encrypt, Decrypt, Check, Inspect, Put}
+use Rattle.kr_words.specs.declared.command.Verb.TheVariants.{Get, Rows, Judge, Rewrite, Fleet, Gen}
 use Rattle.kr_words.specs.declared.name.OptionName.{OptionName}
-use Rattle.kr_words.specs.declared.name.OptionName.TheVariants.{Config, Resource, Path, Plugin, Store, Replica, Reload, File, Seed, Size}
+use Rattle.kr_words.specs.declared.name.OptionName.TheVariants.{Config, Resource, Path, Plugin}
+use Rattle.kr_words.specs.declared.name.OptionName.TheVariants.{Store, Replica, Reload, File, Seed}
+use Rattle.kr_words.specs.declared.name.OptionName.TheVariants.{Size}
 use Rattle.kr_words.specs.Names.{word_of, text_of}
 use Rattle.kr_words.specs.Options.{value_of, count_of}
 use Rattle.kr_words.specs.Numerals.{IsDecimal}
@@ -59,40 +63,58 @@ plain_text Seed = grind arith
 plain_text Size = grind arith
 
 -- the options of a command have plain names
-plain_options : {verb : Verb} {options : List (List ℕ × List ℕ)} → IsCommand verb options → ArePlain options
+plain_options : {verb : Verb} {options : List (List ℕ × List ℕ)} → IsCommand verb options
+    → ArePlain options
 plain_options {verb} {options} m =
     recursion_from_All (λ option. IsPlain option.0) options
-    (All-weaker (IsOption verb (count_of options (text_of Replica))) (λ option. IsPlain option.0) (λ option is. subst IsPlain (sym is.1) (plain_text is.0)) options m.each)
+    (All-weaker (IsOption verb (count_of options (text_of Replica))) (λ option. IsPlain option.0)
+    (λ option is. subst IsPlain (sym is.1) (plain_text is.0)) options m.each)
 
 -- words that mean a command mean no other
-agree : (words : List (List ℕ)) (verb verb' : Verb) (rest : List (List ℕ)) (options options' : List (List ℕ × List ℕ)) → words ≡ word_of verb ∷ rest → ArePlain options → Spells rest options → Means words verb' options' → (verb ≡ verb') × (options ≡ options')
+agree : (words : List (List ℕ)) (verb verb' : Verb) (rest : List (List ℕ))
+    (options options' : List (List ℕ × List ℕ)) → words ≡ word_of verb ∷ rest → ArePlain options
+    → Spells rest options → Means words verb' options' → (verb ≡ verb') × (options ≡ options')
 agree words verb verb' rest options options' e plain spelled m =
     let f = m.word in
     let same_word : word_of verb ≡ word_of verb' = cc in
-    let same_rest : m.rest ≡ rest = cc in
-    (word_once verb verb' same_word, spelled_once rest options options' plain (plain_options m.command) spelled (subst (λ r. Spells r options') same_rest m.spelled))
+    let same_rest : m.rest ≡ rest = cc in (
+      word_once verb verb' same_word,
+      spelled_once rest options options' plain (plain_options m.command) spelled
+          (subst (λ r. Spells r options') same_rest m.spelled),
+    )
 
-pub mean_one : (words : List (List ℕ)) (verb verb' : Verb) (options options' : List (List ℕ × List ℕ)) → Means words verb options → Means words verb' options' → (verb ≡ verb') × (options ≡ options')
-mean_one words verb verb' options options' m m' = agree words verb verb' m.rest options options' m.word (plain_options m.command) m.spelled m'
+pub mean_one : (words : List (List ℕ)) (verb verb' : Verb)
+    (options options' : List (List ℕ × List ℕ)) → Means words verb options
+    → Means words verb' options' → (verb ≡ verb') × (options ≡ options')
+mean_one words verb verb' options options' m m' =
+    agree words verb verb' m.rest options options' m.word (plain_options m.command) m.spelled m'
 
-pub unspelled : (words : List (List ℕ)) (word : List ℕ) (rest : List (List ℕ)) → words ≡ word ∷ rest → ((options : List (List ℕ × List ℕ)) → ArePlain options → Spells rest options → ⊥)
+pub unspelled : (words : List (List ℕ)) (word : List ℕ) (rest : List (List ℕ)) → words ≡ word ∷ rest
+    → ((options : List (List ℕ × List ℕ)) → ArePlain options → Spells rest options → ⊥)
     → (verb : Verb) (options : List (List ℕ × List ℕ)) → Means words verb options → ⊥
 unspelled words word rest e none verb options m =
     let f = m.word in
     let same_rest : m.rest ≡ rest = cc in
     none options (plain_options m.command) (subst (λ r. Spells r options) same_rest m.spelled)
 
-pub misruled : (words : List (List ℕ)) (verb : Verb) (rest : List (List ℕ)) (options : List (List ℕ × List ℕ)) → words ≡ word_of verb ∷ rest → ArePlain options → Spells rest options → (IsCommand verb options → ⊥)
+pub misruled : (words : List (List ℕ)) (verb : Verb) (rest : List (List ℕ))
+    (options : List (List ℕ × List ℕ)) → words ≡ word_of verb ∷ rest → ArePlain options
+    → Spells rest options → (IsCommand verb options → ⊥)
     → (verb' : Verb) (options' : List (List ℕ × List ℕ)) → Means words verb' options' → ⊥
 misruled words verb rest options e plain spelled none verb' options' m =
     let same = agree words verb verb' rest options options' e plain spelled m in
-    none (subst (λ v. IsCommand v options) (sym same.0) (subst (IsCommand verb') (sym same.1) m.command))
+    none (subst (λ v. IsCommand v options) (sym same.0)
+    (subst (IsCommand verb') (sym same.1) m.command))
 
-larger : (limit : ℕ) (size : Option (List ℕ)) → IfSome size (λ text. (n : ℕ) × IsDecimal text n × (1 ≤ n)) → IsSomeAnd size (λ text. (n : ℕ) → IsDecimal text n → limit < n)
+larger : (limit : ℕ) (size : Option (List ℕ))
+    → IfSome size (λ text. (n : ℕ) × IsDecimal text n × (1 ≤ n))
+    → IsSomeAnd size (λ text. (n : ℕ) → IsDecimal text n → limit < n)
     → IsSomeAnd size (λ text. (n : ℕ) × IsDecimal text n × (limit < n))
 larger limit None rule none = none
 larger limit (Some text) rule none = (rule.0, rule.1, none rule.0 rule.1)
 
 -- a size is a number, so that one with no small number is one above
-pub above : {verb : Verb} {options : List (List ℕ × List ℕ)} → IsCommand verb options → HasNoSmall options (text_of Size) 10000 → IsAboveSize options
-above {verb} {options} m none = larger 10000 (value_of options (text_of Size)) (value_rule Size m) none
+pub above : {verb : Verb} {options : List (List ℕ × List ℕ)} → IsCommand verb options
+    → HasNoSmall options (text_of Size) 10000 → IsAboveSize options
+above {verb} {options} m none =
+    larger 10000 (value_of options (text_of Size)) (value_rule Size m) none

@@ -1,5 +1,7 @@
 -- What a command's options give at a name: the value of a required one, by its rule.
-use Rattle.std.proofs.Common.{◌≡◌, ℕ, ◌+◌, ◌≤◌, List, [], ◌∷◌, Bool, true, false, cond, Option, Some, IfSome, IsSome, All, Contains, codes, refl, sym, ap, ◌∙◌, subst, arith, if◌then◌else◌}
+use Rattle.std.proofs.Common.{◌≡◌, ℕ, ◌+◌, ◌≤◌, List, [], ◌∷◌, Bool, true, false, cond, Option}
+use Rattle.std.proofs.Common.{Some, IfSome, IsSome, All, Contains, codes, refl, sym, ap, ◌∙◌, subst}
+use Rattle.std.proofs.Common.{arith, if◌then◌else◌}
 use Rattle.std.specs.List.{find}
 use Rattle.std.specs.Option.{option_map}
 use Rattle.std.specs.Str.{bytes_eq}
@@ -8,7 +10,9 @@ use Rattle.std.proofs.lemmas.List.Sums.{sum_by-cons}
 use Rattle.std.proofs.lemmas.Slice.Eq.{bytes_eq-Decides}
 use Rattle.kr_words.specs.declared.command.Verb.{Verb}
 use Rattle.kr_words.specs.declared.name.OptionName.{OptionName}
-use Rattle.kr_words.specs.declared.name.OptionName.TheVariants.{Config, Resource, Path, Plugin, Store, Replica, Reload, File, Seed, Size}
+use Rattle.kr_words.specs.declared.name.OptionName.TheVariants.{Config, Resource, Path, Plugin}
+use Rattle.kr_words.specs.declared.name.OptionName.TheVariants.{Store, Replica, Reload, File, Seed}
+use Rattle.kr_words.specs.declared.name.OptionName.TheVariants.{Size}
 use Rattle.kr_words.specs.Names.{text_of, required}
 use Rattle.kr_words.specs.Options.{is_named, value_of, count_of}
 use Rattle.kr_words.specs.Rules.{IsValue, IsOption, IsCommand}
@@ -42,34 +46,55 @@ name_at-text Size = refl
 pub name_once : (a b : OptionName) → text_of a ≡ text_of b → a ≡ b
 name_once a b e = sym (name_at-text a) ∙ ap name_at e ∙ name_at-text b
 
-option_rule : (verb : Verb) (replicas : ℕ) (name : OptionName) (option : List ℕ × List ℕ) → IsOption verb replicas option → option.0 ≡ text_of name → IsValue verb replicas name option.1
-option_rule verb replicas name option is e = subst (λ n. IsValue verb replicas n option.1) (name_once is.0 name (sym is.1 ∙ e)) is.3
+option_rule : (verb : Verb) (replicas : ℕ) (name : OptionName) (option : List ℕ × List ℕ)
+    → IsOption verb replicas option → option.0 ≡ text_of name → IsValue verb replicas name option.1
+option_rule verb replicas name option is e =
+    subst (λ n. IsValue verb replicas n option.1) (name_once is.0 name (sym is.1 ∙ e)) is.3
 
-first_rule : (P : List ℕ → Type 0) (option : List ℕ × List ℕ) (found : Bool) (behind : Option (List ℕ × List ℕ)) → (found ≡ true → P option.1) → IfSome (option_map (λ o. o.1) behind) P → IfSome (option_map (λ o. o.1) (cond found (Some option) behind)) P
+first_rule : (P : List ℕ → Type 0) (option : List ℕ × List ℕ) (found : Bool)
+    (behind : Option (List ℕ × List ℕ)) → (found ≡ true → P option.1)
+    → IfSome (option_map (λ o. o.1) behind) P
+    → IfSome (option_map (λ o. o.1) (cond found (Some option) behind)) P
 first_rule P option true behind here next = here refl
 first_rule P option false behind here next = next
 
-each_rule : (verb : Verb) (replicas : ℕ) (name : OptionName) (options : List (List ℕ × List ℕ)) → All (IsOption verb replicas) options → IfSome (value_of options (text_of name)) (IsValue verb replicas name)
+each_rule : (verb : Verb) (replicas : ℕ) (name : OptionName) (options : List (List ℕ × List ℕ))
+    → All (IsOption verb replicas) options
+    → IfSome (value_of options (text_of name)) (IsValue verb replicas name)
 each_rule verb replicas name [] each = tt
 each_rule verb replicas name (option ∷ options) each =
-    first_rule (IsValue verb replicas name) option (is_named (text_of name) option) (find (is_named (text_of name)) options)
-    (λ e. option_rule verb replicas name option (All-head (IsOption verb replicas) option options each) ((bytes_eq-Decides option.0 (text_of name)).0 e))
+    first_rule (IsValue verb replicas name) option (is_named (text_of name) option)
+    (find (is_named (text_of name)) options)
+    (λ e. option_rule verb replicas name option
+    (All-head (IsOption verb replicas) option options each)
+    ((bytes_eq-Decides option.0 (text_of name)).0 e))
     (each_rule verb replicas name options (All-tail (IsOption verb replicas) option options each))
 
 -- the value at a name keeps the name's rule
-pub value_rule : {verb : Verb} {options : List (List ℕ × List ℕ)} (name : OptionName) → IsCommand verb options → IfSome (value_of options (text_of name)) (IsValue verb (count_of options (text_of Replica)) name)
-value_rule {verb} {options} name m = each_rule verb (count_of options (text_of Replica)) name options m.each
+pub value_rule : {verb : Verb} {options : List (List ℕ × List ℕ)} (name : OptionName)
+    → IsCommand verb options → IfSome (value_of options (text_of name))
+    (IsValue verb (count_of options (text_of Replica)) name)
+value_rule {verb} {options} name m =
+    each_rule verb (count_of options (text_of Replica)) name options m.each
 
-first_some : (option : List ℕ × List ℕ) (found : Bool) (behind : Option (List ℕ × List ℕ)) (n : ℕ) → 1 ≤ cond found 1 0 + n → (1 ≤ n → IsSome (option_map (λ o. o.1) behind)) → IsSome (option_map (λ o. o.1) (cond found (Some option) behind))
+first_some : (option : List ℕ × List ℕ) (found : Bool) (behind : Option (List ℕ × List ℕ)) (n : ℕ)
+    → 1 ≤ cond found 1 0 + n → (1 ≤ n → IsSome (option_map (λ o. o.1) behind))
+    → IsSome (option_map (λ o. o.1) (cond found (Some option) behind))
 first_some option true behind n h next = refl
 first_some option false behind n h next = next (omega (arith, h))
 
-counted_some : (name : List ℕ) (options : List (List ℕ × List ℕ)) → 1 ≤ count_of options name → IsSome (value_of options name)
+counted_some : (name : List ℕ) (options : List (List ℕ × List ℕ)) → 1 ≤ count_of options name
+    → IsSome (value_of options name)
 counted_some name [] h = absurd (omega (arith, h))
 counted_some name (option ∷ options) h =
     first_some option (is_named name option) (find (is_named name) options) (count_of options name)
-    (subst (λ n. 1 ≤ n) (sum_by-cons (λ o. cond (is_named name o) 1 0) option options) h) (counted_some name options)
+    (subst (λ n. 1 ≤ n) (sum_by-cons (λ o. cond (is_named name o) 1 0) option options) h)
+    (counted_some name options)
 
 -- a command has a value at each name that it requires
-pub value_some : {verb : Verb} {options : List (List ℕ × List ℕ)} (name : OptionName) → IsCommand verb options → Contains (required verb) name → IsSome (value_of options (text_of name))
-value_some {verb} {options} name m has = counted_some (text_of name) options (All-contains (λ n. 1 ≤ count_of options (text_of n)) (required verb) name m.whole has)
+pub value_some : {verb : Verb} {options : List (List ℕ × List ℕ)} (name : OptionName)
+    → IsCommand verb options → Contains (required verb) name
+    → IsSome (value_of options (text_of name))
+value_some {verb} {options} name m has =
+    counted_some (text_of name) options
+    (All-contains (λ n. 1 ≤ count_of options (text_of n)) (required verb) name m.whole has)

@@ -1,5 +1,7 @@
--- What the options of a command give beyond first values: programs of plugins, numbers, a reload, and limits.
-use Rattle.std.specs.Prelude.{◌≡◌, ℕ, ◌≤◌, ◌<◌, ◌&&◌, List, Bool, Option, codes, Contains, IfSome, IsSomeAnd}
+-- What the options of a command give beyond first values: programs of plugins, numbers, a reload,
+-- and limits.
+use Rattle.std.specs.Prelude.{◌≡◌, ℕ, ◌≤◌, ◌<◌, ◌&&◌, List, Bool, Option, codes, Contains, IfSome}
+use Rattle.std.specs.Prelude.{IsSomeAnd}
 use Rattle.std.specs.List.{find}
 use Rattle.std.specs.Option.{option_map}
 use Rattle.std.specs.Str.{bytes_eq}
@@ -9,11 +11,13 @@ use Rattle.kr_words.specs.Rules.{before_equals, after_equals}
 
 -- the option is the plugin of that name
 abbrev pub is_plugin : List ℕ → List ℕ × List ℕ → Bool
-is_plugin plugin option = is_named (codes "plugin") option && bytes_eq (before_equals option.1) plugin
+is_plugin plugin option = is_named (codes "plugin") option
+    && bytes_eq (before_equals option.1) plugin
 
 -- the program of that plugin
 abbrev pub program_of : List (List ℕ × List ℕ) → List ℕ → Option (List ℕ)
-program_of options plugin = option_map (λ option. after_equals option.1) (find (is_plugin plugin) options)
+program_of options plugin = option_map (λ option. after_equals option.1)
+    (find (is_plugin plugin) options)
 
 -- the number stands at the name
 abbrev pub IsNumberAt : List (List ℕ × List ℕ) → List ℕ → ℕ → Type 0

@@ -1,5 +1,6 @@
 -- The grammar of command lines: which words mean a command with its options.
-use Rattle.std.specs.Prelude.{◌≡◌, ℕ, ◌≤◌, ◌<◌, ◌⊎◌, List, [], ◌∷◌, ◌++◌, codes, map, ⊤, Result, Ok, Err}
+use Rattle.std.specs.Prelude.{◌≡◌, ℕ, ◌≤◌, ◌<◌, ◌⊎◌, List, [], ◌∷◌, ◌++◌, codes, map, ⊤, Result, Ok}
+use Rattle.std.specs.Prelude.{Err}
 use Rattle.std.specs.declared.alloc.Global.{Global}
 use Rattle.std.specs.declared.string.String.{String}
 use Rattle.std.specs.String.{string_bytes}
@@ -16,8 +17,8 @@ use Rattle.kr_words.specs.Arguments.{IsWithin, IsAbove}
 abbrev pub texts : List (String Global) → List (List ℕ)
 texts words = map string_bytes words
 
--- The words begin with the option: `--name` and the next word as its value, or `--name=value` in one word. No name of
--- an option holds a `=`, so the first `=` parts that word.
+-- The words begin with the option: `--name` and the next word as its value, or `--name=value` in
+-- one word. No name of an option holds a `=`, so the first `=` parts that word.
 abbrev pub Begins : List (List ℕ) → List ℕ × List ℕ → List (List ℕ) → Type 0
 Begins words option rest =
     (words ≡ (codes "--" ++ option.0) ∷ (option.1 ∷ rest))
@@ -29,8 +30,10 @@ Spells words [] = words ≡ []
 Spells words (option ∷ options) =
     (rest : List (List ℕ)) × Begins words option rest × Spells rest options
 
--- the words mean the command with these options: its word, then spellings of options that make the command
-pub record Means (words : List (List ℕ)) (verb : Verb) (options : List (List ℕ × List ℕ)) : Type 0 where
+-- the words mean the command with these options: its word, then spellings of options that make the
+-- command
+pub record Means (words : List (List ℕ)) (verb : Verb) (options : List (List ℕ × List ℕ))
+    : Type 0 where
   pub rest : List (List ℕ)
   pub word : words ≡ word_of verb ∷ rest
   pub spelled : Spells rest options
@@ -42,30 +45,39 @@ MeanOneCommand =
     (words : List (List ℕ)) (verb verb' : Verb) (options options' : List (List ℕ × List ℕ))
     → Means words verb options → Means words verb' options' → (verb ≡ verb') × (options ≡ options')
 
+-- the most replicas
+abbrev pub replica_limit : ℕ
+replica_limit = 16
+
+-- the greatest size
+abbrev pub size_limit : ℕ
+size_limit = 10000
+
 -- how many replicas there are
 abbrev pub replicas_of : List (List ℕ × List ℕ) → ℕ
 replicas_of options = count_of options (codes "replica")
 
 -- there is no size, or it is up to 10,000
 abbrev pub IsWithinSize : List (List ℕ × List ℕ) → Type 0
-IsWithinSize options = IsWithin options (codes "size") 10000
+IsWithinSize options = IsWithin options (codes "size") size_limit
 
 -- there is a size, and it is above 10,000
 abbrev pub IsAboveSize : List (List ℕ × List ℕ) → Type 0
-IsAboveSize options = IsAbove options (codes "size") 10000
+IsAboveSize options = IsAbove options (codes "size") size_limit
 
--- What words are read as: the command that they mean, or the first refusal. More than 16 replicas and a size above
--- 10,000 are refused only where the words mean a command. Want of memory may take any answer's place.
+-- What words are read as: the command that they mean, or the first refusal. More than 16 replicas
+-- and a size above 10,000 are refused only where the words mean a command. Want of memory may take
+-- any answer's place.
 abbrev pub Reads : List (List ℕ) → Result Command WordsNo → Type 0
 Reads words (Ok command) =
-    Means words command.verb command.options.0 × (replicas_of command.options.0 ≤ 16)
+    Means words command.verb command.options.0 × (replicas_of command.options.0 ≤ replica_limit)
     × IsWithinSize command.options.0
 Reads words (Err Usage) =
     (verb : Verb) (options : List (List ℕ × List ℕ)) → Means words verb options → ⊥
 Reads words (Err Replicas) =
     (verb : Verb) × (options : List (List ℕ × List ℕ)) × Means words verb options
-    × (16 < replicas_of options)
+    × (replica_limit < replicas_of options)
 Reads words (Err Size) =
     (verb : Verb) × (options : List (List ℕ × List ℕ)) × Means words verb options
-    × (replicas_of options ≤ 16) × IsAboveSize options
+    × (replicas_of options ≤ replica_limit) × IsAboveSize options
 Reads words (Err NoMemory) = ⊤

@@ -1,4 +1,4 @@
--- The definitions that contracts name.
+-- The definitions of kr_words, in reading order.
 pub mod Options
 pub mod Names
 pub mod Numerals

@@ -1,9 +1,12 @@
 -- The commands, the names of their options, and which command takes which.
 use Rattle.std.specs.Prelude.{◌≡◌, ◌⊎◌, ℕ, List, [], ◌∷◌, codes}
 use Rattle.kr_words.specs.declared.command.Verb.{Verb}
-use Rattle.kr_words.specs.declared.command.Verb.TheVariants.{Encrypt, Decrypt, Check, Inspect, Put, Get, Rows, Judge, Rewrite, Fleet, Gen}
+use Rattle.kr_words.specs.declared.command.Verb.TheVariants.{Encrypt, Decrypt, Check, Inspect, Put}
+use Rattle.kr_words.specs.declared.command.Verb.TheVariants.{Get, Rows, Judge, Rewrite, Fleet, Gen}
 use Rattle.kr_words.specs.declared.name.OptionName.{OptionName}
-use Rattle.kr_words.specs.declared.name.OptionName.TheVariants.{Config, Resource, Path, Plugin, Store, Replica, Reload, File, Seed, Size}
+use Rattle.kr_words.specs.declared.name.OptionName.TheVariants.{Config, Resource, Path, Plugin}
+use Rattle.kr_words.specs.declared.name.OptionName.TheVariants.{Store, Replica, Reload, File, Seed}
+use Rattle.kr_words.specs.declared.name.OptionName.TheVariants.{Size}
 
 -- the word of a command
 abbrev pub word_of : Verb → List ℕ

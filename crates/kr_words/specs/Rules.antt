@@ -1,11 +1,14 @@
 -- The rules for the options of a command.
-use Rattle.std.specs.Prelude.{◌≡◌, ◌≢◌, ℕ, ◌≤◌, ◌<◌, ◌⊎◌, ◌==◌, List, [], length, Contains, All, AllPairs, ⊤}
+use Rattle.std.specs.Prelude.{◌≡◌, ◌≢◌, ℕ, ◌≤◌, ◌<◌, ◌⊎◌, ◌==◌, List, [], length, Contains, All}
+use Rattle.std.specs.Prelude.{AllPairs, ⊤}
 use Rattle.std.specs.List.{before_first, after_first}
 use Rattle.kr_base.specs.Rules.{IsName, IsPath, IsResource}
 use Rattle.kr_words.specs.declared.command.Verb.{Verb}
 use Rattle.kr_words.specs.declared.command.Verb.TheVariants.{Encrypt, Decrypt}
 use Rattle.kr_words.specs.declared.name.OptionName.{OptionName}
-use Rattle.kr_words.specs.declared.name.OptionName.TheVariants.{Config, Resource, Path, Plugin, Store, Replica, Reload, File, Seed, Size}
+use Rattle.kr_words.specs.declared.name.OptionName.TheVariants.{Config, Resource, Path, Plugin}
+use Rattle.kr_words.specs.declared.name.OptionName.TheVariants.{Store, Replica, Reload, File, Seed}
+use Rattle.kr_words.specs.declared.name.OptionName.TheVariants.{Size}
 use Rattle.kr_words.specs.Names.{text_of, required, optional, IsRepeatable}
 use Rattle.kr_words.specs.Options.{count_of}
 use Rattle.kr_words.specs.Numerals.{IsDecimal}
@@ -56,8 +59,8 @@ abbrev pub HaveTwoNames : List ℕ × List ℕ → List ℕ × List ℕ → Type
 HaveTwoNames a b =
     a.0 ≡ text_of Plugin → b.0 ≡ text_of Plugin → before_equals a.1 ≢ before_equals b.1
 
--- The options make the command: each is one of the command's with a value that it may have, none that it must have is
--- missing, only plugins and replicas repeat, and no two plugins have one name.
+-- The options make the command: each is one of the command's with a value that it may have, none
+-- that it must have is missing, only plugins and replicas repeat, and no two plugins have one name.
 pub record IsCommand (verb : Verb) (options : List (List ℕ × List ℕ)) : Type 0 where
   pub each : All (IsOption verb (count_of options (text_of Replica))) options
   pub whole : All (λ name. 1 ≤ count_of options (text_of name)) (required verb)

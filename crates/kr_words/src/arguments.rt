@@ -1,10 +1,12 @@
 //! What the options of a command give beyond first values: programs, replicas, a reload, numbers.
-ghost use Rattle.std.specs.Prelude.{◌≡◌, ◌^◌, ◌<◌, ◌≤◌, ℕ, List, MatchOption, IsSome, IsSomeAnd, Contains, codes, slice_get};
+ghost use Rattle.std.specs.Prelude.{◌≡◌, ◌^◌, ◌<◌, ◌≤◌, ℕ, List, MatchOption, IsSome, IsSomeAnd};
+ghost use Rattle.std.specs.Prelude.{Contains, codes, slice_get};
 ghost use Rattle.std.specs.Option.{option_copied};
 ghost use Rattle.kr_words.specs.Options.{values_of, count_of};
-ghost use Rattle.kr_words.specs.Arguments.{is_plugin, program_of, IsNumberAt, IsReloadOf, IsReloadAt};
+ghost use Rattle.kr_words.specs.Arguments.{is_plugin, program_of, IsNumberAt, IsReloadOf};
+ghost use Rattle.kr_words.specs.Arguments.{IsReloadAt};
 ghost use Rattle.kr_words.specs.Rules.{before_equals, after_equals, IsCommand};
-ghost use Rattle.kr_words.specs.Grammar.{replicas_of, IsWithinSize};
+ghost use Rattle.kr_words.specs.Grammar.{replica_limit, replicas_of, IsWithinSize};
 ghost use Rattle.kr_words.specs.declared.command.Verb.{Verb};
 
 use crate::command::{Command, count_of, first_value};
@@ -52,7 +54,7 @@ impl Command {
             → 2 ^ 64 ≤ replica)
             (λ reload. IsReloadAt self.now.options.0 reload.replica reload.file.now) }
         ensures given { IsCommand self.now.verb self.now.options.0 → self.now.verb ≡ Verb.Judge
-            → replicas_of self.now.options.0 ≤ 16
+            → replicas_of self.now.options.0 ≤ replica_limit
             → IsSomeAnd result (λ reload. reload.replica < replicas_of self.now.options.0) }
     {
         reload_in(self.options.as_slice())

@@ -32,11 +32,13 @@ pub enum Verb {
     Gen,
 }
 
-/// What a command line means: a command and its options as pairs of a name without dashes and a value, in the order
-/// of the words.
+/// What a command line means: a command and its options as pairs of a name without dashes and a
+/// value, in the order of the words.
 #[derive(Debug, Drop)]
 pub struct Command {
+    /// Which command.
     pub verb: Verb,
+    /// Its options, as they stand.
     pub options: List<(Text, Text)>,
 }
 

@@ -1,4 +1,5 @@
-//! The command line of kmsrest: which words mean a command with its options, and the reader of them.
+//! The command line of kmsrest: which words mean a command with its options, and the reader of
+//! them.
 #![tactic(auto)]
 
 mod arguments;

@@ -7,15 +7,25 @@ use crate::command::Verb;
 /// The name of an option.
 #[derive(Clone, Copy, Debug, PartialEq, Eq)]
 pub enum OptionName {
+    /// A configuration's file.
     Config,
+    /// A resource, as `secrets` or `deployments.apps`.
     Resource,
+    /// The path of a value in a store.
     Path,
+    /// A KMS plugin's name and program.
     Plugin,
+    /// A store's file.
     Store,
+    /// The configuration's file of one of many replicas.
     Replica,
+    /// A replica's number, and the file that it reads anew.
     Reload,
+    /// The file of a fleet.
     File,
+    /// The seed of a load.
     Seed,
+    /// The size of a load.
     Size,
 }
 

@@ -15,13 +15,13 @@ use kr_base::Text;
 use std::alloc::Global;
 
 /// The most replicas of a command line.
-const REPLICAS: usize = 16;
+const REPLICA_LIMIT: usize = 16;
 
 /// The greatest size of a command line.
-const SIZE: u64 = 10_000;
+const SIZE_LIMIT: u64 = 10_000;
 
-/// Reads the words of a command line, those behind the program's name. Words that mean no command are refused first,
-/// then too many replicas, then a size that is too large.
+/// Reads the words of a command line, those behind the program's name. Words that mean no command
+/// are refused first, then too many replicas, then a size that is too large.
 pub fn read_words(alloc: Global, words: &[String]) -> Result<Command, WordsNo>
     ensures { Reads (texts words.now) result }
 {
@@ -39,17 +39,17 @@ pub fn read_words(alloc: Global, words: &[String]) -> Result<Command, WordsNo>
     if !is_command(verb, options.as_slice()) {
         return Err(WordsNo::Usage);
     }
-    if count_of(options.as_slice(), OptionName::Replica.text()) > REPLICAS {
+    if count_of(options.as_slice(), OptionName::Replica.text()) > REPLICA_LIMIT {
         return Err(WordsNo::Replicas);
     }
-    if !is_within(options.as_slice(), OptionName::Size, SIZE) {
+    if !is_within(options.as_slice(), OptionName::Size, SIZE_LIMIT) {
         return Err(WordsNo::Size);
     }
     Ok(Command { verb, options })
 }
 
-/// Whether nothing stands at the name, or a number up to the limit. Where it is a number, it is above the limit else,
-/// also one that is too long for its type.
+/// Whether nothing stands at the name, or a number up to the limit. Where it is a number, it is
+/// above the limit else, also one that is too long for its type.
 fn is_within(options: &[(Text, Text)], name: OptionName, limit: u64) -> bool
     ensures { MatchBool result
         (IsWithin options.now (text_of name) limit)

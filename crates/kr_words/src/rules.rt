@@ -2,7 +2,8 @@
 ghost use Rattle.std.specs.Prelude.{◌≡◌, ◌↔◌, ◌⊎◌, ◌≤◌, ◌<◌, ℕ, IsTrue, Contains, All, AllPairs};
 ghost use Rattle.kr_words.specs.Names.{text_of, required, optional, IsRepeatable};
 ghost use Rattle.kr_words.specs.Options.{count_of};
-ghost use Rattle.kr_words.specs.Rules.{before_equals, IsPlugin, IsReload, MayHaveEmptyPath, IsValue, IsOption, HaveTwoNames, IsCommand};
+ghost use Rattle.kr_words.specs.Rules.{before_equals, IsPlugin, IsReload, MayHaveEmptyPath};
+ghost use Rattle.kr_words.specs.Rules.{IsValue, IsOption, HaveTwoNames, IsCommand};
 ghost use Rattle.kr_words.specs.Numerals.{IsDecimal};
 ghost use Rattle.kr_words.specs.declared.name.OptionName.{OptionName};
 
@@ -35,6 +36,7 @@ fn have_values(verb: Verb, options: &[(Text, Text)]) -> bool
     true
 }
 
+/// Whether it is one of the command's, with a value that it may have.
 fn is_option(verb: Verb, replicas: usize, option: &(Text, Text)) -> bool
     ensures { IsTrue result ↔ IsOption verb replicas option.now }
 {
@@ -44,6 +46,7 @@ fn is_option(verb: Verb, replicas: usize, option: &(Text, Text)) -> bool
     }
 }
 
+/// Whether the option may have the value.
 fn is_value(verb: Verb, replicas: usize, name: OptionName, value: &str) -> bool
     ensures { IsTrue result ↔ IsValue verb replicas name value.now }
 {
@@ -58,12 +61,14 @@ fn is_value(verb: Verb, replicas: usize, name: OptionName, value: &str) -> bool
     }
 }
 
+/// Whether the command's path may be empty.
 fn may_have_empty_path(verb: Verb) -> bool
     ensures { IsTrue result ↔ MayHaveEmptyPath verb }
 {
     matches!(verb, Verb::Encrypt | Verb::Decrypt)
 }
 
+/// Whether it is `NAME=PROGRAM`.
 fn is_plugin(value: &str) -> bool
     ensures { IsTrue result ↔ IsPlugin value.now }
 {
@@ -73,6 +78,7 @@ fn is_plugin(value: &str) -> bool
     }
 }
 
+/// Whether it is `N=FILE`, of a replica that there is.
 fn is_reload(replicas: usize, value: &str) -> bool
     ensures { IsTrue result ↔ IsReload replicas value.now }
 {
@@ -82,6 +88,7 @@ fn is_reload(replicas: usize, value: &str) -> bool
     }
 }
 
+/// Whether it is a number below the limit.
 fn is_below(number: &str, limit: usize) -> bool
     ensures { IsTrue result ↔ ((n : ℕ) × IsDecimal number.now n × (n < limit)) }
 {
@@ -148,6 +155,7 @@ fn has_own_name(later: &(Text, Text), before: &[(Text, Text)]) -> bool
     true
 }
 
+/// Whether these aren't two plugins of one name.
 fn have_two_names(a: &(Text, Text), b: &(Text, Text)) -> bool
     ensures { IsTrue result ↔ HaveTwoNames a.now b.now }
 {

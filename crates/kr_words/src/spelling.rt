@@ -51,6 +51,7 @@ fn first_option(words: &[String]) -> Option<(&str, &str, &[String])>
     }
 }
 
+/// Puts a copy of the option at the end.
 fn push_option(
     alloc: Global,
     options: &mut List<(Text, Text)>,

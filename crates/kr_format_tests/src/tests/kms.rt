@@ -1,6 +1,8 @@
 //! Plugins: the masks of the one in memory, and its failing calls; seeds, and those that are kept.
 use kr_base::{Annotations, Bytes, Dice, List, MemDice, NoMemory, Text};
-use kr_kms::{Field, Kms, KmsNo, SeedCache, SeedKey, SeedNo, TablePlugin, key_id_of, make_seed};
+use kr_kms::{
+    Field, Kms, KmsNo, SeedCache, SeedKey, SeedNo, SeedRow, TablePlugin, key_id_of, make_seed,
+};
 use std::alloc::Global;
 use std::test::Fail;
 
@@ -128,22 +130,27 @@ fn unhealthy_by_the_first_part(rt: HostRuntime) -> Result<(), Fail> {
     Ok(())
 }
 
-// 9d is 00 xor the mask under `k1`, as above.
+/// Whether these are 32 times this byte.
+fn is_all(bytes: &[u8], byte: u8) -> bool {
+    bytes.len() == 32 && bytes.iter().all(|other| *other == byte)
+}
+
+/// The seed that the plugin `p` is made under `k1`.
+fn made(alloc: Global, dice: &mut MemDice) -> Option<SeedRow> {
+    let mut link = plugin_with(alloc, "v2", "ok", "k1")?;
+    make_seed(alloc, &mut link, dice).ok()
+}
+
+// 9d is 00 xor the mask under `k1`, as above. Behind 32 bytes of 40 there is no seed more.
 #[test]
 fn makes_a_seed(rt: HostRuntime) -> Result<(), Fail> {
     let alloc = rt.alloc();
-    let mut link = plugin_with(alloc, "v2", "ok", "k1").ok_or("memory")?;
-    let zeros = vec![in alloc; 0; 40]?;
-    let mut dice = MemDice::new(Bytes::from_vec(zeros), List::new(alloc));
-    let row = make_seed(alloc, &mut link, &mut dice)
-        .ok()
-        .ok_or("no seed")?;
+    let mut dice = MemDice::new(Bytes::from_vec(vec![in alloc; 0; 40]?), List::new(alloc));
+    let row = made(alloc, &mut dice).ok_or("no seed")?;
     assert_eq!(rt; row.key_id.as_str(), "k1");
-    assert!(rt; row.seed.as_slice() == [0; 32].as_slice());
-    assert!(rt; row.source.as_slice() == [0x9d; 32].as_slice());
-    // 8 bytes are left, which make no seed.
-    let no = make_seed(alloc, &mut link, &mut dice);
-    assert!(rt; matches!(no, Err(SeedNo::DiceFailed)));
+    assert!(rt; is_all(row.seed.as_slice(), 0));
+    assert!(rt; is_all(row.source.as_slice(), 0x9d));
+    assert!(rt; made(alloc, &mut dice).is_none());
     assert_eq!(rt; dice.faults(), 1);
     Ok(())
 }

@@ -43,7 +43,7 @@ part_in seat = record {
 }
 
 -- the token of the first seat, in which all the others ended but for those that are left
-pub record Gathered {S L G : Type 0} (first : Place S L G) (all left : List (Place S L G))
+pub record IsGathered {S L G : Type 0} (first : Place S L G) (all left : List (Place S L G))
     (m : Me (Option S) (View L G)) : Type 0 where
   pub rests : m.0.stage ≡ Idle
   pub bare : m.1 ≡ []

@@ -1,14 +1,15 @@
--- The rule of the lock, which holds between any two steps.
--- Word 0 is the next ticket, and word 1 the ticket that is served, which is the number of lines. The
--- one slot has the state.
--- A line is one value with its seat's number: nothing here looks further into it.
-use Rattle.std.specs.Prelude.{◌≡◌, ℕ, ◌+◌, ◌<◌, ◌≤◌, List, [], ◌∷◌, length, take, sum, Option, Some, None}
+-- The rule of the lock, which holds between any two steps. Word 0 is the next ticket, and word 1
+-- the ticket that is served, which is the number of lines. The one slot has the state. A line is
+-- one value with its seat's number: nothing here looks further into it.
+use Rattle.std.specs.Prelude.{◌≡◌, ℕ, ◌+◌, ◌<◌, ◌≤◌, List, [], ◌∷◌, length, take, sum, Option, Some}
+use Rattle.std.specs.Prelude.{None}
 use mathlib.Core.Option.{Option as Maybe, none, some}
 use mathlib.Core.List.{IsPrefix}
 use lib.ListN.{get_elem?}
 use Rattle.atomic_table.specs.Table.{State}
 use Rattle.kr_turn.specs.declared.view.Stage.{Stage}
-use Rattle.kr_turn.specs.declared.view.Stage.TheVariants.{Blank, Filling, Idle, Waiting, Holding, Gone}
+use Rattle.kr_turn.specs.declared.view.Stage.TheVariants.{Blank, Filling, Idle, Waiting, Holding}
+use Rattle.kr_turn.specs.declared.view.Stage.TheVariants.{Gone}
 use Rattle.kr_turn.specs.declared.view.Terms.{Terms}
 use Rattle.kr_turn.specs.declared.view.Part.{Part}
 use Rattle.kr_turn.specs.declared.view.View.{View}
@@ -79,8 +80,8 @@ module _ {L G : Type 0} (seat_of : L → ℕ) (terms : Terms G) (log : List L) (
     pub whole : of_seat seat_of number log ≡ mine
     pub own : of_seat seat_of number seen ≡ mine
 
-  -- the view is a seat's. It speaks for that seat and for those that ended in it, and where it makes
-  -- seats it is the first and knows how many there are
+  -- the view is a seat's. It speaks for that seat and for those that ended in it, and where it
+  -- makes seats it is the first and knows how many there are
   pub record IsSeat (index : ℕ) (v : View L G) : Type 0 where
     pub terms_are : v.terms ≡ Some terms
     pub itself : SpeaksFor index v.number v.seen v.mine
@@ -94,8 +95,9 @@ module _ {L G : Type 0} (seat_of : L → ℕ) (terms : Terms G) (log : List L) (
     pub none_made : made ≡ 0
     pub no_line : log ≡ []
 
-  -- What is known of the view at this index by its stage. A seat that waits holds a ticket that isn't
-  -- served yet or is served now, and a seat that has the slot in hand holds the ticket that is served
+  -- What is known of the view at this index by its stage. A seat that waits holds a ticket that
+  -- isn't served yet or is served now, and a seat that has the slot in hand holds the ticket that
+  -- is served
   abbrev pub Knows : ℕ → (ℕ → ℕ) → ℕ → View L G → Stage L → Type 0
   Knows tickets holder index v Blank = IsFirst index v
   Knows tickets holder index v Filling = IsFirst index v
@@ -115,11 +117,11 @@ module _ {S L G : Type 0} (lines : S → List L) (basis : S → G) (room : S →
   Has terms log made views none = (index : ℕ) × (v : View L G)
       × (get_elem? views index ≡ some v) × IsOut v.stage
 
-  -- There is one history, `log`, and so many tickets are drawn and seats made. A seat's number has one
-  -- view that speaks for it, and a ticket one view that drew it.
-  -- The tickets drawn and the turns left are the budgets of the seats made, so there is a ticket and
-  -- room for each turn. A number that isn't made yet has no line.
-  pub record Ruled (seat_of : L → ℕ) (terms : Terms G) (s : State (Option S) (View L G))
+  -- There is one history, `log`, and so many tickets are drawn and seats made. A seat's number has
+  -- one view that speaks for it, and a ticket one view that drew it. The tickets drawn and the
+  -- turns left are the budgets of the seats made, so there is a ticket and room for each turn. A
+  -- number that isn't made yet has no line.
+  pub record KeepsRule (seat_of : L → ℕ) (terms : Terms G) (s : State (Option S) (View L G))
       : Type 0 where
     pub log : List L
     pub tickets : ℕ

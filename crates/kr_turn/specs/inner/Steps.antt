@@ -1,10 +1,12 @@
 -- What each step of the lock tells the seat that makes it. None tells anything of another seat's
 -- view.
-use Rattle.std.specs.Prelude.{◌≡◌, ◌≢◌, ℕ, ◌+◌, ◌-◌, ◌<◌, List, [], ◌∷◌, ◌++◌, length, drop, Option, Some, None}
+use Rattle.std.specs.Prelude.{◌≡◌, ◌≢◌, ℕ, ◌+◌, ◌-◌, ◌<◌, List, [], ◌∷◌, ◌++◌, length, drop, Option}
+use Rattle.std.specs.Prelude.{Some, None}
 use mathlib.Core.List.{IsPrefix}
 use Rattle.atomic_table.specs.Table.{Me, Step}
 use Rattle.kr_turn.specs.declared.view.Stage.{Stage}
-use Rattle.kr_turn.specs.declared.view.Stage.TheVariants.{Blank, Filling, Idle, Waiting, Holding, Gone}
+use Rattle.kr_turn.specs.declared.view.Stage.TheVariants.{Blank, Filling, Idle, Waiting, Holding}
+use Rattle.kr_turn.specs.declared.view.Stage.TheVariants.{Gone}
 use Rattle.kr_turn.specs.declared.view.Terms.{Terms}
 use Rattle.kr_turn.specs.declared.view.Part.{Part}
 use Rattle.kr_turn.specs.declared.view.View.{View}
@@ -101,8 +103,8 @@ module _ {S L G : Type 0} where
   Passes lines st m found m' = m' ≡ (view_after m.0 (carried_lines lines m.1), [])
 
   module _ (lines : S → List L) (basis : S → G) (room : S → ℕ) (seat_of : L → ℕ) where
-    -- the seat is served: it has the state, whose lines are the served ones. They begin with what the
-    -- seat saw, and it knows its own among them
+    -- the seat is served: it has the state, whose lines are the served ones. They begin with what
+    -- the seat saw, and it knows its own among them
     pub record IsServed (ticket : ℕ) (m m' : SeatState S L G) : Type 0 where
       pub state : S
       pub terms : Terms G

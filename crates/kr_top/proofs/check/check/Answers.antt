@@ -1,30 +1,28 @@
-use Rattle.std.proofs.Common.{◌∙◌, arith}
-use Rattle.kr_top.proofs.Goes.{has_configuration, no_configuration, gives_it, gives_up, gives_none}
-use Rattle.kr_top.proofs.Worlds.{Keeps-refl, dice_kept, stays, home}
+use Rattle.std.proofs.Common.{Ok, Err}
+use Rattle.std.specs.Option.{option_copied}
+use Rattle.kr_top.specs.Check.{listing}
+use Rattle.kr_top.specs.Commands.{configuration, tell}
+use Rattle.kr_top.specs.Configuration.{any}
+use Rattle.kr_top.proofs.Goes.{configures, goes_on, stops, tells, tells_nothing}
 use Rattle.kr_top.proofs.check.check.Goals as goal
 
 pub returns-in-Err : goal.returns-in-Err
-returns-in-Err g c i n = record {
-  ended = no_configuration c.in-Err.stop c.in-Err.ensures.settings (Keeps-refl _) (dice_kept c.in-Err.ensures.dice) c.in-Err.ensures.asked (Keeps-refl _);
-  home = home c.in-Err.ensures.files c.in-Err.ensures.dice (omega arith) (omega arith);
-}
+returns-in-Err g c i n = stops (configuration any _) _ c.in-Err.stop
+    (configures c.in-Err.ensures.files c.in-Err.ensures.dice i n any _
+    (Err c.in-Err.stop) c.in-Err.ensures.settings c.in-Err.ensures.asked)
 
-pub returns-in-Err-listing : goal.returns-in-Err-listing
-returns-in-Err-listing g c i n = record {
-  ended = has_configuration c.in-Ok.settings c.in-Ok.ensures.settings (gives_none (stays c.in-Ok.ensures.dice (Keeps-refl _) c.in-Ok.ensures.asked) (Keeps-refl _));
-  home = home c.in-Ok.ensures.files c.in-Ok.ensures.dice (omega arith) (omega arith);
-}
-
-pub returns-in-Ok-write_output : goal.returns-in-Ok-write_output
-returns-in-Ok-write_output g c i n = record {
-  ended = has_configuration c.in-Ok.settings c.in-Ok.ensures.settings
-      (gives_it _ (c.as_slice.ensures ∙ c.in-Ok-listing.ensures) (stays c.in-Ok.ensures.dice (Keeps-refl _) c.in-Ok.ensures.asked) c.in-Ok-write_output.ensures.written);
-  home = home c.in-Ok.ensures.files c.in-Ok.ensures.dice (omega arith) c.in-Ok-write_output.ensures.later;
-}
+pub returns-in-Ok-listing : goal.returns-in-Ok-listing
+returns-in-Ok-listing g c i n =
+    goes_on (configuration any _)
+    (λ rows. tell (listing rows (option_copied c.args.words.resource))) _
+    (configures c.in-Ok.ensures.files c.in-Ok.ensures.dice i n any _
+    (Ok c.in-Ok.settings) c.in-Ok.ensures.settings c.in-Ok.ensures.asked)
+    (tells _ c.in-Ok-listing.ensures)
 
 pub returns : goal.returns
-returns g c i n = record {
-  ended = has_configuration c.in-Ok.settings c.in-Ok.ensures.settings
-      (gives_up _ c.in-Err-write_output.stop (c.as_slice.ensures ∙ c.in-Ok-listing.ensures) (stays c.in-Ok.ensures.dice (Keeps-refl _) c.in-Ok.ensures.asked) c.in-Err-write_output.ensures.written);
-  home = home c.in-Ok.ensures.files c.in-Ok.ensures.dice (omega arith) c.in-Err-write_output.ensures.later;
-}
+returns g c i n =
+    goes_on (configuration any _)
+    (λ rows. tell (listing rows (option_copied c.args.words.resource))) _
+    (configures c.in-Ok.ensures.files c.in-Ok.ensures.dice i n any _
+    (Ok c.in-Ok.settings) c.in-Ok.ensures.settings c.in-Ok.ensures.asked)
+    tells_nothing

@@ -4,4 +4,7 @@ use Rattle.kr_top.specs.Check.{lines_from}
 use Rattle.kr_top.proofs.listing.entry_lines.Given as goal
 
 abbrev pub invariant-loop-entry : goal.invariant-loop-entry
-invariant-loop-entry l = (l.text.items ++ lines_from l.number (rows_of (drop l.entry-index l.entries)) ≡ lines_from 0 (rows_of l.entries)) × (l.number ≡ l.entry-index)
+invariant-loop-entry l =
+    (l.text.items
+    ++ lines_from l.number (rows_of (drop l.entry-index l.entries)) ≡ lines_from 0
+    (rows_of l.entries)) × (l.number ≡ l.entry-index)

@@ -1,8 +1,15 @@
-use Rattle.std.proofs.Common.{ap, refl}
-use Rattle.kr_config.specs.Kept.{rows_of}
-use Rattle.kr_top.proofs.Rooms.{room}
+use Rattle.std.proofs.Common.{◌∙◌}
+use Rattle.kr_top.proofs.Goes.{files_trans, not_opened, lends}
 use Rattle.kr_top.proofs.work.make.Goals as goal
 
-pub unreachable-requires-in_default : goal.unreachable-requires-in_default
-unreachable-requires-in_default g c = room (rows_of c.in-Ok.settings.entries.0) c.in-Ok-publish.published c.in-Ok-new.published c.in-Ok-new-2.bench.pages
-    c.in-Ok.settings.kept c.in-Ok-publish.ensures.published c.in-Ok-new.ensures.ok (ap (λ b. b.pages) c.in-Ok-new-2.ensures.ok) (c.in_default.ensures.full.0 refl)
+pub returns-in-Err : goal.returns-in-Err
+returns-in-Err g c i n =
+    not_opened c.in-Err.ensures.files c.in-Err.ensures.err i n c.in-Err.stop c.in-Err.ensures.why
+    c.in-Err.ensures.asked
+
+pub returns : goal.returns
+returns g c i n =
+    lends c.in-Ok.ensures.ok c.back_dice.ensures.back
+    (files_trans c.in-Ok.ensures.files c.back_dice.ensures.files)
+    (c.back_dice.ensures.asked ∙ c.in-Ok.ensures.asked) i n _ c.make_by-made.ensures.later
+    c.make_by-made.ensures.made

@@ -1,4 +1,6 @@
-use Rattle.std.proofs.Common.{rules, arith, ◌≡◌, [], ◌∷◌, ◌++◌, length, map, All, refl, ap, sym, ◌∙◌, subst, append-nil, append_assoc, length-append}
+-- What the tactic leaves open of `gather`.
+use Rattle.std.proofs.Common.{rules, arith, ◌≡◌, [], ◌∷◌, ◌++◌, length, map, All, refl, ap, sym}
+use Rattle.std.proofs.Common.{◌∙◌, subst, append-nil, append_assoc, length-append}
 use mathlib.Core.List.{map-append}
 use Rattle.kr_turn.specs.inner.Endings.{part_in}
 use Rattle.kr_turn.proofs.Ends.{joins}
@@ -16,7 +18,8 @@ loop-seat-init g c =
         number = refl;
         seen = refl;
         mine = refl;
-        ended = ap (λ t. map part_in c.args.seats.0 ++ t.me.0.ended) was ∙ append-nil (map part_in c.args.seats.0);
+        ended = ap (λ t. map part_in c.args.seats.0 ++ t.me.0.ended) was
+            ∙ append-nil (map part_in c.args.seats.0);
       },
     )
 
@@ -27,14 +30,19 @@ join_seat-requires g c =
     let seats = c.in-Some.ensures.items in
     let was = c.in-Some.seat.rests in (
       inv.0,
-      All-last (λ seat. seat.token.table_id ≡ c.args.lock.now.table_id) c.pop.new.self.0 c.in-Some.seat (subst (All (λ seat. seat.token.table_id ≡ c.args.lock.now.table_id)) seats inv.1),
+      All-last (λ seat. seat.token.table_id ≡ c.args.lock.now.table_id) c.pop.new.self.0
+          c.in-Some.seat (subst (All (λ seat. seat.token.table_id ≡ c.args.lock.now.table_id)) seats
+          inv.1),
       ap (λ t. t.me.1) was,
       search rules,
-      joins T.lines T.basis T.room T.seat_of _ _ _ _ _ inv.2.rests (ap (λ t. t.me.0.stage) was) (ap (λ t. t.me.0.ended) was),
+      joins T.lines T.basis T.room T.seat_of _ _ _ _ _ inv.2.rests (ap (λ t. t.me.0.stage) was)
+          (ap (λ t. t.me.0.ended) was),
     )
 
 pub loop-seat-smaller : goal.loop-seat-smaller
-loop-seat-smaller g c = let long = ap length c.in-Some.ensures.items ∙ length-append c.pop.new.self.0 (c.in-Some.seat ∷ []) in omega (arith, long)
+loop-seat-smaller g c = let long =
+    ap length c.in-Some.ensures.items ∙ length-append c.pop.new.self.0 (c.in-Some.seat ∷ []) in
+    omega (arith, long)
 
 pub loop-seat-preserved : goal.loop-seat-preserved
 loop-seat-preserved g c =
@@ -45,13 +53,17 @@ loop-seat-preserved g c =
     let part = part_in c.in-Some.seat in
     let ended = c.loop-seat.token.me.0.ended in (
       c.join_seat.ensures.0 ∙ inv.0,
-      All-front (λ seat. seat.token.table_id ≡ c.args.lock.now.table_id) left c.in-Some.seat (subst (All (λ seat. seat.token.table_id ≡ c.args.lock.now.table_id)) seats inv.1),
+      All-front (λ seat. seat.token.table_id ≡ c.args.lock.now.table_id) left c.in-Some.seat
+          (subst (All (λ seat. seat.token.table_id ≡ c.args.lock.now.table_id)) seats inv.1),
       record {
         rests = ap (λ m. m.0.stage) now ∙ inv.2.rests;
         bare = ap (λ m. m.1) now ∙ inv.2.bare;
         number = ap (λ m. m.0.number) now ∙ inv.2.number;
         seen = ap (λ m. m.0.seen) now ∙ inv.2.seen;
         mine = ap (λ m. m.0.mine) now ∙ inv.2.mine;
-        ended = ap (λ m. map part_in left ++ m.0.ended) now ∙ (sym (append_assoc (map part_in left) (part ∷ []) ended) ∙ (ap (λ l. l ++ ended) (sym (map-append part_in left (c.in-Some.seat ∷ [])) ∙ ap (map part_in) (sym seats)) ∙ inv.2.ended));
+        ended = ap (λ m. map part_in left ++ m.0.ended) now
+            ∙ (sym (append_assoc (map part_in left) (part ∷ []) ended)
+            ∙ (ap (λ l. l ++ ended) (sym (map-append part_in left (c.in-Some.seat ∷ []))
+            ∙ ap (map part_in) (sym seats)) ∙ inv.2.ended));
       },
     )

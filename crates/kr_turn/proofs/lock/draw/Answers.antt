@@ -1,6 +1,11 @@
+-- What the tactic leaves open of `draw`.
 use Rattle.std.proofs.Common.{rules}
 use Rattle.kr_turn.proofs.Keeps.{draws}
 use Rattle.kr_turn.proofs.lock.draw.Goals as goal
 
 pub fetch_add-requires : goal.fetch_add-requires
-fetch_add-requires g c = (search rules, search rules, draws _ _ _ _ _ _ _ _ c.requires.idle.0 c.requires.idle.1 c.requires.idle.3)
+fetch_add-requires g c = (
+  search rules,
+  search rules,
+  draws _ _ _ _ _ _ _ _ c.requires.idle.0 c.requires.idle.1 c.requires.idle.3,
+)

@@ -1,3 +1,4 @@
+-- What the tactic leaves open of `wait`.
 use Rattle.std.proofs.Common.{rules, ap, ◌∙◌}
 use Rattle.kr_turn.proofs.Keeps.{looks}
 use Rattle.kr_turn.proofs.lock.wait.Goals as goal
@@ -6,12 +7,14 @@ pub load-requires : goal.load-requires
 load-requires g c = (
   search rules,
   search rules,
-  looks _ _ _ _ _ _ _ _ c.args.ticket (ap (λ m. m.0.stage) c.loop.invariant.2 ∙ c.requires.waits.0) (ap (λ m. m.1) c.loop.invariant.2 ∙ c.requires.waits.1),
+  looks _ _ _ _ _ _ _ _ c.args.ticket (ap (λ m. m.0.stage) c.loop.invariant.2 ∙ c.requires.waits.0)
+      (ap (λ m. m.1) c.loop.invariant.2 ∙ c.requires.waits.1),
 )
 
 pub loop-preserved : goal.loop-preserved
 loop-preserved g c = (
   c.load.ensures.0 ∙ c.loop.invariant.0,
   c.load.ensures.1 ∙ c.loop.invariant.1,
-  (c.load.ensures.2 c.args.ticket (ap (λ m. m.0.stage) c.loop.invariant.2 ∙ c.requires.waits.0)).1 c.if-load-ticket.false ∙ c.loop.invariant.2,
+  (c.load.ensures.2 c.args.ticket (ap (λ m. m.0.stage) c.loop.invariant.2 ∙ c.requires.waits.0)).1
+      c.if-load-ticket.false ∙ c.loop.invariant.2,
 )

@@ -1,5 +1,7 @@
+-- What the loop of `wait` keeps.
 use Rattle.std.proofs.Common.{◌≡◌}
 use Rattle.kr_turn.proofs.lock.wait.Given as goal
 
 abbrev pub invariant-loop : goal.invariant-loop
-invariant-loop g l = (l.token.table_id ≡ l.initial.token.table_id) × (l.token.id ≡ l.initial.token.id) × (l.token.me ≡ l.initial.token.me)
+invariant-loop g l = (l.token.table_id ≡ l.initial.token.table_id)
+    × (l.token.id ≡ l.initial.token.id) × (l.token.me ≡ l.initial.token.me)

@@ -1,3 +1,4 @@
+-- What the tactic leaves open of `read_words`.
 use Rattle.std.proofs.Common.{◌≡◌, ◌∷◌, ap, ◌∙◌, sym, subst, arith}
 use Rattle.kr_words.specs.Grammar.{texts, replicas_of}
 use Rattle.kr_words.specs.declared.name.OptionName.TheVariants.{Size}
@@ -10,7 +11,9 @@ use Rattle.kr_words.proofs.read.read_words.Goals as goal
 
 pub returns-in-Err-Usage : goal.returns-in-Err-Usage
 returns-in-Err-Usage c =
-    unspelled (texts c.args.words.now) _ (texts c.in-Some.rest.now) (ap texts c.in-Some.ensures.cases.0) (rw c.in-Err-Usage.field-0-is at c.in-Err-Usage.ensures)
+    unspelled (texts c.args.words.now) _ (texts c.in-Some.rest.now)
+    (ap texts c.in-Some.ensures.cases.0)
+    (rw c.in-Err-Usage.field-0-is at c.in-Err-Usage.ensures)
 
 pub returns-then-not-is_command : goal.returns-then-not-is_command
 returns-then-not-is_command c =
@@ -19,8 +22,10 @@ returns-then-not-is_command c =
     let a = c.as_str.ensures.value in
     let v = c.in-Some-verb_of.ensures in
     let front : texts c.args.words.now ≡ word_of verb ∷ texts c.in-Some.rest.now = cc in
-    misruled (texts c.args.words.now) verb (texts c.in-Some.rest.now) c.in-Ok.options.0 front c.in-Ok.ensures.0 c.in-Ok.ensures.1
-    (λ m. let is = c.is_command.ensures.1 (subst (IsCommand verb) (sym c.as_slice.ensures) m) in let not = c.if-not-is_command.true in cc)
+    misruled (texts c.args.words.now) verb (texts c.in-Some.rest.now) c.in-Ok.options.0 front
+    c.in-Ok.ensures.0 c.in-Ok.ensures.1
+    (λ m. let is = c.is_command.ensures.1 (subst (IsCommand verb) (sym c.as_slice.ensures) m) in
+    let not = c.if-not-is_command.true in cc)
 
 pub returns-then-not-is_within : goal.returns-then-not-is_within
 returns-then-not-is_within c =
@@ -30,6 +35,22 @@ returns-then-not-is_within c =
     let a = c.as_str.ensures.value in
     let v = c.in-Some-verb_of.ensures in
     let front : texts c.args.words.now ≡ word_of verb ∷ texts c.in-Some.rest.now = cc in
-    let is : IsCommand verb options = subst (IsCommand verb) c.as_slice.ensures (c.is_command.ensures.0 c.if-not-is_command.false) in
-    let counted : c.count_of.result ≡ replicas_of options = c.count_of.ensures ∙ ap (λ o. count_of o c.text.result.now) c.as_slice-2.ensures ∙ ap (count_of options) c.text.ensures in
-    (verb, options, record { rest = texts c.in-Some.rest.now; word = front; spelled = c.in-Ok.ensures.1; command = is }, omega (arith, counted), above is (subst (λ o. HasNoSmall o (text_of Size) 10000) c.as_slice-3.ensures c.if-not-is_within.ensures))
+    let is : IsCommand verb options =
+    subst (IsCommand verb) c.as_slice.ensures
+    (c.is_command.ensures.0 c.if-not-is_command.false) in
+    let counted : c.count_of.result ≡ replicas_of options =
+    c.count_of.ensures ∙ ap (λ o. count_of o c.text.result.now) c.as_slice-2.ensures
+    ∙ ap (count_of options) c.text.ensures in (
+      verb,
+      options,
+      record {
+        rest = texts c.in-Some.rest.now;
+        word = front;
+        spelled =
+            c.in-Ok.ensures.1;
+        command = is;
+      },
+      omega (arith, counted),
+      above is (subst (λ o. HasNoSmall o (text_of Size) 10000) c.as_slice-3.ensures
+          c.if-not-is_within.ensures),
+    )

@@ -1,3 +1,4 @@
+-- What the tactic leaves open of `are_whole`.
 use Rattle.std.proofs.Common.{◌≤◌, rules, tests}
 use Rattle.std.proofs.lemmas.Iterator.{cases_from_all, YieldsList-from_slice}
 use Rattle.kr_words.specs.declared.name.OptionName.{OptionName}
@@ -10,4 +11,6 @@ pub returns : goal.returns
 returns c =
     let P = λ (name : OptionName). 1 ≤ count_of c.args.options.now (text_of name) in
     all_is P _ (required c.args.verb)
-    (cases_from_all _ _ _ P (λ name. P name → ⊥) c.all.ensures.ran (YieldsList-from_slice (required c.args.verb) cc) (λ x q k. search (rules, tests)) (λ x q k. search (rules, tests)))
+    (cases_from_all _ _ _ P (λ name. P name → ⊥) c.all.ensures.ran
+    (YieldsList-from_slice (required c.args.verb) cc) (λ x q k. search (rules, tests))
+    (λ x q k. search (rules, tests)))

@@ -1,3 +1,4 @@
+-- What the tactic leaves open of `have_values`.
 use Rattle.std.proofs.Common.{◌≡◌, ◌∙◌, ap, subst, sym}
 use Rattle.kr_words.specs.declared.name.OptionName.TheVariants.{Replica}
 use Rattle.kr_words.specs.Names.{text_of}
@@ -10,17 +11,25 @@ pub returns-then-not-is_option : goal.returns-then-not-is_option
 returns-then-not-is_option c =
     let options = c.args.options.now in
     let count = count_of options (text_of Replica) in
-    let counted : c.count_of-replicas.result ≡ count = c.count_of-replicas.ensures ∙ ap (count_of options) c.text.ensures in
-    all_stops (IsOption c.args.verb count) options c.loop-option.option-index c.option-item.result c.loop-option-test.true c.option-item.is
-    (λ is. let a = c.is_option.ensures.1 (subst (λ n. IsOption c.args.verb n c.option-item.result) (sym counted) is) in let b = c.if-not-is_option.true in cc)
+    let counted : c.count_of-replicas.result ≡ count =
+    c.count_of-replicas.ensures ∙ ap (count_of options) c.text.ensures in
+    all_stops (IsOption c.args.verb count) options c.loop-option.option-index c.option-item.result
+    c.loop-option-test.true c.option-item.is
+    (λ is. let a = c.is_option.ensures.1
+    (subst (λ n. IsOption c.args.verb n c.option-item.result) (sym counted) is) in
+    let b = c.if-not-is_option.true in cc)
 
 pub loop-option-preserved : goal.loop-option-preserved
 loop-option-preserved c =
     let options = c.args.options.now in
     let count = count_of options (text_of Replica) in
-    let counted : c.count_of-replicas.result ≡ count = c.count_of-replicas.ensures ∙ ap (count_of options) c.text.ensures in
-    all_more (IsOption c.args.verb count) options c.loop-option.option-index c.option-item.result c.loop-option-test.true c.option-item.is
-    (subst (λ n. IsOption c.args.verb n c.option-item.result) counted (c.is_option.ensures.0 c.if-not-is_option.false)) c.loop-option.invariant
+    let counted : c.count_of-replicas.result ≡ count =
+    c.count_of-replicas.ensures ∙ ap (count_of options) c.text.ensures in
+    all_more (IsOption c.args.verb count) options c.loop-option.option-index c.option-item.result
+    c.loop-option-test.true c.option-item.is
+    (subst (λ n. IsOption c.args.verb n c.option-item.result) counted
+    (c.is_option.ensures.0 c.if-not-is_option.false)) c.loop-option.invariant
 
 pub returns : goal.returns
-returns c = all_ends (IsOption c.args.verb (count_of c.args.options.now (text_of Replica))) c.args.options.now c.loop-option.option-index c.loop-option-test.false c.loop-option.invariant
+returns c = all_ends (IsOption c.args.verb (count_of c.args.options.now (text_of Replica)))
+    c.args.options.now c.loop-option.option-index c.loop-option-test.false c.loop-option.invariant

@@ -1,3 +1,4 @@
+-- What the loop of `have_values` keeps.
 use Rattle.std.proofs.Common.{All, take}
 use Rattle.kr_words.specs.declared.name.OptionName.TheVariants.{Replica}
 use Rattle.kr_words.specs.Names.{text_of}
@@ -6,4 +7,5 @@ use Rattle.kr_words.specs.Rules.{IsOption}
 use Rattle.kr_words.proofs.rules.have_values.Given as goal
 
 abbrev pub invariant-loop-option : goal.invariant-loop-option
-invariant-loop-option l = All (IsOption l.verb (count_of l.options (text_of Replica))) (take l.option-index l.options)
+invariant-loop-option l = All (IsOption l.verb (count_of l.options (text_of Replica)))
+    (take l.option-index l.options)

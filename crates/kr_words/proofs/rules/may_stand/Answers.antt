@@ -1,3 +1,4 @@
+-- What the tactic leaves open of `may_stand`.
 use Rattle.std.proofs.Common.{◌∙◌, ap}
 use Rattle.kr_words.specs.Options.{count_of}
 use Rattle.kr_words.specs.Names.{IsRepeatable}
@@ -5,4 +6,6 @@ use Rattle.kr_words.proofs.Commands.{or_few}
 use Rattle.kr_words.proofs.rules.may_stand.Goals as goal
 
 pub returns-else-may_repeat : goal.returns-else-may_repeat
-returns-else-may_repeat c = or_few (IsRepeatable c.args.name) c.may_repeat.result c.count_of.result _ c.may_repeat.ensures c.if-may_repeat.false (c.count_of.ensures ∙ ap (count_of c.args.options.now) c.text.ensures)
+returns-else-may_repeat c = or_few (IsRepeatable c.args.name) c.may_repeat.result c.count_of.result
+    _ c.may_repeat.ensures c.if-may_repeat.false
+    (c.count_of.ensures ∙ ap (count_of c.args.options.now) c.text.ensures)

@@ -1,3 +1,4 @@
+-- What the loop of `stand_once` keeps.
 use Rattle.std.proofs.Common.{◌≤◌, ◌⊎◌, All, take}
 use Rattle.kr_words.specs.Names.{text_of, IsRepeatable}
 use Rattle.kr_words.specs.Options.{count_of}
@@ -5,4 +6,5 @@ use Rattle.kr_words.proofs.Commands.{all_names}
 use Rattle.kr_words.proofs.rules.stand_once.Given as goal
 
 abbrev pub invariant-loop-name : goal.invariant-loop-name
-invariant-loop-name l = All (λ name. IsRepeatable name ⊎ (count_of l.options (text_of name) ≤ 1)) (take l.name-index all_names)
+invariant-loop-name l = All (λ name. IsRepeatable name ⊎ (count_of l.options (text_of name) ≤ 1))
+    (take l.name-index all_names)

@@ -1,3 +1,4 @@
+-- What the loop of `read_options` keeps.
 use Rattle.std.proofs.Common.{length}
 use Rattle.kr_words.specs.Grammar.{texts}
 use Rattle.kr_words.proofs.Spellings.{IsLeft}
