@@ -23,7 +23,7 @@ module _ {L : Type 0} (link : L → Link) where
   adopted_stay names olds news o a h =
       subst (λ l. HasAdoptedLinks l o) (sym (names_stay link names olds news a)) h
 
-  unsealed_asks : (truth : Truth) (seeds : List SeedRow) (list : List Who) (path bytes : List ℕ)
+  pub unsealed_asks : (truth : Truth) (seeds : List SeedRow) (list : List Who) (path bytes : List ℕ)
       (olds news : List L) (result : Result Opened UnsealNo)
       → UnsealsBy truth link seeds list path bytes olds result news
       → AskedOnly link (plugin_reading (reader_in list bytes)) olds news

@@ -23,3 +23,4 @@ mod Unsealings
 mod ObjectSources
 mod SeedValues
 mod BenchLinks
+pub mod WithoutPlugins

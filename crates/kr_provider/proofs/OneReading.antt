@@ -65,7 +65,7 @@ abbrev pub IsNoPlugin : Option Who → Type 0
 IsNoPlugin None = ⊤
 IsNoPlugin (Some who) = is_kms who ≡ false
 
-no_plugin : (list : List Who) (bytes : List ℕ) → list_any is_kms list ≡ false
+pub no_plugin : (list : List Who) (bytes : List ℕ) → list_any is_kms list ≡ false
     → IsNoPlugin (reader_in list bytes)
 no_plugin [] bytes e = tt
 no_plugin (who ∷ rest) bytes e =
@@ -77,7 +77,7 @@ no_plugin (who ∷ rest) bytes e =
     first true here more = here
     first false here more = more
 
-any_envelope : (reader : Option Who) (path bytes : List ℕ) (e f : Envelope) → IsNoPlugin reader
+pub any_envelope : (reader : Option Who) (path bytes : List ℕ) (e f : Envelope) → IsNoPlugin reader
     → reader_reading e reader path bytes ≡ reader_reading f reader path bytes
 any_envelope None path bytes e f n = refl
 any_envelope (Some Identity) path bytes e f n = refl

@@ -113,7 +113,7 @@ no_plugin (Aescbc name secret) n = refl
 no_plugin (Aesgcm name secret) n = refl
 no_plugin (Kms name) n = absurd (n name refl)
 
-not_rotated : (envelope : Envelope) (seeds : List SeedRow) (who : Who) → is_kms who ≡ false
+pub not_rotated : (envelope : Envelope) (seeds : List SeedRow) (who : Who) → is_kms who ≡ false
     → is_rotated envelope seeds who ≡ false
 not_rotated envelope seeds Identity e = refl
 not_rotated envelope seeds (Aescbc name secret) e = refl
