@@ -11,13 +11,14 @@ use Rattle.kr_top.proofs.work.make_by.Goals as goal
 pub adopt-requires : goal.adopt-requires
 adopt-requires g c = record {
   links = no_links (names_of g.L.Kms.link c.in-Ok-new-2.bench.links) c.in-Ok-new.published.rows
-      (ap (λ p. names_plugin p.rows) (c.in-Ok-new.ensures.ok ∙ c.publish_bare-published.ensures.published)
+      (ap (λ p. names_plugin p.rows)
+      (c.in-Ok-new.ensures.ok ∙ c.publish_bare-published.ensures.published)
       ∙ ap (λ (s : Settings). names_plugin (rows_of s.entries.0)) c.in-Ok.ensures.ok
       ∙ c.requires.no_plugin);
 }
 
-pub unreachable-requires-in_default : goal.unreachable-requires-in_default
-unreachable-requires-in_default g c =
+pub unreachable-requires : goal.unreachable-requires
+unreachable-requires g c =
     room (rows_of c.in-Ok.settings.entries.0) c.publish_bare-published.result
     c.in-Ok-new.published c.in-Ok-new-2.bench.pages
     c.in-Ok.settings.kept (ap (λ p. Ok p) c.publish_bare-published.ensures.published)
