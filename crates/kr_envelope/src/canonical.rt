@@ -79,8 +79,8 @@ fn push_pair(out: &mut Vec<u8>, key: &[u8], value: &[u8]) -> Result<(), AllocErr
     Ok(())
 }
 
-/// Writes what stands in front of an object's data, of which there are so many bytes: the key of their
-/// field and their size.
+/// Writes what stands in front of an object's data, of which there are so many bytes: the key of
+/// their field and their size.
 pub fn push_data_size(out: &mut Vec<u8>, size: usize) -> Result<(), AllocError>
     ensures { OnOk result (out.new.items ≡ out.old.items ++ 10 ∷ shortest size) }
 {

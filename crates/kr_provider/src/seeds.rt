@@ -37,8 +37,8 @@ pub(crate) fn is_seed_of(row: &SeedRow, name: &str, object: &EncryptedObject) ->
             && (row.annotations == object.annotations && row.source == object.source))
 }
 
-/// Whether a value of the plugin is stale: another provider is the list's first, or the object isn't
-/// as the published seed would have it.
+/// Whether a value of the plugin is stale: another provider is the list's first, or the object is
+/// another than the published seed would make.
 pub(crate) fn is_stale(first: bool, row: &SeedRow, object: &EncryptedObject) -> bool
     ensures { result ≡ not (first && is_current (Some row.now) (Ok object.now)) }
 {
