@@ -1,12 +1,11 @@
 -- How long sealed values are, and that the object of a plugin's value may be written.
-use Rattle.std.proofs.Common.{◌≡◌, ℕ, suc, ◌+◌, ◌<◌, ◌≤◌, Bool, true, false, List, [], ◌∷◌, ◌++◌, length, take, drop, Some, None, Ok, Err, Option, Result, refl, sym, ◌∙◌, ap, subst, arith, rules, length-drop}
+use Rattle.std.proofs.Common.{◌≡◌, ℕ, suc, ◌+◌, ◌-◌, ◌%◌, ◌^◌, ◌<◌, ◌≤◌, Bool, true, false, List, [], ◌∷◌, ◌++◌, length, take, drop, Some, None, Ok, Err, Option, Result, refl, sym, ◌∙◌, ap, subst, arith, rules, length-drop}
 use Rattle.std.specs.Prelude.{All, Contains, IfOk, cond, find, if◌then◌else◌, nat_lt}
 use Rattle.std.specs.List.{list_all}
 use Rattle.std.specs.Option.{option_map, option_map_or}
 use Rattle.std.specs.Str.{bytes_eq}
 use Rattle.std.proofs.lemmas.Bool.Decides.{nat_tests}
 use Rattle.std.proofs.lemmas.List.{length-append, length-take-le}
-use Rattle.std.proofs.lemmas.List.Elements.{All-nil}
 use Rattle.kr_aes.specs.KeyExpansion.{padded_schedule}
 use Rattle.kr_aes.proofs.Blocks.{length-cipher}
 use Rattle.kr_base.specs.Rules.{IsName}
@@ -28,7 +27,7 @@ use Rattle.kr_kms.specs.declared.seeds.SeedRow.{SeedRow}
 use Rattle.kr_provider.specs.Ciphers.{cipher_under, rounds_under}
 use Rattle.kr_provider.specs.Envelopes.{gcm_body, object_of, seed_body, value_key}
 use Rattle.kr_provider.specs.Laws.{SealingIsSized}
-use Rattle.kr_provider.specs.Publication.{Publication, list_at, seed_of, writer_at}
+use Rattle.kr_provider.specs.Publication.{Publication, IsPublished, list_at, seed_of, writer_at}
 use Rattle.kr_provider.specs.Readers.{writer_of}
 use Rattle.kr_provider.specs.Sealing.{IsBytes, IsSealing, Seals, draw_size, sealed_by, value_by, value_size}
 use Rattle.kr_provider.specs.declared.refusal.SealNo.{SealNo}
@@ -234,13 +233,14 @@ sealing_is_sized = record {
 -- ---- answers of a call that seals
 
 module _ {D : Type 0} (left : D → Option (List ℕ)) (count : D → ℕ) where
-  pub few_of : (who : Who) (path plain : List ℕ) (old new : D) (result : Result (List ℕ) SealNo)
-      → is_provider who ≡ true → Seals left count [] who path plain old new result
+  pub few_of : (seeds : List SeedRow) (who : Who) (path plain : List ℕ) (old new : D)
+      (result : Result (List ℕ) SealNo) → All IsSeedRow seeds → is_provider who ≡ true
+      → Seals left count seeds who path plain old new result
       → IfOk result (λ value. length value ≤ 2162688)
-  few_of who path plain old new (Ok value) p s =
-      few_by [] who path plain s.0 value (All-nil IsSeedRow) p s.1
-      (data_fits [] who path plain s.0 value s.2) (value_is [] who path plain s.0 value s.2)
-  few_of who path plain old new (Err why) p s = tt
+  few_of seeds who path plain old new (Ok value) a p s =
+      few_by seeds who path plain s.0 value a p s.1
+      (data_fits seeds who path plain s.0 value s.2) (value_is seeds who path plain s.0 value s.2)
+  few_of seeds who path plain old new (Err why) a p s = tt
 
   pub sealing_of : (p : Publication) (resource path plain : List ℕ) (old new : D)
       (result : Result (List ℕ) SealNo) → All (λ byte. byte < 256) plain
