@@ -119,9 +119,7 @@ fn only(alloc: Global, operands: &[&str]) -> Result<Operand, LineError>
     if operands.len() != 1 {
         return Err(LineError::Form);
     }
-    let [word] = operands else {
-        unreachable!()
-    };
+    let [word] = operands else { unreachable!() };
     operand(alloc, word)
 }
 
