@@ -79,14 +79,7 @@ fn framed(alloc: Global, name: &Text, row: &SeedRow, size: usize) -> Option<(Vec
 }
 
 /// Writes the sealed bytes from `start` on; what stands behind them stays.
-fn fill(
-    seed: &[u8],
-    drawn: &[u8; 44],
-    path: &str,
-    plain: &[u8],
-    value: &mut [u8],
-    start: usize,
-)
+fn fill(seed: &[u8], drawn: &[u8; 44], path: &str, plain: &[u8], value: &mut [u8], start: usize)
     requires fits { length plain.now ≤ data_limit }
     requires path { length path.now ≤ path_limit }
     requires size { start + (32 + 12 + length plain.now + 16) ≤ length value.old }
