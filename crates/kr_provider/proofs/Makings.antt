@@ -1,29 +1,27 @@
 -- Seeds that are made one after another, in the order of their plugins' names.
-use Rattle.std.proofs.Common.{◌≡◌, ◌≢◌, ℕ, zero, suc, ◌+◌, ◌≤◌, Bool, true, false, List, [], ◌∷◌, ◌++◌, length, map, refl, sym, ◌∙◌, ap, subst, arith, Contains, inl, inr, append-nil, append_assoc}
-use Rattle.std.specs.Prelude.{All, ◌⊎◌, ◌↔◌, not, Option, Some, None, Result, Ok, Err}
-use Rattle.std.specs.Io.KnownBytes.{Consumes, Keeps}
-use Rattle.std.specs.List.{flat_map}
+use Rattle.std.proofs.Common.{◌≡◌, ℕ, zero, suc, ◌≤◌, Bool, true, false, List, [], ◌∷◌, ◌++◌, length, map, refl, sym, ◌∙◌, ap, subst, arith, Contains, inl, inr, append-nil, append_assoc}
+use Rattle.std.specs.Prelude.{◌⊎◌, not, Option, Some, None, Result, Ok, Err}
+use Rattle.std.specs.Io.KnownBytes.{Consumes}
 use Rattle.std.specs.List.Sorted.{IsStrictlySortedBy}
 use Rattle.std.proofs.KnownBytes.{Consumes-kept, Consumes-nil, Consumes-trans}
 use Rattle.std.proofs.lemmas.List.{map-append}
 use Rattle.std.proofs.lemmas.List.Elements.{All-contains, All-nil, All-push, Contains-append_cases, Contains-append_left, Contains-append_right}
-use Rattle.kr_base.specs.Faults.{Rose}
 use Rattle.kr_config.specs.Kept.{Row, plugins_in}
 use Rattle.kr_config.specs.Nexts.{IsNextName, name_cmp}
-use Rattle.kr_kms.specs.Calls.{Link, IsSameLink}
+use Rattle.kr_kms.specs.Calls.{Link}
 use Rattle.kr_kms.specs.Health.{HasBreach}
 use Rattle.kr_kms.specs.Seeds.{IsSeedRow, MakesSeed}
 use Rattle.kr_kms.specs.Truth.{Truth, TellsOf, key_of}
 use Rattle.kr_kms.specs.declared.health.SeedNo.{SeedNo}
 use Rattle.kr_kms.specs.declared.health.SeedNo.TheVariants as seed
 use Rattle.kr_kms.specs.declared.seeds.SeedRow.{SeedRow}
-use Rattle.kr_provider.specs.AskedLinks.{AskedOnly, AsksOne, HasLinkWith}
+use Rattle.kr_provider.specs.AskedLinks.{AskedOnly, HasLinkWith}
 use Rattle.kr_provider.specs.Publishing.{AreSeedsOf, EndsAt, IsHealthy, Publishes, bytes_of_seeds, refusal_at}
 use Rattle.kr_provider.specs.declared.refusal.PublishNo.{PublishNo}
 use Rattle.kr_provider.specs.declared.refusal.PublishNo.TheVariants.{PluginFailed, DiceFailed, Unhealthy, NoMemory}
 use Rattle.kr_provider.specs.inner.Making.{MakesAt, MakesOne}
 use Rattle.kr_provider.proofs.AskedLists.{asked_none, asked_one, asked_then, breach_back, had, has_at, rose_at, rose_from, rose_later}
-use Rattle.kr_provider.proofs.NameOrder.{IsStrictlySortedBy-none, ascend_more, before_next, is_before, is_less, neither, none_between, not_itself, then_before, to_false, to_true}
+use Rattle.kr_provider.proofs.NameOrder.{IsStrictlySortedBy-none, ascend_more, before_next, is_before, is_less, neither, none_between, not_itself, then_before, to_false}
 
 -- whether a name doesn't come after another
 abbrev pub is_passed : List ℕ → List ℕ → Bool

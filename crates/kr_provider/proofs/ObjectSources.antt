@@ -1,10 +1,9 @@
 -- The source of an object: the published seed, or what the plugin unwraps.
-use Rattle.std.proofs.Common.{◌≡◌, ◌≢◌, ℕ, zero, suc, ◌+◌, ◌≤◌, Bool, true, false, List, [], ◌∷◌, ◌++◌, Option, Some, None, Result, Ok, Err, length, refl, sym, ◌∙◌, ap, subst, arith, inl, inr, length-append}
-use Rattle.std.specs.Prelude.{◌⊎◌}
+use Rattle.std.proofs.Common.{◌≡◌, ℕ, ◌+◌, ◌≤◌, Bool, false, List, [], ◌∷◌, Result, Ok, Err, length, refl, ◌∙◌, ap, subst, arith, inl, inr, length-append}
 use Rattle.std.specs.List.{filter_map}
 use Rattle.kr_envelope.specs.declared.object.EncryptedObject.{EncryptedObject}
-use Rattle.kr_envelope.specs.Limits.{Reads, raw_in}
-use Rattle.kr_envelope.specs.Messages.{Item, IsItem, encrypted, key_id, source, annotation, kind, other, encrypted_in, last_or, of_bytes, raw_of}
+use Rattle.kr_envelope.specs.Limits.{Reads}
+use Rattle.kr_envelope.specs.Messages.{Item, IsItem, encrypted, key_id, source, annotation, kind, other, encrypted_in, last_or, of_bytes}
 use Rattle.kr_envelope.specs.Wire.{IsField, Spells}
 use Rattle.kr_kms.specs.Cache.{AreOpen, CacheState, Fetches, key_eq}
 use Rattle.kr_kms.specs.Calls.{Link, asked_key}

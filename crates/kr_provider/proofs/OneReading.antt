@@ -1,6 +1,6 @@
 -- A value's reading: it is one, and where no plugin reads it, no truth of plugins matters.
 use Rattle.std.proofs.Common.{◌≡◌, ◌≢◌, ℕ, inl, inr, Bool, true, false, List, [], ◌∷◌, Some, None, Err, Option, Result, refl, sym, ◌∙◌, ap}
-use Rattle.std.specs.Prelude.{◌⊎◌, ⊤, cond, find}
+use Rattle.std.specs.Prelude.{⊤, cond, find}
 use Rattle.std.specs.List.{list_any}
 use Rattle.kr_envelope.specs.declared.object.EncryptedObject.{EncryptedObject}
 use Rattle.kr_envelope.specs.declared.object.ObjectNo.{ObjectNo}

@@ -1,12 +1,12 @@
 -- The names of the plugins in settings that keep their rules, and the seeds that were made for
 -- them.
-use Rattle.std.proofs.Common.{◌≡◌, ℕ, zero, suc, ◌+◌, ◌≤◌, ◌<◌, Bool, true, false, List, [], ◌∷◌, ◌++◌, length, map, refl, sym, ◌∙◌, ap, subst, arith, Contains, inl, inr, IsTrue}
-use Rattle.std.specs.Prelude.{◌⊎◌, ◌&&◌, cond, find, get_or, if◌then◌else◌, IsSome, Option, None, Some}
+use Rattle.std.proofs.Common.{◌≡◌, ℕ, zero, suc, ◌<◌, Bool, true, false, List, [], ◌∷◌, ◌++◌, length, map, refl, sym, subst, arith, Contains, inl, inr, IsTrue}
+use Rattle.std.specs.Prelude.{cond, get_or, if◌then◌else◌, IsSome, Option, None, Some}
 use Rattle.std.specs.List.{list_all, list_any}
 use Rattle.std.specs.Str.{bytes_eq}
 use Rattle.std.proofs.lemmas.Slice.Eq.{bytes_eq-Decides}
 use Rattle.std.proofs.lemmas.List.Elements.{Contains-append_cases, Contains-append_left, Contains-append_right}
-use Rattle.kr_base.specs.Rules.{IsName, is_name}
+use Rattle.kr_base.specs.Rules.{IsName}
 use Rattle.kr_config.specs.declared.pattern.Pattern.{Pattern}
 use Rattle.kr_config.specs.declared.who.Who.{Who}
 use Rattle.kr_config.specs.declared.who.Who.TheVariants.{Identity, Aescbc, Aesgcm, Kms}

@@ -1,5 +1,5 @@
 -- How long sealed values are, and that the object of a plugin's value may be written.
-use Rattle.std.proofs.Common.{◌≡◌, ℕ, suc, ◌+◌, ◌-◌, ◌%◌, ◌^◌, ◌<◌, ◌≤◌, Bool, true, false, List, [], ◌∷◌, ◌++◌, length, take, drop, Some, None, Ok, Err, Option, Result, refl, sym, ◌∙◌, ap, subst, arith, rules, length-drop}
+use Rattle.std.proofs.Common.{◌≡◌, ℕ, suc, ◌+◌, ◌<◌, ◌≤◌, Bool, true, false, List, [], ◌∷◌, ◌++◌, length, take, drop, Some, None, Ok, Err, Option, Result, refl, sym, ◌∙◌, ap, subst, arith, rules, length-drop}
 use Rattle.std.specs.Prelude.{All, Contains, IfOk, cond, find, if◌then◌else◌, nat_lt}
 use Rattle.std.specs.List.{list_all}
 use Rattle.std.specs.Option.{option_map, option_map_or}
@@ -27,7 +27,7 @@ use Rattle.kr_kms.specs.declared.seeds.SeedRow.{SeedRow}
 use Rattle.kr_provider.specs.Ciphers.{cipher_under, rounds_under}
 use Rattle.kr_provider.specs.Envelopes.{gcm_body, object_of, seed_body, value_key}
 use Rattle.kr_provider.specs.Laws.{SealingIsSized}
-use Rattle.kr_provider.specs.Publication.{Publication, IsPublished, list_at, seed_of, writer_at}
+use Rattle.kr_provider.specs.Publication.{Publication, list_at, seed_of, writer_at}
 use Rattle.kr_provider.specs.Readers.{writer_of}
 use Rattle.kr_provider.specs.Sealing.{IsBytes, IsSealing, Seals, draw_size, sealed_by, value_by, value_size}
 use Rattle.kr_provider.specs.declared.refusal.SealNo.{SealNo}

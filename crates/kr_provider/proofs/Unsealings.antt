@@ -1,6 +1,6 @@
 -- How an answer stands to the value's reading, by the provider that reads the value.
-use Rattle.std.proofs.Common.{◌≡◌, ◌≢◌, ℕ, Bool, true, false, List, [], ◌∷◌, Option, Some, None, Result, Ok, Err, refl, sym, ◌∙◌, ap, subst, inl, inr, Contains}
-use Rattle.std.specs.Prelude.{◌⊎◌, ⊤, ◌&&◌, All, not}
+use Rattle.std.proofs.Common.{◌≡◌, ◌≢◌, ℕ, Bool, false, List, [], ◌∷◌, Option, Some, None, Result, Ok, Err, refl, sym, ◌∙◌, ap, subst, inl, inr, Contains}
+use Rattle.std.specs.Prelude.{◌&&◌, not}
 use Rattle.std.specs.Str.{bytes_eq}
 use Rattle.kr_config.specs.declared.who.Who.{Who}
 use Rattle.kr_config.specs.declared.who.Who.TheVariants.{Identity, Aescbc, Aesgcm, Kms}
@@ -10,18 +10,17 @@ use Rattle.kr_envelope.specs.declared.object.ObjectNo.{ObjectNo}
 use Rattle.kr_envelope.specs.declared.object.ObjectNo.TheVariants as object
 use Rattle.kr_envelope.specs.Limits.{Reads}
 use Rattle.kr_kms.specs.Calls.{Link}
-use Rattle.kr_kms.specs.Truth.{Truth, OpenAll, TellsOf, key_of}
+use Rattle.kr_kms.specs.Truth.{Truth, key_of}
 use Rattle.kr_kms.specs.declared.seeds.SeedRow.{SeedRow}
 use Rattle.kr_provider.specs.AskedLinks.{AskedOnly}
 use Rattle.kr_provider.specs.Envelopes.{Envelope, HasEnvelope, HasObject, IsObjectOf, unknown}
 use Rattle.kr_provider.specs.Publication.{seed_of}
-use Rattle.kr_provider.specs.Readers.{body_by, reader_in}
-use Rattle.kr_provider.specs.Reading.{Gives, Unseals, data_of, is_current, is_stale, provider_reading, reader_reading, refused}
+use Rattle.kr_provider.specs.Readers.{reader_in}
+use Rattle.kr_provider.specs.Reading.{Gives, Unseals, is_current, provider_reading, reader_reading}
 use Rattle.kr_provider.specs.Unsealing.{IsReading, IsSeedOf, MayAsk, MayAskFor, TakesSeed, UnsealsBy, plugin_reading}
 use Rattle.kr_provider.specs.declared.refusal.Opened.{Opened}
 use Rattle.kr_provider.specs.declared.refusal.UnsealNo.{UnsealNo}
 use Rattle.kr_provider.specs.declared.refusal.UnsealNo.TheVariants.{Refused, PluginFailed, NoMemory}
-use Rattle.kr_provider.specs.declared.refusal.ValueNo.{ValueNo}
 use Rattle.kr_provider.specs.declared.refusal.ValueNo.TheVariants as value
 use Rattle.kr_provider.specs.inner.Sources.{IsObjectIn, IsReadBy, ReadsObject, UnsealsObject}
 use Rattle.kr_provider.proofs.AskedLists.{asked_none}

@@ -1,10 +1,10 @@
 -- Where settings name no plugin, no link is asked, and a value is read by any envelope.
-use Rattle.std.proofs.Common.{◌≡◌, ℕ, Bool, true, false, List, [], ◌∷◌, length, Option, Some, None, Result, Ok, Err, refl, sym, ◌∙◌, ap, subst, arith}
+use Rattle.std.proofs.Common.{◌≡◌, ℕ, false, List, [], ◌∷◌, Option, Some, None, Result, Ok, Err, refl, sym, ◌∙◌, ap, subst, arith}
 use Rattle.std.specs.Prelude.{◌||◌, not}
 use Rattle.std.specs.List.{list_any}
 use Rattle.kr_config.specs.declared.who.Who.{Who}
 use Rattle.kr_config.specs.declared.who.Who.TheVariants.{Identity, Aescbc, Aesgcm, Kms}
-use Rattle.kr_config.specs.Kept.{Row, plugins_in}
+use Rattle.kr_config.specs.Kept.{Row}
 use Rattle.kr_config.specs.Lists.{list_of}
 use Rattle.kr_config.specs.Providers.{is_kms}
 use Rattle.kr_kms.specs.Calls.{Link}
@@ -14,7 +14,7 @@ use Rattle.kr_provider.specs.AskedLinks.{AskedOnly}
 use Rattle.kr_provider.specs.Envelopes.{Envelope}
 use Rattle.kr_provider.specs.Publication.{names_plugin}
 use Rattle.kr_provider.specs.Readers.{is_reader, reader_in, writer_of}
-use Rattle.kr_provider.specs.Reading.{Unseals, is_rotated, is_stale}
+use Rattle.kr_provider.specs.Reading.{Unseals, is_stale}
 use Rattle.kr_provider.specs.Unsealing.{UnsealsBy, plugin_reading}
 use Rattle.kr_provider.specs.declared.refusal.Opened.{Opened}
 use Rattle.kr_provider.specs.declared.refusal.UnsealNo.{UnsealNo}

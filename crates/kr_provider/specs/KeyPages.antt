@@ -1,6 +1,6 @@
 -- The pages of a bench: one for each key of the configuration that it adopted, with that key's
 -- expansion (FIPS 197).
-use Rattle.std.specs.Prelude.{◌≡◌, ℕ, ◌<◌, Bool, not, false, List, [], ◌∷◌, All, length, map, nat_eq, replicate, Option, Some, None}
+use Rattle.std.specs.Prelude.{◌≡◌, ℕ, ◌<◌, not, false, List, [], ◌∷◌, All, length, map, nat_eq, replicate, Option, Some, None}
 use Rattle.std.specs.List.{IsDistinct, flat_map, list_any, range_with_len}
 use Rattle.kr_aes.specs.KeyExpansion.{padded_schedule}
 use Rattle.kr_config.specs.declared.who.Who.{Who}

@@ -1,5 +1,5 @@
 -- `keep_all`: there is a page for each key that is still to come.
-use Rattle.std.proofs.Common.{◌∙◌, ◌++◌, ◌+◌, ◌≤◌, List, ℕ, ap, append-nil, arith, drop, length, map, sym}
+use Rattle.std.proofs.Common.{◌∙◌, ◌++◌, ◌+◌, ◌≤◌, ap, append-nil, arith, drop, length, map, sym}
 use Rattle.std.specs.List.{list_all}
 use Rattle.std.proofs.lemmas.List.{length-map}
 use Rattle.kr_aes.specs.KeyExpansion.{padded_schedule}

@@ -1,8 +1,5 @@
 -- `place_of`: the first entry with the secret has its first place.
-use Rattle.std.proofs.Common.{◌∙◌, ap, arith, sym}
-use Rattle.kr_config.specs.Kept.{rows_of}
-use Rattle.kr_provider.specs.KeyPages.{secrets_among}
-use Rattle.kr_provider.specs.inner.Scan.{place_from}
+use Rattle.std.proofs.Common.{◌∙◌, arith, sym}
 use Rattle.kr_provider.proofs.Keys.{none_of, scan_counts, scan_on, scan_room, scan_some, secrets_count}
 use Rattle.kr_provider.proofs.adopted.place_of.Goals as goal
 

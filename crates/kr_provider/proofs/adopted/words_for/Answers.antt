@@ -1,7 +1,5 @@
 -- `words_for`: a key of the entries has its page.
-use Rattle.std.proofs.Common.{◌≡◌, ◌∙◌, List, ℕ, sym, true}
-use Rattle.std.specs.List.{list_any}
-use Rattle.std.specs.Str.{bytes_eq}
+use Rattle.std.proofs.Common.{◌∙◌, sym}
 use Rattle.kr_config.specs.Kept.{rows_of}
 use Rattle.kr_provider.specs.KeyPages.{secrets_in}
 use Rattle.kr_provider.proofs.Keys.{its_secret, its_words, place_holds, place_some}

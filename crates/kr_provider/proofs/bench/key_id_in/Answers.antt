@@ -1,5 +1,5 @@
 -- `key_id_in`: the plugin of the name alone is asked, and a refusal is its own.
-use Rattle.std.proofs.Common.{◌≡◌, ℕ, List, [], ◌∷◌, Result, Ok, Err, refl, sym, subst, inl, inr}
+use Rattle.std.proofs.Common.{◌≡◌, ℕ, List, Err, refl, sym, subst, inl, inr}
 use Rattle.std.specs.Prelude.{◌⊎◌}
 use Rattle.kr_kms.specs.Calls.{Link}
 use Rattle.kr_kms.specs.Health.{TellsKeyId}

@@ -1,7 +1,6 @@
 -- `make_seeds`: each turn makes the seed of the next name.
-use Rattle.std.proofs.Common.{◌≡◌, ◌++◌, ◌∷◌, [], ℕ, List, Ok, Err, arith, refl, sym, subst, ap, length}
+use Rattle.std.proofs.Common.{◌++◌, ◌∷◌, [], ℕ, List, arith, refl, sym, subst, ap, length}
 use Rattle.kr_config.specs.Kept.{plugins_in, rows_of}
-use Rattle.kr_kms.specs.declared.seeds.SeedRow.{SeedRow}
 use Rattle.kr_provider.specs.Publishing.{bytes_of_seeds}
 use Rattle.kr_provider.proofs.AskedLists.{links_stay}
 use Rattle.kr_provider.proofs.Lists.{no_names}

@@ -4,9 +4,9 @@ use borrow.Rule.Slice.PartMut.{put_mid}
 use Rattle.kr_config.specs.declared.who.Who.TheVariants.{Identity, Kms}
 use Rattle.kr_envelope.specs.declared.object.SourceKind.TheVariants.{Seed}
 use Rattle.kr_envelope.specs.declared.prefix.Kind.TheVariants as kind
-use Rattle.kr_envelope.specs.Canonical.{canonical, fields_behind, shortest}
+use Rattle.kr_envelope.specs.Canonical.{fields_behind, shortest}
 use Rattle.kr_envelope.specs.Prefixes.{prefix}
-use Rattle.kr_provider.specs.Envelopes.{object_of, seed_body}
+use Rattle.kr_provider.specs.Envelopes.{seed_body}
 use Rattle.kr_provider.proofs.SeedValues.{filled_between, sealed_by_row, value_between}
 use Rattle.kr_provider.proofs.seed_sealing.by_seed.Goals as goal
 

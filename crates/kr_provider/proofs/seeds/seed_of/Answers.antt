@@ -1,5 +1,5 @@
 -- `seed_of`: the seed at the place is found.
-use Rattle.std.proofs.Common.{sym, ◌∙◌}
+use Rattle.std.proofs.Common.{sym}
 use Rattle.std.specs.Str.{bytes_eq}
 use Rattle.kr_kms.specs.declared.seeds.SeedRow.{SeedRow}
 use Rattle.kr_provider.proofs.Places.{found_at, no_place}

@@ -1,5 +1,4 @@
 -- `read_object`: an object's data are within its bytes.
-use Rattle.std.proofs.Common.{subst, sym}
 use Rattle.kr_provider.proofs.ObjectSources.{data_within}
 use Rattle.kr_provider.proofs.sources.read_object.Goals as goal
 

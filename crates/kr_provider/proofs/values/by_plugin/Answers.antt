@@ -1,5 +1,5 @@
 -- `by_plugin`: the answer is that of the value that the plugin reads.
-use Rattle.std.proofs.Common.{ap, sym, subst, Ok}
+use Rattle.std.proofs.Common.{sym, subst, Ok}
 use Rattle.kr_provider.specs.Unsealing.{UnsealsBy}
 use Rattle.kr_provider.proofs.Unsealings.{object_fails, object_opens, object_refuses}
 use Rattle.kr_provider.proofs.values.by_plugin.Goals as goal

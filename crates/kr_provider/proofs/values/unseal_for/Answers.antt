@@ -1,5 +1,5 @@
 -- `unseal_for`: the links serve the list.
-use Rattle.std.proofs.Common.{sym, subst, ◌≡◌, Option, Some}
+use Rattle.std.proofs.Common.{subst}
 use Rattle.kr_provider.specs.Names.{HasAdoptedLinks, names_of}
 use Rattle.kr_config.specs.Kept.{plugins_in}
 use Rattle.kr_provider.proofs.PluginNames.{all_named_by}

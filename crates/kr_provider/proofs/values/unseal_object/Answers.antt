@@ -1,5 +1,5 @@
 -- `unseal_object`: the source is the published seed, or what the plugin unwraps.
-use Rattle.std.proofs.Common.{◌≡◌, ◌∙◌, sym, subst}
+use Rattle.std.proofs.Common.{◌∙◌, sym, subst}
 use Rattle.kr_kms.specs.Truth.{key_of}
 use Rattle.kr_kms.proofs.Keys.{same_key}
 use Rattle.kr_provider.specs.Envelopes.{seed_key}

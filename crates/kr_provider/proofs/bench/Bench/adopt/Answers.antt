@@ -1,7 +1,7 @@
 -- `Bench::adopt`: the links serve the configuration that is adopted then.
 use Rattle.std.proofs.Common.{List, ℕ, ◌≡◌, Some, Ok, Err, Result, ap, sym, subst}
 use Rattle.std.specs.Prelude.{OnErr, OnOk}
-use Rattle.kr_provider.specs.BenchState.{Adoption, BenchState}
+use Rattle.kr_provider.specs.BenchState.{Adoption}
 use Rattle.kr_provider.specs.Names.{HasAdoptedLinks, HasLinks, names_of}
 use Rattle.kr_provider.specs.Publication.{Publication}
 use Rattle.kr_provider.proofs.bench.Bench.adopt.Goals as goal

@@ -1,7 +1,6 @@
 -- `KeyPages::keep`: a page is free, and the words go into it alone.
-use Rattle.std.proofs.Common.{◌∙◌, ℕ, List, ap, arith, length, ◌++◌, ◌∷◌, []}
+use Rattle.std.proofs.Common.{ℕ, List, ap, arith, length}
 use Rattle.std.proofs.lemmas.List.{length-set, length_push}
-use Rattle.kr_provider.specs.KeyPages.{words_out}
 use Rattle.kr_provider.proofs.Stacks.{IsStack-with_page, words_out-with_page}
 use Rattle.kr_provider.proofs.key_pages.KeyPages.keep.Goals as goal
 

@@ -1,5 +1,5 @@
 -- `KeyPages::new`: a new pool is a stack of which nothing is out.
-use Rattle.std.proofs.Common.{ap, ◌∙◌, arith, length, List, ℕ, []}
+use Rattle.std.proofs.Common.{ap, ◌∙◌, arith, length, List, ℕ}
 use Rattle.std.proofs.lemmas.List.{length-replicate}
 use Rattle.kr_pages.specs.Pool.{zero_page}
 use Rattle.kr_provider.proofs.Stacks.{IsStack-unused}

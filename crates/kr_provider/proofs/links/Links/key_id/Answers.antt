@@ -1,14 +1,12 @@
 -- `Links::key_id`: the link at the place of the name is asked, and the others stay.
-use Rattle.std.proofs.Common.{◌≡◌, ◌∙◌, Bool, List, [], ◌∷◌, Contains, ap, refl, sym, subst}
+use Rattle.std.proofs.Common.{◌∙◌, Bool, [], ◌∷◌, Contains, ap, refl, sym, subst}
 use Rattle.std.specs.Prelude.{position, slice_set}
 use Rattle.std.specs.Str.{bytes_eq}
-use Rattle.kr_kms.specs.Calls.{IsSameLink, asked_key}
-use Rattle.kr_kms.specs.Cache.{Fetches}
+use Rattle.kr_kms.specs.Calls.{IsSameLink}
 use Rattle.kr_kms.specs.Health.{TellsKeyId}
-use Rattle.kr_kms.specs.Seeds.{MakesSeed}
 use Rattle.kr_provider.specs.AskedLinks.{AsksOne}
 use Rattle.kr_provider.specs.Names.{names_of}
-use Rattle.kr_provider.proofs.AskedLists.{asked_alone, asks_at, distinct_stay, place_named, place_there}
+use Rattle.kr_provider.proofs.AskedLists.{asked_alone, asks_at, distinct_stay, place_there}
 use Rattle.kr_provider.proofs.Places.{no_place}
 use Rattle.kr_provider.proofs.links.Links.key_id.Goals as goal
 

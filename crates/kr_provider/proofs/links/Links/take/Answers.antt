@@ -1,5 +1,5 @@
 -- `Links::take`: names stay distinct without the last.
-use Rattle.std.proofs.Common.{sym, subst, ◌∙◌, Some, None, Option, List, [], ◌≡◌, ◌∷◌, ◌++◌, append-nil}
+use Rattle.std.proofs.Common.{subst, ◌∙◌, Some, None, Option, List, ◌≡◌, ◌++◌, append-nil}
 use Rattle.std.specs.Option.{option_to_list}
 use Rattle.kr_kms.specs.Calls.{Link}
 use Rattle.kr_provider.specs.Names.{AreDistinct}
