@@ -1,5 +1,4 @@
 -- `publish_bare`: settings without plugins need no link.
-use Rattle.std.proofs.Common.{Ok, Err, sym, ◌∙◌}
 use Rattle.kr_config.specs.Kept.{rows_of}
 use Rattle.kr_provider.specs.Names.{names_of}
 use Rattle.kr_provider.proofs.Lists.{no_links}
