@@ -2,7 +2,7 @@
 use Rattle.std.specs.Prelude.{◌≡◌, ℕ, zero, suc, ◌+◌, ◌*◌, ◌/◌, ◌%◌, ◌^◌, ◌<◌, ◌≤◌, ◌⊎◌, nat_lt, if◌then◌else◌, List, [], ◌∷◌, ◌++◌, length, None, Result, Ok, Err}
 use Rattle.std.specs.List.{flat_map, All}
 use Rattle.std.specs.Str.{IsUtf8}
-use Rattle.kr_base.specs.Pairs.{IsSortedByKey}
+use Rattle.kr_base.specs.Pairs.{Pairs, IsSortedByKey}
 use Rattle.kr_envelope.specs.declared.object.SourceKind.{SourceKind}
 use Rattle.kr_envelope.specs.declared.object.SourceKind.TheVariants.{Key, Seed}
 use Rattle.kr_envelope.specs.declared.object.ObjectNo.{ObjectNo}
@@ -43,13 +43,15 @@ abbrev pub kind_field : SourceKind → List ℕ
 kind_field Key = []
 kind_field Seed = (5 * 8) ∷ 1 ∷ []
 
--- fields 1 to 5 in their order, annotations in the order of their keys
+-- fields 2 to 5 in their order, annotations in the order of their keys
+abbrev pub fields_behind : (key_id source : List ℕ) → Pairs → SourceKind → List ℕ
+fields_behind key_id source annotations kind = content_field 2 key_id
+    ++ (content_field 3 source ++ (flat_map pair_field annotations ++ kind_field kind))
+
+-- field 1 and those behind it
 abbrev pub canonical : EncryptedObject → List ℕ
-canonical object =
-    content_field 1 object.encrypted
-    ++ (content_field 2 object.key_id
-    ++ (content_field 3 object.source
-    ++ (flat_map pair_field object.annotations ++ kind_field object.kind)))
+canonical object = content_field 1 object.encrypted
+    ++ fields_behind object.key_id object.source object.annotations object.kind
 
 -- data that aren't empty, and no limit passed
 abbrev pub IsWritable : EncryptedObject → Type 0

@@ -1,12 +1,12 @@
 //! Writing an encrypted object in its one form.
-ghost use Rattle.std.specs.Prelude.{◌≡◌, ◌≤◌, ◌<◌, ◌+◌, ◌^◌, ◌++◌, length, OnOk};
+ghost use Rattle.std.specs.Prelude.{◌≡◌, ◌≤◌, ◌<◌, ◌+◌, ◌^◌, ◌++◌, ◌∷◌, length, OnOk};
 ghost use Rattle.std.specs.List.{flat_map, All};
 ghost use Rattle.std.specs.Str.{IsUtf8};
 ghost use Rattle.kr_base.specs.Limits.{size_of, annotations_size_limit};
-ghost use Rattle.kr_envelope.specs.Canonical.{shortest, content_field, pair_field, kind_field};
+ghost use Rattle.kr_envelope.specs.Canonical.{shortest, content_field, fields_behind, pair_field, kind_field};
 
 use crate::object::SourceKind;
-use kr_base::{Bytes, Text};
+use kr_base::{Annotations, Bytes, Text};
 use std::alloc::AllocError;
 
 /// Writes a number in as few groups as it needs.
@@ -76,6 +76,35 @@ fn push_pair(out: &mut Vec<u8>, key: &[u8], value: &[u8]) -> Result<(), AllocErr
     push_number(out, (content_size(key) + content_size(value)) as u64)?;
     push_content(out, 1, key)?;
     push_content(out, 2, value)?;
+    Ok(())
+}
+
+/// Writes what stands in front of an object's data, of which there are so many bytes: the key of
+/// their field and their size.
+pub fn push_data_size(out: &mut Vec<u8>, size: usize) -> Result<(), AllocError>
+    ensures { OnOk result (out.new.items ≡ out.old.items ++ 10 ∷ shortest size) }
+{
+    out.push(10)?;
+    push_number(out, size as u64)?;
+    Ok(())
+}
+
+/// Writes the fields behind an object's data.
+pub fn push_behind(
+    out: &mut Vec<u8>,
+    key_id: &str,
+    source: &[u8],
+    annotations: &Annotations,
+    kind: SourceKind,
+) -> Result<(), AllocError>
+    requires { size_of annotations.now ≤ annotations_size_limit }
+    ensures { OnOk result (out.new.items
+        ≡ out.old.items ++ fields_behind key_id.now source.now annotations.now kind) }
+{
+    push_content(out, 2, key_id.as_bytes())?;
+    push_content(out, 3, source)?;
+    push_pairs(out, annotations.pairs())?;
+    push_kind(out, kind)?;
     Ok(())
 }
 

@@ -10,6 +10,7 @@ mod partial;
 mod prefix;
 mod wire;
 
+pub use canonical::{push_behind, push_data_size};
 pub use laws::{canonical_length, one_reading, round_trip};
 pub use object::{EncryptedObject, ObjectNo, SourceKind};
 pub use prefix::{Kind, MARK, Tagged, prefix_of, push_prefix, split};

@@ -1,6 +1,6 @@
 -- The secrets of a configuration's keys, in the order of the file.
 use Rattle.std.proofs.Common.{◌≡◌, ℕ, zero, suc, ◌+◌, ◌<◌, ◌≤◌, List, [], ◌∷◌, ◌++◌, Bool, true, false, length, get_or, drop, map, drop-cons, add-one, Option, Some, None, refl, sym, ◌∙◌, ap, subst, arith, append_assoc}
-use Rattle.std.specs.Prelude.{◌||◌, if◌then◌else◌, cond, count_by}
+use Rattle.std.specs.Prelude.{◌||◌, if◌then◌else◌, cond, count_by, IfSome}
 use Rattle.std.specs.List.{list_all, list_any}
 use Rattle.std.specs.Option.{is_some}
 use Rattle.std.specs.Str.{bytes_eq}
@@ -20,6 +20,7 @@ use Rattle.kr_config.specs.Patterns.{matches}
 use Rattle.kr_config.specs.Providers.{is_key, is_provider, is_secret}
 use Rattle.kr_pages.specs.Pool.{words_of}
 use Rattle.kr_provider.specs.KeyPages.{HoldKeys, KeyPages, words_out, secret_of, secrets_among, secrets_in}
+use Rattle.kr_provider.specs.Publication.{Publication}
 use Rattle.kr_provider.specs.Readers.{writer_of}
 use Rattle.kr_provider.specs.inner.Scan.{AreAmong, HasWords, IsAmong, place_from}
 use Rattle.kr_provider.proofs.Booleans.{and_left, and_right, or_left}
@@ -425,6 +426,12 @@ pub among_at : (secrets : List (List ℕ)) (list : List Who) (i : ℕ) (who : Wh
 among_at secrets [] i who a h is = absurd (omega (arith, h))
 among_at secrets (x ∷ xs) zero who a h is = subst (IsAmong secrets) (sym is) a.0
 among_at secrets (x ∷ xs) (suc i) who a h is = among_at secrets xs i who a.1 (omega (arith, h)) is
+
+pub adopted_among : (adopted : Option Publication) (list : List Who) (i : ℕ) (who : Who)
+    → IfSome adopted (λ p. AreAmong (secrets_in p.rows) list) → i < length list
+    → who ≡ get_or list i who → IfSome adopted (λ p. IsAmong (secrets_in p.rows) who)
+adopted_among None list i who a h is = tt
+adopted_among (Some p) list i who a h is = among_at (secrets_in p.rows) list i who a h is
 
 pub writer_among : (secrets : List (List ℕ)) (list : List Who) → AreAmong secrets list
     → IsAmong secrets (writer_of list)

@@ -4,6 +4,7 @@ mod Bodies
 mod Booleans
 mod Filled
 mod LinkNames
+mod Serving
 pub mod Lists
 mod Places
 pub mod Rivals
@@ -14,3 +15,12 @@ pub mod SealedSizes
 pub mod OneReading
 mod Stacks
 mod Keys
+mod AskedLists
+mod Makings
+mod NameOrder
+pub mod PluginNames
+mod Unsealings
+mod ObjectSources
+mod SeedValues
+mod BenchLinks
+pub mod WithoutPlugins

@@ -1,10 +1,8 @@
 -- The list of a resource, by settings that keep their rules and name no plugin.
-use Rattle.std.proofs.Common.{◌≡◌, ℕ, ◌≤◌, Bool, true, false, List, [], ◌∷◌, ◌++◌, length, map, refl, sym, ◌∙◌, ap, subst, arith, IsTrue, lit≤}
+use Rattle.std.proofs.Common.{◌≡◌, ℕ, ◌≤◌, Bool, true, false, List, [], ◌∷◌, ◌++◌, length, map, refl, ◌∙◌, ap, arith, IsTrue, lit≤}
 use Rattle.std.specs.Prelude.{◌&&◌, ◌||◌, if◌then◌else◌, nat_le}
 use Rattle.std.specs.List.{list_all, list_any}
-use Rattle.std.specs.List.Sorted.{IsStrictlySortedBy}
 use Rattle.std.proofs.lemmas.Bool.Decides.{nat_tests}
-use Rattle.std.proofs.lemmas.List.Elements.{All-nil}
 use Rattle.kr_config.specs.declared.pattern.Pattern.{Pattern}
 use Rattle.kr_config.specs.declared.who.Who.{Who}
 use Rattle.kr_config.specs.declared.who.Who.TheVariants.{Identity, Aescbc, Aesgcm, Kms}
@@ -12,9 +10,9 @@ use Rattle.kr_config.specs.Kept.{Row, apart, keeps, keeps_row, keeps_patterns, k
 use Rattle.kr_config.specs.Lists.{first_list, list_of}
 use Rattle.kr_config.specs.Patterns.{matches}
 use Rattle.kr_config.specs.Providers.{is_kms, is_provider, plugins_among, rivals}
-use Rattle.kr_kms.specs.Seeds.{IsSeedRow}
-use Rattle.kr_kms.specs.declared.seeds.SeedRow.{SeedRow}
-use Rattle.kr_provider.specs.Publication.{IsPublished, ListsNoPlugin, names_plugin}
+use Rattle.kr_provider.specs.Names.{HasLinks}
+use Rattle.kr_provider.specs.Publication.{IsProviderList, names_plugin}
+use Rattle.kr_provider.specs.Readers.{writer_of}
 use Rattle.kr_provider.proofs.Booleans.{and_left, and_right, or_left, or_right}
 
 some_of : (n : ℕ) → nat_le 1 n ≡ true → 1 ≤ n
@@ -80,28 +78,16 @@ pub listed : (rows : List Row) (resource : List ℕ) → IsTrue (keeps rows)
 listed rows resource k = first_keeps Listed (λ pattern. matches pattern resource) rows
     (record { some = lit≤ tt; providers = refl; stand = refl }) of_row (rows_keep rows k)
 
-unnamed : (test : Pattern → Bool) (rows : List Row) → names_plugin rows ≡ false
-    → list_any is_kms (first_list test rows) ≡ false
-unnamed test [] e = refl
-unnamed test (row ∷ rows) e = chosen (list_any test row.patterns)
-    (or_left (list_any is_kms row.providers) (names_plugin rows) e)
-    (unnamed test rows (or_right (list_any is_kms row.providers) (names_plugin rows) e))
-  where
-    chosen : (q : Bool) → list_any is_kms row.providers ≡ false
-        → list_any is_kms (first_list test rows) ≡ false
-        → list_any is_kms (if q then row.providers else first_list test rows) ≡ false
-    chosen true a b = a
-    chosen false a b = b
+pub list_rules : (rows : List Row) (resource : List ℕ) → IsTrue (keeps rows)
+    → IsProviderList (list_of rows resource)
+list_rules rows resource k =
+    let rules = listed rows resource k in record { some = rules.some; providers = rules.providers }
 
-pub list_keeps : (rows : List Row) (resource : List ℕ) → IsTrue (keeps rows)
-    → names_plugin rows ≡ false → ListsNoPlugin (list_of rows resource)
-list_keeps rows resource k e = let rules = listed rows resource k in record {
-  some = rules.some;
-  providers = rules.providers;
-  no_plugin = unnamed (λ pattern. matches pattern resource) rows e;
-}
+pub writer_rules : (list : List Who) → IsProviderList list → is_provider (writer_of list) ≡ true
+writer_rules [] l = absurd (omega (arith, l.some))
+writer_rules (who ∷ rest) l = and_left (is_provider who) (list_all is_provider rest) l.providers
 
--- ---- settings without plugins are published with no seed
+-- ---- settings without plugins
 
 no_name : (list : List Who) → list_any is_kms list ≡ false → plugins_among list ≡ []
 no_name [] e = refl
@@ -110,27 +96,17 @@ no_name (Aescbc name secret ∷ list) e = no_name list e
 no_name (Aesgcm name secret ∷ list) e = no_name list e
 no_name (Kms name ∷ list) e = absurd (cc)
 
-no_names : (rows : List Row) → names_plugin rows ≡ false → plugins_in rows ≡ []
+pub no_names : (rows : List Row) → names_plugin rows ≡ false → plugins_in rows ≡ []
 no_names [] e = refl
 no_names (row ∷ rows) e = ap (λ l. l ++ plugins_in rows)
     (no_name row.providers (or_left (list_any is_kms row.providers) (names_plugin rows) e))
     ∙ no_names rows (or_right (list_any is_kms row.providers) (names_plugin rows) e)
 
-pub published_without : (rows : List Row) (seeds : List SeedRow) → seeds ≡ [] → IsTrue (keeps rows)
-    → names_plugin rows ≡ false → IsPublished (record { rows = rows; seeds = seeds })
-unfolding IsStrictlySortedBy
-published_without rows seeds none k e =
-    let P : List SeedRow → Type 0 = λ l. IsPublished (record { rows = rows; seeds = l }) in
-    subst P (sym none) (record {
-      kept = k;
-      ascend = tt;
-      names = λ name. (
-        λ c. absurd (omega (arith, c.1)),
-        λ c.
-            absurd (omega (arith, c.1, ap (λ (l : List (List ℕ)). length l) (no_names rows e))),
-      );
-      seeds = All-nil IsSeedRow;
-    })
+-- need no link
+pub no_links : (names : List (List ℕ)) (rows : List Row) → names_plugin rows ≡ false
+    → HasLinks names rows
+no_links names rows e = λ name c.
+    absurd (omega (arith, c.1, ap (λ (l : List (List ℕ)). length l) (no_names rows e)))
 
 -- ---- a test over entries, and over their rows
 

@@ -1,7 +1,7 @@
 -- The reader of a value, by its place in the list.
-use Rattle.std.proofs.Common.{◌≡◌, ℕ, zero, suc, ◌<◌, Bool, true, false, List, [], ◌∷◌, length, get_or, Some, None, Err, refl, sym, ◌∙◌, ap, arith}
-use Rattle.std.specs.Prelude.{◌||◌, cond, not, nat_eq, nat_lt, find, position, slice_get}
-use Rattle.std.specs.List.{list_any, position_or_len}
+use Rattle.std.proofs.Common.{◌≡◌, ℕ, zero, suc, ◌<◌, ◌≤◌, Bool, true, false, List, [], ◌∷◌, length, get_or, Option, Some, None, Ok, refl, sym, ◌∙◌, ap, subst, arith}
+use Rattle.std.specs.Prelude.{◌&&◌, ◌||◌, cond, not, nat_eq, nat_lt, find, position, slice_get}
+use Rattle.std.specs.List.{position_or_len}
 use Rattle.std.proofs.lemmas.Bool.Decides.{nat_tests}
 use Rattle.std.proofs.lemmas.List.Folds.{find_at}
 use Rattle.std.proofs.lemmas.List.Quantifiers.{position-Some}
@@ -11,12 +11,11 @@ use Rattle.kr_config.specs.declared.who.Who.TheVariants.{Identity, Aescbc, Aesgc
 use Rattle.kr_config.specs.Providers.{is_kms}
 use Rattle.kr_kms.specs.declared.seeds.SeedRow.{SeedRow}
 use Rattle.kr_provider.specs.Envelopes.{Envelope}
-use Rattle.kr_provider.specs.Publication.{ListsNoPlugin}
-use Rattle.kr_provider.specs.Readers.{body_by, is_reader, reader_in, reader_place}
-use Rattle.kr_provider.specs.Reading.{Reading, no_provider, Gives, Unseals, is_rotated, is_stale, provider_reading, reader_reading, value_reading}
-use Rattle.kr_provider.specs.declared.refusal.UnsealNo.{UnsealNo}
-use Rattle.kr_provider.specs.declared.refusal.UnsealNo.TheVariants.{Refused, PluginFailed, NoMemory}
-use Rattle.kr_provider.proofs.Booleans.{or_left}
+use Rattle.kr_envelope.specs.declared.object.EncryptedObject.{EncryptedObject}
+use Rattle.kr_provider.specs.Publication.{seed_of}
+use Rattle.kr_provider.specs.Readers.{body_by, is_reader, reader_in, reader_place, writer_of}
+use Rattle.kr_provider.specs.Reading.{is_current, is_rotated, is_stale}
+use Rattle.kr_provider.specs.inner.Sources.{IsReadBy}
 
 -- a test finds what stands at its first place
 place_found : {X : Type 0} (p : X → Bool) (xs : List X) (i : ℕ) → position p xs ≡ Some i
@@ -33,7 +32,7 @@ beyond [] i n = refl
 beyond (x ∷ xs) zero n = absurd (n (omega arith))
 beyond (x ∷ xs) (suc i) n = beyond xs i (λ lt. n (omega (arith, lt)))
 
-no_place : {X : Type 0} (p : X → Bool) (xs : List X) → position p xs ≡ None → find p xs ≡ None
+pub no_place : {X : Type 0} (p : X → Bool) (xs : List X) → position p xs ≡ None → find p xs ≡ None
 no_place p xs e = find_at p xs ∙ beyond xs (position_or_len p xs)
     (λ lt. within (position_or_len p xs) (length xs) lt
     (outside (nat_lt (position_or_len p xs) (length xs)) (position_or_len p xs) e))
@@ -44,6 +43,12 @@ no_place p xs e = find_at p xs ∙ beyond xs (position_or_len p xs)
 
     within : (n m : ℕ) → n < m → nat_lt n m ≡ false → ⊥
     within n m lt f = grind (arith, nat_tests)
+
+-- what stands there is found
+pub found_at : {X : Type 0} (p : X → Bool) (xs : List X) (at : ℕ) (x : X)
+    → position p xs ≡ Some at → x ≡ get_or xs at x → find p xs ≡ Some x
+found_at p xs at x e is = let found = position-Some p xs at x e in
+    place_found p xs at e ∙ slice_get-get_or xs at x found.0 ∙ ap (λ w. Some w) (sym is)
 
 pub reader_found : (list : List Who) (bytes : List ℕ) (place : ℕ) (who : Who)
     → reader_place list bytes ≡ Some place → who ≡ get_or list place who
@@ -63,52 +68,79 @@ pub reader_reads : (list : List Who) (bytes : List ℕ) (place : ℕ) (who : Who
 reader_reads list bytes place who e is = ap (is_reader bytes) is
     ∙ (position-Some (is_reader bytes) list place who e).1
 
-pub read_found : (envelope : Envelope) (list : List Who) (path bytes body : List ℕ) (place : ℕ)
-    (who : Who) → reader_place list bytes ≡ Some place → who ≡ get_or list place who
-    → body ≡ body_by who bytes → value_reading envelope list path bytes
-    ≡ provider_reading envelope who path body
-read_found envelope list path bytes body place who e is b =
-    ap (λ o. reader_reading envelope o path bytes) (reader_found list bytes place who e is)
-    ∙ ap (provider_reading envelope who path) (sym b)
+pub unread : (list : List Who) (bytes : List ℕ) → reader_place list bytes ≡ None
+    → reader_in list bytes ≡ None
+unread list bytes e = no_place (is_reader bytes) list e
 
-pub none_reads : (envelope : Envelope) (list : List Who) (path bytes : List ℕ)
-    → reader_place list bytes ≡ None → value_reading envelope list path bytes ≡ no_provider
-none_reads envelope list path bytes e = ap (λ o. reader_reading envelope o path bytes)
-    (no_place (is_reader bytes) list e)
+-- ---- whether the reader is the first
 
--- a refusal of the body is one of the value
-pub refuses : (envelope : Envelope) (seeds : List SeedRow) (list : List Who) (path bytes : List ℕ)
-    (reading : Reading) (why : UnsealNo) → value_reading envelope list path bytes ≡ reading
-    → Gives reading (Err why) → Unseals envelope seeds list path bytes (Err why)
-refuses envelope seeds list path bytes reading (Refused refusal) e g = e ∙ g
-refuses envelope seeds list path bytes reading (PluginFailed name) e g = g
-refuses envelope seeds list path bytes reading NoMemory e g = tt
+later : (i : ℕ) → nat_eq (suc i) 0 ≡ false
+later i = grind (arith, nat_tests)
 
--- ---- staleness without plugins: another than the first reads
+pub read_by : (list : List Who) (bytes body : List ℕ) (place : ℕ) (who : Who) → 1 ≤ length list
+    → reader_place list bytes ≡ Some place → who ≡ get_or list place who
+    → body ≡ body_by who bytes → IsReadBy list bytes who body (nat_eq place 0)
+read_by [] bytes body place who some e is b = absurd (omega (arith, some))
+read_by (first ∷ rest) bytes body place who some e is b =
+    let at = position-Some (is_reader bytes) (first ∷ rest) place first e in record {
+      reader = reader_found (first ∷ rest) bytes place who e is;
+      body_is = b;
+      first_is = by_place place at.1 at.2;
+      writer = λ t. sym (is ∙ ap (λ i. get_or (first ∷ rest) i who) (same place t));
+    }
+  where
+    same : (i : ℕ) → nat_eq i 0 ≡ true → i ≡ 0
+    same zero t = refl
+    same (suc i) t = let f = later i in absurd (cc)
 
-not_rotated : (envelope : Envelope) (seeds : List SeedRow) (who : Who) → is_kms who ≡ false
+    by_place : (i : ℕ) → is_reader bytes (get_or (first ∷ rest) i first) ≡ true
+        → ((k : ℕ) → k < i → is_reader bytes (get_or (first ∷ rest) k first) ≡ false)
+        → is_reader bytes first ≡ nat_eq i 0
+    by_place zero t f = t
+    by_place (suc i) t f = f 0 (omega arith) ∙ sym (later i)
+
+pub read_by_plugin : (list : List Who) (bytes body : List ℕ) (place : ℕ) (who : Who)
+    (name asked : List ℕ) → 1 ≤ length list → reader_place list bytes ≡ Some place
+    → who ≡ get_or list place who → body ≡ body_by who bytes → who ≡ Kms name → asked ≡ name
+    → IsReadBy list bytes (Kms asked) body (nat_eq place 0)
+read_by_plugin list bytes body place who name asked some e is b k s =
+    subst (λ w. IsReadBy list bytes w body (nat_eq place 0)) (k ∙ ap (λ n. Kms n) (sym s))
+    (read_by list bytes body place who some e is b)
+
+pub no_plugin : (who : Who) → ((name : List ℕ) → who ≡ Kms name → ⊥) → is_kms who ≡ false
+no_plugin Identity n = refl
+no_plugin (Aescbc name secret) n = refl
+no_plugin (Aesgcm name secret) n = refl
+no_plugin (Kms name) n = absurd (n name refl)
+
+pub not_rotated : (envelope : Envelope) (seeds : List SeedRow) (who : Who) → is_kms who ≡ false
     → is_rotated envelope seeds who ≡ false
 not_rotated envelope seeds Identity e = refl
 not_rotated envelope seeds (Aescbc name secret) e = refl
 not_rotated envelope seeds (Aesgcm name secret) e = refl
 not_rotated envelope seeds (Kms name) e = absurd (cc)
 
-pub stale_by_place : (envelope : Envelope) (seeds : List SeedRow) (list : List Who) (bytes : List ℕ)
-    (place : ℕ) → ListsNoPlugin list → reader_place list bytes ≡ Some place
-    → not (nat_eq place 0) ≡ is_stale envelope seeds list bytes
-stale_by_place envelope seeds [] bytes place rules e = absurd (omega (arith, rules.some))
-stale_by_place envelope seeds (who ∷ rest) bytes place rules e =
-    let found = position-Some (is_reader bytes) (who ∷ rest) place who e in
-    let kind = not_rotated envelope seeds who
-    (or_left (is_kms who) (list_any is_kms rest) rules.no_plugin) in
-    by_place place found.1 found.2 ∙ sym (ap (λ b. not (is_reader bytes who) || b) kind)
-  where
-    later : (i : ℕ) → nat_eq (suc i) 0 ≡ false
-    later i = grind (arith, nat_tests)
+-- a value that no plugin reads is stale where another reads it than the first
+pub stale_by_first : (envelope : Envelope) (seeds : List SeedRow) (list : List Who)
+    (bytes body : List ℕ) (who : Who) (first : Bool) → is_kms who ≡ false
+    → IsReadBy list bytes who body first → is_stale envelope seeds list bytes ≡ not first
+stale_by_first envelope seeds list bytes body who true k r =
+    ap (λ b. not b || is_rotated envelope seeds (writer_of list)) r.first_is
+    ∙ ap (is_rotated envelope seeds) (r.writer refl) ∙ not_rotated envelope seeds who k
+stale_by_first envelope seeds list bytes body who false k r =
+    ap (λ b. not b || is_rotated envelope seeds (writer_of list)) r.first_is
 
-    by_place : (i : ℕ) → is_reader bytes (get_or (who ∷ rest) i who) ≡ true
-        → ((k : ℕ) → k < i → is_reader bytes (get_or (who ∷ rest) k who) ≡ false)
-        → not (nat_eq i 0) ≡ (not (is_reader bytes who) || false)
-    by_place zero t f = ap (λ b. not b || false) (sym t)
-    by_place (suc i) t f = ap (λ b. not b) (later i)
-        ∙ ap (λ b. not b || false) (sym (f 0 (omega arith)))
+-- one that a plugin reads is stale where its object isn't current, too
+pub stale_by_plugin : (object : EncryptedObject) (source : Option (List ℕ)) (seeds : List SeedRow)
+    (row : SeedRow) (list : List Who) (bytes body name : List ℕ) (first : Bool)
+    → seed_of name seeds ≡ Some row → IsReadBy list bytes (Kms name) body first
+    → is_stale (record { object = Ok object; source = source }) seeds list bytes
+    ≡ not (first && is_current (Some row) (Ok object))
+stale_by_plugin object source seeds row list bytes body name true s r =
+    ap (λ b. not b || is_rotated (record { object = Ok object; source = source }) seeds
+    (writer_of list)) r.first_is
+    ∙ ap (is_rotated (record { object = Ok object; source = source }) seeds) (r.writer refl)
+    ∙ ap (λ o. not (is_current o (Ok object))) s
+stale_by_plugin object source seeds row list bytes body name false s r =
+    ap (λ b. not b || is_rotated (record { object = Ok object; source = source }) seeds
+    (writer_of list)) r.first_is

@@ -6,7 +6,6 @@ use Rattle.std.specs.Option.{option_map, option_map_or}
 use Rattle.std.specs.Str.{bytes_eq}
 use Rattle.std.proofs.lemmas.Bool.Decides.{nat_tests}
 use Rattle.std.proofs.lemmas.List.{length-append, length-take-le}
-use Rattle.std.proofs.lemmas.List.Elements.{All-nil}
 use Rattle.kr_aes.specs.KeyExpansion.{padded_schedule}
 use Rattle.kr_aes.proofs.Blocks.{length-cipher}
 use Rattle.kr_base.specs.Rules.{IsName}
@@ -234,13 +233,14 @@ sealing_is_sized = record {
 -- ---- answers of a call that seals
 
 module _ {D : Type 0} (left : D → Option (List ℕ)) (count : D → ℕ) where
-  pub few_of : (who : Who) (path plain : List ℕ) (old new : D) (result : Result (List ℕ) SealNo)
-      → is_provider who ≡ true → Seals left count [] who path plain old new result
+  pub few_of : (seeds : List SeedRow) (who : Who) (path plain : List ℕ) (old new : D)
+      (result : Result (List ℕ) SealNo) → All IsSeedRow seeds → is_provider who ≡ true
+      → Seals left count seeds who path plain old new result
       → IfOk result (λ value. length value ≤ 2162688)
-  few_of who path plain old new (Ok value) p s =
-      few_by [] who path plain s.0 value (All-nil IsSeedRow) p s.1
-      (data_fits [] who path plain s.0 value s.2) (value_is [] who path plain s.0 value s.2)
-  few_of who path plain old new (Err why) p s = tt
+  few_of seeds who path plain old new (Ok value) a p s =
+      few_by seeds who path plain s.0 value a p s.1
+      (data_fits seeds who path plain s.0 value s.2) (value_is seeds who path plain s.0 value s.2)
+  few_of seeds who path plain old new (Err why) a p s = tt
 
   pub sealing_of : (p : Publication) (resource path plain : List ℕ) (old new : D)
       (result : Result (List ℕ) SealNo) → All (λ byte. byte < 256) plain

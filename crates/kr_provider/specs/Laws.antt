@@ -1,19 +1,24 @@
 -- What the definitions of sealing and reading promise together.
-use Rattle.std.specs.Prelude.{◌≡◌, ◌↔◌, ℕ, ◌-◌, ◌≤◌, ◌<◌, false, IsTrue, List, take, drop, length, All, Contains, Some, Ok, ⊤}
+use Rattle.std.specs.Prelude.{◌≡◌, ◌↔◌, ℕ, ◌-◌, ◌≤◌, ◌<◌, false, IsTrue, List, take, drop, length, All, Contains, Some, Result, Ok, ⊤}
 use Rattle.std.specs.List.{list_any}
 use Rattle.kr_base.specs.Limits.{value_limit}
 use Rattle.kr_modes.specs.Gcm.{gcm_tag}
 use Rattle.kr_config.specs.declared.who.Who.{Who}
 use Rattle.kr_config.specs.declared.who.Who.TheVariants.{Identity, Aescbc, Aesgcm, Kms}
-use Rattle.kr_config.specs.Kept.{keeps_providers}
+use Rattle.kr_config.specs.Kept.{Row, keeps_providers}
+use Rattle.kr_config.specs.Lists.{list_of}
 use Rattle.kr_config.specs.Providers.{is_kms}
 use Rattle.kr_kms.specs.declared.seeds.SeedRow.{SeedRow}
-use Rattle.kr_kms.specs.Truth.{Opens}
+use Rattle.kr_kms.specs.Calls.{Link}
+use Rattle.kr_kms.specs.Truth.{Opens, Truth}
 use Rattle.kr_provider.specs.Ciphers.{cipher_under}
 use Rattle.kr_provider.specs.Envelopes.{Envelope, object_of, unknown}
-use Rattle.kr_provider.specs.Publication.{Publication, IsPublished, SeedOpens, seed_of, writer_at}
+use Rattle.kr_provider.specs.Publication.{Publication, IsPublished, SeedOpens, names_plugin, seed_of, writer_at}
 use Rattle.kr_provider.specs.Readers.{reader_in, body_by}
-use Rattle.kr_provider.specs.Reading.{Reading, data_of, refused, unopened, value_reading, HasReading, HasSomeReading}
+use Rattle.kr_provider.specs.Reading.{Reading, data_of, refused, unopened, value_reading, HasReading, HasSomeReading, Unseals}
+use Rattle.kr_provider.specs.Unsealing.{UnsealsBy}
+use Rattle.kr_provider.specs.declared.refusal.Opened.{Opened}
+use Rattle.kr_provider.specs.declared.refusal.UnsealNo.{UnsealNo}
 use Rattle.kr_provider.specs.Sealing.{IsBytes, IsSealing, draw_size, sealed_by, value_size}
 
 -- the envelope is that of a value that was sealed: a plugin's has the object that was written, and
@@ -67,6 +72,18 @@ abbrev pub ReadsWithoutPlugin : Type 0
 ReadsWithoutPlugin = (opens : Opens) (list : List Who) (path bytes : List ℕ) (reading : Reading)
     → list_any is_kms list ≡ false
     → HasReading opens list path bytes reading ↔ (value_reading unknown list path bytes ≡ reading)
+
+-- where settings name no plugin, no link is asked, and any envelope serves
+pub record UnsealsWithoutPlugin {L : Type 0} (truth : Truth) (link : L → Link) : Type 0 where
+  pub reads : (seeds : List SeedRow) (rows : List Row) (resource path bytes : List ℕ)
+      (olds news : List L) (result : Result Opened UnsealNo) → names_plugin rows ≡ false
+      → UnsealsBy truth link seeds (list_of rows resource) path bytes olds result news
+      → (envelope : Envelope)
+      → Unseals envelope seeds (list_of rows resource) path bytes result
+  pub stay : (seeds : List SeedRow) (rows : List Row) (resource path bytes : List ℕ)
+      (olds news : List L) (result : Result Opened UnsealNo) → names_plugin rows ≡ false
+      → UnsealsBy truth link seeds (list_of rows resource) path bytes olds result news
+      → news ≡ olds
 
 -- what a value reads as by the truth it reads as with some unwrapped source
 abbrev pub ReadsSomehow : Type 0

@@ -1,4 +1,5 @@
 -- The definitions that contracts cite.
+pub mod AskedLinks
 pub mod BenchState
 pub mod Checks
 pub mod Ciphers
@@ -7,8 +8,10 @@ pub mod KeyPages
 pub mod Laws
 pub mod Names
 pub mod Publication
+pub mod Publishing
 pub mod Readers
 pub mod Reading
 pub mod Refusals
 pub mod Sealing
+pub mod Unsealing
 pub mod inner

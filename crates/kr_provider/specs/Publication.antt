@@ -1,5 +1,5 @@
 -- A published configuration: settings with one wrapped seed for each plugin that they name.
-use Rattle.std.specs.Prelude.{◌≡◌, ℕ, ◌≤◌, ◌↔◌, Bool, true, false, IsTrue, List, length, map, All, Contains, find, Option, Some, ⊤}
+use Rattle.std.specs.Prelude.{◌≡◌, ℕ, ◌≤◌, ◌↔◌, Bool, true, IsTrue, List, length, map, All, Contains, find, Option, Some, IsSome, ⊤}
 use Rattle.std.specs.List.{list_all, list_any}
 use Rattle.std.specs.List.Sorted.{IsStrictlySortedBy}
 use Rattle.std.specs.Ordering.{nat_cmp}
@@ -37,6 +37,13 @@ pub record IsPublished (p : Publication) : Type 0 where
 abbrev pub seed_of : List ℕ → List SeedRow → Option SeedRow
 seed_of name seeds = find (λ row. bytes_eq row.name name) seeds
 
+-- a plugin has its seed
+abbrev pub HasSeed : List SeedRow → Who → Type 0
+HasSeed seeds Identity = ⊤
+HasSeed seeds (Aescbc name secret) = ⊤
+HasSeed seeds (Aesgcm name secret) = ⊤
+HasSeed seeds (Kms name) = IsSome (seed_of name seeds)
+
 -- the wrapped source of a plugin's seed opens to the seed
 abbrev pub SeedOpens : Opens → List SeedRow → Who → Type 0
 SeedOpens opens seeds Identity = ⊤
@@ -52,8 +59,7 @@ list_at p resource = list_of p.rows resource
 abbrev pub writer_at : Publication → List ℕ → Who
 writer_at p resource = writer_of (list_at p resource)
 
--- a list of providers as settings without plugins have it
-pub record ListsNoPlugin (list : List Who) : Type 0 where
+-- a list of providers as settings have it
+pub record IsProviderList (list : List Who) : Type 0 where
   pub some : 1 ≤ length list
   pub providers : list_all is_provider list ≡ true
-  pub no_plugin : list_any is_kms list ≡ false

@@ -1,3 +1,5 @@
 -- Definitions that inner contracts alone cite.
+pub mod Making
 pub mod Scan
+pub mod Sources
 pub mod Stack

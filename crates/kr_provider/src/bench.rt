@@ -1,62 +1,63 @@
 //! The bench of one worker: it seals and unseals by the configuration that it adopted last.
-ghost use Rattle.std.specs.Prelude.{◌≡◌, ◌↔◌, ◌≤◌, ◌<◌, List, length, Some, None, true, false, IsErr, IsSome, IfOk, IfErr, IfSome, OnOk, OnErr};
+ghost use Rattle.std.specs.Prelude.{◌≡◌, ◌↔◌, ◌≤◌, ◌<◌, [], ◌∷◌, length, Contains, Some, None, IsErr, IsSome, IfOk, IfErr, IfSome, OnOk, OnErr};
 ghost use Rattle.kr_base.specs.Limits.{path_limit, value_limit};
-ghost use Rattle.kr_config.specs.Kept.{keys_in, rows_of};
-ghost use Rattle.kr_config.specs.Providers.{is_provider, is_kms};
-ghost use Rattle.kr_kms.specs.declared.seeds.SeedRow.{SeedRow};
-ghost use Rattle.kr_provider.specs.Envelopes.{Envelope};
-ghost use Rattle.kr_provider.specs.KeyPages.{HoldKeys, adopted_secrets, secrets_in, size_of, unused};
-ghost use Rattle.kr_provider.specs.Publication.{list_at, writer_at, names_plugin, ListsNoPlugin};
-ghost use Rattle.kr_provider.specs.Readers.{writer_of};
-ghost use Rattle.kr_provider.specs.Reading.{Unseals};
+ghost use Rattle.kr_config.specs.Kept.{keys_in, plugins_in, rows_of};
+ghost use Rattle.kr_provider.specs.AskedLinks.{AskedOnly};
+ghost use Rattle.kr_provider.specs.KeyPages.{HoldKeys, adopted_secrets, size_of, unused};
+ghost use Rattle.kr_provider.specs.Names.{HasLinks, names_of};
+ghost use Rattle.kr_provider.specs.Publication.{list_at, writer_at};
+ghost use Rattle.kr_provider.specs.Publishing.{Publishes, TellsKeyIdOf};
 ghost use Rattle.kr_provider.specs.Sealing.{Seals, IsSealing};
-ghost use Rattle.kr_provider.specs.inner.Scan.{AreAmong};
+ghost use Rattle.kr_provider.specs.Unsealing.{UnsealsBy};
 
-use crate::adopted::{count_keys, keep_all, words_for};
-use crate::key_pages::KeyPages;
+use crate::adoption::Adoption;
 use crate::links::Links;
-use crate::published::Published;
-use crate::readers::{body_of, reader_of};
-use crate::refusal::{Opened, PagesFull, SealNo, UnsealNo, ValueNo};
-use crate::sealing::seal_by;
-use crate::unsealing::unseal_by;
-use kr_base::{Bytes, Dice, NoMemory, Shared};
-use kr_config::{Entry, Who};
-use kr_kms::Kms;
+use crate::making::refusal_at;
+use crate::published::{Published, publish};
+use crate::refusal::{Opened, PagesFull, PublishNo, SealNo, UnsealNo};
+use crate::sealing::{seal_by, tell_bytes};
+use crate::values::unseal_for;
+use kr_base::{Bytes, Dice, NoMemory, Shared, Text};
+use kr_config::Settings;
+use kr_kms::{Kms, SeedCache};
 use std::alloc::Global;
 use std::marker::Model;
 
-/// Links, a random source, the configuration that was adopted last, and a page for each of its
-/// keys. It can't be dropped: `close` gives the links and the random source back.
+/// Links, a random source, the configuration that was adopted last with a page for each of its
+/// keys, and the seeds that plugins unwrapped. It can't be dropped: `close` gives the links and the
+/// random source back.
 pub struct Bench<L: Kms, D: Dice> {
     links: Links<L>,
     dice: D,
-    published: Option<Shared<Published>>,
-    pages: KeyPages,
+    adoption: Adoption,
+    cache: SeedCache,
 }
 
 impl<L: Kms, D: Dice> Model for Bench<L, D> {
-    ghost use Rattle.kr_provider.specs.BenchState.{BenchState, AsksNoPlugin};
-    ghost use Rattle.kr_provider.specs.KeyPages.{HoldKeys, adopted_secrets};
+    ghost use Rattle.kr_kms.specs.Cache.{AreOpen};
+    ghost use Rattle.kr_provider.specs.BenchState.{BenchState};
+    ghost use Rattle.kr_provider.specs.Names.{HasAdoptedLinks, names_of};
 
     ghost Value = { BenchState L D };
 
     ghost view = { λ bench. record {
       links = bench.links;
       dice = bench.dice;
-      published =
-          bench.published;
-      pages = bench.pages;
+      published = bench.adoption.published;
+      pages = bench.adoption.pages;
+      cache = bench.cache;
     } };
 
-    ghost invariant = { λ bench. AsksNoPlugin bench.published
-        × HoldKeys (adopted_secrets bench.published) bench.pages };
+    // There is a link to each plugin of the configuration, and what is kept is what the truth says.
+    ghost invariant = { λ bench. HasAdoptedLinks
+        (names_of L.link bench.links) bench.adoption.published
+        × AreOpen L.truth bench.cache.rows };
 }
 
 impl<L: Kms, D: Dice> Bench<L, D> {
     /// A bench that adopted nothing yet. `pages` is how many expanded keys it may keep, for which
-    /// it makes the room, and `cache` how many unwrapped seeds; it keeps no seed. Where there is no
-    /// memory the links and the random source come back.
+    /// it makes the room, and `cache` how many unwrapped seeds. Where there is no memory the links
+    /// and the random source come back.
     pub fn new(
         alloc: Global,
         links: Links<L>,
@@ -65,43 +66,44 @@ impl<L: Kms, D: Dice> Bench<L, D> {
         cache: u32,
     ) -> Result<Bench<L, D>, (NoMemory, Links<L>, D)>
         requires cache { 1 ≤ cache }
-        ensures ok { IfOk result (λ bench. bench
-            ≡ record { links = links; dice = dice; published = None; pages = unused pages }) }
+        ensures ok { IfOk result (λ bench. bench ≡ record {
+          links = links;
+          dice = dice;
+          published = None;
+          pages = unused pages;
+          cache = record { rows = []; size = cache };
+        }) }
         ensures returned { IfErr result (λ refused. (refused.1 ≡ links) × (refused.2 ≡ dice)) }
     {
-        match KeyPages::new(alloc, pages) {
-            Ok(pages) => Ok(Bench {
+        let Ok(cache) = SeedCache::new(alloc, cache) else {
+            return Err((NoMemory, links, dice));
+        };
+        match Adoption::new(alloc, pages) {
+            Ok(adoption) => Ok(Bench {
                 links,
                 dice,
-                published: None,
-                pages,
+                adoption,
+                cache,
             }),
             Err(why) => Err((why, links, dice)),
         }
     }
 
-    /// Adopts a published configuration, which names no plugin, in place of the one before: the
-    /// pages go back, and each key is expanded into one. It takes no memory. Where there are more
-    /// keys than pages nothing changes.
+    /// Adopts a published configuration in place of the one before: the pages go back, and each key
+    /// is expanded into one. It takes no memory. Where there are more keys than pages nothing
+    /// changes.
     pub fn adopt(&mut self, published: Shared<Published>) -> Result<(), PagesFull>
-        requires no_plugin { names_plugin published.rows ≡ false }
+        requires links { HasLinks (names_of L.link self.old.links) published.rows }
         ensures full { IsErr result ↔ (size_of self.old.pages < keys_in published.rows) }
         ensures unchanged { OnErr result (self.new ≡ self.old) }
-        ensures kept { OnOk result (self.new ≡ record self.old {
-          published = Some published;
-          pages =
-              self.new.pages;
-        }) }
+        ensures kept { OnOk result (self.new
+            ≡ record self.old { published = Some published; pages = self.new.pages }) }
         ensures keys { HoldKeys (adopted_secrets self.new.published) self.new.pages }
         ensures size { size_of self.new.pages ≡ size_of self.old.pages }
     {
-        if self.pages.size() < count_keys(published.get().entries()) {
-            return Err(PagesFull);
-        }
-        self.pages.clear();
-        keep_all(published.get().entries(), &mut self.pages);
-        self.published = Some(published);
-        Ok(())
+        let adopted = self.adoption.adopt(published);
+        let _count = self.adoption.keys();
+        adopted
     }
 
     /// How many keys stand expanded in a page: those of the adopted configuration.
@@ -109,7 +111,7 @@ impl<L: Kms, D: Dice> Bench<L, D> {
         ensures out { result ≡ length self.now.pages.out }
         ensures keys { HoldKeys (adopted_secrets self.now.published) self.now.pages }
     {
-        self.pages.count()
+        self.adoption.keys()
     }
 
     /// How often the random source failed so far, up to the greatest number.
@@ -120,7 +122,7 @@ impl<L: Kms, D: Dice> Bench<L, D> {
     }
 
     /// The value of the data for the resource at the path, which may be empty, by the writer of the
-    /// resource's list.
+    /// resource's list. No plugin is asked.
     pub fn seal(
         &mut self,
         alloc: Global,
@@ -130,32 +132,21 @@ impl<L: Kms, D: Dice> Bench<L, D> {
     ) -> Result<Bytes, SealNo>
         requires adopted { IsSome self.old.published }
         requires path { length path.now ≤ path_limit }
-        ensures sealed { IfSome self.old.published
-            (λ p. Seals D.left D.count p.seeds
+        ensures sealed { IfSome self.old.published (λ p. Seals D.left D.count p.seeds
             (writer_at p resource.now) path.now plain.now self.old.dice self.new.dice result) }
-        ensures sealing { IfSome self.old.published
-            (λ p. IfOk result (λ value. IsSealing p resource.now path.now plain.now value)) }
+        ensures sealing { IfSome self.old.published (λ p. IfOk result
+            (λ value. IsSealing p resource.now path.now plain.now value)) }
         ensures size { IfOk result (λ value. length value ≤ value_limit) }
         ensures later { D.count self.old.dice ≤ D.count self.new.dice }
         ensures kept { self.new ≡ record self.old { dice = self.new.dice } }
     {
-        let Some(published) = &self.published else {
-            unreachable!();
-        };
-        seal_for(
-            alloc,
-            published.get(),
-            &self.pages,
-            resource,
-            path,
-            plain,
-            &mut self.dice,
-        )
+        seal_for(alloc, &self.adoption, resource, path, plain, &mut self.dice)
     }
 
     /// What the stored value of the resource at the path, which may be empty, holds. The first
-    /// refusal that applies is the answer: `NoProvider` where no provider of the list reads it,
-    /// then those of its body.
+    /// refusal that applies is the answer: `NoProvider` where no provider of the list reads it; for
+    /// a plugin those of its object, then that the plugin failed, then `SeedLength`; those of its
+    /// body.
     pub fn unseal(
         &mut self,
         alloc: Global,
@@ -166,14 +157,49 @@ impl<L: Kms, D: Dice> Bench<L, D> {
         requires adopted { IsSome self.old.published }
         requires path { length path.now ≤ path_limit }
         requires fits { length bytes.now ≤ value_limit }
-        ensures opened { IfSome self.old.published (λ p. (envelope : Envelope)
-            → Unseals envelope p.seeds (list_at p resource.now) path.now bytes.now result) }
-        ensures kept { self.new ≡ self.old }
+        ensures opened { IfSome self.old.published (λ p. UnsealsBy L.truth L.link p.seeds
+            (list_at p resource.now) path.now bytes.now self.old.links result self.new.links) }
+        ensures kept { self.new
+            ≡ record self.old { links = self.new.links; cache = self.new.cache } }
     {
-        let Some(published) = &self.published else {
-            unreachable!();
-        };
-        unseal_for(alloc, published.get(), &self.pages, resource, path, bytes)
+        unseal_for(
+            alloc,
+            &self.adoption,
+            &mut self.links,
+            &mut self.cache,
+            resource,
+            path,
+            bytes,
+        )
+    }
+
+    /// The id of the key that the plugin of this name wraps with now.
+    pub fn key_id(&mut self, alloc: Global, name: &str) -> Result<Text, PublishNo>
+        requires link { Contains (names_of L.link self.old.links) name.now }
+        ensures told { TellsKeyIdOf L.link name.now self.old.links result self.new.links }
+        ensures asked { AskedOnly L.link (name.now ∷ []) self.old.links self.new.links }
+        ensures kept { self.new ≡ record self.old { links = self.new.links } }
+    {
+        key_id_in(alloc, name, &mut self.links)
+    }
+
+    /// Publishes settings with the bench's own links and random source. The adopted configuration
+    /// stays.
+    pub fn publish(
+        &mut self,
+        alloc: Global,
+        settings: Shared<Settings>,
+    ) -> Result<Published, PublishNo>
+        requires links { HasLinks (names_of L.link self.old.links) (rows_of settings.entries.0) }
+        ensures published { Publishes L.truth L.link D.left D.count (rows_of settings.entries.0)
+            self.old.links self.old.dice result self.new.links self.new.dice }
+        ensures asked { AskedOnly L.link (plugins_in (rows_of settings.entries.0)) self.old.links
+            self.new.links }
+        ensures later { D.count self.old.dice ≤ D.count self.new.dice }
+        ensures kept { self.new
+            ≡ record self.old { links = self.new.links; dice = self.new.dice } }
+    {
+        publish(alloc, settings, &mut self.links, &mut self.dice)
     }
 
     /// Gives the links and the random source back.
@@ -183,112 +209,47 @@ impl<L: Kms, D: Dice> Bench<L, D> {
         let Bench {
             links,
             dice,
-            published: _,
-            pages,
+            adoption,
+            cache: _,
         } = self;
-        pages.end();
+        adoption.end();
         (links, dice)
     }
-}
-
-/// The providers of the resource, none of which is a plugin; their keys are among those of the
-/// settings.
-fn list_for<'a>(published: &'a Published, resource: &str) -> &'a [Who]
-    requires no_plugin { names_plugin published.now.rows ≡ false }
-    ensures list { result.now ≡ list_at published.now resource.now }
-    ensures rules { ListsNoPlugin result.now }
-    ensures among { AreAmong (secrets_in published.now.rows) result.now }
-{
-    published.list_for(resource)
 }
 
 /// The value by the writer of the resource's list.
 fn seal_for<D: Dice>(
     alloc: Global,
-    published: &Published,
-    pages: &KeyPages,
+    adoption: &Adoption,
     resource: &str,
     path: &str,
     plain: &[u8],
     dice: &mut D,
 ) -> Result<Bytes, SealNo>
-    requires no_plugin { names_plugin published.now.rows ≡ false }
-    requires keys { HoldKeys (secrets_in published.now.rows) pages.now }
+    requires adopted { IsSome adoption.now.published }
     requires path { length path.now ≤ path_limit }
-    ensures sealed { Seals D.left D.count published.now.seeds
-        (writer_at published.now resource.now) path.now plain.now dice.old dice.new result }
-    ensures sealing { IfOk result (λ value. IsSealing published.now resource.now path.now plain.now
-        value) }
+    ensures sealed { IfSome adoption.now.published (λ p. Seals D.left D.count p.seeds
+        (writer_at p resource.now) path.now plain.now dice.old dice.new result) }
+    ensures sealing { IfSome adoption.now.published (λ p. IfOk result
+        (λ value. IsSealing p resource.now path.now plain.now value)) }
     ensures size { IfOk result (λ value. length value ≤ value_limit) }
     ensures later { D.count dice.old ≤ D.count dice.new }
 {
-    let list = list_for(published, resource);
-    let writer = writer_of(list);
-    let words = words_for(published.entries(), pages, writer);
-    seal_by(alloc, writer, words, path, plain, dice)
+    let published = adoption.published();
+    let writer = published.writer_for(resource);
+    let words = adoption.words(writer);
+    tell_bytes(plain);
+    seal_by(alloc, writer, published.seeds(), words, path, plain, dice)
 }
 
-/// The provider that writes.
-fn writer_of(list: &[Who]) -> &Who
-    requires { ListsNoPlugin list.now }
-    ensures writer { result.now ≡ writer_of list.now }
-    ensures provider { is_provider result.now ≡ true }
-    ensures no_plugin { is_kms result.now ≡ false }
+/// The id of the key that the plugin of this name wraps with now.
+fn key_id_in<L: Kms>(alloc: Global, name: &str, links: &mut Links<L>) -> Result<Text, PublishNo>
+    requires { Contains (names_of L.link links.old) name.now }
+    ensures told { TellsKeyIdOf L.link name.now links.old result links.new }
+    ensures asked { AskedOnly L.link (name.now ∷ []) links.old links.new }
 {
-    &list[0]
-}
-
-/// What the value holds by the list of the resource.
-fn unseal_for(
-    alloc: Global,
-    published: &Published,
-    pages: &KeyPages,
-    resource: &str,
-    path: &str,
-    bytes: &[u8],
-) -> Result<Opened, UnsealNo>
-    requires no_plugin { names_plugin published.now.rows ≡ false }
-    requires keys { HoldKeys (secrets_in published.now.rows) pages.now }
-    requires path { length path.now ≤ path_limit }
-    requires fits { length bytes.now ≤ value_limit }
-    ensures { (envelope : Envelope) → Unseals envelope published.now.seeds
-        (list_at published.now resource.now) path.now bytes.now result }
-{
-    let list = list_for(published, resource);
-    unseal_in(alloc, published.entries(), pages, list, path, bytes)
-}
-
-/// What the value holds by a list of providers.
-fn unseal_in(
-    alloc: Global,
-    entries: &[Entry],
-    pages: &KeyPages,
-    list: &[Who],
-    path: &str,
-    bytes: &[u8],
-) -> Result<Opened, UnsealNo>
-    requires few { keys_in (rows_of entries.now) ≤ 64 }
-    requires keys { HoldKeys (secrets_in (rows_of entries.now)) pages.now }
-    requires among { AreAmong (secrets_in (rows_of entries.now)) list.now }
-    requires list { ListsNoPlugin list.now }
-    requires path { length path.now ≤ path_limit }
-    requires fits { length bytes.now ≤ value_limit }
-    ensures { (envelope : Envelope) (seeds : List SeedRow)
-        → Unseals envelope seeds list.now path.now bytes.now result }
-{
-    let Some(place) = reader_of(list, bytes) else {
-        return Err(UnsealNo::Refused(ValueNo::NoProvider));
-    };
-    let reader = &list[place];
-    let Some(body) = body_of(reader, bytes) else {
-        unreachable!();
-    };
-    let words = words_for(entries, pages, reader);
-    match unseal_by(alloc, reader, words, path, body) {
-        Ok(plain) => Ok(Opened {
-            plain,
-            stale: place != 0,
-        }),
-        Err(why) => Err(why),
+    match links.key_id(alloc, name) {
+        Ok(key_id) => Ok(key_id),
+        Err(why) => Err(refusal_at(alloc, name, why)),
     }
 }

@@ -1,5 +1,7 @@
 //! Laws of the definitions, for a reader and for callers' proofs. The functions do nothing.
-ghost use Rattle.kr_provider.specs.Laws.{SealedReads, SealingReads, SealingIsSized, HasOneReading, ReadsWithoutPlugin, ReadsSomehow, ReadsUnderItsTag};
+ghost use Rattle.kr_provider.specs.Laws.{SealedReads, SealingReads, SealingIsSized, HasOneReading, ReadsWithoutPlugin, ReadsSomehow, ReadsUnderItsTag, UnsealsWithoutPlugin};
+
+use kr_kms::Kms;
 
 /// What a provider sealed reads as the data that were sealed.
 pub fn data_of_sealed()
@@ -24,6 +26,11 @@ pub fn one_reading()
 /// Where a list names no plugin, its values are read whatever plugins' sources open to.
 pub fn reading_without_plugin()
     ensures { ReadsWithoutPlugin }
+{}
+
+/// Where settings name no plugin, a bench asks no link, and reads values with any envelope.
+pub fn unsealing_without_plugin<L: Kms>()
+    ensures { UnsealsWithoutPlugin L.truth L.link }
 {}
 
 /// What a value reads as by the truth of plugins, it reads as with some unwrapped source.

@@ -3,18 +3,25 @@
 #![tactic(auto)]
 
 mod adopted;
+mod adoption;
 mod bench;
 mod check;
 mod key_pages;
 pub mod laws;
 mod links;
+mod making;
 mod prefixes;
 mod published;
 mod readers;
 mod refusal;
 mod rounds;
 mod sealing;
+mod seed_sealing;
+mod seeds;
+mod sources;
 mod unsealing;
+mod value_keys;
+mod values;
 
 pub use bench::Bench;
 pub use check::check_of;

@@ -1,11 +1,20 @@
 //! Links to plugins.
-ghost use Rattle.std.specs.Prelude.{◌≡◌, ◌↔◌, [], ◌∷◌, ◌++◌, Contains, IsTrue, IfErr, OnOk, OnErr, MatchOption};
-ghost use Rattle.std.specs.List.{list_any};
+ghost use Rattle.std.specs.Prelude.{◌≡◌, ◌↔◌, ◌≤◌, [], ◌∷◌, ◌++◌, Contains, IsTrue, IfErr, OnOk, OnErr, MatchOption, position};
+ghost use Rattle.std.specs.List.{list_all, list_any};
 ghost use Rattle.std.specs.Str.{bytes_eq};
-ghost use Rattle.kr_provider.specs.Names.{AreDistinct, names_of};
+ghost use Rattle.kr_config.specs.Kept.{rows_of};
+ghost use Rattle.kr_kms.specs.Cache.{Fetches};
+ghost use Rattle.kr_kms.specs.Calls.{asked_key};
+ghost use Rattle.kr_kms.specs.Health.{TellsKeyId};
+ghost use Rattle.kr_kms.specs.Seeds.{MakesSeed};
+ghost use Rattle.kr_provider.specs.AskedLinks.{AsksOne};
+ghost use Rattle.kr_provider.specs.Names.{AreDistinct, HasLinks, names_of};
+ghost use Rattle.kr_provider.specs.inner.Scan.{is_served};
 
-use kr_base::{List, NoMemory};
-use kr_kms::Kms;
+use kr_base::{Bytes, Dice, NoMemory, Text};
+use kr_config::{Entry, Settings, Who};
+use kr_envelope::EncryptedObject;
+use kr_kms::{Kms, KmsNo, SeedCache, SeedNo, SeedRow, key_id_of, make_seed};
 use std::alloc::Global;
 use std::marker::Model;
 
@@ -13,7 +22,7 @@ use std::marker::Model;
 /// list of them.
 #[derive(Drop)]
 pub struct Links<L: Kms> {
-    items: List<L>,
+    items: Vec<L>,
 }
 
 impl<L: Kms> Model for Links<L> {
@@ -22,9 +31,9 @@ impl<L: Kms> Model for Links<L> {
 
     ghost Value = { List L };
 
-    ghost view = { λ links. links.items.0 };
+    ghost view = { λ links. links.items.items };
 
-    ghost invariant = { λ links. AreDistinct L.link links.items.0 };
+    ghost invariant = { λ links. AreDistinct L.link links.items.items };
 }
 
 impl<L: Kms> Links<L> {
@@ -33,7 +42,7 @@ impl<L: Kms> Links<L> {
         ensures { result ≡ [] }
     {
         Links {
-            items: List::new(alloc),
+            items: Vec::new(alloc),
         }
     }
 
@@ -44,7 +53,10 @@ impl<L: Kms> Links<L> {
         ensures err { OnErr result (self.new ≡ self.old) }
         ensures returned { IfErr result (λ refused. refused.1 ≡ link) }
     {
-        self.items.push(link)
+        match self.items.push(link) {
+            Ok(()) => Ok(()),
+            Err(refused) => Err((NoMemory, refused.value)),
+        }
     }
 
     /// Whether there is a link to the plugin of this name.
@@ -53,6 +65,14 @@ impl<L: Kms> Links<L> {
         ensures distinct { AreDistinct L.link self.now }
     {
         any_named(self.items.as_slice(), name)
+    }
+
+    /// Whether there is a link to each plugin that the settings name.
+    pub fn serve(&self, settings: &Settings) -> bool
+        ensures { IsTrue result ↔ HasLinks (names_of L.link self.now)
+            (rows_of settings.now.entries.0) }
+    {
+        serve_entries(self.items.as_slice(), settings.entries.as_slice())
     }
 
     /// Takes the last link.
@@ -67,7 +87,61 @@ impl<L: Kms> Links<L> {
     pub fn end(self)
         requires { self ≡ [] }
     {
-        self.items.end();
+        self.items.destroy_empty();
+    }
+
+    /// The id of the key that the plugin of this name wraps with.
+    pub(crate) fn key_id(&mut self, alloc: Global, name: &str) -> Result<Text, SeedNo>
+        requires { Contains (names_of L.link self.old) name.now }
+        ensures { AsksOne L.link name.now
+            (λ old new. TellsKeyId (L.link old) result (L.link new)) self.old self.new }
+    {
+        let Some(at) = place_in(self.items.as_slice(), name) else {
+            unreachable!();
+        };
+        key_id_of(alloc, &mut self.items[at])
+    }
+
+    /// A seed of the plugin of this name.
+    pub(crate) fn make_seed<D: Dice>(
+        &mut self,
+        alloc: Global,
+        name: &str,
+        dice: &mut D,
+    ) -> Result<SeedRow, SeedNo>
+        requires { Contains (names_of L.link self.old) name.now }
+        ensures made { AsksOne L.link name.now
+            (λ old new. MakesSeed D.left D.count L.truth (L.link old) dice.old result (L.link new)
+            dice.new) self.old self.new }
+        ensures later { D.count dice.old ≤ D.count dice.new }
+    {
+        let Some(at) = place_in(self.items.as_slice(), name) else {
+            unreachable!();
+        };
+        make_seed(alloc, &mut self.items[at], dice)
+    }
+
+    /// The unwrapped source of an object of the plugin of this name, through the cache.
+    pub(crate) fn fetch(
+        &mut self,
+        cache: &mut SeedCache,
+        name: &str,
+        object: &EncryptedObject,
+    ) -> Result<Bytes, KmsNo>
+        requires { Contains (names_of L.link self.old) name.now }
+        ensures { AsksOne L.link name.now (λ old new. Fetches L.truth L.link old cache.old
+            (asked_key name.now object.now.key_id object.now.annotations object.now.source)
+            result new cache.new) self.old self.new }
+    {
+        let Some(at) = place_in(self.items.as_slice(), name) else {
+            unreachable!();
+        };
+        cache.fetch(
+            &mut self.items[at],
+            object.key_id.as_str(),
+            &object.annotations,
+            object.source.as_slice(),
+        )
     }
 }
 
@@ -76,4 +150,40 @@ fn any_named<L: Kms>(links: &[L], name: &str) -> bool
     ensures { result ≡ list_any (λ link. bytes_eq (L.link link).name name.now) links.now }
 {
     links.iter().any(|link| link.name() == name)
+}
+
+/// Whether there is a link to each plugin of the entries.
+fn serve_entries<L: Kms>(links: &[L], entries: &[Entry]) -> bool
+    ensures { result ≡ list_all
+        (λ entry. list_all (is_served L.link links.now) entry.providers.0) entries.now }
+{
+    entries
+        .iter()
+        .all(|entry| serve_list(links, entry.providers.as_slice()))
+}
+
+/// Whether there is a link to each plugin of the list.
+fn serve_list<L: Kms>(links: &[L], list: &[Who]) -> bool
+    ensures { result ≡ list_all (is_served L.link links.now) list.now }
+{
+    list.iter().all(|who| is_served(links, who))
+}
+
+/// Whether the provider is no plugin, or there is a link to it.
+fn is_served<L: Kms>(links: &[L], who: &Who) -> bool
+    ensures { result ≡ is_served L.link links.now who.now }
+{
+    match who {
+        Who::Identity => true,
+        Who::Aescbc(_, _) => true,
+        Who::Aesgcm(_, _) => true,
+        Who::Kms(name) => any_named(links, name.as_str()),
+    }
+}
+
+/// Where the link to the plugin of this name stands.
+fn place_in<L: Kms>(links: &[L], name: &str) -> Option<usize>
+    ensures { result ≡ position (λ link. bytes_eq (L.link link).name name.now) links.now }
+{
+    links.iter().position(|link| link.name() == name)
 }

@@ -1,11 +1,16 @@
 //! Published configurations.
-ghost use Rattle.std.specs.Prelude.{◌≡◌, [], false, Ok};
+ghost use Rattle.std.specs.Prelude.{◌≡◌, ◌≤◌, [], true, false, Ok};
 ghost use Rattle.std.specs.List.{list_any};
-ghost use Rattle.kr_config.specs.Kept.{rows_of};
-ghost use Rattle.kr_config.specs.Providers.{is_kms};
-ghost use Rattle.kr_provider.specs.Publication.{names_plugin};
+ghost use Rattle.kr_config.specs.Kept.{plugins_in, rows_of};
+ghost use Rattle.kr_config.specs.Providers.{is_kms, is_provider};
+ghost use Rattle.kr_provider.specs.AskedLinks.{AskedOnly};
+ghost use Rattle.kr_provider.specs.Names.{HasLinks, names_of};
+ghost use Rattle.kr_provider.specs.Publication.{IsProviderList, names_plugin};
+ghost use Rattle.kr_provider.specs.Publishing.{Publishes};
+ghost use Rattle.kr_provider.specs.Readers.{writer_of};
 
 use crate::links::Links;
+use crate::making::make_seeds;
 use crate::refusal::PublishNo;
 use kr_base::{Dice, List, Shared};
 use kr_config::{Entry, Settings, Who};
@@ -30,16 +35,23 @@ impl Model for Published {
 
     ghost view = { λ published. record {
       rows = rows_of published.settings.entries.0;
-      seeds =
-          published.seeds.0;
+      seeds = published.seeds.0;
     } };
 
-    ghost invariant = { λ published. IsPublished
-        (record { rows = rows_of published.settings.entries.0; seeds = published.seeds.0 }) };
+    ghost invariant = { λ published. IsPublished (record {
+      rows = rows_of published.settings.entries.0;
+      seeds = published.seeds.0;
+    }) };
 }
 
 impl Published {
-    ghost use Rattle.kr_provider.specs.Publication.{IsPublished, list_at};
+    ghost use Rattle.std.specs.Prelude.{true, All};
+    ghost use Rattle.kr_config.specs.Kept.{plugins_in};
+    ghost use Rattle.kr_config.specs.Providers.{is_provider};
+    ghost use Rattle.kr_kms.specs.Seeds.{IsSeedRow};
+    ghost use Rattle.kr_provider.specs.KeyPages.{secrets_in};
+    ghost use Rattle.kr_provider.specs.Publication.{HasSeed, IsProviderList, IsPublished, list_at, writer_at};
+    ghost use Rattle.kr_provider.specs.inner.Scan.{AreAmong, AreNamedIn, HaveSeeds, IsAmong};
 
     /// The entries of the settings.
     pub(crate) fn entries(&self) -> &[Entry]
@@ -49,6 +61,13 @@ impl Published {
         self.settings.get().entries.as_slice()
     }
 
+    /// The seeds.
+    pub(crate) fn seeds(&self) -> &[SeedRow]
+        ensures { result.now ≡ self.now.seeds }
+    {
+        self.seeds.as_slice()
+    }
+
     /// The providers of the resource.
     pub fn list_for(&self, resource: &str) -> &[Who]
         ensures list { result.now ≡ list_at self.now resource.now }
@@ -56,24 +75,68 @@ impl Published {
     {
         self.settings.get().list_for(resource)
     }
+
+    /// The provider that writes values of the resource.
+    pub(crate) fn writer_for(&self, resource: &str) -> &Who
+        ensures writer { result.now ≡ writer_at self.now resource.now }
+        ensures provider { is_provider result.now ≡ true }
+        ensures among { IsAmong (secrets_in self.now.rows) result.now }
+        ensures seed { HasSeed self.now.seeds result.now }
+        ensures rows { All IsSeedRow self.now.seeds }
+    {
+        let list = self.listed(resource);
+        writer_in(list)
+    }
+
+    /// The providers of the resource, with what settings keep of them.
+    pub(crate) fn listed(&self, resource: &str) -> &[Who]
+        ensures list { result.now ≡ list_at self.now resource.now }
+        ensures rules { IsProviderList result.now }
+        ensures among { AreAmong (secrets_in self.now.rows) result.now }
+        ensures named { AreNamedIn (plugins_in self.now.rows) result.now }
+        ensures seeds { HaveSeeds self.now.seeds result.now }
+        ensures rows { All IsSeedRow self.now.seeds }
+    {
+        self.list_for(resource)
+    }
+
+    /// Tells what its type keeps: the rules of settings, and a wrapped seed for each plugin.
+    pub fn known(&self)
+        ensures { IsPublished self.now }
+    {
+        let _entries = self.entries();
+    }
 }
 
-/// Publishes settings that name no plugin. They need no seed, so no link and no dice is asked.
+/// The first of a list.
+fn writer_in(list: &[Who]) -> &Who
+    requires { IsProviderList list.now }
+    ensures writer { result.now ≡ writer_of list.now }
+    ensures provider { is_provider result.now ≡ true }
+{
+    &list[0]
+}
+
+/// Publishes settings: for each plugin that they name, in the order of the names' bytes, it asks
+/// the status, draws a seed and lets the plugin wrap it. The first refusal ends it. Settings that
+/// name no plugin need no memory.
 pub fn publish<L: Kms, D: Dice>(
     alloc: Global,
     settings: Shared<Settings>,
     links: &mut Links<L>,
     dice: &mut D,
 ) -> Result<Published, PublishNo>
-    requires no_plugin { names_plugin (rows_of settings.entries.0) ≡ false }
-    ensures published { result ≡ Ok (record { rows = rows_of settings.entries.0; seeds = [] }) }
-    ensures links { links.new ≡ links.old }
-    ensures dice { dice.new ≡ dice.old }
+    requires links { HasLinks (names_of L.link links.old) (rows_of settings.entries.0) }
+    ensures published { Publishes L.truth L.link D.left D.count (rows_of settings.entries.0)
+        links.old dice.old result links.new dice.new }
+    ensures asked { AskedOnly L.link (plugins_in (rows_of settings.entries.0)) links.old links.new }
+    ensures later { D.count dice.old ≤ D.count dice.new }
+    ensures none { names_plugin (rows_of settings.entries.0) ≡ false
+        → (result ≡ Ok (record { rows = rows_of settings.entries.0; seeds = [] }))
+        × (links.new ≡ links.old) × (dice.new ≡ dice.old) }
 {
-    Ok(Published {
-        settings,
-        seeds: List::new(alloc),
-    })
+    let seeds = make_seeds(alloc, settings.get(), links, dice)?;
+    Ok(Published { settings, seeds })
 }
 
 /// Whether the settings name a plugin.

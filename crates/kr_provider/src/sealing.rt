@@ -1,24 +1,29 @@
 //! Seals: what a provider makes of an object's data.
-ghost use Rattle.std.specs.Prelude.{◌≡◌, ℕ, ◌<◌, ◌≤◌, ◌+◌, ◌-◌, ◌%◌, ◌++◌, List, true, false, length, take, replicate, All, IfSome, MatchResult};
+ghost use Rattle.std.specs.Prelude.{◌≡◌, ℕ, ◌<◌, ◌≤◌, ◌+◌, ◌-◌, ◌%◌, ◌++◌, List, true, length, take, replicate, All, IfSome, MatchResult};
 ghost use Rattle.std.specs.Io.KnownBytes.{Consumes, Keeps};
 ghost use Rattle.kr_aes.specs.KeyExpansion.{IsKeyLength, padded_schedule};
 ghost use Rattle.kr_base.specs.Faults.{IsCounted};
 ghost use Rattle.kr_base.specs.Limits.{data_limit, path_limit};
-ghost use Rattle.kr_config.specs.Providers.{is_provider, is_kms};
+ghost use Rattle.kr_config.specs.Providers.{is_provider};
 ghost use Rattle.kr_envelope.specs.Prefixes.{prefix};
+ghost use Rattle.kr_kms.specs.Seeds.{IsSeedRow};
 ghost use Rattle.kr_kms.specs.declared.seeds.SeedRow.{SeedRow};
 ghost use Rattle.kr_modes.specs.Cbc.{cbc};
 ghost use Rattle.kr_modes.specs.Padding.{pad};
 ghost use Rattle.kr_provider.specs.Ciphers.{cipher_under};
 ghost use Rattle.kr_provider.specs.Envelopes.{gcm_body};
+ghost use Rattle.kr_provider.specs.Publication.{HasSeed};
 ghost use Rattle.kr_provider.specs.Sealing.{Seals, IsBare};
 ghost use Rattle.kr_provider.specs.inner.Scan.{HasWords};
 
 use crate::refusal::SealNo;
 use crate::rounds::rounds_of;
+use crate::seed_sealing::by_seed;
+use crate::seeds::seed_of;
 use kr_base::{Bytes, DATA_LIMIT, Dice, Failed, Text};
 use kr_config::Who;
 use kr_envelope::{Kind, MARK, push_prefix};
+use kr_kms::SeedRow;
 use kr_modes::{cbc_length, cbc_seal, gcm_seal};
 use std::alloc::Global;
 
@@ -26,28 +31,29 @@ use std::alloc::Global;
 const IV: usize = 16;
 
 /// The bytes of a nonce.
-const NONCE: usize = 12;
+pub(crate) const NONCE: usize = 12;
 
 /// The bytes of a tag.
-const TAG: usize = 16;
+pub(crate) const TAG: usize = 16;
 
-/// The value of the data by a provider that is no plugin, whose key's words are given. The memory
-/// for it is taken before the dice is asked.
+/// The value of the data by a provider, whose key's words are given, a plugin's under its seed. The
+/// memory for it is taken before the dice is asked.
 pub(crate) fn seal_by<D: Dice>(
     alloc: Global,
     who: &Who,
+    seeds: &[SeedRow],
     words: &[u32; 60],
     path: &str,
     plain: &[u8],
     dice: &mut D,
 ) -> Result<Bytes, SealNo>
     requires provider { is_provider who.now ≡ true }
-    requires no_plugin { is_kms who.now ≡ false }
+    requires seed { HasSeed seeds.now who.now }
+    requires rows { All IsSeedRow seeds.now }
     requires words { HasWords who.now words.now }
     requires path { length path.now ≤ path_limit }
-    ensures sealed { (seeds : List SeedRow) → Seals D.left D.count seeds who.now path.now plain.now
-        dice.old dice.new result }
-    ensures plain_is { All (λ byte. byte < 256) plain.now }
+    ensures sealed { Seals D.left D.count seeds.now who.now path.now plain.now dice.old dice.new
+        result }
     ensures later { D.count dice.old ≤ D.count dice.new }
 {
     if plain.len() as u64 > DATA_LIMIT {
@@ -59,9 +65,19 @@ pub(crate) fn seal_by<D: Dice>(
         Who::Identity => bare(alloc, plain),
         Who::Aescbc(name, secret) => by_aescbc(alloc, name, secret, words, plain, dice),
         Who::Aesgcm(name, secret) => by_aesgcm(alloc, name, secret, words, path, plain, dice),
-        Who::Kms(_) => unreachable!(),
+        Who::Kms(name) => {
+            let Some(row) = seed_of(seeds, name.as_str()) else {
+                unreachable!();
+            };
+            by_seed(alloc, name, row, path, plain, dice)
+        }
     }
 }
+
+/// Tells that each byte is below 256.
+pub(crate) fn tell_bytes(bytes: &[u8])
+    ensures { All (λ byte. byte < 256) bytes.now }
+{}
 
 /// The data as they stand, unless they begin as a value of another provider does.
 fn bare(alloc: Global, plain: &[u8]) -> Result<Bytes, SealNo>
@@ -135,12 +151,20 @@ fn by_aesgcm<D: Dice>(
         Err(Failed) => return Err(SealNo::DiceFailed),
     }
     let start = value.len() - room;
-    write_gcm(secret, words, &nonce, path, plain, &mut value, start);
+    write_gcm(
+        secret.as_slice(),
+        words,
+        &nonce,
+        path,
+        plain,
+        &mut value,
+        start,
+    );
     Ok(Bytes::from_vec(value))
 }
 
 /// Fills the buffer with random bytes.
-fn draw<D: Dice>(dice: &mut D, into: &mut [u8]) -> Result<(), Failed>
+pub(crate) fn draw<D: Dice>(dice: &mut D, into: &mut [u8]) -> Result<(), Failed>
     ensures drawn { MatchResult result (λ _. All (λ byte. byte < 256) into.new
         × Consumes (D.left dice.old) (D.left dice.new) into.new)
         (λ _. Keeps (D.left dice.old) (D.left dice.new)) }
@@ -187,8 +211,8 @@ fn write_cbc(
 }
 
 /// Writes the nonce and the GCM of the data, with the path as associated data, from `start` on.
-fn write_gcm(
-    secret: &Bytes,
+pub(crate) fn write_gcm(
+    secret: &[u8],
     words: &[u32; 60],
     nonce: &[u8; 12],
     path: &str,
@@ -203,7 +227,7 @@ fn write_gcm(
     requires size { length value.old ≡ start + (12 + length plain.now + 16) }
     ensures { value.new ≡ take start value.old ++ gcm_body secret.now path.now plain.now nonce.now }
 {
-    let rounds = rounds_of(secret.as_slice());
+    let rounds = rounds_of(secret);
     let (_, room) = value.split_at_mut(start);
     let (first, body) = room.split_at_mut(NONCE);
     first.copy_from_slice(nonce);

@@ -11,13 +11,11 @@ ghost use Rattle.kr_provider.specs.inner.Scan.{HasWords};
 
 use crate::refusal::{UnsealNo, ValueNo};
 use crate::rounds::rounds_of;
+use crate::sealing::NONCE;
 use kr_base::Bytes;
 use kr_config::Who;
 use kr_modes::{ModeNo, cbc_unseal, gcm_unseal};
 use std::alloc::Global;
-
-/// The bytes of a nonce.
-const NONCE: usize = 12;
 
 /// The data of the body by a provider that is no plugin, whose key's words are given.
 pub(crate) fn unseal_by(
@@ -81,7 +79,7 @@ fn by_aescbc(
 }
 
 /// The data of a body of aesgcm.
-fn by_aesgcm(
+pub(crate) fn by_aesgcm(
     alloc: Global,
     secret: &[u8],
     words: &[u32; 60],
@@ -114,7 +112,7 @@ fn by_aesgcm(
 }
 
 /// The refusal of a body.
-fn refusal_of(why: ModeNo) -> ValueNo
+pub(crate) fn refusal_of(why: ModeNo) -> ValueNo
     ensures { body_refusal why ≡ refused result }
 {
     match why {

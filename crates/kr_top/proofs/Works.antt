@@ -1,22 +1,26 @@
 -- The point that the steps of a bench come to, by what it made of the bytes.
 use Rattle.std.proofs.Common.{◌≡◌, ◌≢◌, ℕ, ◌≤◌, List, [], ◌∷◌, length, Bool, true, false, Option, None, Some, Result, Ok, Err, refl, sym, ◌∙◌, ap, subst, inl, inr, arith}
-use Rattle.std.specs.Prelude.{IfSome, nat_lt, if◌then◌else◌}
+use Rattle.std.specs.Prelude.{IfSome, IsSome, nat_lt, if◌then◌else◌}
 use Rattle.std.specs.Io.KnownBytes.{Consumes, Keeps}
 use Rattle.kr_base.specs.Limits.{data_limit}
 use Rattle.kr_config.specs.declared.who.Who.{Who}
 use Rattle.kr_config.specs.declared.who.Who.TheVariants.{Identity, Aescbc, Aesgcm, Kms}
 use Rattle.kr_envelope.specs.Prefixes.{is_marked}
+use Rattle.kr_kms.specs.Calls.{Link}
+use Rattle.kr_kms.specs.Truth.{Truth}
 use Rattle.kr_kms.specs.declared.seeds.SeedRow.{SeedRow}
-use Rattle.kr_provider.specs.Publication.{Publication, list_at, writer_at}
+use Rattle.kr_provider.specs.Publication.{Publication, list_at, names_plugin, writer_at}
 use Rattle.kr_provider.specs.Sealing.{draw_size, sealed_by, Seals}
 use Rattle.kr_provider.specs.Envelopes.{Envelope, unknown}
 use Rattle.kr_provider.specs.Reading.{is_stale, Unseals}
+use Rattle.kr_provider.specs.Unsealing.{UnsealsBy}
 use Rattle.kr_provider.specs.declared.refusal.Opened.{Opened}
 use Rattle.kr_provider.specs.declared.refusal.SealNo.{SealNo}
 use Rattle.kr_provider.specs.declared.refusal.SealNo.TheVariants as seal
 use Rattle.kr_provider.specs.declared.refusal.UnsealNo.{UnsealNo}
 use Rattle.kr_provider.specs.declared.refusal.UnsealNo.TheVariants as unseal
 use Rattle.kr_provider.specs.declared.refusal.ValueNo.TheVariants.{LooksEncrypted}
+use Rattle.kr_provider.proofs.WithoutPlugins.{none_listed, read_by_any, unasked}
 use Rattle.kr_top.specs.Commands.{silently, value_steps, sealing, freshness, reading_steps, unsealing, working, limit_of}
 use Rattle.kr_top.specs.declared.convert.Direction.{Direction}
 use Rattle.kr_top.specs.declared.convert.Direction.TheVariants.{Encrypt, Decrypt}
@@ -175,3 +179,27 @@ module _ {D : Type 0} (left : D → Option (List ℕ)) (count : D → ℕ)
       (subst (λ r. MakesBy Decrypt old new r p) (sym m)
       (unseal_makes left count old new path bytes (list_at p resource) p.seeds result bare
       (back ∙ same) (u unknown)))
+
+-- where the publication names no plugin, any envelope serves, and the links stay
+module _ {L : Type 0} (truth : Truth) (link : L → Link) where
+  abbrev UnsealedAt : Option Publication → (resource path bytes : List ℕ) → List L
+      → Result Opened UnsealNo → List L → Type 0
+  UnsealedAt published resource path bytes olds result news = IfSome published
+      (λ p. UnsealsBy truth link p.seeds (list_at p resource) path bytes olds result news)
+
+  pub read_bare : (published : Option Publication) (resource path bytes : List ℕ)
+      (olds news : List L) (result : Result Opened UnsealNo)
+      → IfSome published (λ p. names_plugin p.rows ≡ false)
+      → UnsealedAt published resource path bytes olds result news → IfSome published
+      (λ p. (envelope : Envelope) → Unseals envelope p.seeds (list_at p resource) path bytes result)
+  read_bare None resource path bytes olds news result n u = tt
+  read_bare (Some p) resource path bytes olds news result n u = read_by_any truth link p.seeds
+      (list_at p resource) path bytes olds news result (none_listed p.rows resource n) u
+
+  pub links_bare : (published : Option Publication) (resource path bytes : List ℕ)
+      (olds news : List L) (result : Result Opened UnsealNo) → IsSome published
+      → IfSome published (λ p. names_plugin p.rows ≡ false)
+      → UnsealedAt published resource path bytes olds result news → news ≡ olds
+  links_bare None resource path bytes olds news result some n u = absurd (cc)
+  links_bare (Some p) resource path bytes olds news result some n u = unasked truth link p.seeds
+      (list_at p resource) path bytes olds news result (none_listed p.rows resource n) u

@@ -14,7 +14,7 @@ use crate::refusal::{Done, Object, Outcome, Refusal, Stop};
 use kr_base::{Bytes, Dice, Shared};
 use kr_config::Settings;
 use kr_kms::{Kms, World};
-use kr_provider::{Bench, Links, Opened, SealNo, UnsealNo, ValueNo, publish};
+use kr_provider::{Bench, Links, Opened, Published, SealNo, UnsealNo, ValueNo, publish};
 use std::alloc::Global;
 
 /// How many keys a bench holds expanded, and how many unwrapped seeds.
@@ -78,10 +78,7 @@ fn make_by<L: Kms, D: Dice>(
         Err(_) => return (Err(Stop::NoMemory), dice),
     };
     let mut links = Links::<L>::new(alloc);
-    let published = match publish(alloc, settings, &mut links, &mut dice) {
-        Ok(published) => published,
-        Err(_) => unreachable!(),
-    };
+    let published = publish_bare(alloc, settings, &mut links, &mut dice);
     let published = match Shared::new(alloc, published) {
         Ok(published) => published,
         Err(_) => {
@@ -104,6 +101,24 @@ fn make_by<L: Kms, D: Dice>(
     (made, dice)
 }
 
+/// Publishes settings that name no plugin, which asks nothing and draws nothing.
+fn publish_bare<L: Kms, D: Dice>(
+    alloc: Global,
+    settings: Shared<Settings>,
+    links: &mut Links<L>,
+    dice: &mut D,
+) -> Published
+    requires no_plugin { names_plugin (rows_of settings.entries.0) ≡ false }
+    ensures published { result ≡ record { rows = rows_of settings.entries.0; seeds = [] } }
+    ensures links { links.new ≡ links.old }
+    ensures dice { dice.new ≡ dice.old }
+{
+    match publish(alloc, settings, links, dice) {
+        Ok(published) => published,
+        Err(_) => unreachable!(),
+    }
+}
+
 /// What a bench that adopted a configuration makes of the bytes. Its links and its random source
 /// come back.
 fn work<L: Kms, D: Dice>(
@@ -116,6 +131,7 @@ fn work<L: Kms, D: Dice>(
 ) -> (Result<Outcome, Stop>, Links<L>, D)
     requires adopted { IsSome bench.published }
     requires bare { IfSome bench.published (λ p. p.seeds ≡ []) }
+    requires no_plugin { IfSome bench.published (λ p. names_plugin p.rows ≡ false) }
     requires path { length path.now ≤ path_limit }
     requires fits { length bytes.now ≤ limit_of direction }
     ensures made { IfSome bench.published

@@ -119,9 +119,7 @@ fn only(alloc: Global, operands: &[&str]) -> Result<Operand, LineError>
     if operands.len() != 1 {
         return Err(LineError::Form);
     }
-    let [word] = operands else {
-        return Err(LineError::Memory); // there are as many
-    };
+    let [word] = operands else { unreachable!() };
     operand(alloc, word)
 }
 
@@ -137,7 +135,7 @@ fn after_iv(alloc: Global, operands: &[&str]) -> Result<([u8; 16], Operand), Lin
         return Err(LineError::Form);
     }
     let [iv, plain] = operands else {
-        return Err(LineError::Memory); // there are as many
+        unreachable!()
     };
     Ok((sized(iv)?, operand(alloc, plain)?))
 }
@@ -156,7 +154,7 @@ fn after_nonce(alloc: Global, operands: &[&str]) -> Result<([u8; 12], Operand, O
         return Err(LineError::Form);
     }
     let [nonce, aad, plain] = operands else {
-        return Err(LineError::Memory); // there are as many
+        unreachable!()
     };
     Ok((sized(nonce)?, operand(alloc, aad)?, operand(alloc, plain)?))
 }
@@ -175,7 +173,7 @@ fn expansion(alloc: Global, operands: &[&str]) -> Result<Expansion, LineError>
         return Err(LineError::Form);
     }
     let [info, size] = operands else {
-        return Err(LineError::Memory); // there are as many
+        unreachable!()
     };
     let info = operand(alloc, info)?.bytes;
     let size = sized(size)?;

@@ -1,10 +1,13 @@
 -- Where the key of a provider stands among the keys of all entries.
-use Rattle.std.specs.Prelude.{◌≡◌, ℕ, suc, true, if◌then◌else◌, List, [], ◌∷◌, Option, Some, None, ⊤}
+use Rattle.std.specs.Prelude.{◌≡◌, ℕ, suc, Bool, true, if◌then◌else◌, List, [], ◌∷◌, Contains, Option, Some, None, ⊤}
 use Rattle.std.specs.List.{list_any}
 use Rattle.std.specs.Str.{bytes_eq}
 use Rattle.kr_aes.specs.KeyExpansion.{padded_schedule}
 use Rattle.kr_config.specs.declared.who.Who.{Who}
 use Rattle.kr_config.specs.declared.who.Who.TheVariants.{Identity, Aescbc, Aesgcm, Kms}
+use Rattle.kr_kms.specs.Calls.{Link}
+use Rattle.kr_kms.specs.declared.seeds.SeedRow.{SeedRow}
+use Rattle.kr_provider.specs.Publication.{HasSeed}
 
 -- the first place of the secret, where the first of the list counts as `n`
 abbrev pub place_from : (n : ℕ) → (secrets : List (List ℕ)) → (secret : List ℕ) → Option ℕ
@@ -29,3 +32,26 @@ HasWords Identity words = ⊤
 HasWords (Aescbc name secret) words = words ≡ padded_schedule secret
 HasWords (Aesgcm name secret) words = words ≡ padded_schedule secret
 HasWords (Kms name) words = ⊤
+
+-- a plugin's name is one of these
+abbrev pub IsNamedIn : List (List ℕ) → Who → Type 0
+IsNamedIn names Identity = ⊤
+IsNamedIn names (Aescbc name secret) = ⊤
+IsNamedIn names (Aesgcm name secret) = ⊤
+IsNamedIn names (Kms name) = Contains names name
+
+abbrev pub AreNamedIn : List (List ℕ) → List Who → Type 0
+AreNamedIn names [] = ⊤
+AreNamedIn names (who ∷ list) = IsNamedIn names who × AreNamedIn names list
+
+-- each plugin has its seed
+abbrev pub HaveSeeds : List SeedRow → List Who → Type 0
+HaveSeeds seeds [] = ⊤
+HaveSeeds seeds (who ∷ list) = HasSeed seeds who × HaveSeeds seeds list
+
+-- the provider is no plugin, or there is a link to it
+abbrev pub is_served : {L : Type 0} → (L → Link) → List L → Who → Bool
+is_served link links Identity = true
+is_served link links (Aescbc name secret) = true
+is_served link links (Aesgcm name secret) = true
+is_served link links (Kms name) = list_any (λ l. bytes_eq (link l).name name) links

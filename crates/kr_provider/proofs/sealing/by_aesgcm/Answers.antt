@@ -1,5 +1,5 @@
 -- `by_aesgcm`: what was written behind the prefix is the value.
-use Rattle.std.proofs.Common.{◌≡◌, ℕ, List, Some, ap, sym, ◌∙◌, ◌+◌, length}
+use Rattle.std.proofs.Common.{◌≡◌, ℕ, List, Some, ap, sym, ◌∙◌, ◌+◌, ◌-◌, ◌++◌, length, take}
 use Rattle.kr_envelope.specs.declared.prefix.Kind.TheVariants as kind
 use Rattle.kr_envelope.specs.Prefixes.{prefix}
 use Rattle.kr_config.specs.declared.who.Who.TheVariants.{Identity, Aesgcm}
@@ -21,7 +21,7 @@ returns-clause-sealed g c = λ seeds. (
       (gcm_body c.args.secret.now c.args.path.now c.args.plain.now c.draw.new.into) _ _
       (12 + length c.args.plain.now + 16) c.from_vec.ensures c.write_gcm.auto.value
       c.deref_mut.ensures.value c.in-Some.value.ok.0 c.len.ensures c.in-Some.ensures
-      c.write_gcm.ensures)),
+      (c.write_gcm.ensures ∙ ap (λ s. take (c.len.result - (12 + length c.args.plain.now + 16)) c.deref_mut.result.now ++ gcm_body s c.args.path.now c.args.plain.now c.draw.new.into) c.as_slice.ensures))),
   c.in-Ok.ensures.drawn.1,
   (λ e. absurd (other e)),
 )

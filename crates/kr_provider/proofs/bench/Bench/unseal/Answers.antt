@@ -1,16 +1,11 @@
--- `Bench::unseal`: the configuration is the adopted one.
-use Rattle.std.proofs.Common.{sym, ◌∙◌, ap, subst, Option}
-use Rattle.std.specs.Prelude.{IfSome}
-use Rattle.kr_provider.specs.Publication.{Publication, list_at}
-use Rattle.kr_provider.specs.Envelopes.{Envelope}
-use Rattle.kr_provider.specs.Reading.{Unseals}
+-- `Bench::unseal`: the links serve the configuration still, and what is kept is true.
+use Rattle.kr_provider.proofs.BenchLinks.{unsealed_stay}
 use Rattle.kr_provider.proofs.bench.Bench.unseal.Goals as goal
 
-pub returns-clause-opened : goal.returns-clause-opened
-returns-clause-opened g c =
-    let P : Publication → Type 0 = λ p. (envelope : Envelope)
-    → Unseals envelope p.seeds (list_at p c.args.resource.now) c.args.path.now c.args.bytes.now
-    c.unseal_for.result in
-    let Q : Option Publication → Type 0 = λ o. IfSome o P in
-    subst Q (sym c.in-Some.is ∙ ap (λ bench. bench.published) c.self.view_is)
-    (subst P c.get.ensures c.unseal_for.ensures)
+pub invariant_of-self : goal.invariant_of-self
+invariant_of-self g c = (
+  unsealed_stay g.L.Kms.link g.L.Kms.truth c.args.resource.now c.args.path.now c.args.bytes.now
+      c.self.inside.links c.unseal_for.new.links c.self.inside.adoption.published
+      c.unseal_for.result c.unseal_for.ensures.opened c.self.invariant.0,
+  c.unseal_for.ensures.kept,
+)

@@ -12,4 +12,4 @@ returns-clause-named g c = let P : Bool → Type 0 = λ b. IsTrue b
     ↔ Contains (names_of g.L.Kms.link c.args.self.now) c.args.name.now in
     subst P (sym (c.any_named.ensures ∙ ap (list_any
     (λ (link : g.row.L.Denot). bytes_eq (g.L.Kms.link link).name c.args.name.now))
-    (c.as_slice.ensures ∙ c.self.view_is))) (named g.L.Kms.link c.args.self.now c.args.name.now)
+    (c.as_slice.ensures.value ∙ c.self.view_is))) (named g.L.Kms.link c.args.self.now c.args.name.now)

@@ -1,0 +1,6 @@
+//! Tests of the system's streams over doubles that stop, break off and take little. They stand in a
+//! crate of their own, so that kr_edge isn't proved a second time.
+#![tactic(auto)]
+
+#[cfg(test)]
+mod tests;

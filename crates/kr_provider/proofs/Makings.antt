@@ -1,0 +1,343 @@
+-- Seeds that are made one after another, in the order of their plugins' names.
+use Rattle.std.proofs.Common.{◌≡◌, ℕ, zero, suc, ◌≤◌, Bool, true, false, List, [], ◌∷◌, ◌++◌, length, map, refl, sym, ◌∙◌, ap, subst, arith, Contains, inl, inr, append-nil, append_assoc}
+use Rattle.std.specs.Prelude.{◌⊎◌, not, Option, Some, None, Result, Ok, Err}
+use Rattle.std.specs.Io.KnownBytes.{Consumes}
+use Rattle.std.specs.List.Sorted.{IsStrictlySortedBy}
+use Rattle.std.proofs.KnownBytes.{Consumes-kept, Consumes-nil, Consumes-trans}
+use Rattle.std.proofs.lemmas.List.{map-append}
+use Rattle.std.proofs.lemmas.List.Elements.{All-contains, All-nil, All-push, Contains-append_cases, Contains-append_left, Contains-append_right}
+use Rattle.kr_config.specs.Kept.{Row, plugins_in}
+use Rattle.kr_config.specs.Nexts.{IsNextName, name_cmp}
+use Rattle.kr_kms.specs.Calls.{Link}
+use Rattle.kr_kms.specs.Health.{HasBreach}
+use Rattle.kr_kms.specs.Seeds.{IsSeedRow, MakesSeed}
+use Rattle.kr_kms.specs.Truth.{Truth, TellsOf, key_of}
+use Rattle.kr_kms.specs.declared.health.SeedNo.{SeedNo}
+use Rattle.kr_kms.specs.declared.health.SeedNo.TheVariants as seed
+use Rattle.kr_kms.specs.declared.seeds.SeedRow.{SeedRow}
+use Rattle.kr_provider.specs.AskedLinks.{AskedOnly, HasLinkWith}
+use Rattle.kr_provider.specs.Publishing.{AreSeedsOf, EndsAt, IsHealthy, Publishes, bytes_of_seeds, refusal_at}
+use Rattle.kr_provider.specs.declared.refusal.PublishNo.{PublishNo}
+use Rattle.kr_provider.specs.declared.refusal.PublishNo.TheVariants.{PluginFailed, DiceFailed, Unhealthy, NoMemory}
+use Rattle.kr_provider.specs.inner.Making.{MakesAt, MakesOne}
+use Rattle.kr_provider.proofs.AskedLists.{asked_none, asked_one, asked_then, breach_back, had, has_at, rose_at, rose_from, rose_later}
+use Rattle.kr_provider.proofs.NameOrder.{IsStrictlySortedBy-none, ascend_more, before_next, is_before, is_less, neither, none_between, not_itself, then_before, to_false}
+
+-- whether a name doesn't come after another
+abbrev pub is_passed : List ℕ → List ℕ → Bool
+is_passed after other = not (is_before after other)
+
+passed : (b : Bool) → not b ≡ true → b ≡ false
+passed true e = absurd (cc)
+passed false e = refl
+
+unpassed : (b : Bool) → b ≡ false → not b ≡ true
+unpassed true e = absurd (cc)
+unpassed false e = refl
+
+module _ {L : Type 0} (truth : Truth) (link : L
+    → Link) (links : List L) (names : List (List ℕ)) where
+  -- none is made yet, and no name is passed
+  pub seeds_none : ((name : List ℕ) → Contains names name → is_before [] name ≡ true)
+      → AreSeedsOf truth link links names (is_passed []) []
+  seeds_none all = record {
+    ascend = IsStrictlySortedBy-none;
+    named = λ name. (
+      λ c. absurd (omega (arith, c.1)),
+      λ c. let t = all name c.0 in
+          let f = passed (is_before [] name) c.1 in absurd (cc),
+    );
+    rows = All-nil IsSeedRow;
+    opens = All-nil (λ row. TellsOf truth (key_of row) row.seed);
+    healthy = All-nil (λ row. HasLinkWith link row.name IsHealthy links);
+  }
+
+  -- another test that the same names pass
+  pub seeds_by : (p q : List ℕ → Bool) (made : List SeedRow)
+      → ((name : List ℕ) → Contains names name → p name ≡ true → q name ≡ true)
+      → ((name : List ℕ) → Contains names name → q name ≡ true → p name ≡ true)
+      → AreSeedsOf truth link links names p made → AreSeedsOf truth link links names q made
+  seeds_by p q made there back s = record {
+    ascend = s.ascend;
+    named = λ name. (
+      λ c. let n = (s.named name).0 c in (n.0, there name n.0 n.1),
+      λ c. (s.named name).1 (c.0, back name c.0 c.1),
+    );
+    rows = s.rows;
+    opens = s.opens;
+    healthy = s.healthy;
+  }
+
+  -- at the next name, the seeds are those of the names before it
+  pub seeds_before : (after next : List ℕ) (made : List SeedRow)
+      → IsNextName names after (Some next) → AreSeedsOf truth link links names
+      (is_passed after) made → AreSeedsOf truth link links names
+      (λ other. is_before other next) made
+  seeds_before after next made n s = seeds_by (is_passed after) (λ other. is_before other next) made
+      (λ other c e. before_next after next other n.1 (passed (is_before after other) e))
+      (λ other c e. unpassed (is_before after other) (none_between names after next other n c e)) s
+
+  -- where no name is next, they are those of all
+  pub seeds_all : (after : List ℕ) (made : List SeedRow) → IsNextName names after None
+      → AreSeedsOf truth link links names (is_passed after) made
+      → AreSeedsOf truth link links names (λ name. true) made
+  seeds_all after made n s = seeds_by (is_passed after) (λ name. true) made (λ other c e. refl)
+      (λ other c e. unpassed (is_before after other)
+      (All-contains (λ x. is_before after x ≡ false) names other n c)) s
+
+  -- the seed of the next joins them
+  pub seeds_more : (after next : List ℕ) (made : List SeedRow) (row : SeedRow)
+      → IsNextName names after (Some next) → row.name ≡ next → IsSeedRow row
+      → TellsOf truth (key_of row) row.seed → HasLinkWith link next IsHealthy links
+      → AreSeedsOf truth link links names (is_passed after) made
+      → AreSeedsOf truth link links names (is_passed next) (made ++ row ∷ [])
+  seeds_more after next made row n is keeps opens healthy s =
+      let joined : map (λ r. r.name) (made ++ row ∷ []) ≡ map (λ r. r.name) made ++ next ∷ [] =
+      map-append (λ (r : SeedRow). r.name) made (row ∷ [])
+      ∙ ap (λ m. map (λ (r : SeedRow). r.name) made ++ m ∷ []) is in
+      let before : (other : List ℕ) → Contains (map (λ r. r.name) made) other
+      → is_before other next ≡ true =
+      λ other c. before_next after next other n.1
+      (passed (is_before after other) ((s.named other).0 c).1) in record {
+        ascend = subst (IsStrictlySortedBy name_cmp) (sym joined)
+            (ascend_more (map (λ r. r.name) made) next s.ascend
+            (λ other c. is_less other next (before other c)));
+        named = λ other. (
+          λ c. elim (Contains-append_cases (map (λ r. r.name) made) (next ∷ []) other
+              (subst (λ l. Contains l other) joined c)) [
+                | inl d ↦ (
+                  ((s.named other).0 d).0,
+                  unpassed (is_before next other)
+                      (to_false (is_before next other)
+                      (λ t. not_itself next (then_before next other next t (before other d)))),
+                )
+                | inr d ↦ (
+                  subst (Contains names) (one next other d) n.0,
+                  unpassed
+                      (is_before next other) (to_false (is_before next other)
+                      (λ t. not_itself next (subst (λ o. is_before next o ≡ true)
+                      (sym (one next other d)) t))),
+                )
+              ],
+          λ c. subst (λ l. Contains l other) (sym joined)
+              (found other c.0 (passed (is_before next other) c.1) (is_before after other) refl),
+        );
+        rows = All-push IsSeedRow made row s.rows keeps;
+        opens = All-push (λ r. TellsOf truth (key_of r) r.seed) made row s.opens opens;
+        healthy = All-push (λ r. HasLinkWith link r.name IsHealthy links) made row s.healthy
+            (subst (λ m. HasLinkWith link m IsHealthy links) (sym is) healthy);
+      }
+    where
+      one : (x y : List ℕ) → Contains (x ∷ []) y → x ≡ y
+      one x y (zero, lt, e) = e
+      one x y (suc k, lt, e) = absurd (omega (arith, lt))
+
+      found : (other : List ℕ) → Contains names other → is_before next other ≡ false → (b : Bool)
+          → is_before after other ≡ b → Contains (map (λ r. r.name) made ++ next ∷ []) other
+      found other c f false e = Contains-append_left (map (λ r. r.name) made) (next ∷ []) other
+          ((s.named other).1 (c, unpassed (is_before after other) e))
+      found other c f true e =
+          let same : next ≡ other = neither next other f
+          (to_false (is_before other next)
+          (λ t. let g = none_between names after next other n c t in cc)) in
+          Contains-append_right (map (λ r. r.name) made) (next ∷ []) other (0, omega arith, same)
+
+-- ---- the bytes that were drawn
+
+pub bytes_more : (made : List SeedRow) (row : SeedRow)
+    → bytes_of_seeds (made ++ row ∷ []) ≡ bytes_of_seeds made ++ row.seed
+bytes_more [] row = append-nil row.seed
+bytes_more (first ∷ made) row = ap (λ l. first.seed ++ l) (bytes_more made row)
+    ∙ sym (append_assoc first.seed (bytes_of_seeds made) row.seed)
+
+module _ {L D : Type 0} (truth : Truth) (link : L → Link) (left : D → Option (List ℕ)) (count : D
+    → ℕ) where
+  -- whatever the plugin answered, some bytes were drawn
+  drawn_by : (l m : Link) (dice after : D) (answer : Result SeedRow SeedNo)
+      → MakesSeed left count truth l dice answer m after
+      → (drawn : List ℕ) × Consumes (left dice) (left after) drawn
+  drawn_by l m dice after (Ok row) h = (row.seed, h.4)
+  drawn_by l m dice after (Err seed.Failed) h = either dice after h.1
+    where
+      either : (dice after : D) → (after ≡ dice)
+          ⊎ (HasBreach l None × ((drawn : List ℕ) × (length drawn ≡ 32)
+          × Consumes (left dice) (left after) drawn))
+          → (drawn : List ℕ) × Consumes (left dice) (left after) drawn
+      either dice after (inl e) = (
+        [],
+        subst (λ d. Consumes (left dice) (left d) []) (sym e)
+            (Consumes-nil (left dice)),
+      )
+      either dice after (inr d) = (d.1.0, d.1.2)
+  drawn_by l m dice after (Err seed.DiceFailed) h =
+      ([], Consumes-kept (left dice) (left dice) (left after) [] (Consumes-nil (left dice)) h.2)
+  drawn_by l m dice after (Err (seed.Unhealthy field text)) h =
+      ([], subst (λ d. Consumes (left dice) (left d) []) (sym h.1) (Consumes-nil (left dice)))
+  drawn_by l m dice after (Err seed.NoMemory) h = either dice after h
+    where
+      either : (dice after : D) → (after ≡ dice)
+          ⊎ (HasBreach l None × ((drawn : List ℕ) × (length drawn ≡ 32)
+          × Consumes (left dice) (left after) drawn))
+          → (drawn : List ℕ) × Consumes (left dice) (left after) drawn
+      either dice after (inl e) = (
+        [],
+        subst (λ d. Consumes (left dice) (left d) []) (sym e)
+            (Consumes-nil (left dice)),
+      )
+      either dice after (inr d) = (d.1.0, d.1.2)
+
+  -- how far publishing has come
+  pub record ComesTo (rows : List Row) (links : List L) (dice : D) (name : List ℕ)
+      (made : List SeedRow) (mids : List L) (mid : D) : Type 0 where
+    pub seeds : AreSeedsOf truth link links (plugins_in rows) (is_passed name) made
+    pub asked : AskedOnly link (plugins_in rows) links mids
+    pub drawn : Consumes (left dice) (left mid) (bytes_of_seeds made)
+    pub later : count dice ≤ count mid
+
+  pub begins_at : (rows : List Row) (links : List L) (dice : D)
+      → ((name : List ℕ) → Contains (plugins_in rows) name → is_before [] name ≡ true)
+      → ComesTo rows links dice [] [] links dice
+  begins_at rows links dice all = record {
+    seeds = seeds_none truth link links (plugins_in rows) all;
+    asked = asked_none link (plugins_in rows) links;
+    drawn = Consumes-nil (left dice);
+    later = omega arith;
+  }
+
+  module _ (rows : List Row) (links : List L) (dice : D) (name next : List ℕ) (made : List SeedRow)
+      (mids news : List L) (mid after : D) where
+    healthy_before : (breach : _) (answer : Result SeedRow SeedNo)
+        → ComesTo rows links dice name made mids mid
+        → (a : MakesOne truth link left count next mids mid answer news after)
+        → HasBreach (link a.old) breach → HasLinkWith link next (λ l. HasBreach l breach) links
+    healthy_before breach answer to a h = had link (plugins_in rows) next
+        (λ l. HasBreach l breach) links mids (breach_back breach) to.asked
+        (has_at link next (λ old new. MakesSeed left count truth (link old) mid answer
+        (link new) after) mids news (λ l. HasBreach l breach) a h)
+
+    pub goes_on : (row : SeedRow) → IsNextName (plugins_in rows) name (Some next)
+        → ComesTo rows links dice name made mids mid → count mid ≤ count after
+        → MakesAt truth link left count next mids mid (Ok row) news after
+        → ComesTo rows links dice next (made ++ row ∷ []) news after
+    goes_on row n to l a = record {
+      seeds = seeds_more truth link links (plugins_in rows) name next made row n
+          (a.asks.1 ∙ a.named) a.asks.2 a.asks.3
+          (healthy_before None (Ok row) to a a.asks.0) to.seeds;
+      asked = asked_then link (plugins_in rows) links mids news to.asked
+          (asked_one link next (λ old new. MakesSeed left count truth (link old) mid (Ok row)
+          (link new) after) mids news (plugins_in rows) a n.0);
+      drawn = subst (Consumes (left dice) (left after)) (sym (bytes_more made row))
+          (Consumes-trans (left dice) (left mid) (left after)
+          (bytes_of_seeds made) row.seed to.drawn a.asks.4);
+      later = omega (arith, to.later, l);
+    }
+
+    ends_at : (drawn : List ℕ) → IsNextName (plugins_in rows) name (Some next)
+        → ComesTo rows links dice name made mids mid → Consumes (left mid) (left after) drawn
+        → EndsAt truth link left count rows links dice after next drawn
+    ends_at drawn n to c = record {
+      there = n.0;
+      made = made;
+      seeds = seeds_before truth link links (plugins_in rows) name next made n to.seeds;
+      draws = Consumes-trans (left dice) (left mid) (left after)
+          (bytes_of_seeds made) drawn to.drawn c;
+    }
+
+    undrawn : after ≡ mid → Consumes (left mid) (left after) []
+    undrawn e = subst (λ d. Consumes (left mid) (left d) []) (sym e) (Consumes-nil (left mid))
+
+    pub ends : (why : PublishNo) → IsNextName (plugins_in rows) name (Some next)
+        → ComesTo rows links dice name made mids mid
+        → MakesAt truth link left count next mids mid (Err why) news after
+        → Publishes truth link left count rows links dice (Err why) news after
+    ends (PluginFailed other) n to (is, a) =
+        let rose = rose_later link (plugins_in rows) next links mids news to.asked
+        (rose_at link next (λ old new. MakesSeed left count truth (link old) mid
+        (Err seed.Failed) (link new) after) mids news a a.asks.0) in
+        subst (λ m. Publishes truth link left count rows links dice
+        (Err (PluginFailed m)) news after) (sym is) (rose, at a.asks.1)
+      where
+        at : (after ≡ mid) ⊎ (HasBreach (link a.old) None
+            × ((drawn : List ℕ) × (length drawn ≡ 32) × Consumes (left mid) (left after) drawn))
+            → EndsAt truth link left count rows links dice after next []
+            ⊎ ((drawn : List ℕ) × (length drawn ≡ 32)
+            × EndsAt truth link left count rows links dice after next drawn
+            × HasLinkWith link next IsHealthy links)
+        at (inl e) = inl (ends_at [] n to (undrawn e))
+        at (inr d) = inr (
+          d.1.0,
+          d.1.1,
+          ends_at d.1.0 n to d.1.2,
+          healthy_before None
+              (Err seed.Failed) to a d.0,
+        )
+    ends DiceFailed n to a = (
+      next,
+      ends_at [] n to (Consumes-kept (left mid) (left mid) (left after) []
+          (Consumes-nil (left mid)) a.asks.2),
+      healthy_before None (Err seed.DiceFailed) to a a.asks.0,
+      rose_from (count dice) (count mid) (count after) to.later a.asks.1,
+    )
+    ends (Unhealthy other field text) n to (is, a) =
+        subst (λ m. Publishes truth link left count rows links dice
+        (Err (Unhealthy m field text)) news after) (sym is) (
+          ends_at [] n to (undrawn a.asks.1),
+          healthy_before (Some (field, text)) (Err (seed.Unhealthy field text)) to a a.asks.0,
+        )
+    ends NoMemory n to (answer, a) =
+        let d = drawn_by (link a.old) (link a.new) mid after answer a.asks in (
+          bytes_of_seeds made ++ d.0,
+          Consumes-trans (left dice) (left mid) (left after)
+              (bytes_of_seeds made) d.0 to.drawn d.1,
+        )
+
+    -- every answer asked the next plugin alone
+    pub asked_next : (answer : Result SeedRow PublishNo)
+        → IsNextName (plugins_in rows) name (Some next) → ComesTo rows links dice name made mids mid
+        → MakesAt truth link left count next mids mid answer news after
+        → AskedOnly link (plugins_in rows) links news
+    asked_next answer n to a = asked_then link (plugins_in rows) links mids news to.asked
+        (by answer a)
+      where
+        one : (r : Result SeedRow SeedNo) → MakesOne truth link left count next mids mid r news
+            after → AskedOnly link (plugins_in rows) mids news
+        one r a = asked_one link next (λ old new.
+            MakesSeed left count truth (link old) mid r (link new) after) mids news
+            (plugins_in rows) a n.0
+
+        by : (answer : Result SeedRow PublishNo)
+            → MakesAt truth link left count next mids mid answer news after
+            → AskedOnly link (plugins_in rows) mids news
+        by (Ok row) a = one (Ok row) a
+        by (Err (PluginFailed other)) a = one (Err seed.Failed) a.1
+        by (Err DiceFailed) a = one (Err seed.DiceFailed) a
+        by (Err (Unhealthy other field text)) a = one (Err (seed.Unhealthy field text)) a.1
+        by (Err NoMemory) a = one a.0 a.1
+
+  -- all are made where no plugin is next
+  pub all_made : (rows : List Row) (links : List L) (dice : D) (name : List ℕ) (made : List SeedRow)
+      (news : List L) (after : D) → IsNextName (plugins_in rows) name None
+      → ComesTo rows links dice name made news after
+      → Publishes truth link left count rows links dice
+      (Ok (record { rows = rows; seeds = made })) news after
+  all_made rows links dice name made news after n to =
+      (refl, seeds_all truth link links (plugins_in rows) name made n to.seeds, to.drawn)
+
+  -- the answer of one plugin, with its name where it refuses
+  pub answers_at : (name : List ℕ) (links : List L) (dice : D) (why : SeedNo) (refusal : PublishNo)
+      (news : List L) (after : D) → (refusal ≡ refusal_at name why) ⊎ (refusal ≡ NoMemory)
+      → MakesOne truth link left count name links dice (Err why) news after
+      → MakesAt truth link left count name links dice (Err refusal) news after
+  answers_at name links dice why refusal news after (inr e) a =
+      subst (λ r. MakesAt truth link left count name links dice (Err r) news after) (sym e)
+      (Err why, a)
+  answers_at name links dice why refusal news after (inl e) a =
+      subst (λ r. MakesAt truth link left count name links dice (Err r) news after) (sym e)
+      (by why a)
+    where
+      by : (why : SeedNo) → MakesOne truth link left count name links dice (Err why) news after
+          → MakesAt truth link left count name links dice (Err (refusal_at name why)) news after
+      by seed.Failed a = (refl, a)
+      by seed.DiceFailed a = a
+      by (seed.Unhealthy field text) a = (refl, a)
+      by seed.NoMemory a = (Err seed.NoMemory, a)

@@ -1,0 +1,41 @@
+-- `key_id_in`: the plugin of the name alone is asked, and a refusal is its own.
+use Rattle.std.proofs.Common.{◌≡◌, ℕ, List, Err, refl, sym, subst, inl, inr}
+use Rattle.std.specs.Prelude.{◌⊎◌}
+use Rattle.kr_kms.specs.Calls.{Link}
+use Rattle.kr_kms.specs.Health.{TellsKeyId}
+use Rattle.kr_kms.specs.declared.health.SeedNo.{SeedNo}
+use Rattle.kr_kms.specs.declared.health.SeedNo.TheVariants as seed
+use Rattle.kr_provider.specs.Publishing.{AnswersKeyId, TellsKeyIdOf, refusal_at}
+use Rattle.kr_provider.specs.declared.refusal.PublishNo.{PublishNo}
+use Rattle.kr_provider.specs.declared.refusal.PublishNo.TheVariants.{NoMemory}
+use Rattle.kr_provider.proofs.AskedLists.{asked_alone}
+use Rattle.kr_provider.proofs.bench.key_id_in.Goals as goal
+
+tells : {L : Type 0} (link : L → Link) (name : List ℕ) (olds news : List L) (why : SeedNo)
+    (refusal : PublishNo) → (refusal ≡ refusal_at name why) ⊎ (refusal ≡ NoMemory)
+    → AnswersKeyId link name olds (Err why) news → TellsKeyIdOf link name olds (Err refusal) news
+tells link name olds news why refusal (inr e) a =
+    subst (λ r. TellsKeyIdOf link name olds (Err r) news) (sym e) tt
+tells {L} link name olds news why refusal (inl e) a =
+    subst (λ r. TellsKeyIdOf link name olds (Err r) news) (sym e) (by why a)
+  where
+    by : (why : SeedNo) → AnswersKeyId link name olds (Err why) news
+        → TellsKeyIdOf link name olds (Err (refusal_at name why)) news
+    by seed.Failed a = (refl, a)
+    by seed.DiceFailed a = absurd a.asks
+    by (seed.Unhealthy field text) a = (refl, a)
+    by seed.NoMemory a = tt
+
+pub returns-in-Ok-clause-asked : goal.returns-in-Ok-clause-asked
+returns-in-Ok-clause-asked g c = asked_alone g.L.Kms.link c.args.name.now
+    (λ old new. TellsKeyId (g.L.Kms.link old) c.key_id.result (g.L.Kms.link new))
+    c.args.links.now c.key_id.new.self c.key_id.ensures
+
+pub returns-in-Err-clause-told : goal.returns-in-Err-clause-told
+returns-in-Err-clause-told g c = tells g.L.Kms.link c.args.name.now c.args.links.now
+    c.key_id.new.self c.in-Err.why c.refusal_at.result c.refusal_at.ensures c.in-Err.ensures
+
+pub returns-in-Err-clause-asked : goal.returns-in-Err-clause-asked
+returns-in-Err-clause-asked g c = asked_alone g.L.Kms.link c.args.name.now
+    (λ old new. TellsKeyId (g.L.Kms.link old) c.key_id.result (g.L.Kms.link new))
+    c.args.links.now c.key_id.new.self c.key_id.ensures

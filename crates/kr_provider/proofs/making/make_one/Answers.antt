@@ -1,0 +1,8 @@
+-- `make_one`: the refusal is that of the plugin of the name.
+use Rattle.kr_provider.proofs.Makings.{answers_at}
+use Rattle.kr_provider.proofs.making.make_one.Goals as goal
+
+pub returns-in-Err-clause-made : goal.returns-in-Err-clause-made
+returns-in-Err-clause-made g c = answers_at g.L.Kms.truth g.L.Kms.link g.D.Dice.left g.D.Dice.count
+    c.args.name.now c.args.links.now c.args.dice.now c.in-Err.why c.refusal_at.result
+    c.make_seed.new.self c.make_seed.new.dice c.refusal_at.ensures c.in-Err.ensures.made

@@ -1,0 +1,79 @@
+-- `unseal_in`: the reader is the first whose prefix the value begins with.
+use Rattle.std.proofs.Common.{sym, ap, nat_eq, ◌∙◌}
+use Rattle.kr_provider.specs.Envelopes.{unknown}
+use Rattle.kr_provider.specs.Names.{names_of}
+use Rattle.kr_provider.specs.Publication.{seed_of}
+use Rattle.kr_provider.proofs.Keys.{adopted_among}
+use Rattle.kr_provider.proofs.Places.{no_plugin, read_by, read_by_plugin, reader_reads, reader_within, unread}
+use Rattle.kr_provider.proofs.PluginNames.{linked, unseeded}
+use Rattle.kr_provider.proofs.Unsealings.{key_opens, key_refuses, no_reader}
+use Rattle.kr_provider.proofs.values.unseal_in.Goals as goal
+
+pub returns-in_default-clause-opened : goal.returns-in_default-clause-opened
+returns-in_default-clause-opened g c = no_reader g.L.Kms.truth g.L.Kms.link c.args.seeds.now
+    c.args.list.now c.args.path.now c.args.bytes.now c.args.links.now
+    (unread c.args.list.now c.args.bytes.now (sym c.in_default.ensures))
+
+pub unreachable-requires : goal.unreachable-requires
+unreachable-requires g c =
+    let reads = reader_reads c.args.list.now c.args.bytes.now c.in-Some.place
+    c.index-list-place.result (sym c.in-Some.ensures) c.index-list-place.is in
+    let not = c.in_default-body_of.ensures in
+    cc
+
+pub unreachable-requires-in_default-seed_of : goal.unreachable-requires-in_default-seed_of
+unreachable-requires-in_default-seed_of g c = unseeded c.args.seeds.now c.args.list.now
+    c.in-Some.place c.index-list-place.result c.in-Kms.name c.as_str.result.now c.requires.seeds
+    (reader_within c.args.list.now c.args.bytes.now c.in-Some.place c.index-list-place.result
+    (sym c.in-Some.ensures)) c.index-list-place.is c.in-Kms.is c.as_str.ensures
+    c.in_default-seed_of.ensures
+
+pub by_plugin-requires-clause-link : goal.by_plugin-requires-clause-link
+by_plugin-requires-clause-link g c = linked (names_of g.L.Kms.link c.args.links.now)
+    c.args.list.now c.in-Some.place c.index-list-place.result c.in-Kms.name
+    c.as_str-in-Kms.result.now c.requires.links
+    (reader_within c.args.list.now c.args.bytes.now c.in-Some.place c.index-list-place.result
+    (sym c.in-Some.ensures)) c.index-list-place.is c.in-Kms.is c.as_str-in-Kms.ensures
+
+pub words-requires : goal.words-requires
+words-requires g c = record {
+  adopted = c.requires.adopted;
+  among = adopted_among c.args.adoption.now.published c.args.list.now c.in-Some.place
+      c.index-list-place.result c.requires.among
+      (reader_within c.args.list.now c.args.bytes.now c.in-Some.place c.index-list-place.result
+      (sym c.in-Some.ensures)) c.index-list-place.is;
+}
+
+pub returns-in-Some-seed_of-clause-opened : goal.returns-in-Some-seed_of-clause-opened
+returns-in-Some-seed_of-clause-opened g c = c.by_plugin.ensures.opened c.args.seeds.now
+    c.args.list.now c.args.bytes.now
+    (ap (λ n. seed_of n c.args.seeds.now) (c.as_str-in-Kms.ensures ∙ sym c.as_str.ensures)
+    ∙ c.in-Some-seed_of.ensures)
+    (read_by_plugin c.args.list.now c.args.bytes.now c.in-Some-body_of.body.now c.in-Some.place
+    c.index-list-place.result c.in-Kms.name c.as_str-in-Kms.result.now c.requires.list.some
+    (sym c.in-Some.ensures) c.index-list-place.is c.in-Some-body_of.ensures.1 c.in-Kms.is
+    c.as_str-in-Kms.ensures)
+
+pub returns-in-Ok : goal.returns-in-Ok
+returns-in-Ok g c = record {
+  opened = key_opens g.L.Kms.truth g.L.Kms.link c.args.seeds.now c.args.list.now c.args.path.now
+      c.args.bytes.now c.args.links.now c.index-list-place.result c.in-Some-body_of.body.now
+      (nat_eq c.in-Some.place 0) c.in-Ok.plain
+      (no_plugin c.index-list-place.result c.in_default-reader.not-Kms)
+      (read_by c.args.list.now c.args.bytes.now c.in-Some-body_of.body.now c.in-Some.place
+      c.index-list-place.result c.requires.list.some (sym c.in-Some.ensures)
+      c.index-list-place.is c.in-Some-body_of.ensures.1) (c.in-Ok.ensures unknown);
+  kept = c.requires.kept;
+}
+
+pub returns-in-Err : goal.returns-in-Err
+returns-in-Err g c = record {
+  opened = key_refuses g.L.Kms.truth g.L.Kms.link c.args.seeds.now c.args.list.now
+      c.args.path.now c.args.bytes.now c.args.links.now c.index-list-place.result
+      c.in-Some-body_of.body.now (nat_eq c.in-Some.place 0) c.in-Err.why
+      (no_plugin c.index-list-place.result c.in_default-reader.not-Kms)
+      (read_by c.args.list.now c.args.bytes.now c.in-Some-body_of.body.now c.in-Some.place
+      c.index-list-place.result c.requires.list.some (sym c.in-Some.ensures)
+      c.index-list-place.is c.in-Some-body_of.ensures.1) (c.in-Err.ensures unknown);
+  kept = c.requires.kept;
+}

@@ -1,0 +1,33 @@
+-- `unseal_object`: the source is the published seed, or what the plugin unwraps.
+use Rattle.std.proofs.Common.{◌∙◌, sym, subst}
+use Rattle.kr_kms.specs.Truth.{key_of}
+use Rattle.kr_kms.proofs.Keys.{same_key}
+use Rattle.kr_provider.specs.Envelopes.{seed_key}
+use Rattle.kr_provider.specs.Reading.{Gives, source_reading}
+use Rattle.kr_provider.proofs.ObjectSources.{another_seed, seed_taken, source_fails, source_opened}
+use Rattle.kr_provider.proofs.values.unseal_object.Goals as goal
+
+pub returns-then-is_seed_of-clause-opened : goal.returns-then-is_seed_of-clause-opened
+returns-then-is_seed_of-clause-opened g c = seed_taken g.L.Kms.truth g.L.Kms.link c.args.row.now
+    c.args.name.now c.args.object.now c.args.path.now c.args.links.now c.by_source.result
+    ((same_key (key_of c.args.row.now) (seed_key c.args.name.now c.args.object.now)).0
+    (sym c.is_seed_of.ensures ∙ c.if-is_seed_of.true))
+    (subst (λ r. Gives r c.by_source.result) (λ i. source_reading c.args.object.now.kind
+    (c.as_slice.ensures i) c.args.path.now (c.as_slice-encrypted.ensures i)) c.by_source.ensures)
+
+pub returns-in-Err-clause-opened : goal.returns-in-Err-clause-opened
+returns-in-Err-clause-opened g c = source_fails g.L.Kms.truth g.L.Kms.link c.args.row.now
+    c.args.name.now c.args.object.now c.args.path.now c.args.links.now c.open_source.new.links
+    c.in-Err.why
+    (another_seed c.args.row.now c.args.name.now c.args.object.now c.is_seed_of.result
+    c.is_seed_of.ensures c.if-is_seed_of.false) c.in-Err.ensures.opened
+
+pub returns-clause-opened : goal.returns-clause-opened
+returns-clause-opened g c = source_opened g.L.Kms.truth g.L.Kms.link c.args.row.now
+    c.args.name.now c.args.object.now c.args.path.now c.args.links.now c.open_source.new.links
+    c.in-Ok.source c.by_source-2.result
+    (another_seed c.args.row.now c.args.name.now c.args.object.now c.is_seed_of.result
+    c.is_seed_of.ensures c.if-is_seed_of.false) c.in-Ok.ensures.opened
+    (subst (λ r. Gives r c.by_source-2.result) (λ i. source_reading c.args.object.now.kind
+    (c.as_slice-2.ensures i) c.args.path.now (c.as_slice-encrypted.ensures i))
+    c.by_source-2.ensures)

@@ -1,0 +1,94 @@
+-- How a bench unseals: what it may ask of plugins, and how its answer stands to the value's
+-- reading.
+use Rattle.std.specs.Prelude.{◌≡◌, ℕ, true, List, [], ◌∷◌, Option, Some, None, Result, Ok, Err, ⊤}
+use Rattle.kr_config.specs.declared.who.Who.{Who}
+use Rattle.kr_config.specs.declared.who.Who.TheVariants.{Identity, Aescbc, Aesgcm, Kms}
+use Rattle.kr_config.specs.Providers.{plugin_of}
+use Rattle.kr_envelope.specs.declared.object.EncryptedObject.{EncryptedObject}
+use Rattle.kr_envelope.specs.declared.object.ObjectNo.{ObjectNo}
+use Rattle.kr_kms.specs.Calls.{Link}
+use Rattle.kr_kms.specs.Truth.{Truth, OpenAll, key_of}
+use Rattle.kr_kms.specs.declared.seeds.SeedRow.{SeedRow}
+use Rattle.kr_provider.specs.AskedLinks.{AskedOnly, FaultRose}
+use Rattle.kr_provider.specs.Envelopes.{Envelope, HasObject, IsEnvelopeOf, IsObjectOf, seed_key}
+use Rattle.kr_provider.specs.Publication.{seed_of}
+use Rattle.kr_provider.specs.Readers.{reader_in}
+use Rattle.kr_provider.specs.Reading.{Unseals}
+use Rattle.kr_provider.specs.declared.refusal.Opened.{Opened}
+use Rattle.kr_provider.specs.declared.refusal.UnsealNo.{UnsealNo}
+use Rattle.kr_provider.specs.declared.refusal.UnsealNo.TheVariants.{Refused, PluginFailed, NoMemory}
+
+-- the published seed of the plugin is the object's: name, key id, annotations and source are the
+-- same
+abbrev pub IsSeedOf : SeedRow → (name : List ℕ) → EncryptedObject → Type 0
+IsSeedOf row name object = key_of row ≡ seed_key name object
+
+-- the plugin may be asked for the object's seed: the published one is another
+abbrev pub MayAskFor : List SeedRow → (name : List ℕ) → EncryptedObject → Type 0
+MayAskFor seeds name object =
+    (row : SeedRow) → seed_of name seeds ≡ Some row → IsSeedOf row name object → ⊥
+
+-- a plugin may be asked for a value only where it reads the value and the value has an object
+abbrev pub MayAsk : List SeedRow → Option Who → Result EncryptedObject ObjectNo → Type 0
+MayAsk seeds None object = ⊥
+MayAsk seeds (Some Identity) object = ⊥
+MayAsk seeds (Some (Aescbc name secret)) object = ⊥
+MayAsk seeds (Some (Aesgcm name secret)) object = ⊥
+MayAsk seeds (Some (Kms name)) (Ok object) = MayAskFor seeds name object
+MayAsk seeds (Some (Kms name)) (Err why) = ⊥
+
+-- the reader of a value, where it is a plugin
+abbrev pub plugin_reading : Option Who → List (List ℕ)
+plugin_reading None = []
+plugin_reading (Some who) = plugin_of who
+
+-- a published seed that is the object's is taken for its source
+abbrev pub TakesSeed : List SeedRow → Option Who → Envelope → Type 0
+TakesSeed seeds None envelope = ⊤
+TakesSeed seeds (Some Identity) envelope = ⊤
+TakesSeed seeds (Some (Aescbc name secret)) envelope = ⊤
+TakesSeed seeds (Some (Aesgcm name secret)) envelope = ⊤
+TakesSeed seeds (Some (Kms name)) envelope = (object : EncryptedObject) (row : SeedRow)
+    → envelope.object ≡ Ok object → seed_of name seeds ≡ Some row → IsSeedOf row name object
+    → envelope.source ≡ Some row.seed
+
+-- the answer is the reading of an envelope: the object is the value's, whatever the links tell; its
+-- source
+-- is a published seed where one is the object's; and where the truth is told and the published
+-- seeds open
+-- to what stands with them, it is what the object's source opens to
+pub record IsReading {L : Type 0} (truth : Truth) (link : L → Link) (seeds : List SeedRow)
+    (list : List Who) (path bytes : List ℕ) (old : List L) (result : Result Opened UnsealNo)
+    (new : List L) : Type 0 where
+  pub envelope : Envelope
+  pub object : HasObject (reader_in list bytes) bytes envelope.object
+  pub published : TakesSeed seeds (reader_in list bytes) envelope
+  pub told : truth.told ≡ true → OpenAll truth.opens seeds
+      → IsEnvelopeOf truth.opens list bytes envelope
+  pub is : Unseals envelope seeds list path bytes result
+  -- no link is asked but that to the reader, and that one only where it may be asked
+  pub asked : AskedOnly link (plugin_reading (reader_in list bytes)) old new
+  pub unasked : (MayAsk seeds (reader_in list bytes) envelope.object → ⊥) → new ≡ old
+
+-- the plugin that reads the value was asked for the object's source and failed
+pub record FailsAt {L : Type 0} (link : L → Link) (seeds : List SeedRow) (list : List Who)
+    (bytes : List ℕ) (old : List L) (name : List ℕ) (new : List L) : Type 0 where
+  pub object : EncryptedObject
+  pub reader : reader_in list bytes ≡ Some (Kms name)
+  pub reads : IsObjectOf name bytes (Ok object)
+  pub asked : MayAskFor seeds name object
+  pub rose : FaultRose link name old new
+  pub others : AskedOnly link (name ∷ []) old new
+
+-- each answer, in the order in which a refusal comes
+module _ {L : Type 0} (truth : Truth) (link : L → Link) where
+  abbrev pub UnsealsBy : List SeedRow → List Who → (path bytes : List ℕ) → List L
+      → Result Opened UnsealNo → List L → Type 0
+  UnsealsBy seeds list path bytes old (Ok opened) new =
+      IsReading truth link seeds list path bytes old (Ok opened) new
+  UnsealsBy seeds list path bytes old (Err (Refused why)) new =
+      IsReading truth link seeds list path bytes old (Err (Refused why)) new
+  UnsealsBy seeds list path bytes old (Err (PluginFailed name)) new =
+      FailsAt link seeds list bytes old name new
+  UnsealsBy seeds list path bytes old (Err NoMemory) new =
+      AskedOnly link (plugin_reading (reader_in list bytes)) old new

@@ -1,0 +1,88 @@
+-- How a plugin's value is read, step by step: its object, its object's source, its data.
+use Rattle.std.specs.Prelude.{◌≡◌, ◌≢◌, ◌⊎◌, ℕ, Bool, true, List, [], ◌∷◌, Some, Result, Ok, Err, ⊤}
+use Rattle.kr_config.specs.declared.who.Who.{Who}
+use Rattle.kr_envelope.specs.declared.object.EncryptedObject.{EncryptedObject}
+use Rattle.kr_envelope.specs.declared.object.ObjectNo.{ObjectNo}
+use Rattle.kr_envelope.specs.declared.object.ObjectNo.TheVariants as object
+use Rattle.kr_envelope.specs.Limits.{Reads}
+use Rattle.kr_kms.specs.Calls.{Link}
+use Rattle.kr_kms.specs.Truth.{Truth, TellsOf, key_of}
+use Rattle.kr_kms.specs.declared.seeds.SeedRow.{SeedRow}
+use Rattle.kr_provider.specs.AskedLinks.{AskedOnly, FaultRose}
+use Rattle.kr_provider.specs.Envelopes.{seed_key}
+use Rattle.kr_provider.specs.Readers.{body_by, is_reader, reader_in, writer_of}
+use Rattle.kr_provider.specs.Reading.{Gives, object_refusal, refused, source_reading}
+use Rattle.kr_provider.specs.Unsealing.{IsSeedOf}
+use Rattle.kr_provider.specs.declared.refusal.UnsealNo.{UnsealNo}
+use Rattle.kr_provider.specs.declared.refusal.UnsealNo.TheVariants.{Refused, PluginFailed, NoMemory}
+
+-- the refusal is the object's
+abbrev pub IsRefusalOf : ObjectNo → UnsealNo → Type 0
+IsRefusalOf why (Refused refusal) = (object_refusal why ≡ refused refusal) × (why ≢ object.NoMemory)
+IsRefusalOf why (PluginFailed name) = ⊥
+IsRefusalOf why NoMemory = ⊤
+
+-- the object that the bytes spell, or why there is none
+abbrev pub IsObjectIn : List ℕ → Result EncryptedObject UnsealNo → Type 0
+IsObjectIn body (Ok found) = Reads body (Ok found)
+IsObjectIn body (Err (Refused refusal)) =
+    (why : ObjectNo) × Reads body (Err why) × IsRefusalOf why (Refused refusal)
+IsObjectIn body (Err (PluginFailed name)) = ⊥
+IsObjectIn body (Err NoMemory) = ⊤
+
+-- the source of an object: a published seed that is the object's; and where the truth is told and
+-- that
+-- seed is what its source opens to, what the object's source opens to
+pub record IsSourceOf (truth : Truth) (row : SeedRow) (name : List ℕ) (found : EncryptedObject)
+    (source : List ℕ) : Type 0 where
+  pub published : IsSeedOf row name found → source ≡ row.seed
+  pub told : TellsOf truth (key_of row) row.seed → TellsOf truth (seed_key name found) source
+
+-- the plugin failed, which was asked for the source of an object since the published seed is
+-- another
+pub record FailsToOpen {L : Type 0} (link : L → Link) (row : SeedRow) (name : List ℕ)
+    (found : EncryptedObject) (old : List L) (failed : List ℕ) (new : List L) : Type 0 where
+  pub name_is : failed ≡ name
+  pub other : IsSeedOf row name found → ⊥
+  pub rose : FaultRose link name old new
+  pub asked : AskedOnly link (name ∷ []) old new
+
+-- what an object holds by such a source
+pub record ReadsObject {L : Type 0} (truth : Truth) (link : L → Link) (row : SeedRow)
+    (name : List ℕ) (found : EncryptedObject) (path : List ℕ) (old : List L)
+    (result : Result (List ℕ) UnsealNo) (new : List L) : Type 0 where
+  pub source : List ℕ
+  pub is : IsSourceOf truth row name found source
+  pub gives : Gives (source_reading found.kind source path found.encrypted) result
+  pub asked : AskedOnly link (name ∷ []) old new
+  pub unasked : (new ≡ old) ⊎ (IsSeedOf row name found → ⊥)
+
+module _ {L : Type 0} (truth : Truth) (link : L → Link) (name : List ℕ)
+    (found : EncryptedObject) where
+  -- what the plugin unwrapped the source to
+  abbrev pub OpensSource : List L → Result (List ℕ) UnsealNo → List L → Type 0
+  OpensSource old (Ok source) new =
+      TellsOf truth (seed_key name found) source × AskedOnly link (name ∷ []) old new
+  OpensSource old (Err (Refused why)) new = ⊥
+  OpensSource old (Err (PluginFailed failed)) new = (failed ≡ name)
+      × FaultRose link name old new × AskedOnly link (name ∷ []) old new
+  OpensSource old (Err NoMemory) new = AskedOnly link (name ∷ []) old new
+
+module _ {L : Type 0} (truth : Truth) (link : L → Link) (row : SeedRow) (name : List ℕ)
+    (found : EncryptedObject) where
+  abbrev pub UnsealsObject : (path : List ℕ) → List L → Result (List ℕ) UnsealNo → List L → Type 0
+  UnsealsObject path old (Ok plain) new =
+      ReadsObject truth link row name found path old (Ok plain) new
+  UnsealsObject path old (Err (Refused why)) new =
+      ReadsObject truth link row name found path old (Err (Refused why)) new
+  UnsealsObject path old (Err (PluginFailed failed)) new =
+      FailsToOpen link row name found old failed new
+  UnsealsObject path old (Err NoMemory) new = AskedOnly link (name ∷ []) old new
+
+-- the provider reads the value by a list; whether it is the list's first
+pub record IsReadBy (list : List Who) (bytes : List ℕ) (who : Who) (body : List ℕ) (first : Bool)
+    : Type 0 where
+  pub reader : reader_in list bytes ≡ Some who
+  pub body_is : body ≡ body_by who bytes
+  pub first_is : is_reader bytes (writer_of list) ≡ first
+  pub writer : first ≡ true → writer_of list ≡ who

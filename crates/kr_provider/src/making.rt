@@ -1,0 +1,89 @@
+//! The seeds of a configuration's plugins, made in the order of their names.
+ghost use Rattle.std.specs.Prelude.{◌≡◌, ◌≤◌, ◌⊎◌, [], false, Contains, IfOk, IsOk};
+ghost use Rattle.std.specs.Str.{IsUtf8};
+ghost use Rattle.kr_config.specs.Kept.{plugins_in, rows_of};
+ghost use Rattle.kr_provider.specs.AskedLinks.{AskedOnly};
+ghost use Rattle.kr_provider.specs.Names.{HasLinks, names_of};
+ghost use Rattle.kr_provider.specs.Publication.{names_plugin};
+ghost use Rattle.kr_provider.specs.Publishing.{refusal_at};
+ghost use Rattle.kr_provider.specs.inner.Making.{MakesAt, MakesAll};
+
+use crate::links::Links;
+use crate::refusal::PublishNo;
+use kr_base::{Dice, List, Text};
+use kr_config::Settings;
+use kr_kms::{Kms, SeedNo, SeedRow};
+use std::alloc::Global;
+
+/// A seed for each plugin that the settings name.
+pub(crate) fn make_seeds<L: Kms, D: Dice>(
+    alloc: Global,
+    settings: &Settings,
+    links: &mut Links<L>,
+    dice: &mut D,
+) -> Result<List<SeedRow>, PublishNo>
+    requires links { HasLinks (names_of L.link links.old) (rows_of settings.now.entries.0) }
+    ensures made { MakesAll L.truth L.link D.left D.count (rows_of settings.now.entries.0)
+        links.old dice.old result links.new dice.new }
+    ensures asked { AskedOnly L.link (plugins_in (rows_of settings.now.entries.0)) links.old
+        links.new }
+    ensures later { D.count dice.old ≤ D.count dice.new }
+    ensures none { names_plugin (rows_of settings.now.entries.0) ≡ false
+        → IfOk result (λ made. made.0 ≡ []) × IsOk result
+        × (links.new ≡ links.old) × (dice.new ≡ dice.old) }
+{
+    let mut made = List::new(alloc);
+    let mut after = "";
+    while let Some(name) = settings.next_plugin(after) {
+        let row = match make_one(alloc, name, links, dice) {
+            Ok(row) => row,
+            Err(why) => return Err(why),
+        };
+        match made.push(row) {
+            Ok(()) => {}
+            Err(_) => return Err(PublishNo::NoMemory),
+        }
+        tell_text(name);
+        after = name;
+    }
+    Ok(made)
+}
+
+/// Tells that a text is one.
+fn tell_text(text: &str)
+    ensures { IsUtf8 text.now }
+{}
+
+/// A seed of the plugin of this name.
+fn make_one<L: Kms, D: Dice>(
+    alloc: Global,
+    name: &str,
+    links: &mut Links<L>,
+    dice: &mut D,
+) -> Result<SeedRow, PublishNo>
+    requires { Contains (names_of L.link links.old) name.now }
+    ensures made { MakesAt L.truth L.link D.left D.count name.now links.old dice.old result
+        links.new
+        dice.new }
+    ensures later { D.count dice.old ≤ D.count dice.new }
+{
+    match links.make_seed(alloc, name, dice) {
+        Ok(row) => Ok(row),
+        Err(why) => Err(refusal_at(alloc, name, why)),
+    }
+}
+
+/// What the refusal of the plugin of this name is, or that there is no memory for it.
+pub(crate) fn refusal_at(alloc: Global, name: &str, why: SeedNo) -> PublishNo
+    ensures { (result ≡ refusal_at name.now why) ⊎ (result ≡ PublishNo.NoMemory) }
+{
+    let Ok(name) = Text::copy(alloc, name) else {
+        return PublishNo::NoMemory;
+    };
+    match why {
+        SeedNo::Failed => PublishNo::PluginFailed { name },
+        SeedNo::DiceFailed => PublishNo::DiceFailed,
+        SeedNo::Unhealthy { field, text } => PublishNo::Unhealthy { name, field, text },
+        SeedNo::NoMemory => PublishNo::NoMemory,
+    }
+}

@@ -1,0 +1,111 @@
+//! Seals of a plugin: the data under a key of their own, which its seed makes, in an encrypted
+//! object.
+ghost use Rattle.std.specs.Prelude.{◌≡◌, ℕ, ◌≤◌, ◌+◌, ◌++◌, ◌∷◌, [], List, Some, length, take, drop, replicate, IfSome};
+ghost use Rattle.kr_base.specs.Limits.{data_limit, path_limit};
+ghost use Rattle.kr_config.specs.declared.who.Who.{Who};
+ghost use Rattle.kr_envelope.specs.Canonical.{fields_behind, shortest};
+ghost use Rattle.kr_envelope.specs.Prefixes.{prefix};
+ghost use Rattle.kr_kms.specs.Seeds.{IsSeedRow};
+ghost use Rattle.kr_kms.specs.declared.seeds.SeedRow.{SeedRow};
+ghost use Rattle.kr_provider.specs.Envelopes.{seed_body};
+ghost use Rattle.kr_provider.specs.Publication.{seed_of};
+ghost use Rattle.kr_provider.specs.Sealing.{Seals};
+
+use crate::refusal::SealNo;
+use crate::sealing::{NONCE, TAG, draw, write_gcm};
+use crate::value_keys::{SEED, value_key};
+use kr_aes::expand;
+use kr_base::{Bytes, Dice, Failed, Text};
+use kr_envelope::{Kind, SourceKind, push_behind, push_data_size, push_prefix};
+use kr_kms::SeedRow;
+use std::alloc::Global;
+
+/// About as many bytes as a value has beside its sealed ones. More annotations make it grow.
+const BESIDE: usize = 4096;
+
+/// The value by a plugin's seed, under an info and a nonce that are drawn.
+pub(crate) fn by_seed<D: Dice>(
+    alloc: Global,
+    name: &Text,
+    row: &SeedRow,
+    path: &str,
+    plain: &[u8],
+    dice: &mut D,
+) -> Result<Bytes, SealNo>
+    requires row { IsSeedRow row.now }
+    requires fits { length plain.now ≤ data_limit }
+    requires path { length path.now ≤ path_limit }
+    ensures sealed { (seeds : List SeedRow) → seed_of name.now seeds ≡ Some row.now
+        → Seals D.left D.count seeds (Who.Kms name.now) path.now plain.now dice.old dice.new
+        result }
+    ensures later { D.count dice.old ≤ D.count dice.new }
+{
+    let size = SEED + NONCE + plain.len() + TAG;
+    let Some((mut value, start)) = framed(alloc, name, row, size) else {
+        return Err(SealNo::NoMemory);
+    };
+    let mut drawn = [0u8; SEED + NONCE];
+    match draw(dice, &mut drawn) {
+        Ok(()) => {}
+        Err(Failed) => return Err(SealNo::DiceFailed),
+    }
+    fill(row.seed.as_slice(), &drawn, path, plain, &mut value, start);
+    Ok(Bytes::from_vec(value))
+}
+
+/// The value with zeros in place of its so many sealed bytes, and where these begin; none for want
+/// of memory.
+fn framed(alloc: Global, name: &Text, row: &SeedRow, size: usize) -> Option<(Vec<u8>, usize)>
+    requires row { IsSeedRow row.now }
+    requires size { size ≤ 2097212 }
+    ensures { IfSome result (λ framed. let front = prefix Kind.Kms name.now ++ 10 ∷ shortest size in
+        (framed.1 ≡ length front) × (framed.0.items ≡ front ++ (replicate size 0
+        ++ fields_behind row.now.key_id row.now.source row.now.annotations SourceKind.Seed))) }
+{
+    let mut value = Vec::with_capacity(alloc, size + BESIDE).ok()?;
+    push_prefix(&mut value, Kind::Kms, name.as_str()).ok()?;
+    push_data_size(&mut value, size).ok()?;
+    let start = value.len();
+    value.resize(start + size, 0).ok()?;
+    push_behind(
+        &mut value,
+        row.key_id.as_str(),
+        row.source.as_slice(),
+        &row.annotations,
+        SourceKind::Seed,
+    )
+    .ok()?;
+    Some((value, start))
+}
+
+/// Writes the sealed bytes from `start` on; what stands behind them stays.
+fn fill(seed: &[u8], drawn: &[u8; 44], path: &str, plain: &[u8], value: &mut [u8], start: usize)
+    requires fits { length plain.now ≤ data_limit }
+    requires path { length path.now ≤ path_limit }
+    requires size { start + (32 + 12 + length plain.now + 16) ≤ length value.old }
+    ensures { value.new ≡ take start value.old ++ (seed_body seed.now path.now plain.now drawn.now
+        ++ drop (32 + 12 + length plain.now + 16) (drop start value.old)) }
+{
+    let size = SEED + NONCE + plain.len() + TAG;
+    write_body(seed, drawn, path, plain, &mut value[start..start + size]);
+}
+
+/// Writes the info, and behind it the body under the key that the seed makes with it.
+fn write_body(seed: &[u8], drawn: &[u8; 44], path: &str, plain: &[u8], room: &mut [u8])
+    requires fits { length plain.now ≤ data_limit }
+    requires path { length path.now ≤ path_limit }
+    requires size { length room.old ≡ 32 + (12 + length plain.now + 16) }
+    ensures { room.new ≡ seed_body seed.now path.now plain.now drawn.now }
+{
+    let (info, rest) = drawn.split_at(SEED);
+    let mut nonce = [0u8; NONCE];
+    nonce.copy_from_slice(rest);
+    let key = value_key(seed, info);
+    let mut words = [0u32; 60];
+    let Ok(_) = expand(&key, &mut words) else {
+        unreachable!();
+    };
+    let (first, _) = room.split_at_mut(SEED);
+    first.copy_from_slice(info);
+    write_gcm(&key, &words, &nonce, path, plain, room, SEED);
+}

@@ -1,0 +1,90 @@
+//! The data of a plugin's value, by its object and what the object's source was unwrapped to.
+ghost use Rattle.std.specs.Prelude.{◌≡◌, ◌≤◌, length, IfOk};
+ghost use Rattle.kr_base.specs.Limits.{path_limit, value_limit};
+ghost use Rattle.kr_envelope.specs.declared.object.SourceKind.TheVariants.{Seed};
+ghost use Rattle.kr_provider.specs.Reading.{Gives, body_under, gcm_reading, source_reading};
+ghost use Rattle.kr_provider.specs.inner.Sources.{IsObjectIn, IsRefusalOf};
+
+use crate::refusal::{UnsealNo, ValueNo};
+use crate::unsealing::by_aesgcm;
+use crate::value_keys::{SEED, value_key};
+use kr_aes::expand;
+use kr_base::Bytes;
+use kr_envelope::{EncryptedObject, ObjectNo, SourceKind};
+use std::alloc::Global;
+
+/// The object that the body of a plugin's value spells.
+pub(crate) fn read_object(alloc: Global, body: &[u8]) -> Result<EncryptedObject, UnsealNo>
+    ensures is { IsObjectIn body.now result }
+    ensures fits { IfOk result (λ object. length object.encrypted ≤ length body.now) }
+{
+    match EncryptedObject::read(alloc, body) {
+        Ok(object) => Ok(object),
+        Err(why) => Err(refusal_of(why)),
+    }
+}
+
+/// The refusal of an object, or that there was no memory for it.
+fn refusal_of(why: ObjectNo) -> UnsealNo
+    ensures { IsRefusalOf why result }
+{
+    match why {
+        ObjectNo::Wire { at: _at } => UnsealNo::Refused(ValueNo::Wire),
+        ObjectNo::KeyId => UnsealNo::Refused(ValueNo::KeyId),
+        ObjectNo::Source => UnsealNo::Refused(ValueNo::Source),
+        ObjectNo::Annotations => UnsealNo::Refused(ValueNo::Annotations),
+        ObjectNo::SourceType => UnsealNo::Refused(ValueNo::SourceType),
+        ObjectNo::NoData => UnsealNo::Refused(ValueNo::NoData),
+        ObjectNo::NotUtf8 { at: _at } => UnsealNo::Refused(ValueNo::NotUtf8),
+        ObjectNo::NoMemory => UnsealNo::NoMemory,
+    }
+}
+
+/// The data under an unwrapped source.
+pub(crate) fn by_source(
+    alloc: Global,
+    kind: SourceKind,
+    source: &[u8],
+    path: &str,
+    encrypted: &[u8],
+) -> Result<Bytes, UnsealNo>
+    requires path { length path.now ≤ path_limit }
+    requires fits { length encrypted.now ≤ value_limit }
+    ensures { Gives (source_reading kind source.now path.now encrypted.now) result }
+{
+    if source.len() != SEED {
+        return Err(UnsealNo::Refused(ValueNo::SeedLength));
+    }
+    match kind {
+        SourceKind::Key => by_key(alloc, source, path, encrypted),
+        SourceKind::Seed => by_seed(alloc, source, path, encrypted),
+    }
+}
+
+/// The data under a key that no page has: nonce, ciphertext and tag.
+fn by_key(alloc: Global, key: &[u8], path: &str, body: &[u8]) -> Result<Bytes, UnsealNo>
+    requires key { length key.now ≡ 32 }
+    requires path { length path.now ≤ path_limit }
+    requires fits { length body.now ≤ value_limit }
+    ensures { Gives (gcm_reading key.now path.now body.now) result }
+{
+    let mut words = [0u32; 60];
+    let Ok(_) = expand(key, &mut words) else {
+        unreachable!();
+    };
+    by_aesgcm(alloc, key, &words, path.as_bytes(), body)
+}
+
+/// The data under a seed: the info, and the body under the key that the seed makes with it.
+fn by_seed(alloc: Global, seed: &[u8], path: &str, encrypted: &[u8]) -> Result<Bytes, UnsealNo>
+    requires path { length path.now ≤ path_limit }
+    requires fits { length encrypted.now ≤ value_limit }
+    ensures { Gives (body_under Seed seed.now path.now encrypted.now) result }
+{
+    if encrypted.len() < SEED {
+        return Err(UnsealNo::Refused(ValueNo::Short));
+    }
+    let (info, body) = encrypted.split_at(SEED);
+    let key = value_key(seed, info);
+    by_key(alloc, &key, path, body)
+}

@@ -1,0 +1,187 @@
+//! What stored values hold by the adopted configuration.
+ghost use Rattle.std.specs.Prelude.{◌≡◌, ℕ, ◌≤◌, List, length, All, Contains, Some, None, IsSome, IfSome};
+ghost use Rattle.kr_base.specs.Limits.{path_limit, value_limit};
+ghost use Rattle.kr_config.specs.declared.who.Who.{Who};
+ghost use Rattle.kr_kms.specs.Cache.{AreOpen};
+ghost use Rattle.kr_kms.specs.Seeds.{IsSeedRow};
+ghost use Rattle.kr_kms.specs.declared.seeds.SeedRow.{SeedRow};
+ghost use Rattle.kr_provider.specs.KeyPages.{secrets_in};
+ghost use Rattle.kr_provider.specs.Names.{HasAdoptedLinks, names_of};
+ghost use Rattle.kr_provider.specs.Publication.{IsProviderList, list_at, seed_of};
+ghost use Rattle.kr_provider.specs.Unsealing.{UnsealsBy};
+ghost use Rattle.kr_provider.specs.inner.Scan.{AreAmong, AreNamedIn, HaveSeeds};
+ghost use Rattle.kr_provider.specs.inner.Sources.{IsReadBy, OpensSource, UnsealsObject};
+
+use crate::adoption::Adoption;
+use crate::links::Links;
+use crate::readers::{body_of, reader_of};
+use crate::refusal::{Opened, UnsealNo, ValueNo};
+use crate::seeds::{is_seed_of, is_stale, seed_of};
+use crate::sources::{by_source, read_object};
+use crate::unsealing::unseal_by;
+use kr_base::{Bytes, Text};
+use kr_config::Who;
+use kr_envelope::EncryptedObject;
+use kr_kms::{Kms, KmsNo, SeedCache, SeedRow};
+use std::alloc::Global;
+
+/// What the value holds by the list of the resource.
+pub(crate) fn unseal_for<L: Kms>(
+    alloc: Global,
+    adoption: &Adoption,
+    links: &mut Links<L>,
+    cache: &mut SeedCache,
+    resource: &str,
+    path: &str,
+    bytes: &[u8],
+) -> Result<Opened, UnsealNo>
+    requires adopted { IsSome adoption.now.published }
+    requires links { HasAdoptedLinks (names_of L.link links.old) adoption.now.published }
+    requires kept { AreOpen L.truth cache.old.rows }
+    requires path { length path.now ≤ path_limit }
+    requires fits { length bytes.now ≤ value_limit }
+    ensures opened { IfSome adoption.now.published (λ p. UnsealsBy L.truth L.link p.seeds
+        (list_at p resource.now) path.now bytes.now links.old result links.new) }
+    ensures kept { AreOpen L.truth cache.new.rows }
+{
+    let published = adoption.published();
+    let list = published.listed(resource);
+    let seeds = published.seeds();
+    unseal_in(alloc, adoption, seeds, list, links, cache, path, bytes)
+}
+
+/// What the value holds by a list of providers.
+fn unseal_in<L: Kms>(
+    alloc: Global,
+    adoption: &Adoption,
+    seeds: &[SeedRow],
+    list: &[Who],
+    links: &mut Links<L>,
+    cache: &mut SeedCache,
+    path: &str,
+    bytes: &[u8],
+) -> Result<Opened, UnsealNo>
+    requires adopted { IsSome adoption.now.published }
+    requires among { IfSome adoption.now.published (λ p. AreAmong (secrets_in p.rows) list.now) }
+    requires list { IsProviderList list.now }
+    requires seeds { HaveSeeds seeds.now list.now }
+    requires links { AreNamedIn (names_of L.link links.old) list.now }
+    requires kept { AreOpen L.truth cache.old.rows }
+    requires path { length path.now ≤ path_limit }
+    requires fits { length bytes.now ≤ value_limit }
+    ensures opened { UnsealsBy L.truth L.link seeds.now list.now path.now bytes.now links.old result
+        links.new }
+    ensures kept { AreOpen L.truth cache.new.rows }
+{
+    let Some(place) = reader_of(list, bytes) else {
+        return Err(UnsealNo::Refused(ValueNo::NoProvider));
+    };
+    let reader = &list[place];
+    let Some(body) = body_of(reader, bytes) else {
+        unreachable!();
+    };
+    let first = place == 0;
+    match reader {
+        Who::Kms(name) => {
+            let Some(row) = seed_of(seeds, name.as_str()) else {
+                unreachable!();
+            };
+            by_plugin(alloc, name.as_str(), row, links, cache, first, path, body)
+        }
+        _ => {
+            match unseal_by(alloc, reader, adoption.words(reader), path, body) {
+                Ok(plain) => Ok(Opened {
+                    plain,
+                    stale: !first,
+                }),
+                Err(why) => Err(why),
+            }
+        }
+    }
+}
+
+/// What a value holds that the plugin of this name reads.
+fn by_plugin<L: Kms>(
+    alloc: Global,
+    name: &str,
+    row: &SeedRow,
+    links: &mut Links<L>,
+    cache: &mut SeedCache,
+    first: bool,
+    path: &str,
+    body: &[u8],
+) -> Result<Opened, UnsealNo>
+    requires link { Contains (names_of L.link links.old) name.now }
+    requires kept { AreOpen L.truth cache.old.rows }
+    requires path { length path.now ≤ path_limit }
+    requires fits { length body.now ≤ value_limit }
+    ensures opened { (seeds : List SeedRow) (list : List Who) (bytes : List ℕ)
+        → seed_of name.now seeds ≡ Some row.now
+        → IsReadBy list bytes (Who.Kms name.now) body.now first
+        → UnsealsBy L.truth L.link seeds list path.now bytes links.old result links.new }
+    ensures kept { AreOpen L.truth cache.new.rows }
+{
+    let object = match read_object(alloc, body) {
+        Ok(object) => object,
+        Err(why) => return Err(why),
+    };
+    let plain = match unseal_object(alloc, name, row, &object, links, cache, path) {
+        Ok(plain) => plain,
+        Err(why) => return Err(why),
+    };
+    let stale = is_stale(first, row, &object);
+    Ok(Opened { plain, stale })
+}
+
+/// The data of an object of the plugin of this name: under the published seed, where that is the
+/// object's, and else under the source as it was unwrapped.
+fn unseal_object<L: Kms>(
+    alloc: Global,
+    name: &str,
+    row: &SeedRow,
+    object: &EncryptedObject,
+    links: &mut Links<L>,
+    cache: &mut SeedCache,
+    path: &str,
+) -> Result<Bytes, UnsealNo>
+    requires link { Contains (names_of L.link links.old) name.now }
+    requires kept { AreOpen L.truth cache.old.rows }
+    requires path { length path.now ≤ path_limit }
+    requires fits { length object.now.encrypted ≤ value_limit }
+    ensures opened { UnsealsObject L.truth L.link row.now name.now object.now path.now links.old
+        result links.new }
+    ensures kept { AreOpen L.truth cache.new.rows }
+{
+    let encrypted = object.encrypted.as_slice();
+    if is_seed_of(row, name, object) {
+        return by_source(alloc, object.kind, row.seed.as_slice(), path, encrypted);
+    }
+    let source = match open_source(alloc, name, object, links, cache) {
+        Ok(source) => source,
+        Err(why) => return Err(why),
+    };
+    by_source(alloc, object.kind, source.as_slice(), path, encrypted)
+}
+
+/// What the plugin of this name unwraps the source of an object to.
+fn open_source<L: Kms>(
+    alloc: Global,
+    name: &str,
+    object: &EncryptedObject,
+    links: &mut Links<L>,
+    cache: &mut SeedCache,
+) -> Result<Bytes, UnsealNo>
+    requires link { Contains (names_of L.link links.old) name.now }
+    requires kept { AreOpen L.truth cache.old.rows }
+    ensures opened { OpensSource L.truth L.link name.now object.now links.old result links.new }
+    ensures kept { AreOpen L.truth cache.new.rows }
+{
+    match links.fetch(cache, name, object) {
+        Ok(source) => Ok(source),
+        Err(KmsNo::NoMemory) => Err(UnsealNo::NoMemory),
+        Err(KmsNo::Failed) => match Text::copy(alloc, name) {
+            Ok(name) => Err(UnsealNo::PluginFailed { name }),
+            Err(_) => Err(UnsealNo::NoMemory),
+        },
+    }
+}
