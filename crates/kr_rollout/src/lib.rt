@@ -1,0 +1,21 @@
+//! The core of a rollout: seats ask one thing at a time of a store and of the configurations of some replicas, and each
+//! is one line of one journal. The journal is a legal history, by which the core's state is known.
+#![tactic(auto)]
+
+mod answer;
+mod event;
+mod generation;
+mod journal;
+mod line;
+mod opening;
+mod opening_board;
+mod rollout;
+mod start;
+
+pub use answer::Answer;
+pub use event::Event;
+pub use generation::Generation;
+pub use journal::Core;
+pub use line::{Did, Gave, Line};
+pub use opening::{Entry, Opening};
+pub use opening_board::{StartNo, board_of};

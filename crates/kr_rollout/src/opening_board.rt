@@ -1,0 +1,164 @@
+//! The board of a store's rows and of the replicas' settings.
+ghost use Rattle.std.specs.Prelude.{◌≡◌, ◌<◌, ◌≤◌, [], length, None};
+ghost use Rattle.kr_config.specs.Kept.{rows_of};
+ghost use Rattle.kr_rollout.specs.Openings.{IsFirstIn};
+ghost use Rattle.kr_rollout.specs.Starts.{Boards};
+ghost use Rattle.kr_rollout.specs.inner.Opens.{rows_in, IsStrayOf, Notes, NotesAll, TakesUp, TakesAllUp, is_refusal};
+
+use kr_base::{List, NoMemory, Shared, Tape, Text};
+use kr_config::Settings;
+use kr_judge::{Board, Verdict};
+use kr_provider::reader_of;
+use kr_store::{Row, Store};
+use std::alloc::Global;
+
+/// Why a rollout doesn't start.
+#[derive(Debug, Drop)]
+pub enum StartNo {
+    /// No provider of the first replica reads the live row of this path, the least such path.
+    Stray {
+        path: Text,
+    },
+    /// This replica's settings are refused, for this first reason.
+    Unfit {
+        replica: u32,
+        verdict: Verdict,
+    },
+    /// There was no memory.
+    NoMemory,
+}
+
+/// The board of the store's live rows and of the settings of 1 to 16 replicas, of which the first is in. Each row's
+/// provider is the one that the first replica's settings have for it. The replicas are taken up in order, each judged on
+/// those before it; those that are in get the generations 0, 1 and so on.
+pub fn board_of<T: Tape>(
+    alloc: Global,
+    store: &Store<T>,
+    replicas: &List<Option<Shared<Settings>>>,
+    generations: u32,
+) -> Result<Board, StartNo>
+    requires first { IsFirstIn replicas.now.0 }
+    requires few { length replicas.now.0 ≤ 16 }
+    requires room { length replicas.now.0 ≤ generations }
+    ensures { Boards store.now.rows (rows_in replicas.now.0) generations result }
+{
+    let mut board = match Board::new(alloc, generations) {
+        Ok(board) => board,
+        Err(NoMemory) => return Err(StartNo::NoMemory),
+    };
+    let replicas = replicas.as_slice();
+    let [Some(first), ..] = replicas else {
+        unreachable!()
+    };
+    match note_all(alloc, store, first.get(), &mut board) {
+        Ok(()) => {}
+        Err(why) => return Err(why),
+    }
+    match take_all_up(replicas, &mut board) {
+        Ok(()) => Ok(board),
+        Err(why) => Err(why),
+    }
+}
+
+/// The live rows' needs, by paths.
+fn note_all<T: Tape>(
+    alloc: Global,
+    store: &Store<T>,
+    first: &Settings,
+    board: &mut Board,
+) -> Result<(), StartNo>
+    requires { (board.old.needs ≡ []) × (board.old.proposal ≡ None) }
+    ensures { NotesAll (rows_of first.now.entries.0) store.now.rows board.old board.new result }
+{
+    store.known();
+    let mut after = Text::new(alloc);
+    loop {
+        let row = match store.next_after(after.as_str()) {
+            Ok(Some(row)) => row,
+            Ok(None) => return Ok(()),
+            Err(NoMemory) => return Err(StartNo::NoMemory),
+        };
+        match note(alloc, first, row.get(), board) {
+            Ok(()) => {}
+            Err(why) => return Err(why),
+        }
+        after = match Text::copy(alloc, row.get().path.as_str()) {
+            Ok(path) => path,
+            Err(NoMemory) => return Err(StartNo::NoMemory),
+        };
+    }
+}
+
+/// What the row needs.
+fn note(alloc: Global, first: &Settings, row: &Row, board: &mut Board) -> Result<(), StartNo>
+    requires { board.old.proposal ≡ None }
+    ensures { Notes (rows_of first.now.entries.0) row.now board.old board.new result }
+{
+    let list = first.list_for(row.resource.as_str());
+    let Some(place) = reader_of(list, row.stored.as_slice()) else {
+        return Err(stray(alloc, row.path.as_str()));
+    };
+    match board.set_need(row.path.as_str(), row.resource.as_str(), &list[place]) {
+        Ok(()) => Ok(()),
+        Err(NoMemory) => Err(StartNo::NoMemory),
+    }
+}
+
+fn stray(alloc: Global, path: &str) -> StartNo
+    ensures { IsStrayOf path.now result }
+{
+    match Text::copy(alloc, path) {
+        Ok(path) => StartNo::Stray { path },
+        Err(NoMemory) => StartNo::NoMemory,
+    }
+}
+
+/// Takes the replicas' settings up in order, each judged on those before it.
+fn take_all_up(replicas: &[Option<Shared<Settings>>], board: &mut Board) -> Result<(), StartNo>
+    requires none { board.old.generations ≡ [] }
+    requires room { length replicas.now ≤ board.old.room }
+    requires few { length replicas.now ≤ 16 }
+    ensures { TakesAllUp (rows_in replicas.now) board.old board.new result }
+{
+    for (replica, settings) in replicas.iter().enumerate() {
+        match settings {
+            Some(settings) => match take_up(replica as u32, settings, board) {
+                Ok(()) => {}
+                Err(why) => return Err(why),
+            },
+            None => {}
+        }
+    }
+    Ok(())
+}
+
+/// Takes a replica's settings up, if nothing is against them.
+fn take_up(replica: u32, settings: &Shared<Settings>, board: &mut Board) -> Result<(), StartNo>
+    requires { length board.old.generations < board.old.room }
+    ensures { TakesUp replica (rows_of settings.now.entries.0) board.old board.new result }
+{
+    match board.judge(replica, settings.get()) {
+        Ok(verdict) => {
+            if is_refusal(&verdict) {
+                return Err(StartNo::Unfit { replica, verdict });
+            }
+        }
+        Err(NoMemory) => return Err(StartNo::NoMemory),
+    }
+    match settings.share() {
+        Ok(settings) => {
+            let _number = board.add(replica, settings);
+            Ok(())
+        }
+        Err(NoMemory) => Err(StartNo::NoMemory),
+    }
+}
+
+fn is_refusal(verdict: &Verdict) -> bool
+    ensures { result ≡ is_refusal verdict.now }
+{
+    match verdict {
+        Verdict::Pass => false,
+        _ => true,
+    }
+}
