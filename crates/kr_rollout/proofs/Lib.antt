@@ -1,0 +1,10 @@
+pub mod Revisions
+pub mod Holders
+pub mod Keeping
+pub mod Serving
+pub mod Appending
+pub mod Holdings
+pub mod Needing
+pub mod Walking
+pub mod Passing
+pub mod Taking
