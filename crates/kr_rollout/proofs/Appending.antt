@@ -51,8 +51,7 @@ all_reach : (o : Opening) (st : State) (rows : List LogRow) (generations : List 
 all_reach o st rows generations [] r = tt
 all_reach o st rows generations (line ∷ lines) r =
     let next = after st (entry_of rows generations line) in
-    let rest = map (entry_of rows generations) lines in
-    (
+    let rest = map (entry_of rows generations) lines in (
       reaches_more next.rows (state_from next rest).rows next.generations (state_from next rest).generations line
           (rows_grow next rest) (generations_grow next rest) r.0.reaches,
       all_reach o next rows generations lines r.1,
@@ -103,8 +102,8 @@ entries_more o st next lines line spare room c is =
     let g : next.generations ≡ st.generations ++ added line.gave line.did = ap (λ (s : State). s.generations) is in
     map-append (entry_of next.rows next.generations) lines (line ∷ [])
     ∙ ap (λ es. es ++ e ∷ []) (
-        (λ i. map (entry_of (r i) (g i)) lines)
-        ∙ entries_stay st.rows (grown line.gave line.did e.row) st.generations (added line.gave line.did) lines (core_reaches o st lines spare room c)
+    (λ i. map (entry_of (r i) (g i)) lines)
+    ∙ entries_stay st.rows (grown line.gave line.did e.row) st.generations (added line.gave line.did) lines (core_reaches o st lines spare room c)
     )
 
 pub core_more : (o : Opening) (st next : State) (lines : List Line) (line : Line) (spare left room : ℕ) → IsCore o st lines spare room

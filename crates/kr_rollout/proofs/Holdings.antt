@@ -178,8 +178,10 @@ holding_is o st (e ∷ history) seat r k l w =
   where
     in_held : e.line.seat < length st.held
     in_held = omega (arith, l, r.0.seat)
+
     Goal : Option (ℕ × Publication) → Type 0
     Goal end = holding_from (pair_of st.generations (held_by st seat)) (of_seat seat_of seat (e ∷ history)) ≡ end
+
     by : (e.line.seat ≡ seat) ⊎ (e.line.seat ≡ seat → ⊥)
         → holding_from (pair_of (after st e).generations (held_by (after st e) seat)) (of_seat seat_of seat history)
         ≡ pair_of (state_from (after st e) history).generations (held_by (state_from (after st e) history) seat)
@@ -188,13 +190,13 @@ holding_is o st (e ∷ history) seat r k l w =
     by (inl same) rest =
         ap (λ b. holding_from (pair_of st.generations (held_by st seat)) (cond b (e ∷ of_seat seat_of seat history) (of_seat seat_of seat history))) (eq-eqb e.line.seat seat same)
         ∙ ap (λ now. holding_from now (of_seat seat_of seat history))
-            (subst (λ s. holding_then e.line.gave e.published (pair_of st.generations (held_by st s)) ≡ pair_of (after st e).generations (held_by (after st e) s)) same
-            (own_then st.generations (added e.line.gave e.line.did) st.held e.line.seat k in_held e.line.gave e.published (adopted_published o st e r.0)))
+        (subst (λ s. holding_then e.line.gave e.published (pair_of st.generations (held_by st s)) ≡ pair_of (after st e).generations (held_by (after st e) s)) same
+        (own_then st.generations (added e.line.gave e.line.did) st.held e.line.seat k in_held e.line.gave e.published (adopted_published o st e r.0)))
         ∙ rest
     by (inr other) rest =
         ap (λ b. holding_from (pair_of st.generations (held_by st seat)) (cond b (e ∷ of_seat seat_of seat history) (of_seat seat_of seat history))) (ne_eqb e.line.seat seat other)
         ∙ ap (λ now. holding_from now (of_seat seat_of seat history))
-            (other_then st.generations (added e.line.gave e.line.did) st.held e.line.seat k in_held e.line.gave seat (λ d. other (sym d)))
+        (other_then st.generations (added e.line.gave e.line.did) st.held e.line.seat k in_held e.line.gave seat (λ d. other (sym d)))
         ∙ rest
 
 -- ---- from an opening on
@@ -236,8 +238,10 @@ may_serve o st history seat event l is k may = by event may.allowed
   where
     same : holding (of_seat seat_of seat history) ≡ pair_of st.generations (held_by st seat)
     same = holding_of o history seat l may.seat_in ∙ ap (λ (s : State). pair_of s.generations (held_by s seat)) (sym is)
+
     some : IsSome (holding (of_seat seat_of seat history)) → IsSome (held_by st seat)
     some s = something_held st.generations (held_by st seat) (subst (λ h. IsSome h) same s)
+
     by : (event : Event) → Allows o (of_seat seat_of seat history) event → MayServe (record { opening = o; state = st }) seat event
     by (event.Adopt replica) a = (a.0, nothing_held st.generations (held_by st seat) (in_bounds st.held st.generations seat k) (sym same ∙ a.1))
     by (event.Fetch path) a = (a.0, some a.1)

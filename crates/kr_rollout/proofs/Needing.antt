@@ -58,6 +58,7 @@ set_found (own ∷ needs) need path = by (name_cmp need.path own.path) refl (set
     twice true o n = ap (λ b. either b (Some need) (need_at needs path)) n ∙ sym (ap (λ b. either b (Some need) (need_at (own ∷ needs) path)) n)
     twice false o n = ap (λ b. either b (Some need) (need_at needs path)) n
         ∙ sym (ap (λ b. either b (Some need) (need_at (own ∷ needs) path)) n ∙ ap (λ b. either b (Some own) (need_at needs path)) o)
+
     further : (b c : Bool) → bytes_eq own.path path ≡ b → bytes_eq need.path path ≡ c → (bytes_eq own.path need.path ≡ false)
         → need_at (set_need needs need) path ≡ (if bytes_eq need.path path then Some need else need_at needs path)
         → need_at (own ∷ set_need needs need) path ≡ (if bytes_eq need.path path then Some need else need_at (own ∷ needs) path)
@@ -71,6 +72,7 @@ set_found (own ∷ needs) need path = by (name_cmp need.path own.path) refl (set
     further false false o n apart rest = ap (λ b. either b (Some own) (need_at (set_need needs need) path)) o ∙ rest
         ∙ ap (λ b. either b (Some need) (need_at needs path)) n
         ∙ sym (ap (λ b. either b (Some need) (need_at (own ∷ needs) path)) n ∙ ap (λ b. either b (Some own) (need_at needs path)) o)
+
     by : (r : Ordering) → name_cmp need.path own.path ≡ r
         → need_at (set_need needs need) path ≡ (if bytes_eq need.path path then Some need else need_at needs path)
         → need_at (match_ordering r (need ∷ own ∷ needs) (need ∷ needs) (own ∷ set_need needs need)) path
@@ -100,29 +102,30 @@ first_found need needs = ap (λ b. either b (Some need) (need_at needs need.path
 rest_found : (need : Need) (needs : List Need) (path : List ℕ) → bytes_eq need.path path ≡ false → need_at (need ∷ needs) path ≡ need_at needs path
 rest_found need needs path e = ap (λ b. either b (Some need) (need_at needs path)) e
 
-lesser_first : (a b : Need) (as bs : List Need) → name_cmp a.path b.path ≡ Less → Above b.path bs → need_at (b ∷ bs) a.path ≡ need_at (a ∷ as) a.path → ⊥
-lesser_first a b as bs h above e = none-some a
-    (sym (rest_found b bs a.path (unequal_less a.path b.path h) ∙ none_above a.path bs (above_further a.path b.path bs h above)) ∙ e ∙ first_found a as)
+lesser_first : (a b : Need) (xs ys : List Need) → name_cmp a.path b.path ≡ Less → Above b.path ys → need_at (b ∷ ys) a.path ≡ need_at (a ∷ xs) a.path → ⊥
+lesser_first a b xs ys h above e = none-some a
+    (sym (rest_found b ys a.path (unequal_less a.path b.path h) ∙ none_above a.path ys (above_further a.path b.path ys h above)) ∙ e ∙ first_found a xs)
 
-pub same_needs : (as bs : List Need) → AreByPath as → AreByPath bs → ((path : List ℕ) → need_at as path ≡ need_at bs path) → as ≡ bs
+pub same_needs : (xs ys : List Need) → AreByPath xs → AreByPath ys → ((path : List ℕ) → need_at xs path ≡ need_at ys path) → xs ≡ ys
 unfolding IsStrictlySortedBy
 same_needs [] [] s t e = refl
-same_needs [] (b ∷ bs) s t e = absurd (none-some b (e b.path ∙ first_found b bs))
-same_needs (a ∷ as) [] s t e = absurd (none-some a (sym (e a.path) ∙ first_found a as))
-same_needs (a ∷ as) (b ∷ bs) s t e = by (name_cmp a.path b.path) refl (same_needs as bs s.1 t.1)
+same_needs [] (b ∷ ys) s t e = absurd (none-some b (e b.path ∙ first_found b ys))
+same_needs (a ∷ xs) [] s t e = absurd (none-some a (sym (e a.path) ∙ first_found a xs))
+same_needs (a ∷ xs) (b ∷ ys) s t e = by (name_cmp a.path b.path) refl (same_needs xs ys s.1 t.1)
   where
-    tail : a ≡ b → (path : List ℕ) → (v : Bool) → bytes_eq a.path path ≡ v → need_at as path ≡ need_at bs path
+    tail : a ≡ b → (path : List ℕ) → (v : Bool) → bytes_eq a.path path ≡ v → need_at xs path ≡ need_at ys path
     tail same path true h =
         let p : a.path ≡ path = same_path a.path path h in
-        subst (λ q. need_at as q ≡ need_at bs q) p
-        (none_above a.path as s.0 ∙ sym (subst (λ (n : Need). need_at bs n.path ≡ None) (sym same) (none_above b.path bs t.0)))
-    tail same path false h = sym (rest_found a as path h) ∙ e path ∙ rest_found b bs path (subst (λ (n : Need). bytes_eq n.path path ≡ false) same h)
-    by : (r : Ordering) → name_cmp a.path b.path ≡ r → (((path : List ℕ) → need_at as path ≡ need_at bs path) → as ≡ bs) → a ∷ as ≡ b ∷ bs
-    by Less h again = absurd (lesser_first a b as bs h t.0 (sym (e a.path)))
-    by Greater h again = absurd (lesser_first b a bs as (nat_list_cmp_total.antisymm b.path a.path ∙ ap ordering_reverse h) s.0 (e b.path))
+        subst (λ q. need_at xs q ≡ need_at ys q) p
+        (none_above a.path xs s.0 ∙ sym (subst (λ (n : Need). need_at ys n.path ≡ None) (sym same) (none_above b.path ys t.0)))
+    tail same path false h = sym (rest_found a xs path h) ∙ e path ∙ rest_found b ys path (subst (λ (n : Need). bytes_eq n.path path ≡ false) same h)
+
+    by : (r : Ordering) → name_cmp a.path b.path ≡ r → (((path : List ℕ) → need_at xs path ≡ need_at ys path) → xs ≡ ys) → a ∷ xs ≡ b ∷ ys
+    by Less h again = absurd (lesser_first a b xs ys h t.0 (sym (e a.path)))
+    by Greater h again = absurd (lesser_first b a ys xs (nat_list_cmp_total.antisymm b.path a.path ∙ ap ordering_reverse h) s.0 (e b.path))
     by Equal h again =
         let p : a.path ≡ b.path = same_path a.path b.path (equal_by a.path b.path h) in
-        let same : a ≡ b = same_Some a b (sym (first_found a as) ∙ e a.path ∙ subst (λ q. need_at (b ∷ bs) q ≡ Some b) (sym p) (first_found b bs)) in
+        let same : a ≡ b = same_Some a b (sym (first_found a xs) ∙ e a.path ∙ subst (λ q. need_at (b ∷ ys) q ≡ Some b) (sym p) (first_found b ys)) in
         let rest = again (λ path. tail same path (bytes_eq a.path path) refl) in
         (λ i. same i ∷ rest i)
 
@@ -151,6 +154,7 @@ numberless k (row ∷ rows) path = step k ∙ ap (λ l. later_row l (bytes_eq ro
     by k (Some found) b = refl
     by k None true = refl
     by k None false = refl
+
     step : (k : ℕ) → option_map (λ (found : ℕ × LogRow). found.1) (latest_from k (row ∷ rows) path) ≡ later_row (option_map (λ found. found.1) (latest_from (k + 1) rows path)) (bytes_eq row.path path) row
     step k = by k (latest_from (k + 1) rows path) (bytes_eq row.path path)
 
@@ -193,12 +197,15 @@ needs_found first (row ∷ rows) path = by (is_some (latest rows row.path)) refl
     here : (l : Option LogRow) → is_some l ≡ true → needed first l ≡ needed first (later_row l (bytes_eq row.path path) row)
     here (Some found) e = refl
     here None e = cc
+
     elsewhere : (l : Option LogRow) → needed first l ≡ needed first (later_row l false row)
     elsewhere (Some found) = refl
     elsewhere None = refl
+
     none_is : (l : Option LogRow) → is_some l ≡ false → l ≡ None
     none_is (Some found) e = cc
     none_is None e = refl
+
     superseded : (v : Bool) → bytes_eq row.path path ≡ v → is_some (last_row rows row.path) ≡ true → needed first (last_row rows path) ≡ needed first (later_row (last_row rows path) v row)
     superseded true h e = subst (λ p. needed first (last_row rows p) ≡ needed first (later_row (last_row rows p) true row)) (same_path row.path path h)
         (stands (last_row rows row.path) e)
@@ -207,18 +214,20 @@ needs_found first (row ∷ rows) path = by (is_some (latest rows row.path)) refl
         stands (Some found) e = refl
         stands None e = cc
     superseded false h e = elsewhere (last_row rows path)
+
     last : (v : Bool) → bytes_eq row.path path ≡ v → is_some (last_row rows row.path) ≡ false
         → (if v then need_of first row.path row.change else needed first (last_row rows path)) ≡ needed first (later_row (last_row rows path) v row)
     last true h e = sym (ap (λ l. needed first (later_row l true row))
         (ap (last_row rows) (sym (same_path row.path path h)) ∙ none_is (last_row rows row.path) e))
     last false h e = elsewhere (last_row rows path)
+
     by : (v : Bool) → is_some (latest rows row.path) ≡ v → ((p : List ℕ) → need_at (needs_of first rows) p ≡ needed first (last_row rows p))
         → need_at (if v then needs_of first rows else with_need (need_of first row.path row.change) (needs_of first rows)) path
         ≡ needed first (later_row (last_row rows path) (bytes_eq row.path path) row)
     by true e again = again path ∙ superseded (bytes_eq row.path path) refl (some_last rows row.path true e)
     by false e again =
         with_found (need_of first row.path row.change) (needs_of first rows) row.path path (need_path first row.path row.change)
-            (again row.path ∙ ap (needed first) (none_is (last_row rows row.path) (some_last rows row.path false e)))
+        (again row.path ∙ ap (needed first) (none_is (last_row rows row.path) (some_last rows row.path false e)))
         ∙ ap (λ r. either (bytes_eq row.path path) (need_of first row.path row.change) r) (again path)
         ∙ last (bytes_eq row.path path) refl (some_last rows row.path false e)
 

@@ -86,10 +86,13 @@ no_reason needs generations replica rows e = passes_by needs generations replica
 quiet : {Y : Type 0} (says : ℕ × Taken → List Y) (replica k : ℕ) (generations : List Taken) (t : Taken)
     → flat_map says (filter (λ n. is_other replica n.1) (numbered k generations)) ≡ [] → Contains generations t → is_other replica t ≡ true → (n : ℕ) × (says (n, t) ≡ [])
 quiet says replica k [] t e (i, l, is) o = absurd (omega (arith, l))
-quiet says replica k (g ∷ gs) t e (zero, l, is) o = (k, subst (λ (x : Taken). says (k, x) ≡ []) is
-    (first_none (says (k, g)) (flat_map says (filter (λ n. is_other replica n.1) (numbered (k + 1) gs)))
-    (subst (λ v. flat_map says (cond v ((k, g) ∷ filter (λ n. is_other replica n.1) (numbered (k + 1) gs)) (filter (λ n. is_other replica n.1) (numbered (k + 1) gs))) ≡ [])
-    (subst (λ (x : Taken). is_other replica x ≡ true) (sym is) o) e)))
+quiet says replica k (g ∷ gs) t e (zero, l, is) o = (
+  k,
+  subst (λ (x : Taken). says (k, x) ≡ []) is
+      (first_none (says (k, g)) (flat_map says (filter (λ n. is_other replica n.1) (numbered (k + 1) gs)))
+      (subst (λ v. flat_map says (cond v ((k, g) ∷ filter (λ n. is_other replica n.1) (numbered (k + 1) gs)) (filter (λ n. is_other replica n.1) (numbered (k + 1) gs))) ≡ [])
+      (subst (λ (x : Taken). is_other replica x ≡ true) (sym is) o) e)),
+)
 quiet says replica k (g ∷ gs) t e (suc i, l, is) o = quiet says replica (k + 1) gs t (by (is_other replica g) e) (i, omega arith, is) o
   where
     by : (v : Bool) → flat_map says (cond v ((k, g) ∷ filter (λ n. is_other replica n.1) (numbered (k + 1) gs)) (filter (λ n. is_other replica n.1) (numbered (k + 1) gs))) ≡ []

@@ -227,8 +227,11 @@ adopted c kept seat replica number p k l may is there =
       opening = refl;
       state = sym a;
       step = step_to c.opening c.state (holds_now c seat (Some number)).state seat (Adopt replica) (Adopted number) l may.0 (may.1, is) tt a refl refl
-          (record { row = omega arith; replaced = omega arith;
-              generation = names_none (length c.state.generations) (held_by c.state seat) (Adopted number) may.1 (k.current replica number is) });
+          (record {
+            row = omega arith;
+            replaced = omega arith;
+            generation = names_none (length c.state.generations) (held_by c.state seat) (Adopted number) may.1 (k.current replica number is);
+          });
       records = record {
         seat_is = refl;
         did_is = refl;
@@ -245,7 +248,10 @@ let_go c kept seat k l may =
       opening = refl;
       state = sym a;
       step = step_to c.opening c.state (holds_now c seat None).state seat LetGo Released l tt may tt a refl refl
-          (record { row = omega arith; replaced = omega arith;
-              generation = names_held (length c.state.generations) (held_by c.state seat) Released may (held_in c.state seat k.held) });
+          (record {
+            row = omega arith;
+            replaced = omega arith;
+            generation = names_held (length c.state.generations) (held_by c.state seat) Released may (held_in c.state seat k.held);
+          });
       records = record { seat_is = refl; did_is = refl; gave_is = refl; shows = tt };
     }

@@ -49,7 +49,7 @@ left_alone k i [] l = refl
 left_alone k i (None ∷ rs) l = left_alone (k + 1) i rs (omega arith)
 left_alone k i (Some rows ∷ rs) l =
     let head : left_by i (fresh k rows) ≡ fresh k rows =
-        ap (λ b. record { replica = k; rows = rows; current = true && not b; holders = 0 }) (ne_eqb k i (λ e. omega (arith, e))) in
+    ap (λ b. record { replica = k; rows = rows; current = true && not b; holders = 0 }) (ne_eqb k i (λ e. omega (arith, e))) in
     let tail = left_alone (k + 1) i rs (omega arith) in
     (λ j. head j ∷ tail j)
 
@@ -105,6 +105,7 @@ fit_more rs needs i rows each k l p f = record {
         subst (λ r. Contains (class_list r class) (writer_of (class_list b class))) (same_Some rows a ea)
         (subst (λ r. Contains (class_list rows class) (writer_of (class_list r class))) (same_Some rows b eb)
         (own_writer (class_list rows class) (class_some rows k class)))
+
     kept : (a : List Row) (need : Need) → Contains needs need → Contains rs (Some a) ⊎ (Some rows ≡ Some a) → Contains (list_of a need.resource) need.who
     kept a need there (inl ca) = f.stored a need ca there
     kept a need there (inr ea) = subst (λ r. Contains (list_of r need.resource) need.who) (same_Some rows a ea) (p.stored need there)
@@ -164,8 +165,8 @@ taken_more replicas old now next i s t l e takes =
     let size : length rs ≡ i = omega (arith, length-take i (rows_in replicas), rows_long replicas) in
     let w = subst (λ (b : BoardState). TakesUp i rows b next (Ok tt)) t.board_is takes in
     let board : without_current i (taken_up 0 rs) ++ fresh i rows ∷ [] ≡ taken_up 0 (take (i + 1) (rows_in replicas)) =
-        ap (λ gs. gs ++ fresh i rows ∷ []) (left_alone 0 i rs (omega (arith, size)))
-        ∙ sym (ap (taken_up 0) more ∙ taken_some 0 rs rows i (omega (arith, size))) in
+    ap (λ gs. gs ++ fresh i rows ∷ []) (left_alone 0 i rs (omega (arith, size)))
+    ∙ sym (ap (taken_up 0) more ∙ taken_some 0 rs rows i (omega (arith, size))) in
     record {
       board_is = w.1 ∙ ap (λ gs. record old { generations = gs }) board;
       fit = subst (λ l. AllFit l old.needs) (sym more)

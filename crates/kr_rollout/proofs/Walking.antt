@@ -100,7 +100,7 @@ module _ (first : List Row) (rows : List LogRow) (after : List ℕ) (needs : Lis
   here_more noted next is path own e n true h =
       let same : row ≡ own = same_Some row own (sym next.1 ∙ ap (live rows) (same_path row.path path h) ∙ e) in
       subst (λ (r : stored_row.Row). (need_at (set_need needs (record { path = row.path; resource = row.resource; who = who })) path ≡ live_need first r)
-          × IsSome (provider_of first r.resource r.stored)) same
+      × IsSome (provider_of first r.resource r.stored)) same
       (set_at path true h ∙ sym (ap (option_map (λ w. record { path = row.path; resource = row.resource; who = w })) is), ap is_some is)
   here_more noted next is path own e n false h =
       let old = noted.here path own e (between rows after path row own next e n h) in
@@ -132,8 +132,10 @@ stray_next first rows after needs row noted next none = record {
     by lesser stray l Less c = next.2 lesser (some_live rows lesser stray.0 stray.1) c l
     by lesser stray l Equal c = missing lesser stray (λ e. less_is_not Equal (λ d. cc) (sym c ∙ e))
     by lesser stray l Greater c = missing lesser stray (λ e. less_is_not Greater (λ d. cc) (sym c ∙ e))
+
     less_is_not : (r : Ordering) → (r ≡ Less → ⊥) → r ≡ Less → ⊥
     less_is_not r n e = n e
+
     missing : (lesser : List ℕ) → IsStray first rows lesser → name_cmp after lesser ≢ Less → ⊥
     missing lesser stray n =
         let old = noted.here lesser stray.0 stray.1 n in
@@ -147,6 +149,7 @@ live_last first rows path row e = by (latest rows path) e
     put : (n : ℕ) (path : List ℕ) (c : Change) → row_of n path c ≡ Some row → need_of first path c ≡ live_need first row
     put n path (change.Put resource stored) e = ap (live_need first) (same_Some _ row e)
     put n path change.Delete e = absurd (none-some row e)
+
     by : (l : Option (ℕ × LogRow)) → live_row l ≡ Some row → needed first (option_map (λ found. found.1) l) ≡ live_need first row
     by None e = absurd (none-some row e)
     by (Some found) e = put found.0 found.1.path found.1.change e
@@ -157,6 +160,7 @@ dead_last first rows path e = by (latest rows path) e
     put : (n : ℕ) (path : List ℕ) (c : Change) → row_of n path c ≡ None → need_of first path c ≡ None
     put n path (change.Put resource stored) e = absurd (none-some _ (sym e))
     put n path change.Delete e = refl
+
     by : (l : Option (ℕ × LogRow)) → live_row l ≡ None → needed first (option_map (λ found. found.1) l) ≡ None
     by None e = refl
     by (Some found) e = put found.0 found.1.path found.1.change e
@@ -219,6 +223,7 @@ goes_on rows after row next = by (latest rows row.path) refl next.1
   where
     further : (other : LogRow) → is_lt (name_cmp row.path other.path) ≡ true → is_lt (name_cmp after other.path) ≡ true
     further other e = ap is_lt (nat_list_cmp_total.trans after row.path other.path next.0 (lt_is row.path other.path e))
+
     itself : (path : List ℕ) → is_lt (name_cmp path path) ≡ false
     itself path = not_less (name_cmp path path) (nat_list_cmp_total.antisymm path path)
       where
@@ -226,6 +231,7 @@ goes_on rows after row next = by (latest rows row.path) refl next.1
         not_less Less e = cc
         not_less Equal e = refl
         not_less Greater e = refl
+
     by : (l : Option (ℕ × LogRow)) → latest rows row.path ≡ l → live_row l ≡ Some row → left_after row.path rows < left_after after rows
     by None is e = absurd (none-some row e)
     by (Some found) is e =

@@ -1,4 +1,5 @@
--- What a seat knows by its own entries, what it may ask by that, and what the journal records of it.
+-- What a seat knows by its own entries, what it may ask by that, and what the journal records of
+-- it.
 use Rattle.std.specs.Prelude.{◌≡◌, ℕ, ◌<◌, ◌⊎◌, List, [], ◌∷◌, length, Option, None, Some, IsSome, ⊤}
 use Rattle.kr_base.specs.Rules.{IsPath}
 use Rattle.kr_provider.specs.Publication.{Publication}
@@ -20,7 +21,8 @@ abbrev pub with_published : ℕ → Option Publication → Option (ℕ × Public
 with_published number None = None
 with_published number (Some p) = Some (number, p)
 
-abbrev pub holding_then : Gave → Option Publication → Option (ℕ × Publication) → Option (ℕ × Publication)
+abbrev pub holding_then : Gave → Option Publication → Option (ℕ × Publication)
+    → Option (ℕ × Publication)
 holding_then (Adopted number) published now = with_published number published
 holding_then Released published now = None
 holding_then gave published now = now

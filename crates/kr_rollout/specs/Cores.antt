@@ -14,8 +14,10 @@ pub record CoreState : Type 0 where
   pub history : List Entry
   pub room : ℕ
 
--- exactly one entry is appended: it is that of this seat, event and answer, and a step from the state before it
-pub record Applies (old : CoreState) (seat : ℕ) (event : Event) (answer : Answer) (new : CoreState) : Type 0 where
+-- exactly one entry is appended: it is that of this seat, event and answer, and a step from the
+-- state before it
+pub record Applies (old : CoreState) (seat : ℕ) (event : Event) (answer : Answer) (new : CoreState)
+    : Type 0 where
   pub entry : Entry
   pub new_is : new ≡ record old { history = old.history ++ entry ∷ [] }
   pub step : IsStep old.opening (state_of old.opening old.history) entry

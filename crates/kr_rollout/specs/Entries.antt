@@ -1,5 +1,5 @@
--- Entries: lines of the journal with the rows and the configuration that they name. They are computed from all rows and
--- all generations, and more of these change none of them.
+-- Entries: lines of the journal with the rows and the configuration that they name. They are
+-- computed from all rows and all generations, and more of these change none of them.
 use Rattle.std.specs.Prelude.{ℕ, zero, suc, ◌<◌, ◌≤◌, List, length, map, Option, None, Some, IfSome}
 use Rattle.std.specs.List.{slice_get}
 use Rattle.std.specs.Option.{option_map}
@@ -27,7 +27,8 @@ row_at rows (suc k) = row_here (suc k) (slice_get rows k)
 -- the configuration of a generation
 abbrev pub published_at : List Generation → Option ℕ → Option Publication
 published_at generations None = None
-published_at generations (Some number) = option_map (λ g. g.published) (slice_get generations number)
+published_at generations (Some number) =
+    option_map (λ g. g.published) (slice_get generations number)
 
 -- the revision of the row that was found or written; 0 where there is none
 abbrev pub revision_in : Gave → ℕ

@@ -29,10 +29,16 @@ first_rows (Some rows ∷ replicas) = rows
 abbrev pub provider_of : (first : List Row) → (resource stored : List ℕ) → Option Who
 provider_of first resource stored = reader_in (list_of first resource) stored
 
--- what a row needs: nothing where it deletes, and where the first replica's settings have no provider for it
+-- what a row needs: nothing where it deletes, and where the first replica's settings have no
+-- provider for it
 abbrev pub need_of : (first : List Row) → List ℕ → Change → Option Need
 need_of first path (change.Put resource stored) =
-    option_map (λ who. record { path = path; resource = resource; who = who }) (provider_of first resource stored)
+    option_map (λ who. record {
+      path =
+          path;
+      resource = resource;
+      who = who;
+    }) (provider_of first resource stored)
 need_of first path change.Delete = None
 
 abbrev pub with_need : Option Need → List Need → List Need

@@ -24,13 +24,20 @@ abbrev pub taken_up : ℕ → List (Option (List Row)) → List Taken
 taken_up replica [] = []
 taken_up replica (None ∷ replicas) = taken_up (replica + 1) replicas
 taken_up replica (Some rows ∷ replicas) =
-    record { replica = replica; rows = rows; current = true; holders = 0 } ∷ taken_up (replica + 1) replicas
+    record {
+      replica =
+          replica;
+      rows = rows;
+      current = true;
+      holders = 0;
+    } ∷ taken_up (replica + 1) replicas
 
 -- ---- the causes, in their order
 
 -- the live row of the path has no provider
 abbrev pub IsStray : (first : List Row) → List LogRow → List ℕ → Type 0
-IsStray first rows path = (row : stored_row.Row) × (live rows path ≡ Some row) × (provider_of first row.resource row.stored ≡ None)
+IsStray first rows path = (row : stored_row.Row) × (live rows path ≡ Some row)
+    × (provider_of first row.resource row.stored ≡ None)
 
 -- and no lesser path is so
 pub record IsLeastStray (first : List Row) (rows : List LogRow) (path : List ℕ) : Type 0 where
@@ -42,7 +49,8 @@ abbrev pub AllFit : List (Option (List Row)) → List Need → Type 0
 AllFit replicas needs = AreFit (λ rows. Contains replicas (Some rows)) needs
 
 -- the replicas before this one fit, and its settings are refused by the verdict on them
-pub record IsUnfit (replicas : List (Option (List Row))) (needs : List Need) (replica : ℕ) (verdict : Verdict) : Type 0 where
+pub record IsUnfit (replicas : List (Option (List Row))) (needs : List Need) (replica : ℕ)
+    (verdict : Verdict) : Type 0 where
   pub rows : List Row
   pub is : slice_get replicas replica ≡ Some (Some rows)
   pub before : AllFit (take replica replicas) needs
@@ -63,12 +71,19 @@ pub record MayStart (rows : List LogRow) (replicas : List (Option (List Row))) :
   pub fit : AllFit replicas (needs_of (first_rows replicas) rows)
 
 -- the board of the rows and of the replicas' settings, with room for so many generations
-abbrev pub Boards : List LogRow → List (Option (List Row)) → (room : ℕ) → Result BoardState StartNo → Type 0
+abbrev pub Boards : List LogRow → List (Option (List Row)) → (room : ℕ) → Result BoardState StartNo
+    → Type 0
 Boards rows replicas room (Ok board) = MayStart rows replicas × (board
-    ≡ record { generations = taken_up 0 replicas; needs = needs_of (first_rows replicas) rows; proposal = None; room = room })
+    ≡ record {
+      generations = taken_up 0 replicas;
+      needs = needs_of (first_rows replicas) rows;
+      proposal = None;
+      room = room;
+    })
 Boards rows replicas room (Err why) = IsNoStart rows replicas why
 
 -- a core that begins with the opening
 abbrev pub Starts : {S : Type 0} → Opening → (room : ℕ) → Result CoreState (StartNo × S) → Type 0
-Starts o room (Ok core) = MayStart o.rows (settings_of o.replicas) × (core ≡ record { opening = o; history = []; room = room })
+Starts o room (Ok core) = MayStart o.rows (settings_of o.replicas)
+    × (core ≡ record { opening = o; history = []; room = room })
 Starts o room (Err (why, store)) = IsNoStart o.rows (settings_of o.replicas) why

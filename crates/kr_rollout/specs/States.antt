@@ -11,9 +11,9 @@ use Rattle.kr_judge.specs.Verdicts.{verdict_of}
 use Rattle.kr_rollout.specs.declared.generation.Generation.{Generation}
 use Rattle.kr_rollout.specs.Entries.{published_at}
 
--- the generations, by their numbers; for each replica the number of its current generation, and for each seat that of the
--- generation that it holds; for each path at which a value lives the provider that it needs, in the order of paths; the
--- store's rows, and how often its tape had failed
+-- the generations, by their numbers; for each replica the number of its current generation, and for
+-- each seat that of the generation that it holds; for each path at which a value lives the provider
+-- that it needs, in the order of paths; the store's rows, and how often its tape had failed
 pub record State : Type 0 where
   pub generations : List Generation
   pub current : List (Option ℕ)
@@ -42,7 +42,8 @@ abbrev pub IsLive : State → List Row → Type 0
 IsLive st rows = (number : ℕ) × IsLiveNumber st number
     × (option_map (λ p. p.rows) (published_at st.generations (Some number)) ≡ Some rows)
 
--- the generations as they are judged: whether a replica has it as its current one, and how many seats hold it
+-- the generations as they are judged: whether a replica has it as its current one, and how many
+-- seats hold it
 
 abbrev pub is_number : ℕ → Option ℕ → Bool
 is_number number None = false

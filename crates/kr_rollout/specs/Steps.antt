@@ -1,4 +1,5 @@
--- A step of a rollout: the condition in which an entry may stand behind a state, and the state after it.
+-- A step of a rollout: the condition in which an entry may stand behind a state, and the state
+-- after it.
 use Rattle.std.specs.Prelude.{◌≡◌, ℕ, ◌<◌, ◌≤◌, ◌⊎◌, List, [], ◌∷◌, ◌++◌, length, slice_set, All, Option, None, Some, ⊤}
 use Rattle.kr_base.specs.Rules.{IsPath, IsResource}
 use Rattle.kr_store.specs.declared.rows.LogRow.{LogRow}
@@ -70,7 +71,12 @@ abbrev pub put_need : Option Publication → Option Row → List Need → List N
 put_need None row needs = needs
 put_need (Some p) None needs = needs
 put_need (Some p) (Some row) needs =
-    set_need needs (record { path = row.path; resource = row.resource; who = writer_of (list_at p row.resource) })
+    set_need needs (record {
+      path =
+          row.path;
+      resource = row.resource;
+      who = writer_of (list_at p row.resource);
+    })
 
 abbrev pub need_written : Did → Option Publication → Option Row → List Need → List Need
 need_written (Delete path) published row needs = drop_need needs path
@@ -97,7 +103,8 @@ abbrev pub KeepsRules : Did → Opening → Type 0
 KeepsRules (Adopt replica) o = replica < length o.replicas
 KeepsRules (Fetch path) o = IsPath path
 KeepsRules (After path) o = (path ≡ []) ⊎ IsPath path
-KeepsRules (Put path resource plain) o = IsPath path × IsResource resource × All (λ byte. byte < 256) plain
+KeepsRules (Put path resource plain) o =
+    IsPath path × IsResource resource × All (λ byte. byte < 256) plain
 KeepsRules (Delete path) o = IsPath path
 KeepsRules (Replace path revision) o = IsPath path
 KeepsRules LetGo o = ⊤
@@ -105,8 +112,8 @@ KeepsRules (Reload replica p expect) o = (replica < length o.replicas) × IsAdmi
 KeepsRules (Join replica p) o = (replica < length o.replicas) × IsAdmitted o.names p
 KeepsRules (Leave replica) o = replica < length o.replicas
 
--- the entry names a seat and what it held, answers as the table has it, and shows what is there after it; the count of
--- faults never falls
+-- the entry names a seat and what it held, answers as the table has it, and shows what is there
+-- after it; the count of faults never falls
 pub record IsStep (o : Opening) (st : State) (e : Entry) : Type 0 where
   pub seat : e.line.seat < length o.reloads
   pub held : e.line.held ≡ held_by st e.line.seat

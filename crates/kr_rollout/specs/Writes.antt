@@ -17,12 +17,14 @@ use Rattle.kr_rollout.specs.declared.opening.Opening.{Opening}
 use Rattle.kr_rollout.specs.States.{State}
 
 -- the row is a put of a sealing of the data by the configuration
-pub record IsSealedPut (p : Publication) (resource path plain : List ℕ) (row : LogRow) : Type 0 where
+pub record IsSealedPut (p : Publication) (resource path plain : List ℕ) (row : LogRow)
+    : Type 0 where
   pub stored : List ℕ
   pub sealing : IsSealing p resource path plain stored
   pub row_is : row ≡ put_of path resource stored
 
--- it is that of the data as which the replaced row reads by the configuration, with some unwrapped source
+-- it is that of the data as which the replaced row reads by the configuration, with some unwrapped
+-- source
 pub record IsSealedAnew (p : Publication) (path : List ℕ) (old : Row) (row : LogRow) : Type 0 where
   pub plain : List ℕ
   pub reads : HasSomeReading (list_at p old.resource) path old.stored (data_of plain)
@@ -30,7 +32,8 @@ pub record IsSealedAnew (p : Publication) (path : List ℕ) (old : Row) (row : L
 
 -- the row that an event writes behind these rows, or would write; the configuration is the held one
 abbrev pub WouldWrite : Did → List LogRow → Option Publication → LogRow → Type 0
-WouldWrite (Put path resource plain) rows held row = (p : Publication) × (held ≡ Some p) × IsSealedPut p resource path plain row
+WouldWrite (Put path resource plain) rows held row =
+    (p : Publication) × (held ≡ Some p) × IsSealedPut p resource path plain row
 WouldWrite (Delete path) rows held row = IsSome (live rows path) × (row ≡ delete_of path)
 WouldWrite (Replace path revision) rows held row = (p : Publication) × (old : Row) × (held ≡ Some p)
     × (live rows path ≡ Some old) × (old.revision ≡ revision) × IsSealedAnew p path old row

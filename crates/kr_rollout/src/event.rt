@@ -6,17 +6,11 @@ use kr_base::Text;
 #[derive(Drop)]
 pub enum Event {
     /// Take the replica's current generation, which the seat then holds.
-    Adopt {
-        replica: u32,
-    },
+    Adopt { replica: u32 },
     /// Find the live row of the path.
-    Fetch {
-        path: Text,
-    },
+    Fetch { path: Text },
     /// Find the live row with the least path above this one, which may be empty.
-    After {
-        path: Text,
-    },
+    After { path: Text },
     /// Let the generation go that the seat holds.
     LetGo,
 }

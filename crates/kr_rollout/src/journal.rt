@@ -21,8 +21,8 @@ use kr_store::Store;
 use std::alloc::Global;
 use std::marker::Model;
 
-/// A rollout with its journal, of which each line is one event of one seat. Contracts see the journal as a history: its
-/// lines with the rows and configurations that they name.
+/// A rollout with its journal, of which each line is one event of one seat. Contracts see the
+/// journal as a history: its lines with the rows and configurations that they name.
 #[derive(Drop)]
 pub struct Core<T: Tape> {
     rollout: Rollout<T>,
@@ -42,12 +42,14 @@ impl<T: Tape> Model for Core<T> {
       room = core.room;
     } };
 
-    ghost invariant = { λ core. IsCore core.rollout.opening core.rollout.state core.journal.0 core.journal.1 core.room };
+    ghost invariant = { λ core. IsCore core.rollout.opening core.rollout.state
+        core.journal.0 core.journal.1 core.room };
 }
 
 impl<T: Tape> Core<T> {
-    /// Starts a rollout of 1 to 16 replicas, of which the first is in, with 1 to 64 seats. The journal has room for so many
-    /// lines, and seat i may bring so many configurations as `reloads` has at i. A refusal gives the store back.
+    /// Starts a rollout of 1 to 16 replicas, of which the first is in, with 1 to 64 seats. The
+    /// journal has room for so many lines, and seat i may bring so many configurations as `reloads`
+    /// has at i. A refusal gives the store back.
     pub fn start(
         alloc: Global,
         store: Store<T>,
@@ -62,7 +64,9 @@ impl<T: Tape> Core<T> {
         requires seats { (1 ≤ seats) × (seats ≤ 64) × (length reloads.now ≡ seats) }
         requires room { (sum reloads.now ≤ room) × (room ≤ 4000000) }
         requires names { AreAmong names.0 replicas.0 }
-        ensures starts { Starts (opening_of store (length store.rows) replicas.0 names.0 reloads.now store.count) room result }
+        ensures starts { Starts
+            (opening_of store (length store.rows) replicas.0 names.0 reloads.now store.count)
+            room result }
         ensures back { IfErr result (λ refused. refused.1 ≡ store) }
     {
         let mut journal = List::new(alloc);

@@ -1,5 +1,6 @@
-//! The core of a rollout: seats ask one thing at a time of a store and of the configurations of some replicas, and each
-//! is one line of one journal. The journal is a legal history, by which the core's state is known.
+//! The core of a rollout: seats ask one thing at a time of a store and of the configurations of
+//! some replicas, and each is one line of one journal. The journal is a legal history, by which the
+//! core's state is known.
 #![tactic(auto)]
 
 mod answer;

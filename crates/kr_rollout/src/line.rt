@@ -51,49 +51,27 @@ pub enum Did {
 /// What the core answered, without the row or the configuration that it handed out.
 #[derive(Drop)]
 pub enum Gave {
-    Adopted {
-        generation: u32,
-    },
-    Found {
-        revision: u64,
-    },
+    Adopted { generation: u32 },
+    Found { revision: u64 },
     Absent,
-    Written {
-        revision: u64,
-    },
+    Written { revision: u64 },
     /// The path's last row is this one; 0 where it has none.
-    Changed {
-        revision: u64,
-    },
+    Changed { revision: u64 },
     Released,
-    Reloaded {
-        generation: u32,
-    },
-    Joined {
-        generation: u32,
-    },
+    Reloaded { generation: u32 },
+    Joined { generation: u32 },
     Refused(Verdict),
     /// The replica's current generation isn't the expected one, but this.
-    Moved {
-        generation: u32,
-    },
+    Moved { generation: u32 },
     /// The replica has a current generation already.
-    Present {
-        generation: u32,
-    },
+    Present { generation: u32 },
     /// The replica had this current generation, and has none any more.
-    Departed {
-        generation: u32,
-    },
+    Departed { generation: u32 },
     /// The replica has no current generation.
-    Gone {
-        replica: u32,
-    },
+    Gone { replica: u32 },
     StoreFailed,
     /// The store's file would have so many bytes.
-    StoreFull {
-        needed: u64,
-    },
+    StoreFull { needed: u64 },
     /// There was no memory.
     Nothing,
 }

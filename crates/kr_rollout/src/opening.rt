@@ -1,4 +1,5 @@
-//! What a history begins with, and its entries, for contracts alone: no value of these types is made.
+//! What a history begins with, and its entries, for contracts alone: no value of these types is
+//! made.
 
 use crate::line::Line;
 use kr_base::Text;
@@ -25,7 +26,8 @@ pub struct Opening {
 /// A line of the journal with what it names.
 pub struct Entry {
     pub line: Line,
-    /// The configuration of the generation that the seat held when the event began, or else of the one that it adopted.
+    /// The configuration of the generation that the seat held when the event began, or else of the
+    /// one that it adopted.
     pub published: Option<Published>,
     /// The row that was found or written, where it puts a value.
     pub row: Option<Row>,

@@ -16,21 +16,17 @@ use std::alloc::Global;
 #[derive(Debug, Drop)]
 pub enum StartNo {
     /// No provider of the first replica reads the live row of this path, the least such path.
-    Stray {
-        path: Text,
-    },
+    Stray { path: Text },
     /// This replica's settings are refused, for this first reason.
-    Unfit {
-        replica: u32,
-        verdict: Verdict,
-    },
+    Unfit { replica: u32, verdict: Verdict },
     /// There was no memory.
     NoMemory,
 }
 
-/// The board of the store's live rows and of the settings of 1 to 16 replicas, of which the first is in. Each row's
-/// provider is the one that the first replica's settings have for it. The replicas are taken up in order, each judged on
-/// those before it; those that are in get the generations 0, 1 and so on.
+/// The board of the store's live rows and of the settings of 1 to 16 replicas, of which the first
+/// is in. Each row's provider is the one that the first replica's settings have for it. The
+/// replicas are taken up in order, each judged on those before it; those that are in get the
+/// generations 0, 1 and so on.
 pub fn board_of<T: Tape>(
     alloc: Global,
     store: &Store<T>,

@@ -39,7 +39,8 @@ impl<T: Tape> Model for Rollout<T> {
     ghost Value = { Course };
 
     ghost view = { λ r. record {
-      opening = opening_of r.store r.first_rows r.replicas.0 r.names.0 r.reloads.items r.first_faults;
+      opening = opening_of r.store r.first_rows r.replicas.0 r.names.0 r.reloads.items
+          r.first_faults;
       state = state_with r.store r.board r.generations.items r.current.items r.held.items;
     } };
 
@@ -109,7 +110,13 @@ impl<T: Tape> Rollout<T> {
                 let line = self.line(seat, did, Gave::Adopted { generation });
                 self.board.hold(generation);
                 self.held[seat as usize] = Some(generation);
-                return (Answer::Adopted { generation, published }, line);
+                return (
+                    Answer::Adopted {
+                        generation,
+                        published,
+                    },
+                    line,
+                );
             }
             Err(NoMemory) => {
                 let line = self.line(seat, did, Gave::Nothing);

@@ -29,7 +29,9 @@ impl<T: Tape> Rollout<T> {
         requires few { length replicas.0 ≤ 16 }
         requires seats { (seats ≤ 64) × (length reloads.now ≡ seats) }
         requires room { sum reloads.now ≤ 4000000 }
-        ensures opens { Opens (opening_of store (length store.rows) replicas.0 names.0 reloads.now store.count) result }
+        ensures opens { Opens
+            (opening_of store (length store.rows) replicas.0 names.0 reloads.now store.count)
+            result }
         ensures back { IfErr result (λ refused. refused.1 ≡ store) }
     {
         let made = match make(alloc, replicas.as_slice(), seats, reloads) {
@@ -79,7 +81,8 @@ fn make(
     requires few { length replicas.now ≤ 16 }
     requires room { sum reloads.now ≤ 4000000 }
     ensures settings { IfOk result (λ made. rows_in made.settings.0 ≡ settings_of replicas.now) }
-    ensures generations { IfOk result (λ made. made.generations.items ≡ generations_from 0 replicas.now) }
+    ensures generations { IfOk result (λ made.
+        made.generations.items ≡ generations_from 0 replicas.now) }
     ensures current { IfOk result (λ made. made.current.items ≡ current_from 0 replicas.now) }
     ensures held { IfOk result (λ made. made.held.items ≡ replicate seats None) }
     ensures reloads { IfOk result (λ made. made.reloads.items ≡ reloads.now) }
@@ -115,7 +118,8 @@ fn share_settings(
 }
 
 fn settings_in(replica: &Option<Shared<Published>>) -> Result<Option<Shared<Settings>>, NoMemory>
-    ensures { IfOk result (λ settings. option_map (λ s. rows_of s.entries.0) settings ≡ option_map (λ p. p.rows) replica.now) }
+    ensures { IfOk result (λ settings.
+        option_map (λ s. rows_of s.entries.0) settings ≡ option_map (λ p. p.rows) replica.now) }
 {
     match replica {
         Some(published) => match published.get().settings.share() {

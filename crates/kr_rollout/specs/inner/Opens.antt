@@ -1,4 +1,5 @@
--- How the opening's board is made: from the live rows one by one, then from the replicas one by one.
+-- How the opening's board is made: from the live rows one by one, then from the replicas one by
+-- one.
 use Rattle.std.specs.Prelude.{◌≡◌, ◌≢◌, ℕ, List, [], ◌∷◌, ◌++◌, map, Bool, true, false, Option, None, Some, Result, Ok, Err, ⊤}
 use Rattle.std.specs.Option.{option_map}
 use Rattle.kr_store.specs.declared.rows.LogRow.{LogRow}
@@ -28,15 +29,23 @@ IsStrayOf path (Unfit replica verdict) = ⊥
 IsStrayOf path NoMemory = ⊤
 
 -- what a row needs stands on the board, or it has no provider
-abbrev pub Notes : (first : List Row) → stored_row.Row → BoardState → BoardState → Result (Unit {0}) StartNo → Type 0
-Notes first row old new (Ok done) = (who : Who) × (provider_of first row.resource row.stored ≡ Some who)
-    × (new ≡ record old { needs = set_need old.needs (record { path = row.path; resource = row.resource; who = who }) })
-Notes first row old new (Err (Stray path)) = (path ≡ row.path) × (provider_of first row.resource row.stored ≡ None)
+abbrev pub Notes : (first : List Row) → stored_row.Row → BoardState → BoardState
+    → Result (Unit {0}) StartNo → Type 0
+Notes first row old new (Ok done) =
+    (who : Who) × (provider_of first row.resource row.stored ≡ Some who)
+    × (new ≡ record old {
+      needs =
+          set_need old.needs (record { path = row.path; resource = row.resource; who = who });
+    })
+Notes first row old new (Err (Stray path)) =
+    (path ≡ row.path) × (provider_of first row.resource row.stored ≡ None)
 Notes first row old new (Err (Unfit replica verdict)) = ⊥
 Notes first row old new (Err NoMemory) = ⊤
 
-abbrev pub NotesAll : (first : List Row) → List LogRow → BoardState → BoardState → Result (Unit {0}) StartNo → Type 0
-NotesAll first rows old new (Ok done) = HasNoStray first rows × (new ≡ record old { needs = needs_of first rows })
+abbrev pub NotesAll : (first : List Row) → List LogRow → BoardState → BoardState
+    → Result (Unit {0}) StartNo → Type 0
+NotesAll first rows old new (Ok done) =
+    HasNoStray first rows × (new ≡ record old { needs = needs_of first rows })
 NotesAll first rows old new (Err (Stray path)) = IsLeastStray first rows path
 NotesAll first rows old new (Err (Unfit replica verdict)) = ⊥
 NotesAll first rows old new (Err NoMemory) = ⊤
@@ -50,20 +59,26 @@ is_refusal (Unread generation class who) = true
 -- a replica's settings are judged on the board, and are its next generation
 abbrev pub TakesUp : ℕ → List Row → BoardState → BoardState → Result (Unit {0}) StartNo → Type 0
 TakesUp replica rows old new (Ok done) = (verdict_of old.needs old.generations replica rows ≡ Pass)
-    × (new ≡ record old { generations = without_current replica old.generations
-        ++ record { replica = replica; rows = rows; current = true; holders = 0 } ∷ [] })
+    × (new ≡ record old {
+      generations = without_current replica old.generations
+          ++ record { replica = replica; rows = rows; current = true; holders = 0 } ∷ [];
+    })
 TakesUp replica rows old new (Err (Stray path)) = ⊥
 TakesUp replica rows old new (Err (Unfit named verdict)) = (named ≡ replica)
     × (verdict ≡ verdict_of old.needs old.generations replica rows) × (verdict ≢ Pass)
 TakesUp replica rows old new (Err NoMemory) = ⊤
 
-abbrev pub TakesAllUp : List (Option (List Row)) → BoardState → BoardState → Result (Unit {0}) StartNo → Type 0
-TakesAllUp replicas old new (Ok done) = AllFit replicas old.needs × (new ≡ record old { generations = taken_up 0 replicas })
+abbrev pub TakesAllUp : List (Option (List Row)) → BoardState → BoardState
+    → Result (Unit {0}) StartNo → Type 0
+TakesAllUp replicas old new (Ok done) =
+    AllFit replicas old.needs × (new ≡ record old { generations = taken_up 0 replicas })
 TakesAllUp replicas old new (Err (Stray path)) = ⊥
-TakesAllUp replicas old new (Err (Unfit replica verdict)) = IsUnfit replicas old.needs replica verdict
+TakesAllUp replicas old new (Err (Unfit replica verdict)) =
+    IsUnfit replicas old.needs replica verdict
 TakesAllUp replicas old new (Err NoMemory) = ⊤
 
 -- a rollout at its opening
 abbrev pub Opens : {S : Type 0} → Opening → Result Course (StartNo × S) → Type 0
-Opens o (Ok course) = MayStart o.rows (settings_of o.replicas) × (course ≡ record { opening = o; state = start_of o })
+Opens o (Ok course) =
+    MayStart o.rows (settings_of o.replicas) × (course ≡ record { opening = o; state = start_of o })
 Opens o (Err (why, store)) = IsNoStart o.rows (settings_of o.replicas) why

@@ -36,7 +36,8 @@ opening_of store first replicas names reloads count = record {
   count = count;
 }
 
-abbrev pub state_with : Kept → BoardState → List Generation → (current held : List (Option ℕ)) → State
+abbrev pub state_with : Kept → BoardState → List Generation → (current held : List (Option ℕ))
+    → State
 state_with store board generations current held = record {
   generations = generations;
   current = current;
@@ -48,7 +49,8 @@ state_with store board generations current held = record {
 
 -- the numbers are those of generations
 abbrev pub AreNumbers : List (Option ℕ) → List Generation → Type 0
-AreNumbers numbers generations = (place number : ℕ) → number_at numbers place ≡ Some number → number < length generations
+AreNumbers numbers generations =
+    (place number : ℕ) → number_at numbers place ≡ Some number → number < length generations
 
 -- what holds of it: the board is that of the state, and the numbers are those of generations
 pub record IsCourse (o : Opening) (st : State) (kept : BoardState) : Type 0 where
@@ -61,17 +63,21 @@ pub record IsCourse (o : Opening) (st : State) (kept : BoardState) : Type 0 wher
 
 -- in this state the seat may ask this
 abbrev pub MayServe : Course → ℕ → Event → Type 0
-MayServe c seat (event.Adopt replica) = (replica < length c.opening.replicas) × (held_by c.state seat ≡ None)
+MayServe c seat (event.Adopt replica) =
+    (replica < length c.opening.replicas) × (held_by c.state seat ≡ None)
 MayServe c seat (event.Fetch path) = IsPath path × IsSome (held_by c.state seat)
 MayServe c seat (event.After path) = ((path ≡ []) ⊎ IsPath path) × IsSome (held_by c.state seat)
 MayServe c seat event.LetGo = IsSome (held_by c.state seat)
 
 -- the line of an event that is answered in this state
 abbrev pub line_now : State → ℕ → Did → Gave → Line
-line_now st seat did gave = record { seat = seat; did = did; held = held_by st seat; gave = gave; faults = st.count }
+line_now st seat did gave =
+    record { seat = seat; did = did; held = held_by st seat; gave = gave; faults = st.count }
 
--- the line's entry is a step and records the event and its answer, and the state is the one after it
-pub record Serves (old : Course) (seat : ℕ) (event : Event) (answer : Answer) (line : Line) (new : Course) : Type 0 where
+-- the line's entry is a step and records the event and its answer, and the state is the one after
+-- it
+pub record Serves (old : Course) (seat : ℕ) (event : Event) (answer : Answer) (line : Line)
+    (new : Course) : Type 0 where
   pub opening : new.opening ≡ old.opening
   pub state : new.state ≡ after old.state (entry_of new.state.rows new.state.generations line)
   pub step : IsStep old.opening old.state (entry_of new.state.rows new.state.generations line)
@@ -81,7 +87,8 @@ pub record Serves (old : Course) (seat : ℕ) (event : Event) (answer : Answer) 
 abbrev pub entries_by : State → List Line → List Entry
 entries_by st lines = map (entry_of st.rows st.generations) lines
 
--- what holds of a core: its lines are a legal history that leads to the state, and there is room for more
+-- what holds of a core: its lines are a legal history that leads to the state, and there is room
+-- for more
 pub record IsCore (o : Opening) (st : State) (lines : List Line) (spare room : ℕ) : Type 0 where
   pub legal : IsLegal o (entries_by st lines)
   pub leads : st ≡ state_of o (entries_by st lines)
