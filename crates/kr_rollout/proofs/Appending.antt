@@ -119,3 +119,8 @@ core_more o st next lines line spare left room c is step l =
       leads = is ∙ ap (λ (s : State). after s e) c.leads ∙ sym (state_more (start_of o) h e) ∙ ap (state_of o) (sym same);
       room_in = omega (arith, c.room_in, length-append lines (line ∷ []));
     }
+
+-- the lines of entries
+pub lines_are : (rows : List LogRow) (generations : List Generation) (lines : List Line) → map (λ (e : Entry). e.line) (map (entry_of rows generations) lines) ≡ lines
+lines_are rows generations [] = refl
+lines_are rows generations (line ∷ lines) = ap (λ l. line ∷ l) (lines_are rows generations lines)

@@ -1,16 +1,18 @@
 -- What holds of a rollout holds after a seat takes or gives up a generation.
-use Rattle.std.proofs.Common.{◌≡◌, ℕ, ◌<◌, ◌≤◌, ◌⊎◌, List, length, get_or, set, Option, None, Some, IfSome, refl, sym, ap, subst, ◌∙◌, arith, inl, inr}
+use Rattle.std.proofs.Common.{◌≡◌, ℕ, zero, suc, ◌∷◌, [], ◌<◌, ◌≤◌, ◌⊎◌, List, length, get_or, set, Option, None, Some, IfSome, refl, sym, ap, subst, ◌∙◌, arith, inl, inr}
 use Rattle.std.specs.Prelude.{slice_set}
 use Rattle.std.proofs.lemmas.Bool.{cases_eq}
 use Rattle.std.proofs.lemmas.List.{length-set, get_or-set_same, get_or-set_other}
 use Rattle.std.proofs.lemmas.Option.{same_Some, none-some}
+use Rattle.kr_store.specs.Stores.{Kept}
 use Rattle.kr_judge.specs.Boards.{BoardState, Taken, changed_at, held_more, held_less, MayHold, IsHeld}
 use Rattle.kr_rollout.specs.declared.event.Event.TheVariants as event
 use Rattle.kr_rollout.specs.declared.generation.Generation.{Generation}
 use Rattle.kr_rollout.specs.declared.opening.Opening.{Opening}
+use Rattle.kr_rollout.specs.Entries.{published_at}
 use Rattle.kr_rollout.specs.States.{State, number_at, current_of, held_by, taken}
 use Rattle.kr_rollout.specs.Openings.{board}
-use Rattle.kr_rollout.specs.inner.Rollouts.{Course, IsCourse, AreNumbers, MayServe}
+use Rattle.kr_rollout.specs.inner.Rollouts.{Course, IsCourse, AreNumbers, MayServe, state_with}
 use Rattle.kr_rollout.proofs.Holders.{takes, gives, moved, may_hold, may_release}
 
 -- another number at a place
@@ -75,3 +77,30 @@ pub board_releases : (o : Opening) (st : State) (kept : BoardState) (seat number
 board_releases o st kept seat number k l is =
     subst (λ (b : BoardState). IsHeld number b.generations) (sym k.board_is)
     (may_release st.current st.held seat number st.generations (k.held seat number is) (omega (arith, k.seats)) is)
+
+-- ---- over the fields
+
+-- what is read at a place
+pub read_number : (numbers : List (Option ℕ)) (place : ℕ) (x : Option ℕ) → place < length numbers → x ≡ get_or numbers place x → number_at numbers place ≡ x
+read_number [] place x l e = absurd (omega arith)
+read_number (y ∷ ys) zero x l e = sym e
+read_number (y ∷ ys) (suc place) x l e = read_number ys place x (omega arith) e
+
+pub read_published : (generations : List Generation) (number : ℕ) (g : Generation) → number < length generations → g ≡ get_or generations number g
+    → published_at generations (Some number) ≡ Some g.published
+read_published [] number g l e = absurd (omega arith)
+read_published (y ∷ ys) zero g l e = ap (λ (x : Generation). Some x.published) (sym e)
+read_published (y ∷ ys) (suc number) g l e = read_published ys number g (omega arith) e
+
+module _ (o : Opening) (store : Kept) (kept next : BoardState) (generations : List Generation) (current held : List (Option ℕ)) (k : IsCourse o (state_with store kept generations current held) kept) where
+  pub course_taken : (seat replica number : ℕ) → next ≡ with_board kept held_more number → seat < length o.reloads → number_at held seat ≡ None → number_at current replica ≡ Some number
+      → IsCourse o (state_with store next generations current (slice_set held seat (Some number))) next
+  course_taken seat replica number e l none is =
+      subst (λ (b : BoardState). IsCourse o (state_with store b generations current (slice_set held seat (Some number))) b) (sym e)
+      (course_takes o (state_with store kept generations current held) kept seat replica number k l none is)
+
+  pub course_given : (seat number : ℕ) → next ≡ with_board kept held_less number → seat < length o.reloads → number_at held seat ≡ Some number
+      → IsCourse o (state_with store next generations current (slice_set held seat None)) next
+  course_given seat number e l is =
+      subst (λ (b : BoardState). IsCourse o (state_with store b generations current (slice_set held seat None)) b) (sym e)
+      (course_gives o (state_with store kept generations current held) kept seat number k l is)

@@ -8,3 +8,6 @@ pub mod Needing
 pub mod Walking
 pub mod Passing
 pub mod Taking
+pub mod Beginning
+pub mod Findings
+pub mod Sharing

@@ -5,13 +5,14 @@ use Rattle.std.proofs.lemmas.List.{length-set}
 use Rattle.kr_base.specs.Rules.{IsPath}
 use Rattle.kr_store.specs.declared.rows.Row.{Row}
 use Rattle.kr_store.specs.Rows.{live}
-use Rattle.kr_store.specs.Stores.{IsNext}
+use Rattle.kr_store.specs.Stores.{Kept, IsNext}
 use Rattle.kr_provider.specs.Publication.{Publication}
 use Rattle.kr_judge.specs.Boards.{BoardState, Taken, changed_at, held_more, held_less}
 use Rattle.kr_rollout.specs.declared.answer.Answer.{Answer}
 use Rattle.kr_rollout.specs.declared.answer.Answer.TheVariants as answer
 use Rattle.kr_rollout.specs.declared.event.Event.{Event}
 use Rattle.kr_rollout.specs.declared.event.Event.TheVariants as event
+use Rattle.kr_rollout.specs.declared.generation.Generation.{Generation}
 use Rattle.kr_rollout.specs.declared.line.Did.{Did}
 use Rattle.kr_rollout.specs.declared.line.Did.TheVariants.{Adopt, Fetch, After, LetGo}
 use Rattle.kr_rollout.specs.declared.line.Gave.{Gave}
@@ -26,9 +27,9 @@ use Rattle.kr_rollout.specs.Answers.{IsAnswer}
 use Rattle.kr_rollout.specs.Writes.{Writes}
 use Rattle.kr_rollout.specs.Steps.{after, IsStep, KeepsRules}
 use Rattle.kr_rollout.specs.Callers.{did_of, gave_of, Shows, Records}
-use Rattle.kr_rollout.specs.inner.Rollouts.{Course, IsCourse, AreNumbers, line_now, MayServe, Serves}
+use Rattle.kr_rollout.specs.inner.Rollouts.{Course, IsCourse, AreNumbers, line_now, state_with, MayServe, Serves}
 use Rattle.kr_rollout.proofs.Revisions.{live_at}
-use Rattle.kr_rollout.proofs.Holders.{takes, gives, moved, may_hold, may_release}
+use Rattle.kr_rollout.proofs.Keeping.{with_board}
 
 -- an answer that changes nothing
 abbrev IsStill : Gave → Type 0
@@ -255,3 +256,22 @@ let_go c kept seat k l may =
           });
       records = record { seat_is = refl; did_is = refl; gave_is = refl; shows = tt };
     }
+
+-- the same over the fields, for the course that the caller sees
+pub adopted_at : (o : Opening) (store : Kept) (kept next : BoardState) (generations : List Generation) (current held : List (Option ℕ)) (old : Course) (line : Line) (seat replica number : ℕ) (p : Publication)
+    → IsCourse o (state_with store kept generations current held) kept → record { opening = o; state = state_with store kept generations current held } ≡ old
+    → next ≡ with_board kept held_more number → seat < length old.opening.reloads → MayServe old seat (event.Adopt replica)
+    → number_at current replica ≡ Some number → published_at generations (Some number) ≡ Some p
+    → line ≡ line_now old.state seat (Adopt replica) (Adopted number)
+    → Serves old seat (event.Adopt replica) (answer.Adopted number p) line (record { opening = o; state = state_with store next generations current (slice_set held seat (Some number)) })
+adopted_at o store kept next generations current held old line seat replica number p k view e l may is there line_is =
+    let here : Course = record { opening = o; state = state_with store kept generations current held } in
+    let l2 = subst (λ (c : Course). seat < length c.opening.reloads) (sym view) l in
+    let may2 = subst (λ (c : Course). MayServe c seat (event.Adopt replica)) (sym view) may in
+    let base = adopted here kept seat replica number p k l2 may2 is there in
+    let now : record { opening = o; state = state_with store next generations current (slice_set held seat (Some number)) } ≡ holds_now here seat (Some number) =
+    ap (λ (b : BoardState). record { opening = o; state = state_with store b generations current (slice_set held seat (Some number)) }) e in
+    let lines : line ≡ line_now here.state seat (Adopt replica) (Adopted number) = line_is ∙ ap (λ (c : Course). line_now c.state seat (Adopt replica) (Adopted number)) (sym view) in
+    subst (λ (c : Course). Serves c seat (event.Adopt replica) (answer.Adopted number p) line (record { opening = o; state = state_with store next generations current (slice_set held seat (Some number)) })) view
+    (subst (λ x. Serves here seat (event.Adopt replica) (answer.Adopted number p) x (record { opening = o; state = state_with store next generations current (slice_set held seat (Some number)) })) (sym lines)
+    (subst (λ x. Serves here seat (event.Adopt replica) (answer.Adopted number p) (line_now here.state seat (Adopt replica) (Adopted number)) x) (sym now) base))

@@ -1,7 +1,7 @@
 -- Going through the live rows by paths: what stands on the board, and that the walk ends.
-use Rattle.std.proofs.Common.{◌≡◌, ◌≢◌, ℕ, zero, suc, ◌<◌, ◌≤◌, ◌+◌, Bool, true, false, cond, List, [], ◌∷◌, ◌++◌, length, count_by, is_some, Option, None, Some, IsSome, refl, sym, ap, subst, ◌∙◌, arith, ◌⊎◌, inl, inr}
-use Rattle.std.specs.Prelude.{if◌then◌else◌}
-use Rattle.std.specs.List.{slice_get, sum_by}
+use Rattle.std.proofs.Common.{◌≡◌, ◌≢◌, ℕ, zero, suc, ◌<◌, ◌≤◌, ◌+◌, Bool, true, false, cond, List, [], ◌∷◌, ◌++◌, length, get_or, count_by, is_some, Option, None, Some, IsSome, refl, sym, ap, subst, ◌∙◌, arith, ◌⊎◌, inl, inr}
+use Rattle.std.specs.Prelude.{if◌then◌else◌, find, position, nat_lt}
+use Rattle.std.specs.List.{slice_get, sum_by, position_or_len}
 use Rattle.std.specs.Option.{option_map}
 use Rattle.std.specs.Str.{bytes_eq}
 use Rattle.std.specs.Ordering.{is_lt, ordering_reverse}
@@ -11,7 +11,12 @@ use Rattle.std.specs.declared.cmp.Ordering.TheVariants.{Less, Equal, Greater}
 use Rattle.std.proofs.lemmas.Cmp.{nat_list_cmp_total}
 use Rattle.std.proofs.lemmas.List.Sums.{sum_by-cons}
 use Rattle.std.proofs.lemmas.Option.{none-some, same_Some}
+use Rattle.std.proofs.lemmas.Bool.Decides.{nat_tests}
+use Rattle.std.proofs.lemmas.List.Folds.{find_at}
 use Rattle.kr_base.specs.Rules.{IsPath}
+use Rattle.kr_config.specs.Lists.{list_of}
+use Rattle.kr_provider.specs.Readers.{is_reader, reader_in, reader_place}
+use Rattle.kr_provider.proofs.Places.{reader_found}
 use Rattle.kr_store.specs.declared.rows.LogRow.{LogRow}
 use Rattle.kr_store.specs.declared.rows.Row as stored_row
 use Rattle.kr_store.specs.declared.rows.Change.{Change}
@@ -239,3 +244,27 @@ goes_on rows after row next = by (latest rows row.path) refl next.1
         let p : found.1.path ≡ row.path = same_path found.1.path row.path a.same in
         count_less (λ r. is_lt (name_cmp after r.path)) (λ r. is_lt (name_cmp row.path r.path)) further rows a.place found.1 a.is
         (ap (λ q. is_lt (name_cmp after q)) p ∙ ap is_lt next.0) (ap (λ q. is_lt (name_cmp row.path q)) p ∙ itself row.path)
+
+-- ---- the reader of a value, by its place
+
+pub reader_is : (first : List Row) (list : List Who) (resource bytes : List ℕ) (place : ℕ) (who : Who) → list ≡ list_of first resource → reader_place list bytes ≡ Some place
+    → who ≡ get_or list place who → provider_of first resource bytes ≡ Some who
+reader_is first list resource bytes place who l e is = ap (λ ws. reader_in ws bytes) (sym l) ∙ reader_found list bytes place who e is
+
+beyond : {X : Type 0} (xs : List X) (i : ℕ) → (i < length xs → ⊥) → slice_get xs i ≡ None
+beyond [] i n = refl
+beyond (x ∷ xs) zero n = absurd (n (omega arith))
+beyond (x ∷ xs) (suc i) n = beyond xs i (λ l. n (omega (arith, l)))
+
+no_place : {X : Type 0} (p : X → Bool) (xs : List X) → position p xs ≡ None → find p xs ≡ None
+no_place p xs e = find_at p xs ∙ beyond xs (position_or_len p xs) (λ l. within (position_or_len p xs) (length xs) l (outside (nat_lt (position_or_len p xs) (length xs)) (position_or_len p xs) e))
+  where
+    outside : (b : Bool) (n : ℕ) → cond b (Some n) None ≡ None → b ≡ false
+    outside true n e = absurd (cc)
+    outside false n e = refl
+
+    within : (n m : ℕ) → n < m → nat_lt n m ≡ false → ⊥
+    within n m l f = grind (arith, nat_tests)
+
+pub reader_none : (first : List Row) (list : List Who) (resource bytes : List ℕ) → list ≡ list_of first resource → reader_place list bytes ≡ None → provider_of first resource bytes ≡ None
+reader_none first list resource bytes l e = ap (λ ws. reader_in ws bytes) (sym l) ∙ no_place (is_reader bytes) list e

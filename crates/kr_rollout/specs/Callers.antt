@@ -2,6 +2,7 @@
 -- it.
 use Rattle.std.specs.Prelude.{◌≡◌, ℕ, ◌<◌, ◌⊎◌, List, [], ◌∷◌, length, Option, None, Some, IsSome, ⊤}
 use Rattle.kr_base.specs.Rules.{IsPath}
+use Rattle.kr_store.specs.declared.rows.Row.{Row}
 use Rattle.kr_provider.specs.Publication.{Publication}
 use Rattle.kr_rollout.specs.declared.answer.Answer.{Answer}
 use Rattle.kr_rollout.specs.declared.answer.Answer.TheVariants as answer
@@ -34,6 +35,26 @@ holding_from now (e ∷ own) = holding_from (holding_then e.line.gave e.publishe
 -- what was adopted last, unless it was let go
 abbrev pub holding : List Entry → Option (ℕ × Publication)
 holding own = holding_from None own
+
+-- ---- what it found, by its own entries
+
+abbrev pub found_by : Gave → Option Row → Option Row
+found_by (Found revision) row = row
+found_by gave row = None
+
+abbrev pub found_then : Did → Gave → Option Row → Option Row → Option Row
+found_then (Adopt replica) gave row now = None
+found_then (Fetch path) gave row now = found_by gave row
+found_then (After path) gave row now = found_by gave row
+found_then did gave row now = now
+
+abbrev pub found_from : Option Row → List Entry → Option Row
+found_from now [] = now
+found_from now (e ∷ own) = found_from (found_then e.line.did e.line.gave e.row now) own
+
+-- the row that the latest Fetch or After found, since the latest Adopt
+abbrev pub found_in : List Entry → Option Row
+found_in own = found_from None own
 
 -- ---- what it may ask
 

@@ -97,6 +97,7 @@ impl<T: Tape> Core<T> {
     }
 
     /// The journal's lines so far.
+    #[tactic(auto, using(crate::proofs::Appending::lines_are))]
     pub fn journal(&self) -> &[Line]
         ensures { result.now ≡ map (λ entry. entry.line) self.now.history }
     {
@@ -118,6 +119,7 @@ impl<T: Tape> Core<T> {
     }
 
     /// Gives the store and the journal up.
+    #[tactic(auto, using(crate::proofs::Appending::lines_are))]
     pub fn close(self) -> (Store<T>, List<Line>)
         ensures rows { result.0.rows ≡ (state_of self.opening self.history).rows }
         ensures count { result.0.count ≡ (state_of self.opening self.history).count }

@@ -57,6 +57,7 @@ pub fn board_of<T: Tape>(
 }
 
 /// The live rows' needs, by paths.
+#[tactic(auto, using(crate::proofs::Walking::noted_begin, crate::proofs::Walking::noted_more, crate::proofs::Walking::noted_end, crate::proofs::Walking::stray_next, crate::proofs::Walking::goes_on))]
 fn note_all<T: Tape>(
     alloc: Global,
     store: &Store<T>,
@@ -86,6 +87,7 @@ fn note_all<T: Tape>(
 }
 
 /// What the row needs.
+#[tactic(auto, using(crate::proofs::Walking::reader_is, crate::proofs::Walking::reader_none))]
 fn note(alloc: Global, first: &Settings, row: &Row, board: &mut Board) -> Result<(), StartNo>
     requires { board.old.proposal ≡ None }
     ensures { Notes (rows_of first.now.entries.0) row.now board.old board.new result }
@@ -110,6 +112,7 @@ fn stray(alloc: Global, path: &str) -> StartNo
 }
 
 /// Takes the replicas' settings up in order, each judged on those before it.
+#[tactic(auto, using(crate::proofs::Taking::taken_begin, crate::proofs::Taking::taken_gap, crate::proofs::Taking::taken_more, crate::proofs::Taking::taking_stops, crate::proofs::Taking::taken_end, crate::proofs::Taking::taken_room))]
 fn take_all_up(replicas: &[Option<Shared<Settings>>], board: &mut Board) -> Result<(), StartNo>
     requires none { board.old.generations ≡ [] }
     requires room { length replicas.now ≤ board.old.room }

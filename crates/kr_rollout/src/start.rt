@@ -104,6 +104,7 @@ fn make(
     })
 }
 
+#[tactic(auto, using(crate::proofs::Sharing::shared_begin, crate::proofs::Sharing::shared_more, crate::proofs::Sharing::shared_end))]
 fn share_settings(
     alloc: Global,
     replicas: &[Option<Shared<Published>>],
@@ -130,6 +131,7 @@ fn settings_in(replica: &Option<Shared<Published>>) -> Result<Option<Shared<Sett
     }
 }
 
+#[tactic(auto, using(crate::proofs::Sharing::made_begin, crate::proofs::Sharing::made_gap, crate::proofs::Sharing::made_more, crate::proofs::Sharing::made_end))]
 fn share_generations(
     alloc: Global,
     replicas: &[Option<Shared<Published>>],
@@ -155,6 +157,7 @@ fn share_generations(
     Ok(generations)
 }
 
+#[tactic(auto, using(crate::proofs::Sharing::numbered_begin, crate::proofs::Sharing::numbered_gap, crate::proofs::Sharing::numbered_more, crate::proofs::Sharing::numbered_end, crate::proofs::Sharing::numbered_room))]
 fn number_replicas(
     alloc: Global,
     replicas: &[Option<Shared<Published>>],
