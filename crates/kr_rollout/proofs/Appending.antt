@@ -3,6 +3,8 @@ use Rattle.std.proofs.Common.{◌≡◌, ℕ, ◌<◌, ◌≤◌, ◌+◌, List,
 use Rattle.std.specs.Prelude.{⊤}
 use Rattle.std.proofs.lemmas.List.{map-append}
 use Rattle.kr_store.specs.declared.rows.LogRow.{LogRow}
+use Rattle.kr_rollout.specs.declared.answer.Answer.{Answer}
+use Rattle.kr_rollout.specs.declared.event.Event.{Event}
 use Rattle.kr_rollout.specs.declared.generation.Generation.{Generation}
 use Rattle.kr_rollout.specs.declared.line.Line.{Line}
 use Rattle.kr_rollout.specs.declared.opening.Entry.{Entry}
@@ -12,7 +14,8 @@ use Rattle.kr_rollout.specs.States.{State}
 use Rattle.kr_rollout.specs.Openings.{start_of}
 use Rattle.kr_rollout.specs.Steps.{after, added, grown, IsStep}
 use Rattle.kr_rollout.specs.Histories.{state_from, state_of, IsRun, IsLegal}
-use Rattle.kr_rollout.specs.inner.Rollouts.{entries_by, IsCore}
+use Rattle.kr_rollout.specs.Cores.{CoreState, Applies}
+use Rattle.kr_rollout.specs.inner.Rollouts.{Course, Serves, entries_by, IsCore}
 use Rattle.kr_rollout.proofs.Revisions.{row_front, published_front}
 
 -- ---- rows and generations only grow
@@ -119,6 +122,28 @@ core_more o st next lines line spare left room c is step l =
       leads = is ∙ ap (λ (s : State). after s e) c.leads ∙ sym (state_more (start_of o) h e) ∙ ap (state_of o) (sym same);
       room_in = omega (arith, c.room_in, length-append lines (line ∷ []));
     }
+
+-- ---- the core
+
+module _ (old : CoreState) (before now : Course) (lines more : List Line) (line : Line) (spare left room seat : ℕ) (event : Event) (answer : Answer)
+    (view : record { opening = before.opening; history = entries_by before.state lines; room = room } ≡ old)
+    (core : IsCore before.opening before.state lines spare room) (serves : Serves before seat event answer line now) (pushed : more ≡ lines ++ line ∷ []) where
+  pub core_after : left + 1 ≡ spare → IsCore now.opening now.state more left room
+  core_after l =
+      subst (λ ls. IsCore now.opening now.state ls left room) (sym pushed)
+      (subst (λ o. IsCore o now.state (lines ++ line ∷ []) left room) (sym serves.opening)
+      (core_more before.opening before.state now.state lines line spare left room core serves.state serves.step l))
+
+  pub applied : Applies old seat event answer (record { opening = now.opening; history = entries_by now.state more; room = room })
+  applied =
+      subst (λ (c : CoreState). Applies c seat event answer (record { opening = now.opening; history = entries_by now.state more; room = room })) view
+      (record {
+        entry = entry_of now.state.rows now.state.generations line;
+        new_is = (let h = ap (entries_by now.state) pushed ∙ entries_more before.opening before.state now.state lines line spare room core serves.state in
+            (λ i. record { opening = serves.opening i; history = h i; room = room }));
+        step = subst (λ (s : State). IsStep before.opening s (entry_of now.state.rows now.state.generations line)) core.leads serves.step;
+        records = serves.records;
+      })
 
 -- the lines of entries
 pub lines_are : (rows : List LogRow) (generations : List Generation) (lines : List Line) → map (λ (e : Entry). e.line) (map (entry_of rows generations) lines) ≡ lines

@@ -1,5 +1,5 @@
 -- The state at an opening: its board, and what holds of it.
-use Rattle.std.proofs.Common.{◌≡◌, ℕ, zero, suc, ◌<◌, ◌≤◌, ◌+◌, ◌==◌, Bool, true, false, List, [], ◌∷◌, length, get_or, take, cond, replicate, count_by, map, Contains, Option, None, Some, IfSome, IsTrue, refl, sym, ap, subst, ◌∙◌, arith, ◌⊎◌, inl, inr}
+use Rattle.std.proofs.Common.{◌≡◌, ℕ, zero, suc, ◌<◌, ◌≤◌, ◌+◌, ◌==◌, Bool, true, false, List, [], ◌∷◌, length, get_or, take, cond, replicate, count_by, map, Contains, Option, None, Some, Ok, IfSome, IsTrue, refl, sym, ap, subst, ◌∙◌, arith, ◌⊎◌, inl, inr}
 use Rattle.std.specs.Prelude.{◌||◌, sum, All}
 use Rattle.std.specs.List.{slice_get, list_any, sum_by}
 use Rattle.std.specs.Option.{option_map}
@@ -18,11 +18,11 @@ use Rattle.kr_rollout.specs.declared.generation.Generation.{Generation}
 use Rattle.kr_rollout.specs.declared.opening.Opening.{Opening}
 use Rattle.kr_rollout.specs.Entries.{published_at}
 use Rattle.kr_rollout.specs.States.{State, number_at, is_number, taken_of, taken_from, taken, IsLiveNumber, IsLive}
-use Rattle.kr_rollout.specs.Openings.{first_rows, needs_of, generations_from, current_from, settings_of, first_of, start_of, room_of, board, NamesAmong, AreAmong, IsAdmitted, IsFirstIn, IsOpening}
+use Rattle.kr_rollout.specs.Openings.{first_rows, needs_of, generations_from, current_from, settings_of, first_of, start_of, room_of, board, opening_by, NamesAmong, AreAmong, IsAdmitted, IsFirstIn, IsOpening}
 use Rattle.kr_rollout.specs.Fits.{AreFit, IsFit}
 use Rattle.kr_rollout.specs.Histories.{IsLegal}
-use Rattle.kr_rollout.specs.Starts.{taken_up, AllFit, MayStart}
-use Rattle.kr_rollout.specs.inner.Rollouts.{AreNumbers, IsCourse, IsCore}
+use Rattle.kr_rollout.specs.Starts.{taken_up, AllFit, MayStart, Boards}
+use Rattle.kr_rollout.specs.inner.Rollouts.{Course, opening_of, state_with, AreNumbers, IsCourse, IsCore}
 
 -- ---- numbers
 
@@ -38,24 +38,26 @@ or_right true b e = refl
 or_right false b e = e
 
 -- each generation is a replica's current one
+next_above : (m j : ℕ) → m ≤ j → (m ≡ j → ⊥) → m + 1 ≤ j
+next_above m j l n = by (cases_order m j)
+  where
+    by : (m ≡ j) ⊎ ((m < j) ⊎ (j < m)) → m + 1 ≤ j
+    by (inl e) = absurd (n e)
+    by (inr (inl h)) = omega arith
+    by (inr (inr h)) = absurd (omega arith)
+
 is_current : (k m : ℕ) (rs : List (Option Publication)) (j : ℕ) → m ≤ j → j < m + length (generations_from k rs) → list_any (is_number j) (current_from m rs) ≡ true
 is_current k m [] j a b = absurd (omega arith)
 is_current k m (None ∷ rs) j a b = is_current (k + 1) m rs j a b
-is_current k m (Some p ∷ rs) j a b = by (cases_eq m j)
+is_current k m (Some p ∷ rs) j a b = by (cases_eq m j) (λ l. is_current (k + 1) (m + 1) rs j l (omega arith))
   where
-    by : (m ≡ j) ⊎ (m ≡ j → ⊥) → (is_number j (Some m) || list_any (is_number j) (current_from (m + 1) rs)) ≡ true
-    by (inl e) = or_left (is_number j (Some m)) (list_any (is_number j) (current_from (m + 1) rs)) (eq-eqb m j e)
-    by (inr n) = or_right (is_number j (Some m)) (list_any (is_number j) (current_from (m + 1) rs))
-        (is_current (k + 1) (m + 1) rs j (above (cases_order m j)) (omega arith))
-      where
-        above : (m ≡ j) ⊎ ((m < j) ⊎ (j < m)) → m + 1 ≤ j
-        above (inl e) = absurd (n e)
-        above (inr (inl l)) = omega arith
-        above (inr (inr l)) = omega arith
+    by : (m ≡ j) ⊎ (m ≡ j → ⊥) → (m + 1 ≤ j → list_any (is_number j) (current_from (m + 1) rs) ≡ true) → (is_number j (Some m) || list_any (is_number j) (current_from (m + 1) rs)) ≡ true
+    by (inl e) again = or_left (is_number j (Some m)) (list_any (is_number j) (current_from (m + 1) rs)) (eq-eqb m j e)
+    by (inr n) again = or_right (is_number j (Some m)) (list_any (is_number j) (current_from (m + 1) rs)) (again (next_above m j a n))
 
 nobody : (j n : ℕ) → count_by (is_number j) (replicate n None) ≡ 0
 nobody j zero = refl
-nobody j (suc n) = sum_by-cons (λ x. cond (is_number j x) 1 0) None (replicate n None) ∙ nobody j n
+nobody j (suc n) = omega (arith, sum_by-cons (λ x. cond (is_number j x) 1 0) None (replicate n None), nobody j n)
 
 same_taken : (current held : List (Option ℕ)) (k m : ℕ) (rs : List (Option Publication)) → ((j : ℕ) → m ≤ j → j < m + length (generations_from k rs) → list_any (is_number j) current ≡ true)
     → ((j : ℕ) → count_by (is_number j) held ≡ 0) → taken_from current held m (generations_from k rs) ≡ taken_up k (settings_of rs)
@@ -137,3 +139,35 @@ start_legal o rows first each m = record {
   fit = start_fits o m;
   runs = tt;
 }
+
+-- ---- the rollout that is made
+
+module _ (store : Kept) (rs : List (Option Publication)) (names : List (List ℕ)) (reloads : List ℕ) (b : BoardState) (generations : List Generation) (current held : List (Option ℕ))
+    (kept : List ℕ) (first count room : ℕ) (first_is : first ≡ length store.rows) (count_is : count ≡ store.count) (generations_is : generations ≡ generations_from 0 rs)
+    (current_is : current ≡ current_from 0 rs) (held_is : held ≡ replicate (length reloads) None) (kept_is : kept ≡ reloads) (room_is : room ≡ length rs + sum reloads)
+    (boards : Boards store.rows (settings_of rs) room (Ok b)) where
+  board_is : b ≡ board (opening_by store rs names reloads) (start_of (opening_by store rs names reloads))
+  board_is = boards.1 ∙ ap (λ n. record { generations = taken_up 0 (settings_of rs); needs = needs_of (first_rows (settings_of rs)) store.rows; proposal = None; room = n }) room_is
+      ∙ sym (start_board (opening_by store rs names reloads))
+
+  pub opened : record { opening = opening_of store first rs names kept count; state = state_with store b generations current held }
+      ≡ record { opening = opening_by store rs names reloads; state = start_of (opening_by store rs names reloads) }
+  opened =
+      let r : take first store.rows ≡ store.rows = ap (λ n. take n store.rows) first_is ∙ take_all (length store.rows) store.rows (omega arith) in
+      let n : b.needs ≡ needs_of (first_rows (settings_of rs)) store.rows = ap (λ (x : BoardState). x.needs) board_is in
+      (λ i. record {
+        opening = record { rows = r i; replicas = rs; names = names; reloads = kept_is i; limit = store.limit; count = count_is i };
+        state = record { generations = generations_is i; current = current_is i; held = held_is i; needs = n i; rows = store.rows; count = store.count };
+      })
+
+  pub opened_course : length reloads ≤ 64 → IsCourse (opening_of store first rs names kept count) (state_with store b generations current held) b
+  opened_course few =
+      subst (λ (c : Course). IsCourse c.opening c.state b) (sym opened)
+      (subst (λ x. IsCourse (opening_by store rs names reloads) (start_of (opening_by store rs names reloads)) x) (sym board_is) (start_course (opening_by store rs names reloads) few))
+
+  pub opened_legal : AreRows store.rows → IsFirstIn rs → AreAmong names rs → All (λ replica. IfSome replica IsPublished) rs → IsLegal (opening_by store rs names reloads) []
+  opened_legal rows in_first among published = start_legal (opening_by store rs names reloads) rows in_first (admitted names rs among published) boards.0
+
+-- a core with no line
+pub core_begin : (o : Opening) (c : Course) (spare room : ℕ) → c ≡ record { opening = o; state = start_of o } → IsLegal o [] → room ≤ spare → IsCore c.opening c.state [] spare room
+core_begin o c spare room e l r = subst (λ (x : Course). IsCore x.opening x.state [] spare room) (sym e) (record { legal = l; leads = refl; room_in = omega arith })

@@ -63,8 +63,8 @@ other m n d = ne_eqb m n (λ e. d (sym e))
 pub takes : (current held : List (Option ℕ)) (seat number : ℕ) → seat < length held → number_at held seat ≡ None
     → Moves current held (slice_set held seat (Some number)) number held_more
 takes current held seat number l e = record {
-  others = λ n d. (let c = counted n held seat None (Some number) l e in let f = ap (λ b. cond b 1 0) (other number n d) in omega (arith, c, f));
-  here = λ g. (let c = counted number held seat None (Some number) l e in let f = ap (λ b. cond b 1 0) (itself number) in
+  others = λ n d. (let c = counted n held seat None (Some number) l e in let f = ap {B = ℕ} (λ b. cond b 1 0) (other number n d) in omega (arith, c, f));
+  here = λ g. (let c = counted number held seat None (Some number) l e in let f = ap {B = ℕ} (λ b. cond b 1 0) (itself number) in
       let h : count_by (is_number number) held + 1 ≡ count_by (is_number number) (slice_set held seat (Some number)) = omega (arith, c, f) in
       ap (λ h. record { replica = g.replica; rows = g.published.rows; current = list_any (is_number number) current; holders = h }) h);
 }
@@ -74,8 +74,8 @@ takes current held seat number l e = record {
 pub gives : (current held : List (Option ℕ)) (seat number : ℕ) → seat < length held → number_at held seat ≡ Some number
     → Moves current held (slice_set held seat None) number held_less
 gives current held seat number l e = record {
-  others = λ n d. (let c = counted n held seat (Some number) None l e in let f = ap (λ b. cond b 1 0) (other number n d) in omega (arith, c, f));
-  here = λ g. (let c = counted number held seat (Some number) None l e in let f = ap (λ b. cond b 1 0) (itself number) in
+  others = λ n d. (let c = counted n held seat (Some number) None l e in let f = ap {B = ℕ} (λ b. cond b 1 0) (other number n d) in omega (arith, c, f));
+  here = λ g. (let c = counted number held seat (Some number) None l e in let f = ap {B = ℕ} (λ b. cond b 1 0) (itself number) in
       let h : count_by (is_number number) held - 1 ≡ count_by (is_number number) (slice_set held seat None) = omega (arith, c, f) in
       ap (λ h. record { replica = g.replica; rows = g.published.rows; current = list_any (is_number number) current; holders = h }) h);
 }
@@ -110,5 +110,5 @@ pub may_release : (current held : List (Option ℕ)) (seat number : ℕ) (gs : L
     → number_at held seat ≡ Some number → IsHeld number (taken_from current held 0 gs)
 may_release current held seat number gs l s e =
     let g = got_one current held number gs l in
-    let c = counted number held seat (Some number) None s e in let f = ap (λ b. cond b 1 0) (itself number) in
+    let c = counted number held seat (Some number) None s e in let f = ap {B = ℕ} (λ b. cond b 1 0) (itself number) in
     subst (λ o. IsSomeAnd o (λ t. 0 < t.holders)) (sym g.1) (omega (arith, c, f))

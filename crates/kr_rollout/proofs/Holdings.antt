@@ -215,6 +215,15 @@ holding_of o history seat l w =
     ap (λ now. holding_from now (of_seat seat_of seat history)) (sym (ap (pair_of (start_of o).generations) (none_there (length o.reloads) seat)))
     ∙ holding_is o (start_of o) history seat l.runs (none_numbers (length o.reloads) (start_of o).generations) (length-replicate (length o.reloads) None) w
 
+numbers_run : (o : Opening) (st : State) (history : List Entry) → IsRun o st history → AreNumbers st.held st.generations → length st.held ≡ length o.reloads
+    → AreNumbers (state_from st history).held (state_from st history).generations
+numbers_run o st [] r k l = k
+numbers_run o st (e ∷ history) r k l = numbers_run o (after st e) history r.1 (numbers_after o st e r.0 k l) (length_then e.line.gave e.line.seat st.held ∙ l)
+
+-- what seats hold are generations
+pub numbers_of : (o : Opening) (history : List Entry) → IsLegal o history → AreNumbers (state_of o history).held (state_of o history).generations
+numbers_of o history l = numbers_run o (start_of o) history l.runs (none_numbers (length o.reloads) (start_of o).generations) (length-replicate (length o.reloads) None)
+
 -- ---- what a seat may ask
 
 there : {X : Type 0} (xs : List X) (i : ℕ) → i < length xs → (x : X) × (slice_get xs i ≡ Some x)
@@ -232,17 +241,20 @@ something_held : (generations : List Generation) (number : Option ℕ) → IsSom
 something_held generations None s = s
 something_held generations (Some n) s = refl
 
-pub may_serve : (o : Opening) (st : State) (history : List Entry) (seat : ℕ) (event : Event) → IsLegal o history → st ≡ state_of o history → AreNumbers st.held st.generations
-    → MayAsk o seat (of_seat seat_of seat history) event → MayServe (record { opening = o; state = st }) seat event
-may_serve o st history seat event l is k may = by event may.allowed
+pub may_serve : (o : Opening) (st : State) (history : List Entry) (seat : ℕ) (asked : Event) → IsLegal o history → st ≡ state_of o history
+    → MayAsk o seat (of_seat seat_of seat history) asked → MayServe (record { opening = o; state = st }) seat asked
+may_serve o st history seat asked l is may = by asked may.allowed
   where
+    k : AreNumbers st.held st.generations
+    k = subst (λ (s : State). AreNumbers s.held s.generations) (sym is) (numbers_of o history l)
+
     same : holding (of_seat seat_of seat history) ≡ pair_of st.generations (held_by st seat)
     same = holding_of o history seat l may.seat_in ∙ ap (λ (s : State). pair_of s.generations (held_by s seat)) (sym is)
 
     some : IsSome (holding (of_seat seat_of seat history)) → IsSome (held_by st seat)
     some s = something_held st.generations (held_by st seat) (subst (λ h. IsSome h) same s)
 
-    by : (event : Event) → Allows o (of_seat seat_of seat history) event → MayServe (record { opening = o; state = st }) seat event
+    by : (asked : Event) → Allows o (of_seat seat_of seat history) asked → MayServe (record { opening = o; state = st }) seat asked
     by (event.Adopt replica) a = (a.0, nothing_held st.generations (held_by st seat) (in_bounds st.held st.generations seat k) (sym same ∙ a.1))
     by (event.Fetch path) a = (a.0, some a.1)
     by (event.After path) a = (a.0, some a.1)

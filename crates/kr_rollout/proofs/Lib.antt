@@ -11,3 +11,4 @@ pub mod Taking
 pub mod Beginning
 pub mod Findings
 pub mod Sharing
+pub mod Boarding

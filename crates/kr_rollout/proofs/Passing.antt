@@ -1,9 +1,10 @@
 -- What a verdict that passes says: the new settings read all that is stored and written, and are read.
 use Rattle.std.proofs.Common.{◌≡◌, ℕ, zero, suc, ◌<◌, ◌≤◌, ◌+◌, Bool, true, false, cond, List, [], ◌∷◌, ◌++◌, length, map, Contains, Option, None, Some, IsTrue, refl, sym, ap, subst, ◌∙◌, arith, lit≤, inl, inr}
-use Rattle.std.specs.Prelude.{◌&&◌, not, if◌then◌else◌}
+use Rattle.std.specs.Prelude.{◌&&◌, not, if◌then◌else◌, nat_le}
 use Rattle.std.specs.List.{filter, flat_map, list_all, list_any}
 use Rattle.std.specs.Option.{option_to_list}
-use Rattle.std.proofs.lemmas.Bool.{both_ways, not-false}
+use Rattle.std.proofs.lemmas.Bool.{both_ways, not-false, and_parts}
+use Rattle.std.proofs.lemmas.Bool.Decides.{nat_tests}
 use Rattle.std.proofs.lemmas.List.Elements.{Contains-append_right}
 use Rattle.std.proofs.lemmas.Option.{none-some}
 use Rattle.kr_config.specs.declared.class.Class.{Class}
@@ -11,13 +12,12 @@ use Rattle.kr_config.specs.declared.class.Class.TheVariants.{Exact, Group, Rest}
 use Rattle.kr_config.specs.declared.pattern.Pattern.{Pattern}
 use Rattle.kr_config.specs.declared.who.Who.{Who}
 use Rattle.kr_config.specs.declared.who.Who.TheVariants.{Identity}
-use Rattle.kr_config.specs.Kept.{Row, keeps, keeps_row}
+use Rattle.kr_config.specs.Kept.{Row, apart, keeps, keeps_row, keeps_patterns, keeps_providers, patterns_in, keys_in, kms_in}
 use Rattle.kr_config.specs.Lists.{first_list, list_of, class_list}
 use Rattle.kr_config.specs.Patterns.{matches, covers_group, covers_rest}
+use Rattle.kr_config.specs.Providers.{is_provider, rivals}
 use Rattle.kr_config.proofs.Narrowing.{each_class_narrows}
 use Rattle.kr_provider.specs.Readers.{writer_of}
-use Rattle.kr_provider.proofs.Booleans.{and_left, and_right}
-use Rattle.kr_provider.proofs.Lists.{of_row, rows_keep}
 use Rattle.kr_judge.specs.declared.need.Need.{Need}
 use Rattle.kr_judge.specs.declared.verdict.Verdict.{Verdict}
 use Rattle.kr_judge.specs.declared.verdict.Verdict.TheVariants.{Pass, DropsStored, DropsWriter, Unread}
@@ -133,10 +133,33 @@ read_everywhere added writing reading class e w r l =
 
 -- ---- lists aren't empty
 
+and_left : (a b : Bool) → (a && b) ≡ true → a ≡ true
+and_left a b e = (and_parts a b e).0
+
+and_right : (a b : Bool) → (a && b) ≡ true → b ≡ true
+and_right a b e = (and_parts a b e).1
+
+some_of : (n : ℕ) → nat_le 1 n ≡ true → 1 ≤ n
+some_of n e = grind (arith, nat_tests)
+
+row_some : (row : Row) → keeps_row row ≡ true → 1 ≤ length row.providers
+row_some row e =
+    let providers = and_right (keeps_patterns row.patterns) (keeps_providers row.providers) e in
+    let front = and_left (nat_le 1 (length row.providers) && list_all is_provider row.providers) (apart rivals row.providers) providers in
+    some_of (length row.providers) (and_left (nat_le 1 (length row.providers)) (list_all is_provider row.providers) front)
+
+rows_keep : (rows : List Row) → IsTrue (keeps rows) → list_all keeps_row rows ≡ true
+unfolding keeps
+rows_keep rows e =
+    let a = and_left (nat_le 1 (length rows) && nat_le (length rows) 64 && list_all keeps_row rows && nat_le (patterns_in rows) 256 && nat_le (keys_in rows) 64) (nat_le (kms_in rows) 16) e in
+    let b = and_left (nat_le 1 (length rows) && nat_le (length rows) 64 && list_all keeps_row rows && nat_le (patterns_in rows) 256) (nat_le (keys_in rows) 64) a in
+    let c = and_left (nat_le 1 (length rows) && nat_le (length rows) 64 && list_all keeps_row rows) (nat_le (patterns_in rows) 256) b in
+    and_right (nat_le 1 (length rows) && nat_le (length rows) 64) (list_all keeps_row rows) c
+
 first_some : (test : Pattern → Bool) (rows : List Row) → list_all keeps_row rows ≡ true → 1 ≤ length (first_list test rows)
 first_some test [] e = omega arith
 first_some test (row ∷ rows) e =
-    by (list_any test row.patterns) (of_row row (and_left (keeps_row row) (list_all keeps_row rows) e)).some (first_some test rows (and_right (keeps_row row) (list_all keeps_row rows) e))
+    by (list_any test row.patterns) (row_some row (and_left (keeps_row row) (list_all keeps_row rows) e)) (first_some test rows (and_right (keeps_row row) (list_all keeps_row rows) e))
   where
     by : (v : Bool) → 1 ≤ length row.providers → 1 ≤ length (first_list test rows) → 1 ≤ length (if v then row.providers else first_list test rows)
     by true a b = a

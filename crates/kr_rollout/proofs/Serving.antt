@@ -257,6 +257,26 @@ let_go c kept seat k l may =
       records = record { seat_is = refl; did_is = refl; gave_is = refl; shows = tt };
     }
 
+-- the same for the course that the caller sees
+module _ (here old : Course) (kept : BoardState) (seat revision : ℕ) (path asked : List ℕ) (row : Row) (line : Line) (k : IsCourse here.opening here.state kept) (view : here ≡ old)
+    (l : seat < length old.opening.reloads) (same : asked ≡ path) (rev : revision ≡ row.revision) where
+  seen_course : IsCourse old.opening old.state kept
+  seen_course = subst (λ (c : Course). IsCourse c.opening c.state kept) view k
+
+  pub found_at : MayServe old seat (event.Fetch path) → live here.state.rows asked ≡ Some row → line ≡ line_now old.state seat (Fetch path) (Found revision)
+      → Serves old seat (event.Fetch path) (answer.Found row) line old
+  found_at may is line_is =
+      let there : live old.state.rows path ≡ Some row = ap (λ (c : Course). live c.state.rows path) (sym view) ∙ ap (live here.state.rows) (sym same) ∙ is in
+      subst (λ x. Serves old seat (event.Fetch path) (answer.Found row) x old) (sym (line_is ∙ ap (λ r. line_now old.state seat (Fetch path) (Found r)) rev))
+      (found old kept seat path row seen_course l may there)
+
+  pub next_at : MayServe old seat (event.After path) → IsNext here.state.rows asked (Some row) → line ≡ line_now old.state seat (After path) (Found revision)
+      → Serves old seat (event.After path) (answer.Found row) line old
+  next_at may is line_is =
+      let there : IsNext old.state.rows path (Some row) = subst (λ (c : Course). IsNext c.state.rows path (Some row)) view (subst (λ p. IsNext here.state.rows p (Some row)) same is) in
+      subst (λ x. Serves old seat (event.After path) (answer.Found row) x old) (sym (line_is ∙ ap (λ r. line_now old.state seat (After path) (Found r)) rev))
+      (found_next old kept seat path row seen_course l may there)
+
 -- the same over the fields, for the course that the caller sees
 pub adopted_at : (o : Opening) (store : Kept) (kept next : BoardState) (generations : List Generation) (current held : List (Option ℕ)) (old : Course) (line : Line) (seat replica number : ℕ) (p : Publication)
     → IsCourse o (state_with store kept generations current held) kept → record { opening = o; state = state_with store kept generations current held } ≡ old

@@ -2,14 +2,15 @@
 use Rattle.std.proofs.Common.{◌≡◌, ℕ, zero, suc, ◌<◌, ◌≤◌, ◌+◌, List, [], ◌∷◌, ◌++◌, length, get_or, take, map, Option, None, Some, IfSome, refl, sym, ap, subst, ◌∙◌, arith, length-take}
 use Rattle.std.specs.Prelude.{All}
 use Rattle.std.specs.Option.{option_map}
-use Rattle.std.proofs.lemmas.List.{take_all, map-append}
+use Rattle.std.proofs.lemmas.List.{take_all, map-append, append-nil}
+use Rattle.std.proofs.lemmas.List.Elements.{All-nil, All-push}
 use Rattle.kr_config.specs.declared.settings.Settings.{Settings}
 use Rattle.kr_config.specs.Kept.{Row, rows_of}
 use Rattle.kr_provider.specs.Publication.{Publication, IsPublished}
 use Rattle.kr_judge.proofs.Parts.{take_at_more}
 use Rattle.kr_rollout.specs.declared.generation.Generation.{Generation}
 use Rattle.kr_rollout.specs.Openings.{generations_from, current_from, settings_of}
-use Rattle.kr_rollout.specs.inner.Opens.{rows_in}
+use Rattle.kr_rollout.specs.inner.Opens.{rows_in, settings_rows, generation_at, numbered, number_after}
 
 -- ---- numbers
 
@@ -52,7 +53,7 @@ pub record AreNumbered (rs : List (Option Publication)) (current : List (Option 
 pub numbered_begin : (rs : List (Option Publication)) → AreNumbered rs [] 0 0
 numbered_begin rs = record { is = refl; number_is = refl; few = omega arith }
 
-pub numbered_gap : (rs : List (Option Publication)) (current : List (Option ℕ)) (number i : ℕ) → AreNumbered rs current number i → i < length rs → None ≡ get_or rs i None
+numbered_gap : (rs : List (Option Publication)) (current : List (Option ℕ)) (number i : ℕ) → AreNumbered rs current number i → i < length rs → None ≡ get_or rs i None
     → AreNumbered rs (current ++ None ∷ []) number (i + 1)
 numbered_gap rs current number i n l e =
     let more = take_at_more rs i None l e in
@@ -62,7 +63,7 @@ numbered_gap rs current number i n l e =
       few = omega (arith, n.few);
     }
 
-pub numbered_more : (rs : List (Option Publication)) (current : List (Option ℕ)) (number i : ℕ) (p : Publication) → AreNumbered rs current number i → i < length rs → Some p ≡ get_or rs i (Some p)
+numbered_more : (rs : List (Option Publication)) (current : List (Option ℕ)) (number i : ℕ) (p : Publication) → AreNumbered rs current number i → i < length rs → Some p ≡ get_or rs i (Some p)
     → AreNumbered rs (current ++ Some number ∷ []) (number + 1) (i + 1)
 numbered_more rs current number i p n l e =
     let more = take_at_more rs i (Some p) l e in
@@ -71,6 +72,11 @@ numbered_more rs current number i p n l e =
       number_is = omega (arith, n.number_is, ap in_count more, in_more (take i rs) p);
       few = omega (arith, n.few);
     }
+
+pub numbered_step : (rs : List (Option Publication)) (current : List (Option ℕ)) (number i : ℕ) (r : Option Publication) → AreNumbered rs current number i → i < length rs → r ≡ get_or rs i r
+    → AreNumbered rs (current ++ numbered r number ∷ []) (number_after r number) (i + 1)
+numbered_step rs current number i None n l e = numbered_gap rs current number i n l e
+numbered_step rs current number i (Some p) n l e = numbered_more rs current number i p n l e
 
 pub numbered_end : (rs : List (Option Publication)) (current : List (Option ℕ)) (number i : ℕ) → AreNumbered rs current number i → length rs ≤ i → current ≡ current_from 0 rs
 numbered_end rs current number i n l = n.is ∙ ap (current_from 0) (take_all i rs l)
@@ -82,21 +88,27 @@ numbered_room rs current number i n = n.few
 
 pub record AreShared (rs : List (Option Publication)) (settings : List (Option Settings)) (i : ℕ) : Type 0 where
   pub is : rows_in settings ≡ settings_of (take i rs)
+  pub published : All (λ replica. IfSome replica IsPublished) (take i rs)
 
 pub shared_begin : (rs : List (Option Publication)) → AreShared rs [] 0
-shared_begin rs = record { is = refl }
+shared_begin rs = record { is = refl; published = All-nil (λ replica. IfSome replica IsPublished) }
 
 pub shared_more : (rs : List (Option Publication)) (settings : List (Option Settings)) (i : ℕ) (r : Option Publication) (s : Option Settings) → AreShared rs settings i → i < length rs
-    → r ≡ get_or rs i r → option_map (λ (x : Settings). rows_of x.entries.0) s ≡ option_map (λ (p : Publication). p.rows) r → AreShared rs (settings ++ s ∷ []) (i + 1)
-shared_more rs settings i r s a l e same = record {
-  is = map-append (option_map (λ (x : Settings). rows_of x.entries.0)) settings (s ∷ [])
-      ∙ ap (λ x. x ++ option_map (λ (x : Settings). rows_of x.entries.0) s ∷ []) a.is
+    → r ≡ get_or rs i r → settings_rows s ≡ option_map (λ (p : Publication). p.rows) r → IfSome r IsPublished → AreShared rs (settings ++ s ∷ []) (i + 1)
+shared_more rs settings i r s a l e same p = record {
+  is = map-append settings_rows settings (s ∷ [])
+      ∙ ap (λ x. x ++ settings_rows s ∷ []) a.is
       ∙ ap (λ x. settings_of (take i rs) ++ x ∷ []) same
       ∙ sym (ap settings_of (take_at_more rs i r l e) ∙ map-append (option_map (λ (p : Publication). p.rows)) (take i rs) (r ∷ []));
+  published = subst (λ l. All (λ replica. IfSome replica IsPublished) l) (sym (take_at_more rs i r l e))
+      (All-push (λ replica. IfSome replica IsPublished) (take i rs) r a.published p);
 }
 
 pub shared_end : (rs : List (Option Publication)) (settings : List (Option Settings)) (i : ℕ) → AreShared rs settings i → length rs ≤ i → rows_in settings ≡ settings_of rs
 shared_end rs settings i a l = a.is ∙ ap settings_of (take_all i rs l)
+
+pub shared_published : (rs : List (Option Publication)) (settings : List (Option Settings)) (i : ℕ) → AreShared rs settings i → length rs ≤ i → All (λ replica. IfSome replica IsPublished) rs
+shared_published rs settings i a l = subst (λ l. All (λ replica. IfSome replica IsPublished) l) (take_all i rs l) a.published
 
 -- ---- generations
 
@@ -116,15 +128,20 @@ pub record AreMade (rs : List (Option Publication)) (generations : List Generati
 pub made_begin : (rs : List (Option Publication)) → AreMade rs [] 0
 made_begin rs = record { is = refl }
 
-pub made_gap : (rs : List (Option Publication)) (generations : List Generation) (i : ℕ) → AreMade rs generations i → i < length rs → None ≡ get_or rs i None → AreMade rs generations (i + 1)
+made_gap : (rs : List (Option Publication)) (generations : List Generation) (i : ℕ) → AreMade rs generations i → i < length rs → None ≡ get_or rs i None → AreMade rs generations (i + 1)
 made_gap rs generations i a l e = record { is = a.is ∙ sym (ap (generations_from 0) (take_at_more rs i None l e) ∙ generations_gap 0 (take i rs)) }
 
-pub made_more : (rs : List (Option Publication)) (generations : List Generation) (i : ℕ) (p : Publication) → AreMade rs generations i → i < length rs → Some p ≡ get_or rs i (Some p)
+made_more : (rs : List (Option Publication)) (generations : List Generation) (i : ℕ) (p : Publication) → AreMade rs generations i → i < length rs → Some p ≡ get_or rs i (Some p)
     → AreMade rs (generations ++ record { replica = i; published = p } ∷ []) (i + 1)
 made_more rs generations i p a l e = record {
   is = ap (λ g. g ++ record { replica = i; published = p } ∷ []) a.is
       ∙ sym (ap (generations_from 0) (take_at_more rs i (Some p) l e) ∙ generations_more 0 i (take i rs) p (omega (arith, length-take i rs)));
 }
+
+pub made_step : (rs : List (Option Publication)) (generations : List Generation) (i : ℕ) (r : Option Publication) → AreMade rs generations i → i < length rs → r ≡ get_or rs i r
+    → AreMade rs (generations ++ generation_at i r) (i + 1)
+made_step rs generations i None a l e = subst (λ g. AreMade rs g (i + 1)) (sym (append-nil generations)) (made_gap rs generations i a l e)
+made_step rs generations i (Some p) a l e = made_more rs generations i p a l e
 
 pub made_end : (rs : List (Option Publication)) (generations : List Generation) (i : ℕ) → AreMade rs generations i → length rs ≤ i → generations ≡ generations_from 0 rs
 made_end rs generations i a l = a.is ∙ ap (generations_from 0) (take_all i rs l)

@@ -1,5 +1,5 @@
 -- The replicas' settings are taken up one by one.
-use Rattle.std.proofs.Common.{◌≡◌, ℕ, zero, suc, ◌<◌, ◌≤◌, ◌+◌, ◌==◌, Bool, true, false, List, [], ◌∷◌, ◌++◌, length, get_or, take, drop, map, Contains, Option, None, Some, Ok, Err, IsTrue, refl, sym, ap, subst, ◌∙◌, arith, inl, inr, ◌⊎◌, length-take, length-append}
+use Rattle.std.proofs.Common.{◌≡◌, ℕ, zero, suc, ◌<◌, ◌≤◌, ◌+◌, ◌==◌, Bool, true, false, List, [], ◌∷◌, ◌++◌, length, get_or, take, drop, map, Contains, Option, None, Some, Result, Ok, Err, IsTrue, refl, sym, ap, subst, ◌∙◌, arith, inl, inr, ◌⊎◌, length-take, length-append}
 use Rattle.std.specs.Prelude.{◌&&◌, ◌||◌, ◌≢◌, not, nat_lt}
 use Rattle.std.specs.List.{slice_get}
 use Rattle.std.specs.Option.{option_map}
@@ -22,7 +22,7 @@ use Rattle.kr_rollout.specs.declared.opening_board.StartNo.{StartNo}
 use Rattle.kr_rollout.specs.declared.opening_board.StartNo.TheVariants.{Stray, Unfit, NoMemory}
 use Rattle.kr_rollout.specs.Fits.{AreFit}
 use Rattle.kr_rollout.specs.Starts.{taken_up, AllFit, IsUnfit}
-use Rattle.kr_rollout.specs.inner.Opens.{rows_in, TakesUp, TakesAllUp}
+use Rattle.kr_rollout.specs.inner.Opens.{rows_in, settings_rows, Admits, TakesUp, TakesAllUp}
 use Rattle.kr_rollout.proofs.Passing.{passed, AreReadable, own_writer, class_some}
 
 abbrev pub fresh : ℕ → List Row → Taken
@@ -157,13 +157,13 @@ front_kept replicas i rows c = kept_in replicas rows
     (subst (λ rs. Contains rs (Some rows)) (take-append-drop i (rows_in replicas)) (Contains-append_left (take i (rows_in replicas)) (drop i (rows_in replicas)) (Some rows) c))
 
 pub taken_more : (replicas : List (Option Settings)) (old now next : BoardState) (i : ℕ) (s : Settings) → AreTaken (rows_in replicas) old now i → i < length replicas → Some s ≡ get_or replicas i (Some s)
-    → TakesUp i (rows_of s.entries.0) now next (Ok tt) → AreTaken (rows_in replicas) old next (i + 1)
+    → Admits i (rows_of s.entries.0) now next (Ok tt) → AreTaken (rows_in replicas) old next (i + 1)
 taken_more replicas old now next i s t l e takes =
     let rs = take i (rows_in replicas) in
     let rows = rows_of s.entries.0 in
     let more = one_more replicas i (Some s) l e in
     let size : length rs ≡ i = omega (arith, length-take i (rows_in replicas), rows_long replicas) in
-    let w = subst (λ (b : BoardState). TakesUp i rows b next (Ok tt)) t.board_is takes in
+    let w = subst (λ (b : BoardState). Admits i rows b next (Ok tt)) t.board_is takes in
     let board : without_current i (taken_up 0 rs) ++ fresh i rows ∷ [] ≡ taken_up 0 (take (i + 1) (rows_in replicas)) =
     ap (λ gs. gs ++ fresh i rows ∷ []) (left_alone 0 i rs (omega (arith, size)))
     ∙ sym (ap (taken_up 0) more ∙ taken_some 0 rs rows i (omega (arith, size))) in
@@ -173,13 +173,13 @@ taken_more replicas old now next i s t l e takes =
           (fit_more rs old.needs i rows (front_kept replicas i) s.kept (omega (arith, size)) (passed old.needs (taken_up 0 rs) i rows s.kept w.0) t.fit);
     }
 
-pub taking_stops : (replicas : List (Option Settings)) (old now next : BoardState) (i : ℕ) (s : Settings) (why : StartNo) → AreTaken (rows_in replicas) old now i → i < length replicas
-    → Some s ≡ get_or replicas i (Some s) → TakesUp i (rows_of s.entries.0) now next (Err why) → TakesAllUp (rows_in replicas) old next (Err why)
-taking_stops replicas old now next i s (Stray path) t l e w = absurd w
-taking_stops replicas old now next i s NoMemory t l e w = tt
-taking_stops replicas old now next i s (Unfit named verdict) t l e w =
+stops_at : (replicas : List (Option Settings)) (old now next : BoardState) (i : ℕ) (s : Settings) (why : StartNo) → AreTaken (rows_in replicas) old now i → i < length replicas
+    → Some s ≡ get_or replicas i (Some s) → Admits i (rows_of s.entries.0) now next (Err why) → TakesAllUp (rows_in replicas) old next (Err why)
+stops_at replicas old now next i s (Stray path) t l e w = absurd w
+stops_at replicas old now next i s NoMemory t l e w = tt
+stops_at replicas old now next i s (Unfit named verdict) t l e w =
     let rows = rows_of s.entries.0 in
-    let v = subst (λ (b : BoardState). TakesUp i rows b next (Err (Unfit named verdict))) t.board_is w in
+    let v = subst (λ (b : BoardState). Admits i rows b next (Err (Unfit named verdict))) t.board_is w in
     subst (λ n. IsUnfit (rows_in replicas) old.needs n verdict) (sym v.0) (record {
       rows = rows;
       is = slice_get-get_or (rows_in replicas) i (Some rows) (omega (arith, rows_long replicas)) ∙ ap Some (sym (rows_at replicas i (Some s) l e));
@@ -187,6 +187,19 @@ taking_stops replicas old now next i s (Unfit named verdict) t l e w =
       verdict_is = v.1;
       refused = v.2;
     })
+
+pub taken_step : (replicas : List (Option Settings)) (old now next : BoardState) (i : ℕ) (o : Option Settings) → AreTaken (rows_in replicas) old now i → i < length replicas
+    → o ≡ get_or replicas i o → TakesUp i (settings_rows o) now next (Ok tt) → AreTaken (rows_in replicas) old next (i + 1)
+taken_step replicas old now next i None t l e w = subst (λ (b : BoardState). AreTaken (rows_in replicas) old b (i + 1)) (sym w.0) (taken_gap replicas old now i t l e)
+taken_step replicas old now next i (Some s) t l e w = taken_more replicas old now next i s t l e w
+
+pub taking_stops : (replicas : List (Option Settings)) (old now next : BoardState) (i : ℕ) (o : Option Settings) (why : StartNo) → AreTaken (rows_in replicas) old now i → i < length replicas
+    → o ≡ get_or replicas i o → TakesUp i (settings_rows o) now next (Err why) → TakesAllUp (rows_in replicas) old next (Err why)
+taking_stops replicas old now next i None why t l e w = absurd (clash w.1)
+  where
+    clash : ◌≡◌ {A = Result (Unit {0}) StartNo} (Err why) (Ok tt) → ⊥
+    clash e = cc
+taking_stops replicas old now next i (Some s) why t l e w = stops_at replicas old now next i s why t l e w
 
 pub taken_end : (replicas : List (Option Settings)) (old now : BoardState) (i : ℕ) → AreTaken (rows_in replicas) old now i → length replicas ≤ i
     → TakesAllUp (rows_in replicas) old now (Ok tt)

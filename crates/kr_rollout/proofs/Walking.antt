@@ -10,13 +10,13 @@ use Rattle.std.specs.declared.cmp.Ordering.{Ordering}
 use Rattle.std.specs.declared.cmp.Ordering.TheVariants.{Less, Equal, Greater}
 use Rattle.std.proofs.lemmas.Cmp.{nat_list_cmp_total}
 use Rattle.std.proofs.lemmas.List.Sums.{sum_by-cons}
-use Rattle.std.proofs.lemmas.Option.{none-some, same_Some}
+use Rattle.std.proofs.lemmas.Option.{none-some, same_Some, slice_get-get_or}
 use Rattle.std.proofs.lemmas.Bool.Decides.{nat_tests}
 use Rattle.std.proofs.lemmas.List.Folds.{find_at}
+use Rattle.std.proofs.lemmas.List.Quantifiers.{position-Some}
 use Rattle.kr_base.specs.Rules.{IsPath}
 use Rattle.kr_config.specs.Lists.{list_of}
 use Rattle.kr_provider.specs.Readers.{is_reader, reader_in, reader_place}
-use Rattle.kr_provider.proofs.Places.{reader_found}
 use Rattle.kr_store.specs.declared.rows.LogRow.{LogRow}
 use Rattle.kr_store.specs.declared.rows.Row as stored_row
 use Rattle.kr_store.specs.declared.rows.Change.{Change}
@@ -247,9 +247,18 @@ goes_on rows after row next = by (latest rows row.path) refl next.1
 
 -- ---- the reader of a value, by its place
 
+place_found : {X : Type 0} (p : X → Bool) (xs : List X) (place : ℕ) (x : X) → position p xs ≡ Some place → x ≡ get_or xs place x → find p xs ≡ Some x
+place_found p xs place x e is =
+    find_at p xs ∙ ap (slice_get xs) (same (nat_lt (position_or_len p xs) (length xs)) (position_or_len p xs) e)
+    ∙ slice_get-get_or xs place x (position-Some p xs place x e).0 ∙ ap Some (sym is)
+  where
+    same : (b : Bool) (n : ℕ) → cond b (Some n) None ≡ Some place → n ≡ place
+    same true n e = cc
+    same false n e = absurd (cc)
+
 pub reader_is : (first : List Row) (list : List Who) (resource bytes : List ℕ) (place : ℕ) (who : Who) → list ≡ list_of first resource → reader_place list bytes ≡ Some place
     → who ≡ get_or list place who → provider_of first resource bytes ≡ Some who
-reader_is first list resource bytes place who l e is = ap (λ ws. reader_in ws bytes) (sym l) ∙ reader_found list bytes place who e is
+reader_is first list resource bytes place who l e is = ap (λ ws. reader_in ws bytes) (sym l) ∙ place_found (is_reader bytes) list place who e is
 
 beyond : {X : Type 0} (xs : List X) (i : ℕ) → (i < length xs → ⊥) → slice_get xs i ≡ None
 beyond [] i n = refl

@@ -6,6 +6,7 @@ use Rattle.kr_store.specs.declared.rows.Row as stored_row
 use Rattle.kr_store.specs.declared.rows.Change.{Change}
 use Rattle.kr_store.specs.declared.rows.Change.TheVariants as change
 use Rattle.kr_store.specs.Rows.{latest, live, AreRows}
+use Rattle.kr_store.specs.Stores.{Kept}
 use Rattle.kr_config.specs.declared.who.Who.{Who}
 use Rattle.kr_config.specs.Kept.{Row}
 use Rattle.kr_config.specs.Lists.{list_of}
@@ -81,6 +82,17 @@ start_of o = record {
   needs = needs_of (first_of o) o.rows;
   rows = o.rows;
   count = o.count;
+}
+
+-- what a core begins with over a store
+abbrev pub opening_by : Kept → List (Option Publication) → (names : List (List ℕ)) → (reloads : List ℕ) → Opening
+opening_by store replicas names reloads = record {
+  rows = store.rows;
+  replicas = replicas;
+  names = names;
+  reloads = reloads;
+  limit = store.limit;
+  count = store.count;
 }
 
 -- how many generations there may be

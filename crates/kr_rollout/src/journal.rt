@@ -5,9 +5,8 @@ ghost use Rattle.kr_rollout.specs.Cores.{Applies};
 ghost use Rattle.kr_rollout.specs.Entries.{seat_of};
 ghost use Rattle.kr_rollout.specs.Histories.{IsLegal, state_of};
 ghost use Rattle.kr_rollout.specs.Lines.{of_seat};
-ghost use Rattle.kr_rollout.specs.Openings.{board, IsFirstIn, AreAmong};
+ghost use Rattle.kr_rollout.specs.Openings.{board, opening_by, IsFirstIn, AreAmong};
 ghost use Rattle.kr_rollout.specs.Starts.{Starts};
-ghost use Rattle.kr_rollout.specs.inner.Rollouts.{opening_of};
 
 use crate::answer::Answer;
 use crate::event::Event;
@@ -64,9 +63,7 @@ impl<T: Tape> Core<T> {
         requires seats { (1 ≤ seats) × (seats ≤ 64) × (length reloads.now ≡ seats) }
         requires room { (sum reloads.now ≤ room) × (room ≤ 4000000) }
         requires names { AreAmong names.0 replicas.0 }
-        ensures starts { Starts
-            (opening_of store (length store.rows) replicas.0 names.0 reloads.now store.count)
-            room result }
+        ensures starts { Starts (opening_by store replicas.0 names.0 reloads.now) room result }
         ensures back { IfErr result (λ refused. refused.1 ≡ store) }
     {
         let mut journal = List::new(alloc);

@@ -1,9 +1,9 @@
 //! The board of a store's rows and of the replicas' settings.
 ghost use Rattle.std.specs.Prelude.{◌≡◌, ◌<◌, ◌≤◌, [], length, None};
 ghost use Rattle.kr_config.specs.Kept.{rows_of};
-ghost use Rattle.kr_rollout.specs.Openings.{IsFirstIn};
+ghost use Rattle.kr_rollout.specs.Openings.{IsFirstIn, first_rows};
 ghost use Rattle.kr_rollout.specs.Starts.{Boards};
-ghost use Rattle.kr_rollout.specs.inner.Opens.{rows_in, IsStrayOf, Notes, NotesAll, TakesUp, TakesAllUp, is_refusal};
+ghost use Rattle.kr_rollout.specs.inner.Opens.{rows_in, settings_rows, IsStrayOf, Notes, NotesAll, TakesUp, TakesAllUp, is_refusal};
 
 use kr_base::{List, NoMemory, Shared, Tape, Text};
 use kr_config::Settings;
@@ -27,6 +27,7 @@ pub enum StartNo {
 /// is in. Each row's provider is the one that the first replica's settings have for it. The
 /// replicas are taken up in order, each judged on those before it; those that are in get the
 /// generations 0, 1 and so on.
+#[tactic(auto, using(crate::proofs::Boarding::board_made, crate::proofs::Boarding::board_stray, crate::proofs::Boarding::board_unfit))]
 pub fn board_of<T: Tape>(
     alloc: Global,
     store: &Store<T>,
@@ -43,16 +44,24 @@ pub fn board_of<T: Tape>(
         Err(NoMemory) => return Err(StartNo::NoMemory),
     };
     let replicas = replicas.as_slice();
-    let [Some(first), ..] = replicas else {
-        unreachable!()
-    };
-    match note_all(alloc, store, first.get(), &mut board) {
+    match note_all(alloc, store, first_of(replicas), &mut board) {
         Ok(()) => {}
         Err(why) => return Err(why),
     }
     match take_all_up(replicas, &mut board) {
         Ok(()) => Ok(board),
         Err(why) => Err(why),
+    }
+}
+
+/// The settings of the first replica.
+fn first_of(replicas: &[Option<Shared<Settings>>]) -> &Settings
+    requires { IsFirstIn replicas.now }
+    ensures { first_rows (rows_in replicas.now) ≡ rows_of result.now.entries.0 }
+{
+    match replicas {
+        [Some(first), ..] => first.get(),
+        _ => unreachable!(),
     }
 }
 
@@ -112,7 +121,7 @@ fn stray(alloc: Global, path: &str) -> StartNo
 }
 
 /// Takes the replicas' settings up in order, each judged on those before it.
-#[tactic(auto, using(crate::proofs::Taking::taken_begin, crate::proofs::Taking::taken_gap, crate::proofs::Taking::taken_more, crate::proofs::Taking::taking_stops, crate::proofs::Taking::taken_end, crate::proofs::Taking::taken_room))]
+#[tactic(auto, using(crate::proofs::Taking::taken_begin, crate::proofs::Taking::taken_step, crate::proofs::Taking::taking_stops, crate::proofs::Taking::taken_end, crate::proofs::Taking::taken_room))]
 fn take_all_up(replicas: &[Option<Shared<Settings>>], board: &mut Board) -> Result<(), StartNo>
     requires none { board.old.generations ≡ [] }
     requires room { length replicas.now ≤ board.old.room }
@@ -120,22 +129,26 @@ fn take_all_up(replicas: &[Option<Shared<Settings>>], board: &mut Board) -> Resu
     ensures { TakesAllUp (rows_in replicas.now) board.old board.new result }
 {
     for (replica, settings) in replicas.iter().enumerate() {
-        match settings {
-            Some(settings) => match take_up(replica as u32, settings, board) {
-                Ok(()) => {}
-                Err(why) => return Err(why),
-            },
-            None => {}
+        match take_up(replica as u32, settings, board) {
+            Ok(()) => {}
+            Err(why) => return Err(why),
         }
     }
     Ok(())
 }
 
-/// Takes a replica's settings up, if nothing is against them.
-fn take_up(replica: u32, settings: &Shared<Settings>, board: &mut Board) -> Result<(), StartNo>
+/// Takes a replica's settings up, where it is in and nothing is against them.
+fn take_up(
+    replica: u32,
+    settings: &Option<Shared<Settings>>,
+    board: &mut Board,
+) -> Result<(), StartNo>
     requires { length board.old.generations < board.old.room }
-    ensures { TakesUp replica (rows_of settings.now.entries.0) board.old board.new result }
+    ensures { TakesUp replica (settings_rows settings.now) board.old board.new result }
 {
+    let Some(settings) = settings else {
+        return Ok(());
+    };
     match board.judge(replica, settings.get()) {
         Ok(verdict) => {
             if is_refusal(&verdict) {

@@ -1,10 +1,9 @@
 //! The start of a rollout.
-ghost use Rattle.std.specs.Prelude.{◌≡◌, ◌<◌, ◌≤◌, ◌+◌, length, map, sum, replicate, None, IfOk, IfErr};
+ghost use Rattle.std.specs.Prelude.{◌≡◌, ◌<◌, ◌≤◌, ◌+◌, length, map, sum, replicate, ◌++◌, All, None, IsOk, IfOk, IfSome, IfErr, OnOk};
 ghost use Rattle.std.specs.Option.{option_map};
-ghost use Rattle.kr_config.specs.Kept.{rows_of};
-ghost use Rattle.kr_rollout.specs.Openings.{IsFirstIn, generations_from, current_from, settings_of};
-ghost use Rattle.kr_rollout.specs.inner.Opens.{rows_in, Opens};
-ghost use Rattle.kr_rollout.specs.inner.Rollouts.{opening_of};
+ghost use Rattle.kr_provider.specs.Publication.{IsPublished};
+ghost use Rattle.kr_rollout.specs.Openings.{opening_by, IsFirstIn, AreAmong, generations_from, current_from, settings_of};
+ghost use Rattle.kr_rollout.specs.inner.Opens.{rows_in, settings_rows, generation_at, numbered, number_after, Opens};
 
 use crate::generation::Generation;
 use crate::opening_board::{StartNo, board_of};
@@ -29,11 +28,11 @@ impl<T: Tape> Rollout<T> {
         requires few { length replicas.0 ≤ 16 }
         requires seats { (seats ≤ 64) × (length reloads.now ≡ seats) }
         requires room { sum reloads.now ≤ 4000000 }
-        ensures opens { Opens
-            (opening_of store (length store.rows) replicas.0 names.0 reloads.now store.count)
-            result }
+        requires names { AreAmong names.0 replicas.0 }
+        ensures opens { Opens (opening_by store replicas.0 names.0 reloads.now) result }
         ensures back { IfErr result (λ refused. refused.1 ≡ store) }
     {
+        store.known();
         let made = match make(alloc, replicas.as_slice(), seats, reloads) {
             Ok(made) => made,
             Err(NoMemory) => return Err((StartNo::NoMemory, store)),
@@ -81,6 +80,7 @@ fn make(
     requires few { length replicas.now ≤ 16 }
     requires room { sum reloads.now ≤ 4000000 }
     ensures settings { IfOk result (λ made. rows_in made.settings.0 ≡ settings_of replicas.now) }
+    ensures published { IsOk result → All (λ replica. IfSome replica IsPublished) replicas.now }
     ensures generations { IfOk result (λ made.
         made.generations.items ≡ generations_from 0 replicas.now) }
     ensures current { IfOk result (λ made. made.current.items ≡ current_from 0 replicas.now) }
@@ -104,12 +104,13 @@ fn make(
     })
 }
 
-#[tactic(auto, using(crate::proofs::Sharing::shared_begin, crate::proofs::Sharing::shared_more, crate::proofs::Sharing::shared_end))]
+#[tactic(auto, using(crate::proofs::Sharing::shared_begin, crate::proofs::Sharing::shared_more, crate::proofs::Sharing::shared_end, crate::proofs::Sharing::shared_published))]
 fn share_settings(
     alloc: Global,
     replicas: &[Option<Shared<Published>>],
 ) -> Result<List<Option<Shared<Settings>>>, NoMemory>
-    ensures { IfOk result (λ settings. rows_in settings.0 ≡ settings_of replicas.now) }
+    ensures rows { IfOk result (λ settings. rows_in settings.0 ≡ settings_of replicas.now) }
+    ensures published { IsOk result → All (λ replica. IfSome replica IsPublished) replicas.now }
 {
     let mut settings = Vec::new(alloc);
     for replica in replicas {
@@ -119,8 +120,9 @@ fn share_settings(
 }
 
 fn settings_in(replica: &Option<Shared<Published>>) -> Result<Option<Shared<Settings>>, NoMemory>
-    ensures { IfOk result (λ settings.
-        option_map (λ s. rows_of s.entries.0) settings ≡ option_map (λ p. p.rows) replica.now) }
+    ensures rows { IfOk result (λ settings.
+        settings_rows settings ≡ option_map (λ p. p.rows) replica.now) }
+    ensures published { IfSome replica.now IsPublished }
 {
     match replica {
         Some(published) => match published.get().settings.share() {
@@ -131,33 +133,41 @@ fn settings_in(replica: &Option<Shared<Published>>) -> Result<Option<Shared<Sett
     }
 }
 
-#[tactic(auto, using(crate::proofs::Sharing::made_begin, crate::proofs::Sharing::made_gap, crate::proofs::Sharing::made_more, crate::proofs::Sharing::made_end))]
+#[tactic(auto, using(crate::proofs::Sharing::made_begin, crate::proofs::Sharing::made_step, crate::proofs::Sharing::made_end))]
 fn share_generations(
     alloc: Global,
     replicas: &[Option<Shared<Published>>],
     room: u32,
 ) -> Result<Vec<Generation>, NoMemory>
-    requires few { length replicas.now ≤ 16 }
-    requires room { length replicas.now ≤ room }
-    ensures { IfOk result (λ generations. generations.items ≡ generations_from 0 replicas.now) }
+    requires { length replicas.now ≤ 16 }
+    ensures { IfOk result (λ generations.
+        generations.items ≡ generations_from 0 replicas.now) }
 {
     let mut generations = Vec::with_capacity(alloc, room as usize)?;
     for (replica, published) in replicas.iter().enumerate() {
-        match published {
-            Some(published) => {
-                let published = published.share()?;
-                generations.push(Generation {
-                    replica: replica as u32,
-                    published,
-                })?;
-            }
-            None => {}
-        }
+        add_generation(&mut generations, replica as u32, published)?;
     }
     Ok(generations)
 }
 
-#[tactic(auto, using(crate::proofs::Sharing::numbered_begin, crate::proofs::Sharing::numbered_gap, crate::proofs::Sharing::numbered_more, crate::proofs::Sharing::numbered_end, crate::proofs::Sharing::numbered_room))]
+/// The generation of a replica that is in.
+fn add_generation(
+    generations: &mut Vec<Generation>,
+    replica: u32,
+    published: &Option<Shared<Published>>,
+) -> Result<(), NoMemory>
+    ensures { OnOk result (generations.new.items
+        ≡ generations.old.items ++ generation_at replica published.now) }
+{
+    let Some(published) = published else {
+        return Ok(());
+    };
+    let published = published.share()?;
+    generations.push(Generation { replica, published })?;
+    Ok(())
+}
+
+#[tactic(auto, using(crate::proofs::Sharing::numbered_begin, crate::proofs::Sharing::numbered_step, crate::proofs::Sharing::numbered_end, crate::proofs::Sharing::numbered_room))]
 fn number_replicas(
     alloc: Global,
     replicas: &[Option<Shared<Published>>],
@@ -168,13 +178,29 @@ fn number_replicas(
     let mut current = Vec::new(alloc);
     let mut number = 0u32;
     for replica in replicas {
-        match replica {
-            Some(_published) => {
-                current.push(Some(number))?;
-                number += 1;
-            }
-            None => current.push(None)?,
-        }
+        current.push(numbered(replica, number))?;
+        number = number_after(replica, number);
     }
     Ok(current)
+}
+
+/// The number, for a replica that is in.
+fn numbered(replica: &Option<Shared<Published>>, number: u32) -> Option<u32>
+    ensures { result ≡ numbered replica.now number }
+{
+    match replica {
+        Some(_) => Some(number),
+        None => None,
+    }
+}
+
+/// The number of the next replica that is in.
+fn number_after(replica: &Option<Shared<Published>>, number: u32) -> u32
+    requires { number < 100 }
+    ensures { result ≡ number_after replica.now number }
+{
+    match replica {
+        Some(_) => number + 1,
+        None => number,
+    }
 }

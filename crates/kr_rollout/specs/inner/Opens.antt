@@ -1,6 +1,6 @@
 -- How the opening's board is made: from the live rows one by one, then from the replicas one by
 -- one.
-use Rattle.std.specs.Prelude.{◌≡◌, ◌≢◌, ℕ, List, [], ◌∷◌, ◌++◌, map, Bool, true, false, Option, None, Some, Result, Ok, Err, ⊤}
+use Rattle.std.specs.Prelude.{◌≡◌, ◌≢◌, ℕ, ◌+◌, List, [], ◌∷◌, ◌++◌, map, Bool, true, false, Option, None, Some, Result, Ok, Err, ⊤}
 use Rattle.std.specs.Option.{option_map}
 use Rattle.kr_store.specs.declared.rows.LogRow.{LogRow}
 use Rattle.kr_store.specs.declared.rows.Row as stored_row
@@ -15,12 +15,18 @@ use Rattle.kr_rollout.specs.declared.opening_board.StartNo.{StartNo}
 use Rattle.kr_rollout.specs.declared.opening_board.StartNo.TheVariants.{Stray, Unfit, NoMemory}
 use Rattle.kr_rollout.specs.Openings.{provider_of, needs_of, settings_of, start_of, HasNoStray}
 use Rattle.kr_rollout.specs.Starts.{taken_up, IsLeastStray, AllFit, IsUnfit, IsNoStart, MayStart}
+use Rattle.kr_provider.specs.Publication.{Publication}
+use Rattle.kr_rollout.specs.declared.generation.Generation.{Generation}
 use Rattle.kr_rollout.specs.declared.opening.Opening.{Opening}
+use Rattle.kr_rollout.specs.Histories.{IsLegal}
 use Rattle.kr_rollout.specs.inner.Rollouts.{Course}
 
--- the replicas' settings by their rows
+-- settings by their rows
+abbrev pub settings_rows : Option Settings → Option (List Row)
+settings_rows settings = option_map (λ s. rows_of s.entries.0) settings
+
 abbrev pub rows_in : List (Option Settings) → List (Option (List Row))
-rows_in replicas = map (option_map (λ settings. rows_of settings.entries.0)) replicas
+rows_in replicas = map settings_rows replicas
 
 -- the path, or there was no memory for it
 abbrev pub IsStrayOf : List ℕ → StartNo → Type 0
@@ -57,16 +63,21 @@ is_refusal (DropsWriter generation class who) = true
 is_refusal (Unread generation class who) = true
 
 -- a replica's settings are judged on the board, and are its next generation
-abbrev pub TakesUp : ℕ → List Row → BoardState → BoardState → Result (Unit {0}) StartNo → Type 0
-TakesUp replica rows old new (Ok done) = (verdict_of old.needs old.generations replica rows ≡ Pass)
+abbrev pub Admits : ℕ → List Row → BoardState → BoardState → Result (Unit {0}) StartNo → Type 0
+Admits replica rows old new (Ok done) = (verdict_of old.needs old.generations replica rows ≡ Pass)
     × (new ≡ record old {
       generations = without_current replica old.generations
           ++ record { replica = replica; rows = rows; current = true; holders = 0 } ∷ [];
     })
-TakesUp replica rows old new (Err (Stray path)) = ⊥
-TakesUp replica rows old new (Err (Unfit named verdict)) = (named ≡ replica)
+Admits replica rows old new (Err (Stray path)) = ⊥
+Admits replica rows old new (Err (Unfit named verdict)) = (named ≡ replica)
     × (verdict ≡ verdict_of old.needs old.generations replica rows) × (verdict ≢ Pass)
-TakesUp replica rows old new (Err NoMemory) = ⊤
+Admits replica rows old new (Err NoMemory) = ⊤
+
+-- those of a replica that is in
+abbrev pub TakesUp : ℕ → Option (List Row) → BoardState → BoardState → Result (Unit {0}) StartNo → Type 0
+TakesUp replica None old new result = (new ≡ old) × (result ≡ Ok tt)
+TakesUp replica (Some rows) old new result = Admits replica rows old new result
 
 abbrev pub TakesAllUp : List (Option (List Row)) → BoardState → BoardState
     → Result (Unit {0}) StartNo → Type 0
@@ -77,8 +88,23 @@ TakesAllUp replicas old new (Err (Unfit replica verdict)) =
     IsUnfit replicas old.needs replica verdict
 TakesAllUp replicas old new (Err NoMemory) = ⊤
 
--- a rollout at its opening
+-- ---- what is kept of a replica
+
+-- its generation, where it is in
+abbrev pub generation_at : ℕ → Option Publication → List Generation
+generation_at replica None = []
+generation_at replica (Some p) = record { replica = replica; published = p } ∷ []
+
+abbrev pub numbered : Option Publication → ℕ → Option ℕ
+numbered None number = None
+numbered (Some p) number = Some number
+
+abbrev pub number_after : Option Publication → ℕ → ℕ
+number_after None number = number
+number_after (Some p) number = number + 1
+
+-- a rollout at its opening, with which a history may begin
 abbrev pub Opens : {S : Type 0} → Opening → Result Course (StartNo × S) → Type 0
-Opens o (Ok course) =
+Opens o (Ok course) = IsLegal o [] ×
     MayStart o.rows (settings_of o.replicas) × (course ≡ record { opening = o; state = start_of o })
 Opens o (Err (why, store)) = IsNoStart o.rows (settings_of o.replicas) why

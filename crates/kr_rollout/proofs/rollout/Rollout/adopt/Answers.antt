@@ -11,7 +11,7 @@ index-requires-2 g c =
     let may = subst (λ (x : Course). MayServe x c.args.seat (event.Adopt c.args.replica)) (sym c.self.view_is) c.requires.may in
     let is : number_at c.self.inside.current.items c.args.replica ≡ Some c.in-Some.generation =
     read_number c.self.inside.current.items c.args.replica c.index.result.now (omega (arith, may.0, c.self.invariant.replicas)) c.index.ensures ∙ c.in-Some.is in
-    c.self.invariant.current c.args.replica c.in-Some.generation is
+    omega (arith, c.self.invariant.current c.args.replica c.in-Some.generation is, c.self.inside.generations.ok)
 
 pub hold-requires : goal.hold-requires
 hold-requires g c =
