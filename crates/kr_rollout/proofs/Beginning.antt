@@ -150,8 +150,8 @@ module _ (store : Kept) (rs : List (Option Publication)) (names : List (List ℕ
   board_is = boards.1 ∙ ap (λ n. record { generations = taken_up 0 (settings_of rs); needs = needs_of (first_rows (settings_of rs)) store.rows; proposal = None; room = n }) room_is
       ∙ sym (start_board (opening_by store rs names reloads))
 
-  pub opened : record { opening = opening_of store first rs names kept count; state = state_with store b generations current held }
-      ≡ record { opening = opening_by store rs names reloads; state = start_of (opening_by store rs names reloads) }
+  pub opened : ◌≡◌ {A = Course} (record { opening = opening_of store first rs names kept count; state = state_with store b generations current held })
+      (record { opening = opening_by store rs names reloads; state = start_of (opening_by store rs names reloads) })
   opened =
       let r : take first store.rows ≡ store.rows = ap (λ n. take n store.rows) first_is ∙ take_all (length store.rows) store.rows (omega arith) in
       let n : b.needs ≡ needs_of (first_rows (settings_of rs)) store.rows = ap (λ (x : BoardState). x.needs) board_is in

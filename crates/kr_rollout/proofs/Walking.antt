@@ -1,5 +1,5 @@
 -- Going through the live rows by paths: what stands on the board, and that the walk ends.
-use Rattle.std.proofs.Common.{◌≡◌, ◌≢◌, ℕ, zero, suc, ◌<◌, ◌≤◌, ◌+◌, Bool, true, false, cond, List, [], ◌∷◌, ◌++◌, length, get_or, count_by, is_some, Option, None, Some, IsSome, refl, sym, ap, subst, ◌∙◌, arith, ◌⊎◌, inl, inr}
+use Rattle.std.proofs.Common.{◌≡◌, ◌≢◌, ℕ, zero, suc, ◌<◌, ◌≤◌, ◌+◌, Bool, true, false, cond, List, [], ◌∷◌, ◌++◌, length, get_or, count_by, is_some, Option, None, Some, Ok, Err, IsSome, refl, sym, ap, subst, ◌∙◌, arith, ◌⊎◌, inl, inr}
 use Rattle.std.specs.Prelude.{if◌then◌else◌, find, position, nat_lt}
 use Rattle.std.specs.List.{slice_get, sum_by, position_or_len}
 use Rattle.std.specs.Option.{option_map}
@@ -27,8 +27,11 @@ use Rattle.kr_config.specs.declared.who.Who.{Who}
 use Rattle.kr_config.specs.Kept.{Row}
 use Rattle.kr_config.specs.Nexts.{name_cmp}
 use Rattle.kr_judge.specs.declared.need.Need.{Need}
-use Rattle.kr_judge.specs.Boards.{AreByPath, set_need}
+use Rattle.kr_judge.specs.Boards.{AreByPath, BoardState, set_need}
 use Rattle.kr_judge.proofs.Needs.{sorted_nil, sorted_set}
+use Rattle.kr_rollout.specs.declared.opening_board.StartNo.{StartNo}
+use Rattle.kr_rollout.specs.declared.opening_board.StartNo.TheVariants.{Stray, Unfit, NoMemory}
+use Rattle.kr_rollout.specs.inner.Opens.{IsStrayOf, Notes, NotesAll}
 use Rattle.kr_rollout.specs.Openings.{provider_of, need_of, needs_of, HasNoStray}
 use Rattle.kr_rollout.specs.Starts.{IsStray, IsLeastStray}
 use Rattle.kr_rollout.proofs.Revisions.{last_at, live_at}
@@ -133,19 +136,22 @@ stray_next first rows after needs row noted next none = record {
   least = λ lesser stray l. by lesser stray l (name_cmp after lesser) refl;
 }
   where
-    by : (lesser : List ℕ) → IsStray first rows lesser → name_cmp lesser row.path ≡ Less → (r : Ordering) → name_cmp after lesser ≡ r → ⊥
-    by lesser stray l Less c = next.2 lesser (some_live rows lesser stray.0 stray.1) c l
-    by lesser stray l Equal c = missing lesser stray (λ e. less_is_not Equal (λ d. cc) (sym c ∙ e))
-    by lesser stray l Greater c = missing lesser stray (λ e. less_is_not Greater (λ d. cc) (sym c ∙ e))
-
-    less_is_not : (r : Ordering) → (r ≡ Less → ⊥) → r ≡ Less → ⊥
-    less_is_not r n e = n e
-
     missing : (lesser : List ℕ) → IsStray first rows lesser → name_cmp after lesser ≢ Less → ⊥
     missing lesser stray n =
         let old = noted.here lesser stray.0 stray.1 n in
         let both : is_some (provider_of first stray.0.resource stray.0.stored) ≡ false = ap is_some stray.2 in
         both_ways (is_some (provider_of first stray.0.resource stray.0.stored)) both old.1
+
+    equal_less : (r : Ordering) → r ≡ Equal → r ≡ Less → ⊥
+    equal_less r a b = cc
+
+    greater_less : (r : Ordering) → r ≡ Greater → r ≡ Less → ⊥
+    greater_less r a b = cc
+
+    by : (lesser : List ℕ) → IsStray first rows lesser → name_cmp lesser row.path ≡ Less → (r : Ordering) → name_cmp after lesser ≡ r → ⊥
+    by lesser stray l Less c = next.2 lesser (some_live rows lesser stray.0 stray.1) c l
+    by lesser stray l Equal c = missing lesser stray (equal_less (name_cmp after lesser) c)
+    by lesser stray l Greater c = missing lesser stray (greater_less (name_cmp after lesser) c)
 
 -- what the last row of a path needs is what its live row needs
 live_last : (first : List Row) (rows : List LogRow) (path : List ℕ) (row : stored_row.Row) → live rows path ≡ Some row → needed first (last_row rows path) ≡ live_need first row
@@ -210,7 +216,7 @@ module _ {X : Type 0} (p q : X → Bool) (fewer : (x : X) → q x ≡ true → p
   count_less [] i x e h n = absurd (none-some x e)
   count_less (y ∷ ys) zero x e h n =
       let s : y ≡ x = same_Some y x e in
-      let a = ap (λ b. cond b 1 0) (ap p s ∙ h) in let b = ap (λ b. cond b 1 0) (ap q s ∙ n) in
+      let a = ap {B = ℕ} (λ b. cond b 1 0) (ap p s ∙ h) in let b = ap {B = ℕ} (λ b. cond b 1 0) (ap q s ∙ n) in
       omega (arith, sum_by-cons (λ z. cond (q z) 1 0) y ys, sum_by-cons (λ z. cond (p z) 1 0) y ys, a, b, count_le ys)
   count_less (y ∷ ys) (suc i) x e h n =
       omega (arith, sum_by-cons (λ z. cond (q z) 1 0) y ys, sum_by-cons (λ z. cond (p z) 1 0) y ys, unit_le y, count_less ys i x e h n)
@@ -277,3 +283,27 @@ no_place p xs e = find_at p xs ∙ beyond xs (position_or_len p xs) (λ l. withi
 
 pub reader_none : (first : List Row) (list : List Who) (resource bytes : List ℕ) → list ≡ list_of first resource → reader_place list bytes ≡ None → provider_of first resource bytes ≡ None
 reader_none first list resource bytes l e = ap (λ ws. reader_in ws bytes) (sym l) ∙ no_place (is_reader bytes) list e
+
+-- what is said of a row that has no provider
+pub note_stray : (first : List Row) (row : stored_row.Row) (b : BoardState) (path : List ℕ) (why : StartNo) → IsStrayOf path why → path ≡ row.path → provider_of first row.resource row.stored ≡ None
+    → Notes first row b b (Err why)
+note_stray first row b path (Stray own) s e none = (s ∙ e, none)
+note_stray first row b path (Unfit replica verdict) s e none = absurd s
+note_stray first row b path NoMemory s e none = tt
+
+-- ---- the loop
+
+-- what the board has so far
+abbrev pub IsWalked : List Row → List LogRow → BoardState → List ℕ → BoardState → Type 0
+IsWalked first rows start after now = AreNoted first rows after now.needs × (now ≡ record start { needs = now.needs })
+
+pub walk_step : (first : List Row) (rows : List LogRow) (start now next : BoardState) (after path asked : List ℕ) (row seen : stored_row.Row) → IsWalked first rows start after now
+    → IsNext rows asked (Some row) → asked ≡ after → seen ≡ row → Notes first seen now next (Ok tt) → path ≡ row.path → IsWalked first rows start path next
+walk_step first rows start now next after path asked row seen walked is asked_is seen_is notes path_is =
+    let n = subst (λ (r : stored_row.Row). Notes first r now next (Ok tt)) seen_is notes in
+    let needs = set_need now.needs (record { path = row.path; resource = row.resource; who = n.0 }) in
+    let needs_is : next.needs ≡ needs = ap (λ (b : BoardState). b.needs) n.2 in
+    let more = noted_more first rows after now.needs row n.0 walked.0 (subst (λ p. IsNext rows p (Some row)) asked_is is) n.1 in (
+      subst (λ p. AreNoted first rows p next.needs) (sym path_is) (subst (λ m. AreNoted first rows row.path m) (sym needs_is) more),
+      n.2 ∙ ap (λ (b : BoardState). record b { needs = needs }) walked.1 ∙ ap (λ m. record start { needs = m }) (sym needs_is),
+    )
