@@ -1,13 +1,11 @@
 -- Serving an event: that its line's entry is a step.
-use Rattle.std.proofs.Common.{◌≡◌, ℕ, ◌<◌, ◌≤◌, ◌++◌, ◌⊎◌, List, [], length, Option, None, Some, IsSome, IfSome, refl, sym, ap, subst, ◌∙◌, arith, append-nil}
+use Rattle.std.proofs.Common.{◌≡◌, ℕ, ◌<◌, ◌++◌, List, [], length, Option, None, Some, IsSome, IfSome, refl, sym, ap, subst, ◌∙◌, arith, append-nil}
 use Rattle.std.specs.Prelude.{⊤, slice_set}
-use Rattle.std.proofs.lemmas.List.{length-set}
-use Rattle.kr_base.specs.Rules.{IsPath}
 use Rattle.kr_store.specs.declared.rows.Row.{Row}
 use Rattle.kr_store.specs.Rows.{live}
 use Rattle.kr_store.specs.Stores.{Kept, IsNext}
 use Rattle.kr_provider.specs.Publication.{Publication}
-use Rattle.kr_judge.specs.Boards.{BoardState, Taken, changed_at, held_more, held_less}
+use Rattle.kr_judge.specs.Boards.{BoardState, held_more}
 use Rattle.kr_rollout.specs.declared.answer.Answer.{Answer}
 use Rattle.kr_rollout.specs.declared.answer.Answer.TheVariants as answer
 use Rattle.kr_rollout.specs.declared.event.Event.{Event}
@@ -22,11 +20,10 @@ use Rattle.kr_rollout.specs.declared.opening.Entry.{Entry}
 use Rattle.kr_rollout.specs.declared.opening.Opening.{Opening}
 use Rattle.kr_rollout.specs.Entries.{entry_of, published_at, named_by, Reaches}
 use Rattle.kr_rollout.specs.States.{State, number_at, current_of, held_by}
-use Rattle.kr_rollout.specs.Openings.{board}
 use Rattle.kr_rollout.specs.Answers.{IsAnswer}
 use Rattle.kr_rollout.specs.Writes.{Writes}
 use Rattle.kr_rollout.specs.Steps.{after, IsStep, KeepsRules}
-use Rattle.kr_rollout.specs.Callers.{did_of, gave_of, Shows, Records}
+use Rattle.kr_rollout.specs.Callers.{did_of, gave_of, Shows}
 use Rattle.kr_rollout.specs.inner.Rollouts.{Course, IsCourse, AreNumbers, line_now, state_with, MayServe, Serves}
 use Rattle.kr_rollout.proofs.Revisions.{live_at}
 use Rattle.kr_rollout.proofs.Keeping.{with_board}
