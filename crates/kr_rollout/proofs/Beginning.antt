@@ -1,26 +1,28 @@
 -- The state at an opening: its board, and what holds of it.
-use Rattle.std.proofs.Common.{◌≡◌, ℕ, zero, suc, ◌<◌, ◌≤◌, ◌+◌, Bool, true, false, List, [], ◌∷◌, length, get_or, take, cond, replicate, count_by, Contains, Option, None, Some, Ok, IfSome, refl, sym, ap, subst, ◌∙◌, arith, ◌⊎◌, inl, inr}
+use Rattle.std.proofs.Common.{◌≡◌, ℕ, zero, suc, ◌<◌, ◌≤◌, ◌+◌, ◌==◌, Bool, true, false, List, [], ◌∷◌, length, get_or, take, cond, replicate, count_by, map, Contains, Option, None, Some, Ok, IfSome, IsTrue, refl, sym, ap, subst, ◌∙◌, arith, ◌⊎◌, inl, inr}
 use Rattle.std.specs.Prelude.{◌||◌, sum, All}
-use Rattle.std.specs.List.{slice_get, list_any}
+use Rattle.std.specs.List.{slice_get, list_any, sum_by}
 use Rattle.std.specs.Option.{option_map}
 use Rattle.std.proofs.lemmas.Bool.{eq-eqb, cases_eq, cases_order}
 use Rattle.std.proofs.lemmas.List.{length-replicate, take_all}
 use Rattle.std.proofs.lemmas.List.Sums.{sum_by-cons}
 use Rattle.std.proofs.lemmas.Option.{none-some, same_Some}
+use Rattle.kr_store.specs.declared.rows.LogRow.{LogRow}
 use Rattle.kr_store.specs.Rows.{AreRows}
 use Rattle.kr_store.specs.Stores.{Kept}
 use Rattle.kr_config.specs.Kept.{Row}
 use Rattle.kr_provider.specs.Publication.{Publication, IsPublished}
 use Rattle.kr_judge.specs.declared.need.Need.{Need}
-use Rattle.kr_judge.specs.Boards.{BoardState}
+use Rattle.kr_judge.specs.Boards.{Taken, BoardState}
 use Rattle.kr_rollout.specs.declared.generation.Generation.{Generation}
 use Rattle.kr_rollout.specs.declared.opening.Opening.{Opening}
-use Rattle.kr_rollout.specs.States.{number_at, is_number, taken_from, taken, IsLive}
-use Rattle.kr_rollout.specs.Openings.{first_rows, needs_of, generations_from, current_from, settings_of, start_of, room_of, board, opening_by, NamesAmong, AreAmong, IsAdmitted, IsFirstIn}
+use Rattle.kr_rollout.specs.Entries.{published_at}
+use Rattle.kr_rollout.specs.States.{State, number_at, is_number, taken_of, taken_from, taken, IsLiveNumber, IsLive}
+use Rattle.kr_rollout.specs.Openings.{first_rows, needs_of, generations_from, current_from, settings_of, first_of, start_of, room_of, board, opening_by, NamesAmong, AreAmong, IsAdmitted, IsFirstIn, IsOpening}
 use Rattle.kr_rollout.specs.Fits.{AreFit, IsFit}
 use Rattle.kr_rollout.specs.Histories.{IsLegal}
-use Rattle.kr_rollout.specs.Starts.{taken_up, MayStart, Boards}
-use Rattle.kr_rollout.specs.inner.Rollouts.{Course, opening_of, state_with, IsCourse, IsCore}
+use Rattle.kr_rollout.specs.Starts.{taken_up, AllFit, MayStart, Boards}
+use Rattle.kr_rollout.specs.inner.Rollouts.{Course, opening_of, state_with, AreNumbers, IsCourse, IsCore}
 
 -- ---- numbers
 

@@ -1,10 +1,11 @@
 -- What a seat's own entries say that it found stands there still.
-use Rattle.std.proofs.Common.{◌≡◌, ℕ, zero, suc, ◌≤◌, ◌⊎◌, cond, List, [], ◌∷◌, ◌++◌, length, Option, None, Some, IfSome, refl, sym, ap, subst, ◌∙◌, arith, inl, inr, length-append}
+use Rattle.std.proofs.Common.{◌≡◌, ℕ, zero, suc, ◌≤◌, ◌+◌, ◌⊎◌, cond, List, [], ◌∷◌, ◌++◌, length, Option, None, Some, IfSome, refl, sym, ap, subst, ◌∙◌, arith, inl, inr, length-append}
 use Rattle.std.specs.List.{slice_get}
 use Rattle.std.proofs.lemmas.Bool.{cases_eq, eq-eqb, ne_eqb}
-use Rattle.std.proofs.lemmas.Option.{none-some, slice_get_within}
+use Rattle.std.proofs.lemmas.Option.{none-some, same_Some, slice_get_within}
 use Rattle.kr_store.specs.declared.rows.LogRow.{LogRow}
 use Rattle.kr_store.specs.declared.rows.Row.{Row}
+use Rattle.kr_store.specs.Rows.{row_of}
 use Rattle.kr_rollout.specs.declared.line.Did.{Did}
 use Rattle.kr_rollout.specs.declared.line.Did.TheVariants.{Adopt, Fetch, After, Put, Delete, Replace, LetGo, Reload, Join, Leave}
 use Rattle.kr_rollout.specs.declared.line.Gave.{Gave}
@@ -15,7 +16,7 @@ use Rattle.kr_rollout.specs.Lines.{of_seat}
 use Rattle.kr_rollout.specs.Entries.{row_here, row_at, revision_in, seat_of}
 use Rattle.kr_rollout.specs.States.{State}
 use Rattle.kr_rollout.specs.Openings.{start_of}
-use Rattle.kr_rollout.specs.Steps.{after, grown}
+use Rattle.kr_rollout.specs.Steps.{after, grown, IsStep}
 use Rattle.kr_rollout.specs.Histories.{state_from, state_of, IsRun, IsLegal}
 use Rattle.kr_rollout.specs.Callers.{found_by, found_then, found_from, found_in}
 use Rattle.kr_rollout.proofs.Revisions.{row_front, revision_is}
@@ -45,6 +46,14 @@ row_in rows (suc k) row e = by (slice_get rows k) refl e
           within = omega (arith, r, slice_get_within rows k own is);
           is = ap (row_at rows) r ∙ ap (row_here (suc k)) is ∙ e;
         }
+
+pub at_within : (rows : List LogRow) (k : ℕ) (row : Row) → row_at rows k ≡ Some row → k ≤ length rows
+at_within rows zero row e = omega arith
+at_within rows (suc k) row e = by (slice_get rows k) refl e
+  where
+    by : (o : Option LogRow) → slice_get rows k ≡ o → row_here (suc k) o ≡ Some row → suc k ≤ length rows
+    by None is e = absurd (none-some row e)
+    by (Some own) is e = omega (arith, slice_get_within rows k own is)
 
 found_in_rows : (rows : List LogRow) (gave : Gave) (row : Option Row) → row ≡ row_at rows (revision_in gave) → IfSome (found_by gave row) (IsIn rows)
 found_in_rows rows (Adopted n) row e = tt

@@ -1,10 +1,11 @@
 -- What a seat's own entries say that it holds is what the state says.
-use Rattle.std.proofs.Common.{◌≡◌, ℕ, zero, suc, ◌<◌, ◌⊎◌, cond, List, [], ◌∷◌, ◌++◌, length, replicate, Option, None, Some, IsSome, IfSome, refl, sym, ap, subst, ◌∙◌, arith, inl, inr, length-append}
-use Rattle.std.specs.List.{slice_get}
+use Rattle.std.proofs.Common.{◌≡◌, ℕ, zero, suc, ◌<◌, ◌≤◌, ◌+◌, ◌⊎◌, ◌==◌, Bool, true, false, cond, List, [], ◌∷◌, ◌++◌, length, get_or, replicate, Option, None, Some, IsSome, IfSome, refl, sym, ap, subst, ◌∙◌, arith, inl, inr, length-append}
+use Rattle.std.specs.Prelude.{slice_set, ⊤}
+use Rattle.std.specs.List.{filter, slice_get}
 use Rattle.std.specs.Option.{option_map}
-use Rattle.std.proofs.lemmas.Bool.{cases_eq, eq-eqb, ne_eqb}
+use Rattle.std.proofs.lemmas.Bool.{cases_eq, eqb-true, eqb-false, eq-eqb, ne_eqb}
 use Rattle.std.proofs.lemmas.List.{length-set, get_or-set_same, get_or-set_other, length-replicate}
-use Rattle.std.proofs.lemmas.Option.{none-some}
+use Rattle.std.proofs.lemmas.Option.{same_Some, none-some}
 use Rattle.kr_provider.specs.Publication.{Publication}
 use Rattle.kr_rollout.specs.declared.event.Event.{Event}
 use Rattle.kr_rollout.specs.declared.event.Event.TheVariants as event
@@ -16,14 +17,15 @@ use Rattle.kr_rollout.specs.declared.line.Gave.TheVariants.{Adopted, Found, Abse
 use Rattle.kr_rollout.specs.declared.opening.Entry.{Entry}
 use Rattle.kr_rollout.specs.declared.opening.Opening.{Opening}
 use Rattle.kr_rollout.specs.Lines.{of_seat}
-use Rattle.kr_rollout.specs.Entries.{published_at, named_by, seat_of}
+use Rattle.kr_rollout.specs.Entries.{published_at, named_by, row_at, seat_of}
 use Rattle.kr_rollout.specs.States.{State, number_at, held_by}
 use Rattle.kr_rollout.specs.Openings.{start_of}
 use Rattle.kr_rollout.specs.Answers.{IsAnswer}
 use Rattle.kr_rollout.specs.Steps.{after, added, held_after, IsStep}
 use Rattle.kr_rollout.specs.Histories.{state_from, state_of, IsRun, IsLegal}
 use Rattle.kr_rollout.specs.Callers.{with_published, holding_then, holding_from, holding, Allows, MayAsk}
-use Rattle.kr_rollout.specs.inner.Rollouts.{AreNumbers, MayServe}
+use Rattle.kr_rollout.specs.inner.Rollouts.{Course, AreNumbers, MayServe}
+use Rattle.kr_rollout.proofs.Findings.{IsIn, found_there}
 use Rattle.kr_rollout.proofs.Revisions.{published_front}
 use Rattle.kr_rollout.proofs.Keeping.{numbers_set}
 
@@ -236,6 +238,17 @@ nothing_held generations (Some n) l e =
     let g = there generations n l in
     absurd (none-some (n, g.0.published) (sym e ∙ ap (λ o. with_published n (option_map (λ (x : Generation). x.published) o)) g.1))
 
+pair_parts : (generations : List Generation) (number : Option ℕ) (h : ℕ × Publication) → pair_of generations number ≡ Some h
+    → (number ≡ Some h.0) × (published_at generations (Some h.0) ≡ Some h.1)
+pair_parts generations None h e = absurd (none-some h e)
+pair_parts generations (Some n) h e = by (published_at generations (Some n)) refl e
+  where
+    by : (q : Option Publication) → published_at generations (Some n) ≡ q → with_published n q ≡ Some h → (◌≡◌ {A = Option ℕ} (Some n) (Some h.0)) × (published_at generations (Some h.0) ≡ Some h.1)
+    by None is e = absurd (none-some h e)
+    by (Some p) is e =
+        let s = same_Some (n, p) h e in
+        (ap (λ (x : ℕ × Publication). Some x.0) s, subst (λ (x : ℕ × Publication). published_at generations (Some x.0) ≡ Some x.1) s is)
+
 something_held : (generations : List Generation) (number : Option ℕ) → IsSome (pair_of generations number) → IsSome number
 something_held generations None s = s
 something_held generations (Some n) s = refl
@@ -254,6 +267,14 @@ may_serve o st history seat asked l is may = by asked may.allowed
     some s = something_held st.generations (held_by st seat) (subst (λ h. IsSome h) same s)
 
     by : (asked : Event) → Allows o (of_seat seat_of seat history) asked → MayServe (record { opening = o; state = st }) seat asked
+    by (event.Put path resource plain stored) a =
+        let q = pair_parts st.generations (held_by st seat) a.2 (sym same ∙ a.3) in
+        (a.0, a.1, a.2.0, a.2.1, q.0, q.1, a.4)
+    by (event.Delete path) a = a
+    by (event.Replace path revision stored) a =
+        let q = pair_parts st.generations (held_by st seat) a.1 (sym same ∙ a.2) in
+        let found = subst (λ (s : State). IsIn s.rows a.3) (sym is) (subst (λ r. IfSome r (IsIn (state_of o history).rows)) a.4 (found_there o history seat l)) in
+        (a.0, a.1.0, a.1.1, a.3, q.0, q.1, ap (row_at st.rows) (sym a.6) ∙ found.is, a.7)
     by (event.Adopt replica) a = (a.0, nothing_held st.generations (held_by st seat) (in_bounds st.held st.generations seat k) (sym same ∙ a.1))
     by (event.Fetch path) a = (a.0, some a.1)
     by (event.After path) a = (a.0, some a.1)

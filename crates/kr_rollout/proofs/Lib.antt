@@ -12,3 +12,4 @@ pub mod Beginning
 pub mod Findings
 pub mod Sharing
 pub mod Boarding
+pub mod Storing

@@ -1,11 +1,13 @@
 -- Serving an event: that its line's entry is a step.
-use Rattle.std.proofs.Common.{◌≡◌, ℕ, ◌<◌, ◌++◌, List, [], length, Option, None, Some, IsSome, IfSome, refl, sym, ap, subst, ◌∙◌, arith, append-nil}
+use Rattle.std.proofs.Common.{◌≡◌, ℕ, ◌<◌, ◌≤◌, ◌++◌, ◌⊎◌, List, [], length, Option, None, Some, IsSome, IfSome, refl, sym, ap, subst, ◌∙◌, arith, append-nil}
 use Rattle.std.specs.Prelude.{⊤, slice_set}
+use Rattle.std.proofs.lemmas.List.{length-set}
+use Rattle.kr_base.specs.Rules.{IsPath}
 use Rattle.kr_store.specs.declared.rows.Row.{Row}
 use Rattle.kr_store.specs.Rows.{live}
 use Rattle.kr_store.specs.Stores.{Kept, IsNext}
 use Rattle.kr_provider.specs.Publication.{Publication}
-use Rattle.kr_judge.specs.Boards.{BoardState, held_more}
+use Rattle.kr_judge.specs.Boards.{BoardState, Taken, changed_at, held_more, held_less}
 use Rattle.kr_rollout.specs.declared.answer.Answer.{Answer}
 use Rattle.kr_rollout.specs.declared.answer.Answer.TheVariants as answer
 use Rattle.kr_rollout.specs.declared.event.Event.{Event}
@@ -20,10 +22,11 @@ use Rattle.kr_rollout.specs.declared.opening.Entry.{Entry}
 use Rattle.kr_rollout.specs.declared.opening.Opening.{Opening}
 use Rattle.kr_rollout.specs.Entries.{entry_of, published_at, named_by, Reaches}
 use Rattle.kr_rollout.specs.States.{State, number_at, current_of, held_by}
+use Rattle.kr_rollout.specs.Openings.{board}
 use Rattle.kr_rollout.specs.Answers.{IsAnswer}
 use Rattle.kr_rollout.specs.Writes.{Writes}
 use Rattle.kr_rollout.specs.Steps.{after, IsStep, KeepsRules}
-use Rattle.kr_rollout.specs.Callers.{did_of, gave_of, Shows}
+use Rattle.kr_rollout.specs.Callers.{did_of, gave_of, Shows, StoresIt, Records}
 use Rattle.kr_rollout.specs.inner.Rollouts.{Course, IsCourse, AreNumbers, line_now, state_with, MayServe, Serves}
 use Rattle.kr_rollout.proofs.Revisions.{live_at}
 use Rattle.kr_rollout.proofs.Keeping.{with_board}
@@ -95,6 +98,19 @@ writes_still o st StoreFailed e s = absurd s
 writes_still o st (StoreFull needed) e s = absurd s
 writes_still o st Nothing e s = tt
 
+-- an answer that changes nothing wrote nothing
+stores_still : (asked : Event) (given : Answer) (e : Entry) → IsStill (gave_of given) → StoresIt asked given e
+stores_still asked (answer.Adopted number p) e s = absurd s
+stores_still asked (answer.Gone replica) e s = tt
+stores_still asked (answer.Found row) e s = tt
+stores_still asked answer.Absent e s = tt
+stores_still asked (answer.Written revision) e s = absurd s
+stores_still asked (answer.Changed last) e s = absurd s
+stores_still asked answer.StoreFailed e s = absurd s
+stores_still asked (answer.StoreFull needed) e s = absurd s
+stores_still asked answer.Released e s = absurd s
+stores_still asked answer.NoMemory e s = tt
+
 -- a step to a state with the same rows and generations
 step_to : (o : Opening) (st next : State) (seat : ℕ) (did : Did) (gave : Gave) → seat < length o.reloads → KeepsRules did o
     → IsAnswer did gave st (held_by st seat) → Writes gave o st (entry_now st seat did gave)
@@ -128,7 +144,7 @@ told c seat event answer s l rules is reach shows =
       state = sym a;
       step = step_to c.opening c.state c.state seat (did_of event) (gave_of answer) l rules is
           (writes_still c.opening c.state (gave_of answer) _ s) a refl refl reach;
-      records = record { seat_is = refl; did_is = refl; gave_is = refl; shows = shows };
+      records = record { seat_is = refl; did_is = refl; gave_is = refl; shows = shows; stores = stores_still event answer _ s };
     }
 
 -- a held generation is one of those that are there
@@ -235,6 +251,7 @@ adopted c kept seat replica number p k l may is there =
         did_is = refl;
         gave_is = refl;
         shows = ap (λ h. published_at c.state.generations (named_by h (Adopted number))) may.1 ∙ there;
+        stores = tt;
       };
     }
 
@@ -251,7 +268,7 @@ let_go c kept seat k l may =
             replaced = omega arith;
             generation = names_held (length c.state.generations) (held_by c.state seat) Released may (held_in c.state seat k.held);
           });
-      records = record { seat_is = refl; did_is = refl; gave_is = refl; shows = tt };
+      records = record { seat_is = refl; did_is = refl; gave_is = refl; shows = tt; stores = tt };
     }
 
 -- the same for the course that the caller sees

@@ -20,8 +20,22 @@ pub enum Answer {
     Found(Shared<Row>),
     /// There is no such row.
     Absent,
+    /// The row was written, with this revision.
+    Written {
+        revision: u64,
+    },
+    /// The path's last row is this one; 0 where it has none.
+    Changed {
+        revision: u64,
+    },
+    /// The store's tape failed. The rows are as before.
+    StoreFailed,
+    /// The store's file would have so many bytes. The rows are as before.
+    StoreFull {
+        needed: u64,
+    },
     /// The seat holds nothing any more.
     Released,
-    /// There was no memory to share a row or a configuration.
+    /// There was no memory.
     NoMemory,
 }

@@ -12,6 +12,7 @@ mod opening;
 mod opening_board;
 mod rollout;
 mod start;
+mod writing;
 
 pub use answer::Answer;
 pub use event::Event;

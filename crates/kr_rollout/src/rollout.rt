@@ -34,6 +34,7 @@ pub(crate) struct Rollout<T: Tape> {
 }
 
 impl<T: Tape> Model for Rollout<T> {
+    ghost use Rattle.std.specs.Prelude.{◌≤◌, length};
     ghost use Rattle.kr_rollout.specs.inner.Rollouts.{Course, opening_of, state_with, IsCourse};
 
     ghost Value = { Course };
@@ -46,7 +47,7 @@ impl<T: Tape> Model for Rollout<T> {
 
     ghost invariant = { λ r. IsCourse
         (opening_of r.store r.first_rows r.replicas.0 r.names.0 r.reloads.items r.first_faults)
-        (state_with r.store r.board r.generations.items r.current.items r.held.items) r.board };
+        (state_with r.store r.board r.generations.items r.current.items r.held.items) r.board × (r.first_rows ≤ length r.store.rows) };
 }
 
 impl<T: Tape> Rollout<T> {
@@ -60,6 +61,18 @@ impl<T: Tape> Rollout<T> {
             Event::Adopt { replica } => self.adopt(seat, replica),
             Event::Fetch { path } => self.fetch(seat, path),
             Event::After { path } => self.find_next(seat, path),
+            Event::Put {
+                path,
+                resource,
+                plain,
+                stored,
+            } => self.put(seat, path, resource, plain, stored),
+            Event::Delete { path } => self.delete(seat, path),
+            Event::Replace {
+                path,
+                revision,
+                stored,
+            } => self.replace(seat, path, revision, stored),
             Event::LetGo => self.let_go(seat),
         }
     }
@@ -81,7 +94,7 @@ impl<T: Tape> Rollout<T> {
     }
 
     // The line of an event that is answered now.
-    fn line(&self, seat: u32, did: Did, gave: Gave) -> Line
+    pub fn line(&self, seat: u32, did: Did, gave: Gave) -> Line
         requires { seat < length self.now.opening.reloads }
         ensures { result ≡ line_now self.now.state seat did gave }
     {

@@ -1,8 +1,10 @@
 -- What the core keeps beside its journal, and how it serves an event.
 use Rattle.std.specs.Prelude.{◌≡◌, ℕ, ◌<◌, ◌≤◌, ◌+◌, ◌⊎◌, List, [], length, take, map, Option, None, Some, IsSome}
-use Rattle.kr_base.specs.Rules.{IsPath}
+use Rattle.kr_base.specs.Rules.{IsPath, IsResource}
+use Rattle.kr_store.specs.declared.rows.Row.{Row}
 use Rattle.kr_store.specs.Stores.{Kept}
 use Rattle.kr_provider.specs.Publication.{Publication}
+use Rattle.kr_provider.specs.Sealing.{IsSealing}
 use Rattle.kr_judge.specs.Boards.{BoardState}
 use Rattle.kr_rollout.specs.declared.answer.Answer.{Answer}
 use Rattle.kr_rollout.specs.declared.event.Event.{Event}
@@ -13,12 +15,12 @@ use Rattle.kr_rollout.specs.declared.line.Gave.{Gave}
 use Rattle.kr_rollout.specs.declared.line.Line.{Line}
 use Rattle.kr_rollout.specs.declared.opening.Entry.{Entry}
 use Rattle.kr_rollout.specs.declared.opening.Opening.{Opening}
-use Rattle.kr_rollout.specs.Entries.{entry_of}
-use Rattle.kr_rollout.specs.States.{State, number_at, held_by}
+use Rattle.kr_rollout.specs.Entries.{entry_of, published_at, row_at}
+use Rattle.kr_rollout.specs.States.{State, number_at, current_of, held_by}
 use Rattle.kr_rollout.specs.Openings.{board}
 use Rattle.kr_rollout.specs.Steps.{IsStep, after}
 use Rattle.kr_rollout.specs.Histories.{IsLegal, state_of}
-use Rattle.kr_rollout.specs.Callers.{Records}
+use Rattle.kr_rollout.specs.Callers.{IsResealing, Records}
 
 -- what a rollout began with, and its state
 pub record Course : Type 0 where
@@ -67,6 +69,14 @@ MayServe c seat (event.Adopt replica) =
     (replica < length c.opening.replicas) × (held_by c.state seat ≡ None)
 MayServe c seat (event.Fetch path) = IsPath path × IsSome (held_by c.state seat)
 MayServe c seat (event.After path) = ((path ≡ []) ⊎ IsPath path) × IsSome (held_by c.state seat)
+MayServe c seat (event.Put path resource plain stored) = IsPath path × IsResource resource
+    × (number : ℕ) × (p : Publication) × (held_by c.state seat ≡ Some number)
+    × (published_at c.state.generations (Some number) ≡ Some p) × IsSealing p resource path plain stored
+MayServe c seat (event.Delete path) = IsPath path
+MayServe c seat (event.Replace path revision stored) = IsPath path
+    × (number : ℕ) × (p : Publication) × (row : Row) × (held_by c.state seat ≡ Some number)
+    × (published_at c.state.generations (Some number) ≡ Some p) × (row_at c.state.rows revision ≡ Some row)
+    × IsResealing p row path stored
 MayServe c seat event.LetGo = IsSome (held_by c.state seat)
 
 -- the line of an event that is answered in this state

@@ -1,4 +1,4 @@
-use Rattle.std.proofs.Common.{sym, ap, ◌∙◌}
+use Rattle.std.proofs.Common.{◌≡◌, None, Some, sym, ap, ◌∙◌}
 use Rattle.kr_config.specs.Kept.{rows_of}
 use Rattle.kr_config.specs.Lists.{list_of}
 use Rattle.kr_judge.specs.Boards.{set_need}

@@ -4,7 +4,7 @@ use Rattle.kr_rollout.specs.Cores.{CoreState}
 use Rattle.kr_rollout.specs.Entries.{seat_of}
 use Rattle.kr_rollout.specs.Lines.{of_seat}
 use Rattle.kr_rollout.specs.inner.Rollouts.{entries_by}
-use Rattle.kr_rollout.proofs.Appending.{core_after}
+use Rattle.kr_rollout.proofs.Appending.{core_after, applied}
 use Rattle.kr_rollout.proofs.Holdings.{may_serve}
 use Rattle.kr_rollout.proofs.journal.Core.apply.Goals as goal
 
@@ -23,3 +23,8 @@ pub returns-clause-legal : goal.returns-clause-legal
 returns-clause-legal g c =
     (core_after c.args.self.now c.self.inside.rollout c.serve-answer.new.self c.self.inside.journal.0 c.push_in_room.new.self.0 c.serve-answer.result.1 c.self.inside.journal.1 c.push_in_room.new.self.1
     c.self.inside.room c.args.seat c.args.event c.serve-answer.result.0 c.self.view_is c.self.invariant c.serve-answer.ensures c.push_in_room.ensures.items c.push_in_room.ensures.room).legal
+
+pub returns-clause-applied : goal.returns-clause-applied
+returns-clause-applied g c =
+    applied c.args.self.now c.self.inside.rollout c.serve-answer.new.self c.self.inside.journal.0 c.push_in_room.new.self.0 c.serve-answer.result.1 c.self.inside.journal.1 c.push_in_room.new.self.1
+    c.self.inside.room c.args.seat c.args.event c.serve-answer.result.0 c.self.view_is c.self.invariant c.serve-answer.ensures c.push_in_room.ensures.items

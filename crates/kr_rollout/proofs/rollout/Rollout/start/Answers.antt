@@ -7,14 +7,16 @@ use Rattle.kr_rollout.proofs.Beginning.{opened, opened_course, opened_legal}
 use Rattle.kr_rollout.proofs.rollout.Rollout.start.Goals as goal
 
 pub invariant_of-result : goal.invariant_of-result
-invariant_of-result g c =
-    opened_course c.args.store c.args.replicas.0 c.args.names.0 c.args.reloads.now c.in-Ok-board_of.board c.in-Ok.made.generations.items c.in-Ok.made.current.items c.in-Ok.made.held.items
-    c.in-Ok.made.reloads.items c.revision-first_rows.result c.faults-first_faults.result c.in-Ok.made.room c.revision-first_rows.ensures c.faults-first_faults.ensures
-    (c.in-Ok.ensures.generations ∙ ap (generations_from 0) c.as_slice.ensures) (c.in-Ok.ensures.current ∙ ap (current_from 0) c.as_slice.ensures)
-    (c.in-Ok.ensures.held ∙ ap (λ n. replicate n None) (sym c.requires.seats.1)) c.in-Ok.ensures.reloads
-    (c.in-Ok.ensures.room ∙ ap (λ (l : List (Option Publication)). length l + sum c.args.reloads.now) c.as_slice.ensures)
-    (subst (λ rs. Boards c.args.store.rows rs c.in-Ok.made.room (Ok c.in-Ok-board_of.board)) (c.in-Ok.ensures.settings ∙ ap settings_of c.as_slice.ensures) c.in-Ok-board_of.ensures)
-    (omega (arith, c.requires.seats.0, c.requires.seats.1))
+invariant_of-result g c = (
+  opened_course c.args.store c.args.replicas.0 c.args.names.0 c.args.reloads.now c.in-Ok-board_of.board c.in-Ok.made.generations.items c.in-Ok.made.current.items c.in-Ok.made.held.items
+      c.in-Ok.made.reloads.items c.revision-first_rows.result c.faults-first_faults.result c.in-Ok.made.room c.revision-first_rows.ensures c.faults-first_faults.ensures
+      (c.in-Ok.ensures.generations ∙ ap (generations_from 0) c.as_slice.ensures) (c.in-Ok.ensures.current ∙ ap (current_from 0) c.as_slice.ensures)
+      (c.in-Ok.ensures.held ∙ ap (λ n. replicate n None) (sym c.requires.seats.1)) c.in-Ok.ensures.reloads
+      (c.in-Ok.ensures.room ∙ ap (λ (l : List (Option Publication)). length l + sum c.args.reloads.now) c.as_slice.ensures)
+      (subst (λ rs. Boards c.args.store.rows rs c.in-Ok.made.room (Ok c.in-Ok-board_of.board)) (c.in-Ok.ensures.settings ∙ ap settings_of c.as_slice.ensures) c.in-Ok-board_of.ensures)
+      (omega (arith, c.requires.seats.0, c.requires.seats.1)),
+  omega (arith, c.revision-first_rows.ensures),
+)
 
 pub returns-clause-opens : goal.returns-clause-opens
 returns-clause-opens g c = (

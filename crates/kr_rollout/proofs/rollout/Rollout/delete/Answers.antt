@@ -1,0 +1,24 @@
+use Rattle.std.proofs.Common.{◌≡◌, ◌<◌, ℕ, length, Some, refl, sym, ap, subst, ◌∙◌, arith}
+use Rattle.kr_store.specs.Rows.{put_of}
+use Rattle.kr_store.specs.Stores.{Puts, Deletes}
+use Rattle.kr_provider.specs.Publication.{Publication, IsPublished, list_at}
+use Rattle.kr_provider.specs.Readers.{writer_of}
+use Rattle.kr_judge.specs.Boards.{BoardState}
+use Rattle.kr_rollout.specs.declared.event.Event.TheVariants as event
+use Rattle.kr_rollout.specs.States.{number_at}
+use Rattle.kr_rollout.specs.inner.Rollouts.{Course, MayServe}
+use Rattle.kr_rollout.specs.inner.Writing.{written_as, deleted_as, needs_with, needs_without, ReplacesBy}
+use Rattle.kr_rollout.proofs.Keeping.{read_number}
+use Rattle.kr_rollout.proofs.Storing.{seen, own_published, grown_course, put_serves, delete_serves, replace_serves}
+use Rattle.kr_rollout.proofs.rollout.Rollout.delete.Goals as goal
+
+pub returns : goal.returns
+returns g c =
+    let may = subst (λ (x : Course). MayServe x c.args.seat (event.Delete c.args.path)) (sym c.self.view_is) c.requires.may in
+    let l = subst (λ (x : Course). c.args.seat < length x.opening.reloads) (sym c.self.view_is) c.requires.seat_in in
+    seen _ c.args.self.now _ c.args.seat (event.Delete c.args.path) (deleted_as c.delete_value-result.result) c.deleted-answer.result c.told-gave.result c.line-line.result
+    c.self.view_is c.deleted-answer.ensures c.told-gave.ensures c.line-line.ensures
+    (delete_serves c.self.inside.store c.delete_value-result.new.store c.self.inside.board c.delete_value-result.new.board c.self.inside.generations.items c.self.inside.current.items c.self.inside.held.items c.self.inside.first_rows c.self.inside.replicas.0 c.self.inside.names.0 c.self.inside.reloads.items c.self.inside.first_faults
+    c.args.seat c.self.invariant.0 l c.self.invariant.1 c.args.path may c.delete_value-result.result
+    (subst (λ path. Deletes c.self.inside.store c.delete_value-result.new.store path c.delete_value-result.result) c.as_str.ensures c.delete_value-result.ensures.store)
+    (c.delete_value-result.ensures.board ∙ ap (λ path. record c.self.inside.board { needs = needs_without c.delete_value-result.result path c.self.inside.board.needs }) c.as_str.ensures))
