@@ -9,12 +9,13 @@ use Rattle.kr_rollout.specs.declared.generation.Generation.{Generation}
 use Rattle.kr_rollout.specs.declared.line.Line.{Line}
 use Rattle.kr_rollout.specs.declared.opening.Entry.{Entry}
 use Rattle.kr_rollout.specs.declared.opening.Opening.{Opening}
-use Rattle.kr_rollout.specs.Entries.{entry_of, named, revision_in, replaced_in, Reaches}
+use Rattle.kr_rollout.specs.Entries.{entry_of, named_in, revision_in, replaced_in, Reaches}
 use Rattle.kr_rollout.specs.States.{State}
 use Rattle.kr_rollout.specs.Openings.{start_of}
-use Rattle.kr_rollout.specs.Steps.{after, added, grown, IsStep}
+use Rattle.kr_rollout.specs.Steps.{after, new_generations, new_rows, IsStep}
 use Rattle.kr_rollout.specs.Histories.{state_from, state_of, IsRun, IsLegal}
 use Rattle.kr_rollout.specs.Cores.{CoreState, Applies}
+use Rattle.kr_rollout.specs.Laws.{FrontIsLegal}
 use Rattle.kr_rollout.specs.inner.Rollouts.{Course, Serves, entries_by, IsCore}
 use Rattle.kr_rollout.proofs.Revisions.{row_front, published_front}
 
@@ -24,13 +25,13 @@ pub rows_grow : (st : State) (history : List Entry) → length st.rows ≤ lengt
 rows_grow st [] = omega arith
 rows_grow st (e ∷ history) =
     let rest = rows_grow (after st e) history in
-    omega (arith, rest, length-append st.rows (grown e.line.gave e.line.did e.row))
+    omega (arith, rest, length-append st.rows (new_rows e.line.gave e.line.did e.row))
 
 pub generations_grow : (st : State) (history : List Entry) → length st.generations ≤ length (state_from st history).generations
 generations_grow st [] = omega arith
 generations_grow st (e ∷ history) =
     let rest = generations_grow (after st e) history in
-    omega (arith, rest, length-append st.generations (added e.line.gave e.line.did))
+    omega (arith, rest, length-append st.generations (new_generations e.line.gave e.line.did))
 
 below_more : (number : Option ℕ) (a b : ℕ) → a ≤ b → IfSome number (λ n. n < a) → IfSome number (λ n. n < b)
 below_more None a b l w = tt
@@ -41,7 +42,7 @@ reaches_more : (rows next : List LogRow) (generations later : List Generation) (
 reaches_more rows next generations later line l m r = record {
   row = omega (arith, r.row);
   replaced = omega (arith, r.replaced);
-  generation = below_more (named line) (length generations) (length later) m r.generation;
+  generation = below_more (named_in line) (length generations) (length later) m r.generation;
 }
 
 -- all that the lines name is there
@@ -65,7 +66,7 @@ all_reach o st rows generations (line ∷ lines) r =
 entry_stays : (rows more : List LogRow) (generations others : List Generation) (line : Line) → Reaches rows generations line
     → entry_of (rows ++ more) (generations ++ others) line ≡ entry_of rows generations line
 entry_stays rows more generations others line r =
-    let p = published_front generations others (named line) r.generation in
+    let p = published_front generations others (named_in line) r.generation in
     let a = row_front rows more (revision_in line.gave) r.row in
     let b = row_front rows more (replaced_in line.did) r.replaced in
     (λ i. record { line = line; published = p i; row = a i; replaced = b i })
@@ -101,12 +102,12 @@ pub entries_more : (o : Opening) (st next : State) (lines : List Line) (line : L
     → entries_by next (lines ++ line ∷ []) ≡ entries_by st lines ++ entry_of next.rows next.generations line ∷ []
 entries_more o st next lines line spare room c is =
     let e = entry_of next.rows next.generations line in
-    let r : next.rows ≡ st.rows ++ grown line.gave line.did e.row = ap (λ (s : State). s.rows) is in
-    let g : next.generations ≡ st.generations ++ added line.gave line.did = ap (λ (s : State). s.generations) is in
+    let r : next.rows ≡ st.rows ++ new_rows line.gave line.did e.row = ap (λ (s : State). s.rows) is in
+    let g : next.generations ≡ st.generations ++ new_generations line.gave line.did = ap (λ (s : State). s.generations) is in
     map-append (entry_of next.rows next.generations) lines (line ∷ [])
     ∙ ap (λ es. es ++ e ∷ []) (
     (λ i. map (entry_of (r i) (g i)) lines)
-    ∙ entries_stay st.rows (grown line.gave line.did e.row) st.generations (added line.gave line.did) lines (core_reaches o st lines spare room c)
+    ∙ entries_stay st.rows (new_rows line.gave line.did e.row) st.generations (new_generations line.gave line.did) lines (core_reaches o st lines spare room c)
     )
 
 pub core_more : (o : Opening) (st next : State) (lines : List Line) (line : Line) (spare left room : ℕ) → IsCore o st lines spare room
@@ -122,6 +123,15 @@ core_more o st next lines line spare left room c is step l =
       leads = is ∙ ap (λ (s : State). after s e) c.leads ∙ sym (state_more (start_of o) h e) ∙ ap (state_of o) (sym same);
       room_in = omega (arith, c.room_in, length-append lines (line ∷ []));
     }
+
+-- ---- a front
+
+run_front : (o : Opening) (st : State) (front more : List Entry) → IsRun o st (front ++ more) → IsRun o st front
+run_front o st [] more r = tt
+run_front o st (e ∷ front) more r = (r.0, run_front o (after st e) front more r.1)
+
+pub front_law : FrontIsLegal
+front_law o front more l = record { opens = l.opens; fit = l.fit; runs = run_front o (start_of o) front more l.runs }
 
 -- ---- the core
 

@@ -17,11 +17,11 @@ use Rattle.kr_judge.specs.Boards.{Taken, BoardState}
 use Rattle.kr_rollout.specs.declared.generation.Generation.{Generation}
 use Rattle.kr_rollout.specs.declared.opening.Opening.{Opening}
 use Rattle.kr_rollout.specs.Entries.{published_at}
-use Rattle.kr_rollout.specs.States.{State, number_at, is_number, taken_of, taken_from, taken, IsLiveNumber, IsLive}
+use Rattle.kr_rollout.specs.States.{State, number_at, is_number, taken_of, taken_from, board_generations, IsLiveNumber, IsLive}
 use Rattle.kr_rollout.specs.Openings.{first_rows, needs_of, generations_from, current_from, settings_of, first_of, start_of, room_of, board, opening_by, NamesAmong, AreAmong, IsAdmitted, IsFirstIn, IsOpening}
 use Rattle.kr_rollout.specs.Fits.{AreFit, IsFit}
 use Rattle.kr_rollout.specs.Histories.{IsLegal}
-use Rattle.kr_rollout.specs.Starts.{taken_up, AllFit, MayStart, Boards}
+use Rattle.kr_rollout.specs.Starts.{opening_generations, AllFit, MayStart, Boards}
 use Rattle.kr_rollout.specs.inner.Rollouts.{Course, opening_of, state_with, AreNumbers, IsCourse, IsCore}
 
 -- ---- numbers
@@ -60,7 +60,7 @@ nobody j zero = refl
 nobody j (suc n) = omega (arith, sum_by-cons (λ x. cond (is_number j x) 1 0) None (replicate n None), nobody j n)
 
 same_taken : (current held : List (Option ℕ)) (k m : ℕ) (rs : List (Option Publication)) → ((j : ℕ) → m ≤ j → j < m + length (generations_from k rs) → list_any (is_number j) current ≡ true)
-    → ((j : ℕ) → count_by (is_number j) held ≡ 0) → taken_from current held m (generations_from k rs) ≡ taken_up k (settings_of rs)
+    → ((j : ℕ) → count_by (is_number j) held ≡ 0) → taken_from current held m (generations_from k rs) ≡ opening_generations k (settings_of rs)
 same_taken current held k m [] c h = refl
 same_taken current held k m (None ∷ rs) c h = same_taken current held (k + 1) m rs c h
 same_taken current held k m (Some p ∷ rs) c h =
@@ -69,12 +69,12 @@ same_taken current held k m (Some p ∷ rs) c h =
     let rest = same_taken current held (k + 1) (m + 1) rs (λ j low high. c j (omega arith) (omega arith)) h in
     (λ i. record { replica = k; rows = p.rows; current = a i; holders = b i } ∷ rest i)
 
-pub start_taken : (o : Opening) → taken (start_of o) ≡ taken_up 0 (settings_of o.replicas)
+pub start_taken : (o : Opening) → board_generations (start_of o) ≡ opening_generations 0 (settings_of o.replicas)
 start_taken o = same_taken (current_from 0 o.replicas) (replicate (length o.reloads) None) 0 0 o.replicas
     (λ j low high. is_current 0 0 o.replicas j low high) (λ j. nobody j (length o.reloads))
 
 pub start_board : (o : Opening) → board o (start_of o)
-    ≡ record { generations = taken_up 0 (settings_of o.replicas); needs = needs_of (first_rows (settings_of o.replicas)) o.rows; proposal = None; room = length o.replicas + sum o.reloads }
+    ≡ record { generations = opening_generations 0 (settings_of o.replicas); needs = needs_of (first_rows (settings_of o.replicas)) o.rows; proposal = None; room = length o.replicas + sum o.reloads }
 start_board o = ap (λ gs. record { generations = gs; needs = needs_of (first_rows (settings_of o.replicas)) o.rows; proposal = None; room = room_of o }) (start_taken o)
 
 -- ---- what holds
@@ -147,7 +147,7 @@ module _ (store : Kept) (rs : List (Option Publication)) (names : List (List ℕ
     (current_is : current ≡ current_from 0 rs) (held_is : held ≡ replicate (length reloads) None) (kept_is : kept ≡ reloads) (room_is : room ≡ length rs + sum reloads)
     (boards : Boards store.rows (settings_of rs) room (Ok b)) where
   board_is : b ≡ board (opening_by store rs names reloads) (start_of (opening_by store rs names reloads))
-  board_is = boards.1 ∙ ap (λ n. record { generations = taken_up 0 (settings_of rs); needs = needs_of (first_rows (settings_of rs)) store.rows; proposal = None; room = n }) room_is
+  board_is = boards.1 ∙ ap (λ n. record { generations = opening_generations 0 (settings_of rs); needs = needs_of (first_rows (settings_of rs)) store.rows; proposal = None; room = n }) room_is
       ∙ sym (start_board (opening_by store rs names reloads))
 
   pub opened : ◌≡◌ {A = Course} (record { opening = opening_of store first rs names kept count; state = state_with store b generations current held })

@@ -8,7 +8,7 @@ use Rattle.kr_judge.specs.Boards.{BoardState}
 use Rattle.kr_rollout.specs.declared.opening_board.StartNo.{StartNo}
 use Rattle.kr_rollout.specs.declared.opening_board.StartNo.TheVariants.{Stray, Unfit, NoMemory}
 use Rattle.kr_rollout.specs.Openings.{first_rows, needs_of, HasNoStray}
-use Rattle.kr_rollout.specs.Starts.{taken_up, AllFit, IsUnfit, IsLeastStray, IsNoStart, MayStart, Boards}
+use Rattle.kr_rollout.specs.Starts.{opening_generations, AllFit, IsUnfit, IsLeastStray, IsNoStart, MayStart, Boards}
 use Rattle.kr_rollout.specs.inner.Opens.{rows_in, NotesAll, TakesAllUp}
 
 module _ (replicas : List (Option Settings)) (first : List Row) (rows : List LogRow) (room : ℕ) (empty noted : BoardState)
@@ -25,7 +25,7 @@ module _ (replicas : List (Option Settings)) (first : List Row) (rows : List Log
   board_made done n t =
       let b = needs_noted n in (
         record { readable = no_stray n; fit = subst (λ (x : BoardState). AllFit (rows_in replicas) x.needs) b t.0 },
-        t.1 ∙ ap (λ (x : BoardState). record x { generations = taken_up 0 (rows_in replicas) }) b,
+        t.1 ∙ ap (λ (x : BoardState). record x { generations = opening_generations 0 (rows_in replicas) }) b,
       )
 
   pub board_stray : (why : StartNo) → NotesAll first rows empty noted (Err why) → Boards rows (rows_in replicas) room (Err why)

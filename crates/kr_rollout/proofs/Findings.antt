@@ -16,7 +16,7 @@ use Rattle.kr_rollout.specs.Lines.{of_seat}
 use Rattle.kr_rollout.specs.Entries.{row_here, row_at, revision_in, seat_of}
 use Rattle.kr_rollout.specs.States.{State}
 use Rattle.kr_rollout.specs.Openings.{start_of}
-use Rattle.kr_rollout.specs.Steps.{after, grown, IsStep}
+use Rattle.kr_rollout.specs.Steps.{after, new_rows, IsStep}
 use Rattle.kr_rollout.specs.Histories.{state_from, state_of, IsRun, IsLegal}
 use Rattle.kr_rollout.specs.Callers.{found_by, found_then, found_from, found_in}
 use Rattle.kr_rollout.proofs.Revisions.{row_front, revision_is}
@@ -96,7 +96,7 @@ run_finds o st [] seat now r i = i
 run_finds o st (e ∷ history) seat now r i = by (cases_eq e.line.seat seat) (run_finds o (after st e) history seat)
   where
     more : List LogRow
-    more = grown e.line.gave e.line.did e.row
+    more = new_rows e.line.gave e.line.did e.row
 
     row_is : e.row ≡ row_at (st.rows ++ more) (revision_in e.line.gave)
     row_is = ap (λ (x : Entry). x.row) r.0.payload

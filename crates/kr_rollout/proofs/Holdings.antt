@@ -21,21 +21,17 @@ use Rattle.kr_rollout.specs.Entries.{published_at, named_by, row_at, seat_of}
 use Rattle.kr_rollout.specs.States.{State, number_at, held_by}
 use Rattle.kr_rollout.specs.Openings.{start_of}
 use Rattle.kr_rollout.specs.Answers.{IsAnswer}
-use Rattle.kr_rollout.specs.Steps.{after, added, held_after, IsStep}
+use Rattle.kr_rollout.specs.Steps.{after, new_generations, held_after, IsStep}
 use Rattle.kr_rollout.specs.Histories.{state_from, state_of, IsRun, IsLegal}
-use Rattle.kr_rollout.specs.Callers.{with_published, holding_then, holding_from, holding, Allows, MayAsk}
+use Rattle.kr_rollout.specs.Callers.{with_published, number_with, holding_then, holding_from, holding, Allows, MayAsk}
+use Rattle.kr_rollout.specs.Laws.{HoldingIsHeld, FoundIsThere}
 use Rattle.kr_rollout.specs.inner.Rollouts.{Course, AreNumbers, MayServe}
 use Rattle.kr_rollout.proofs.Findings.{IsIn, found_there}
 use Rattle.kr_rollout.proofs.Revisions.{published_front}
 use Rattle.kr_rollout.proofs.Keeping.{numbers_set}
 
--- a number with its configuration
-abbrev pub pair_of : List Generation → Option ℕ → Option (ℕ × Publication)
-pair_of generations None = None
-pair_of generations (Some number) = with_published number (published_at generations (Some number))
-
 pair_front : (generations more : List Generation) (number : Option ℕ) → IfSome number (λ n. n < length generations)
-    → pair_of generations number ≡ pair_of (generations ++ more) number
+    → number_with generations number ≡ number_with (generations ++ more) number
 pair_front generations more None l = refl
 pair_front generations more (Some n) l = ap (with_published n) (sym (published_front generations more (Some n) l))
 
@@ -49,18 +45,18 @@ in_bounds numbers generations place k = by (number_at numbers place) refl
 -- ---- one answer
 
 module _ (generations more : List Generation) (held : List (Option ℕ)) (seat : ℕ) (k : AreNumbers held generations) (l : seat < length held) where
-  stays_there : (place : ℕ) → pair_of generations (number_at held place) ≡ pair_of (generations ++ more) (number_at held place)
+  stays_there : (place : ℕ) → number_with generations (number_at held place) ≡ number_with (generations ++ more) (number_at held place)
   stays_there place = pair_front generations more (number_at held place) (in_bounds held generations place k)
 
   -- at the seat
   own_then : (gave : Gave) (p : Option Publication) → ((n : ℕ) → gave ≡ Adopted n → p ≡ published_at (generations ++ more) (Some n))
-      → holding_then gave p (pair_of generations (number_at held seat)) ≡ pair_of (generations ++ more) (number_at (held_after gave seat held) seat)
-  own_then (Adopted n) p a = ap (with_published n) (a n refl) ∙ sym (ap (pair_of (generations ++ more)) (get_or-set_same held seat (Some n) None l))
+      → holding_then gave p (number_with generations (number_at held seat)) ≡ number_with (generations ++ more) (number_at (held_after gave seat held) seat)
+  own_then (Adopted n) p a = ap (with_published n) (a n refl) ∙ sym (ap (number_with (generations ++ more)) (get_or-set_same held seat (Some n) None l))
   own_then (Found revision) p a = stays_there seat
   own_then Absent p a = stays_there seat
   own_then (Written revision) p a = stays_there seat
   own_then (Changed last) p a = stays_there seat
-  own_then Released p a = sym (ap (pair_of (generations ++ more)) (get_or-set_same held seat None None l))
+  own_then Released p a = sym (ap (number_with (generations ++ more)) (get_or-set_same held seat None None l))
   own_then (Reloaded number) p a = stays_there seat
   own_then (Joined number) p a = stays_there seat
   own_then (Refused verdict) p a = stays_there seat
@@ -74,13 +70,13 @@ module _ (generations more : List Generation) (held : List (Option ℕ)) (seat :
 
   -- at another seat
   other_then : (gave : Gave) (place : ℕ) → (place ≡ seat → ⊥)
-      → pair_of generations (number_at held place) ≡ pair_of (generations ++ more) (number_at (held_after gave seat held) place)
-  other_then (Adopted n) place d = stays_there place ∙ sym (ap (pair_of (generations ++ more)) (get_or-set_other held seat place (Some n) None d))
+      → number_with generations (number_at held place) ≡ number_with (generations ++ more) (number_at (held_after gave seat held) place)
+  other_then (Adopted n) place d = stays_there place ∙ sym (ap (number_with (generations ++ more)) (get_or-set_other held seat place (Some n) None d))
   other_then (Found revision) place d = stays_there place
   other_then Absent place d = stays_there place
   other_then (Written revision) place d = stays_there place
   other_then (Changed last) place d = stays_there place
-  other_then Released place d = stays_there place ∙ sym (ap (pair_of (generations ++ more)) (get_or-set_other held seat place None None d))
+  other_then Released place d = stays_there place ∙ sym (ap (number_with (generations ++ more)) (get_or-set_other held seat place None None d))
   other_then (Reloaded number) place d = stays_there place
   other_then (Joined number) place d = stays_there place
   other_then (Refused verdict) place d = stays_there place
@@ -152,26 +148,26 @@ names_adopted o st e n s g =
     (λ i. named_by (none i) (g i))
 
 adopted_published : (o : Opening) (st : State) (e : Entry) → IsStep o st e → (n : ℕ) → e.line.gave ≡ Adopted n
-    → e.published ≡ published_at (st.generations ++ added e.line.gave e.line.did) (Some n)
+    → e.published ≡ published_at (st.generations ++ new_generations e.line.gave e.line.did) (Some n)
 adopted_published o st e s n g = ap (λ (x : Entry). x.published) s.payload
-    ∙ ap (published_at (st.generations ++ added e.line.gave e.line.did)) (names_adopted o st e n s g)
+    ∙ ap (published_at (st.generations ++ new_generations e.line.gave e.line.did)) (names_adopted o st e n s g)
 
-adopted_in_bounds : (o : Opening) (st : State) (e : Entry) → IsStep o st e → (n : ℕ) → e.line.gave ≡ Adopted n → n < length (st.generations ++ added e.line.gave e.line.did)
+adopted_in_bounds : (o : Opening) (st : State) (e : Entry) → IsStep o st e → (n : ℕ) → e.line.gave ≡ Adopted n → n < length (st.generations ++ new_generations e.line.gave e.line.did)
 adopted_in_bounds o st e s n g =
-    subst (λ x. IfSome x (λ m. m < length (st.generations ++ added e.line.gave e.line.did))) (names_adopted o st e n s g) s.reaches.generation
+    subst (λ x. IfSome x (λ m. m < length (st.generations ++ new_generations e.line.gave e.line.did))) (names_adopted o st e n s g) s.reaches.generation
 
 numbers_after : (o : Opening) (st : State) (e : Entry) → IsStep o st e → AreNumbers st.held st.generations → length st.held ≡ length o.reloads
     → AreNumbers (after st e).held (after st e).generations
 numbers_after o st e s k l =
-    numbers_then st.generations (added e.line.gave e.line.did) st.held e.line.seat k (omega (arith, l, s.seat)) e.line.gave (adopted_in_bounds o st e s)
+    numbers_then st.generations (new_generations e.line.gave e.line.did) st.held e.line.seat k (omega (arith, l, s.seat)) e.line.gave (adopted_in_bounds o st e s)
 
 -- ---- a history
 
 -- of the seat's entries and the others' what the seat holds follows from its own
 pub holding_is : (o : Opening) (st : State) (history : List Entry) (seat : ℕ) → IsRun o st history → AreNumbers st.held st.generations → length st.held ≡ length o.reloads
     → seat < length o.reloads
-    → holding_from (pair_of st.generations (held_by st seat)) (of_seat seat_of seat history)
-    ≡ pair_of (state_from st history).generations (held_by (state_from st history) seat)
+    → holding_from (number_with st.generations (held_by st seat)) (of_seat seat_of seat history)
+    ≡ number_with (state_from st history).generations (held_by (state_from st history) seat)
 holding_is o st [] seat r k l w = refl
 holding_is o st (e ∷ history) seat r k l w =
     let rest = holding_is o (after st e) history seat r.1 (numbers_after o st e r.0 k l) (length_then e.line.gave e.line.seat st.held ∙ l) w in
@@ -181,23 +177,23 @@ holding_is o st (e ∷ history) seat r k l w =
     in_held = omega (arith, l, r.0.seat)
 
     Goal : Option (ℕ × Publication) → Type 0
-    Goal end = holding_from (pair_of st.generations (held_by st seat)) (of_seat seat_of seat (e ∷ history)) ≡ end
+    Goal end = holding_from (number_with st.generations (held_by st seat)) (of_seat seat_of seat (e ∷ history)) ≡ end
 
     by : (e.line.seat ≡ seat) ⊎ (e.line.seat ≡ seat → ⊥)
-        → holding_from (pair_of (after st e).generations (held_by (after st e) seat)) (of_seat seat_of seat history)
-        ≡ pair_of (state_from (after st e) history).generations (held_by (state_from (after st e) history) seat)
-        → holding_from (pair_of st.generations (held_by st seat)) (of_seat seat_of seat (e ∷ history))
-        ≡ pair_of (state_from (after st e) history).generations (held_by (state_from (after st e) history) seat)
+        → holding_from (number_with (after st e).generations (held_by (after st e) seat)) (of_seat seat_of seat history)
+        ≡ number_with (state_from (after st e) history).generations (held_by (state_from (after st e) history) seat)
+        → holding_from (number_with st.generations (held_by st seat)) (of_seat seat_of seat (e ∷ history))
+        ≡ number_with (state_from (after st e) history).generations (held_by (state_from (after st e) history) seat)
     by (inl same) rest =
-        ap (λ b. holding_from (pair_of st.generations (held_by st seat)) (cond b (e ∷ of_seat seat_of seat history) (of_seat seat_of seat history))) (eq-eqb e.line.seat seat same)
+        ap (λ b. holding_from (number_with st.generations (held_by st seat)) (cond b (e ∷ of_seat seat_of seat history) (of_seat seat_of seat history))) (eq-eqb e.line.seat seat same)
         ∙ ap (λ now. holding_from now (of_seat seat_of seat history))
-        (subst (λ s. holding_then e.line.gave e.published (pair_of st.generations (held_by st s)) ≡ pair_of (after st e).generations (held_by (after st e) s)) same
-        (own_then st.generations (added e.line.gave e.line.did) st.held e.line.seat k in_held e.line.gave e.published (adopted_published o st e r.0)))
+        (subst (λ s. holding_then e.line.gave e.published (number_with st.generations (held_by st s)) ≡ number_with (after st e).generations (held_by (after st e) s)) same
+        (own_then st.generations (new_generations e.line.gave e.line.did) st.held e.line.seat k in_held e.line.gave e.published (adopted_published o st e r.0)))
         ∙ rest
     by (inr other) rest =
-        ap (λ b. holding_from (pair_of st.generations (held_by st seat)) (cond b (e ∷ of_seat seat_of seat history) (of_seat seat_of seat history))) (ne_eqb e.line.seat seat other)
+        ap (λ b. holding_from (number_with st.generations (held_by st seat)) (cond b (e ∷ of_seat seat_of seat history) (of_seat seat_of seat history))) (ne_eqb e.line.seat seat other)
         ∙ ap (λ now. holding_from now (of_seat seat_of seat history))
-        (other_then st.generations (added e.line.gave e.line.did) st.held e.line.seat k in_held e.line.gave seat (λ d. other (sym d)))
+        (other_then st.generations (new_generations e.line.gave e.line.did) st.held e.line.seat k in_held e.line.gave seat (λ d. other (sym d)))
         ∙ rest
 
 -- ---- from an opening on
@@ -211,9 +207,9 @@ none_numbers : (n : ℕ) (generations : List Generation) → AreNumbers (replica
 none_numbers n generations place number e = absurd (none-some number (sym (none_there n place) ∙ e))
 
 pub holding_of : (o : Opening) (history : List Entry) (seat : ℕ) → IsLegal o history → seat < length o.reloads
-    → holding (of_seat seat_of seat history) ≡ pair_of (state_of o history).generations (held_by (state_of o history) seat)
+    → holding (of_seat seat_of seat history) ≡ number_with (state_of o history).generations (held_by (state_of o history) seat)
 holding_of o history seat l w =
-    ap (λ now. holding_from now (of_seat seat_of seat history)) (sym (ap (pair_of (start_of o).generations) (none_there (length o.reloads) seat)))
+    ap (λ now. holding_from now (of_seat seat_of seat history)) (sym (ap (number_with (start_of o).generations) (none_there (length o.reloads) seat)))
     ∙ holding_is o (start_of o) history seat l.runs (none_numbers (length o.reloads) (start_of o).generations) (length-replicate (length o.reloads) None) w
 
 numbers_run : (o : Opening) (st : State) (history : List Entry) → IsRun o st history → AreNumbers st.held st.generations → length st.held ≡ length o.reloads
@@ -232,13 +228,13 @@ there [] i l = absurd (omega arith)
 there (x ∷ xs) zero l = (x, refl)
 there (x ∷ xs) (suc i) l = there xs i (omega arith)
 
-nothing_held : (generations : List Generation) (number : Option ℕ) → IfSome number (λ n. n < length generations) → pair_of generations number ≡ None → number ≡ None
+nothing_held : (generations : List Generation) (number : Option ℕ) → IfSome number (λ n. n < length generations) → number_with generations number ≡ None → number ≡ None
 nothing_held generations None l e = refl
 nothing_held generations (Some n) l e =
     let g = there generations n l in
     absurd (none-some (n, g.0.published) (sym e ∙ ap (λ o. with_published n (option_map (λ (x : Generation). x.published) o)) g.1))
 
-pair_parts : (generations : List Generation) (number : Option ℕ) (h : ℕ × Publication) → pair_of generations number ≡ Some h
+pair_parts : (generations : List Generation) (number : Option ℕ) (h : ℕ × Publication) → number_with generations number ≡ Some h
     → (number ≡ Some h.0) × (published_at generations (Some h.0) ≡ Some h.1)
 pair_parts generations None h e = absurd (none-some h e)
 pair_parts generations (Some n) h e = by (published_at generations (Some n)) refl e
@@ -249,7 +245,7 @@ pair_parts generations (Some n) h e = by (published_at generations (Some n)) ref
         let s = same_Some (n, p) h e in
         (ap (λ (x : ℕ × Publication). Some x.0) s, subst (λ (x : ℕ × Publication). published_at generations (Some x.0) ≡ Some x.1) s is)
 
-something_held : (generations : List Generation) (number : Option ℕ) → IsSome (pair_of generations number) → IsSome number
+something_held : (generations : List Generation) (number : Option ℕ) → IsSome (number_with generations number) → IsSome number
 something_held generations None s = s
 something_held generations (Some n) s = refl
 
@@ -260,8 +256,8 @@ may_serve o st history seat asked l is may = by asked may.allowed
     k : AreNumbers st.held st.generations
     k = subst (λ (s : State). AreNumbers s.held s.generations) (sym is) (numbers_of o history l)
 
-    same : holding (of_seat seat_of seat history) ≡ pair_of st.generations (held_by st seat)
-    same = holding_of o history seat l may.seat_in ∙ ap (λ (s : State). pair_of s.generations (held_by s seat)) (sym is)
+    same : holding (of_seat seat_of seat history) ≡ number_with st.generations (held_by st seat)
+    same = holding_of o history seat l may.seat_in ∙ ap (λ (s : State). number_with s.generations (held_by s seat)) (sym is)
 
     some : IsSome (holding (of_seat seat_of seat history)) → IsSome (held_by st seat)
     some s = something_held st.generations (held_by st seat) (subst (λ h. IsSome h) same s)
@@ -279,3 +275,9 @@ may_serve o st history seat asked l is may = by asked may.allowed
     by (event.Fetch path) a = (a.0, some a.1)
     by (event.After path) a = (a.0, some a.1)
     by event.LetGo a = some a
+
+pub holding_law : HoldingIsHeld
+holding_law o history seat l w = holding_of o history seat l w
+
+pub found_law : FoundIsThere
+found_law o history seat row l e = (subst (λ r. IfSome r (IsIn (state_of o history).rows)) e (found_there o history seat l)).is

@@ -10,7 +10,7 @@ use Rattle.kr_rollout.specs.declared.event.Event.TheVariants as event
 use Rattle.kr_rollout.specs.declared.generation.Generation.{Generation}
 use Rattle.kr_rollout.specs.declared.opening.Opening.{Opening}
 use Rattle.kr_rollout.specs.Entries.{published_at}
-use Rattle.kr_rollout.specs.States.{State, number_at, current_of, held_by, taken}
+use Rattle.kr_rollout.specs.States.{State, number_at, current_of, held_by, board_generations}
 use Rattle.kr_rollout.specs.Openings.{board}
 use Rattle.kr_rollout.specs.inner.Rollouts.{Course, IsCourse, AreNumbers, MayServe, state_with}
 use Rattle.kr_rollout.proofs.Holders.{takes, gives, moved, may_hold, may_release}

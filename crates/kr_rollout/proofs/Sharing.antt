@@ -10,7 +10,7 @@ use Rattle.kr_provider.specs.Publication.{Publication, IsPublished}
 use Rattle.kr_judge.proofs.Parts.{take_at_more}
 use Rattle.kr_rollout.specs.declared.generation.Generation.{Generation}
 use Rattle.kr_rollout.specs.Openings.{generations_from, current_from, settings_of}
-use Rattle.kr_rollout.specs.inner.Opens.{rows_in, settings_rows, generation_at, numbered, number_after}
+use Rattle.kr_rollout.specs.inner.Opens.{rows_in, settings_rows, generation_at, number_if_in, number_after}
 
 -- ---- numbers
 
@@ -74,7 +74,7 @@ numbered_more rs current number i p n l e =
     }
 
 pub numbered_step : (rs : List (Option Publication)) (current : List (Option ℕ)) (number i : ℕ) (r : Option Publication) → AreNumbered rs current number i → i < length rs → r ≡ get_or rs i r
-    → AreNumbered rs (current ++ numbered r number ∷ []) (number_after r number) (i + 1)
+    → AreNumbered rs (current ++ number_if_in r number ∷ []) (number_after r number) (i + 1)
 numbered_step rs current number i None n l e = numbered_gap rs current number i n l e
 numbered_step rs current number i (Some p) n l e = numbered_more rs current number i p n l e
 

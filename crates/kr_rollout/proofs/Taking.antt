@@ -21,30 +21,30 @@ use Rattle.kr_judge.proofs.Parts.{take_at_more}
 use Rattle.kr_rollout.specs.declared.opening_board.StartNo.{StartNo}
 use Rattle.kr_rollout.specs.declared.opening_board.StartNo.TheVariants.{Stray, Unfit, NoMemory}
 use Rattle.kr_rollout.specs.Fits.{AreFit}
-use Rattle.kr_rollout.specs.Starts.{taken_up, AllFit, IsUnfit}
+use Rattle.kr_rollout.specs.Starts.{opening_generations, AllFit, IsUnfit}
 use Rattle.kr_rollout.specs.inner.Opens.{rows_in, settings_rows, Admits, TakesUp, TakesAllUp}
 use Rattle.kr_rollout.proofs.Passing.{passed, AreReadable, own_writer, class_some}
 
 abbrev pub fresh : ℕ → List Row → Taken
 fresh replica rows = record { replica = replica; rows = rows; current = true; holders = 0 }
 
-taken_none : (k : ℕ) (rs : List (Option (List Row))) → taken_up k (rs ++ None ∷ []) ≡ taken_up k rs
+taken_none : (k : ℕ) (rs : List (Option (List Row))) → opening_generations k (rs ++ None ∷ []) ≡ opening_generations k rs
 taken_none k [] = refl
 taken_none k (None ∷ rs) = taken_none (k + 1) rs
 taken_none k (Some rows ∷ rs) = ap (λ ts. fresh k rows ∷ ts) (taken_none (k + 1) rs)
 
-taken_some : (k : ℕ) (rs : List (Option (List Row))) (rows : List Row) (n : ℕ) → k + length rs ≡ n → taken_up k (rs ++ Some rows ∷ []) ≡ taken_up k rs ++ fresh n rows ∷ []
+taken_some : (k : ℕ) (rs : List (Option (List Row))) (rows : List Row) (n : ℕ) → k + length rs ≡ n → opening_generations k (rs ++ Some rows ∷ []) ≡ opening_generations k rs ++ fresh n rows ∷ []
 taken_some k [] rows n e = ap (λ m. fresh m rows ∷ []) (omega (arith, e))
 taken_some k (None ∷ rs) rows n e = taken_some (k + 1) rs rows n (omega (arith, e))
 taken_some k (Some first ∷ rs) rows n e = ap (λ ts. fresh k first ∷ ts) (taken_some (k + 1) rs rows n (omega (arith, e)))
 
-pub taken_few : (k : ℕ) (rs : List (Option (List Row))) → length (taken_up k rs) ≤ length rs
+pub taken_few : (k : ℕ) (rs : List (Option (List Row))) → length (opening_generations k rs) ≤ length rs
 taken_few k [] = omega arith
 taken_few k (None ∷ rs) = omega (arith, taken_few (k + 1) rs)
 taken_few k (Some rows ∷ rs) = omega (arith, taken_few (k + 1) rs)
 
 -- none of them is the replica's
-left_alone : (k i : ℕ) (rs : List (Option (List Row))) → k + length rs ≤ i → without_current i (taken_up k rs) ≡ taken_up k rs
+left_alone : (k i : ℕ) (rs : List (Option (List Row))) → k + length rs ≤ i → without_current i (opening_generations k rs) ≡ opening_generations k rs
 left_alone k i [] l = refl
 left_alone k i (None ∷ rs) l = left_alone (k + 1) i rs (omega arith)
 left_alone k i (Some rows ∷ rs) l =
@@ -55,7 +55,7 @@ left_alone k i (Some rows ∷ rs) l =
 
 -- settings that are taken up are a live generation, of another replica
 taken_there : (k i : ℕ) (rs : List (Option (List Row))) (rows : List Row) → k + length rs ≤ i → Contains rs (Some rows)
-    → (t : Taken) × Contains (taken_up k rs) t × (is_other i t ≡ true) × (t.rows ≡ rows)
+    → (t : Taken) × Contains (opening_generations k rs) t × (is_other i t ≡ true) × (t.rows ≡ rows)
 taken_there k i [] rows l (p, w, e) = absurd (omega (arith, w))
 taken_there k i (None ∷ rs) rows l (zero, w, e) = absurd (none-some rows e)
 taken_there k i (None ∷ rs) rows l (suc p, w, e) = taken_there (k + 1) i rs rows (omega arith) (p, omega arith, e)
@@ -83,7 +83,7 @@ fit_gap rs needs f = record {
     old rows a = elim (Contains-push_cases rs None (Some rows) a) [ inl c ↦ c | inr e ↦ absurd (none-some rows e) ]
 
 fit_more : (rs : List (Option (List Row))) (needs : List Need) (i : ℕ) (rows : List Row) → ((r : List Row) → Contains rs (Some r) → IsTrue (keeps r)) → IsTrue (keeps rows)
-    → length rs ≤ i → AreReadable needs (taken_up 0 rs) i rows → AllFit rs needs → AllFit (rs ++ Some rows ∷ []) needs
+    → length rs ≤ i → AreReadable needs (opening_generations 0 rs) i rows → AllFit rs needs → AllFit (rs ++ Some rows ∷ []) needs
 fit_more rs needs i rows each k l p f = record {
   writers = λ a b class ca cb. by a b class (Contains-push_cases rs (Some rows) (Some a) ca) (Contains-push_cases rs (Some rows) (Some b) cb);
   stored = λ a need ca there. kept a need there (Contains-push_cases rs (Some rows) (Some a) ca);
@@ -123,7 +123,7 @@ kept_in (Some s ∷ rs) rows (suc k, l, e) = kept_in rs rows (k, omega arith, e)
 
 -- the board after the first i replicas, which fit
 pub record AreTaken (rs : List (Option (List Row))) (old now : BoardState) (i : ℕ) : Type 0 where
-  pub board_is : now ≡ record old { generations = taken_up 0 (take i rs) }
+  pub board_is : now ≡ record old { generations = opening_generations 0 (take i rs) }
   pub fit : AllFit (take i rs) old.needs
 
 pub taken_begin : (rs : List (Option (List Row))) (old : BoardState) → old.generations ≡ [] → AreTaken rs old old 0
@@ -148,7 +148,7 @@ pub taken_gap : (replicas : List (Option Settings)) (old now : BoardState) (i : 
 taken_gap replicas old now i t l e =
     let more = one_more replicas i None l e in
     record {
-      board_is = t.board_is ∙ ap (λ gs. record old { generations = gs }) (sym (ap (taken_up 0) more ∙ taken_none 0 (take i (rows_in replicas))));
+      board_is = t.board_is ∙ ap (λ gs. record old { generations = gs }) (sym (ap (opening_generations 0) more ∙ taken_none 0 (take i (rows_in replicas))));
       fit = subst (λ rs. AllFit rs old.needs) (sym more) (fit_gap (take i (rows_in replicas)) old.needs t.fit);
     }
 
@@ -164,13 +164,13 @@ taken_more replicas old now next i s t l e takes =
     let more = one_more replicas i (Some s) l e in
     let size : length rs ≡ i = omega (arith, length-take i (rows_in replicas), rows_long replicas) in
     let w = subst (λ (b : BoardState). Admits i rows b next (Ok tt)) t.board_is takes in
-    let board : without_current i (taken_up 0 rs) ++ fresh i rows ∷ [] ≡ taken_up 0 (take (i + 1) (rows_in replicas)) =
+    let board : without_current i (opening_generations 0 rs) ++ fresh i rows ∷ [] ≡ opening_generations 0 (take (i + 1) (rows_in replicas)) =
     ap (λ gs. gs ++ fresh i rows ∷ []) (left_alone 0 i rs (omega (arith, size)))
-    ∙ sym (ap (taken_up 0) more ∙ taken_some 0 rs rows i (omega (arith, size))) in
+    ∙ sym (ap (opening_generations 0) more ∙ taken_some 0 rs rows i (omega (arith, size))) in
     record {
       board_is = w.1 ∙ ap (λ gs. record old { generations = gs }) board;
       fit = subst (λ l. AllFit l old.needs) (sym more)
-          (fit_more rs old.needs i rows (front_kept replicas i) s.kept (omega (arith, size)) (passed old.needs (taken_up 0 rs) i rows s.kept w.0) t.fit);
+          (fit_more rs old.needs i rows (front_kept replicas i) s.kept (omega (arith, size)) (passed old.needs (opening_generations 0 rs) i rows s.kept w.0) t.fit);
     }
 
 stops_at : (replicas : List (Option Settings)) (old now next : BoardState) (i : ℕ) (s : Settings) (why : StartNo) → AreTaken (rows_in replicas) old now i → i < length replicas
@@ -205,7 +205,7 @@ pub taken_end : (replicas : List (Option Settings)) (old now : BoardState) (i : 
     → TakesAllUp (rows_in replicas) old now (Ok tt)
 taken_end replicas old now i t l =
     let all = take_all i (rows_in replicas) (omega (arith, rows_long replicas)) in
-    (subst (λ rs. AllFit rs old.needs) all t.fit, t.board_is ∙ ap (λ rs. record old { generations = taken_up 0 rs }) all)
+    (subst (λ rs. AllFit rs old.needs) all t.fit, t.board_is ∙ ap (λ rs. record old { generations = opening_generations 0 rs }) all)
 
 pub taken_room : (replicas : List (Option Settings)) (old now : BoardState) (i : ℕ) → AreTaken (rows_in replicas) old now i → i < length replicas → length replicas ≤ old.room
     → length now.generations < now.room

@@ -11,12 +11,14 @@ use Rattle.kr_rollout.specs.declared.answer.Answer.{Answer}
 use Rattle.kr_rollout.specs.declared.answer.Answer.TheVariants as answer
 use Rattle.kr_rollout.specs.declared.event.Event.{Event}
 use Rattle.kr_rollout.specs.declared.event.Event.TheVariants as event
+use Rattle.kr_rollout.specs.declared.generation.Generation.{Generation}
 use Rattle.kr_rollout.specs.declared.line.Did.{Did}
 use Rattle.kr_rollout.specs.declared.line.Did.TheVariants.{Adopt, Fetch, After, Put, Delete, Replace, LetGo, Reload, Join, Leave}
 use Rattle.kr_rollout.specs.declared.line.Gave.{Gave}
 use Rattle.kr_rollout.specs.declared.line.Gave.TheVariants.{Adopted, Found, Absent, Written, Changed, Released, Reloaded, Joined, Refused, Moved, Present, Departed, Gone, StoreFailed, StoreFull, Nothing}
 use Rattle.kr_rollout.specs.declared.opening.Entry.{Entry}
 use Rattle.kr_rollout.specs.declared.opening.Opening.{Opening}
+use Rattle.kr_rollout.specs.Entries.{published_at}
 
 -- ---- what a seat holds, by its own entries
 
@@ -24,6 +26,11 @@ use Rattle.kr_rollout.specs.declared.opening.Opening.{Opening}
 abbrev pub with_published : ℕ → Option Publication → Option (ℕ × Publication)
 with_published number None = None
 with_published number (Some p) = Some (number, p)
+
+-- a number with the configuration of its generation
+abbrev pub number_with : List Generation → Option ℕ → Option (ℕ × Publication)
+number_with generations None = None
+number_with generations (Some number) = with_published number (published_at generations (Some number))
 
 abbrev pub holding_then : Gave → Option Publication → Option (ℕ × Publication)
     → Option (ℕ × Publication)

@@ -50,13 +50,13 @@ abbrev pub named_by : (held : Option ℕ) → Gave → Option ℕ
 named_by (Some generation) gave = Some generation
 named_by None gave = adopted_in gave
 
-abbrev pub named : Line → Option ℕ
-named line = named_by line.held line.gave
+abbrev pub named_in : Line → Option ℕ
+named_in line = named_by line.held line.gave
 
 abbrev pub entry_of : List LogRow → List Generation → Line → Entry
 entry_of rows generations line = record {
   line = line;
-  published = published_at generations (named line);
+  published = published_at generations (named_in line);
   row = row_at rows (revision_in line.gave);
   replaced = row_at rows (replaced_in line.did);
 }
@@ -65,7 +65,7 @@ entry_of rows generations line = record {
 pub record Reaches (rows : List LogRow) (generations : List Generation) (line : Line) : Type 0 where
   pub row : revision_in line.gave ≤ length rows
   pub replaced : replaced_in line.did ≤ length rows
-  pub generation : IfSome (named line) (λ number. number < length generations)
+  pub generation : IfSome (named_in line) (λ number. number < length generations)
 
 -- the seat of an entry
 abbrev pub seat_of : Entry → ℕ

@@ -11,3 +11,4 @@ pub mod Callers
 pub mod Cores
 pub mod Starts
 pub mod inner
+pub mod Laws

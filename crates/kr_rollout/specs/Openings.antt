@@ -16,7 +16,7 @@ use Rattle.kr_judge.specs.declared.need.Need.{Need}
 use Rattle.kr_judge.specs.Boards.{BoardState, set_need}
 use Rattle.kr_rollout.specs.declared.generation.Generation.{Generation}
 use Rattle.kr_rollout.specs.declared.opening.Opening.{Opening}
-use Rattle.kr_rollout.specs.States.{State, taken}
+use Rattle.kr_rollout.specs.States.{State, board_generations}
 
 -- ---- what the rows need
 
@@ -101,7 +101,7 @@ room_of o = length o.replicas + sum o.reloads
 
 -- the board on which a state is judged
 abbrev pub board : Opening → State → BoardState
-board o st = record { generations = taken st; needs = st.needs; proposal = None; room = room_of o }
+board o st = record { generations = board_generations st; needs = st.needs; proposal = None; room = room_of o }
 
 -- each live row has a provider
 abbrev pub HasNoStray : (first : List Row) → List LogRow → Type 0

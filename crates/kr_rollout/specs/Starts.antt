@@ -20,17 +20,17 @@ use Rattle.kr_rollout.specs.Openings.{first_rows, provider_of, needs_of, setting
 use Rattle.kr_rollout.specs.Cores.{CoreState}
 
 -- the generations of the replicas that are in, from this replica on, as they are judged
-abbrev pub taken_up : ℕ → List (Option (List Row)) → List Taken
-taken_up replica [] = []
-taken_up replica (None ∷ replicas) = taken_up (replica + 1) replicas
-taken_up replica (Some rows ∷ replicas) =
+abbrev pub opening_generations : ℕ → List (Option (List Row)) → List Taken
+opening_generations replica [] = []
+opening_generations replica (None ∷ replicas) = opening_generations (replica + 1) replicas
+opening_generations replica (Some rows ∷ replicas) =
     record {
       replica =
           replica;
       rows = rows;
       current = true;
       holders = 0;
-    } ∷ taken_up (replica + 1) replicas
+    } ∷ opening_generations (replica + 1) replicas
 
 -- ---- the causes, in their order
 
@@ -54,7 +54,7 @@ pub record IsUnfit (replicas : List (Option (List Row))) (needs : List Need) (re
   pub rows : List Row
   pub is : slice_get replicas replica ≡ Some (Some rows)
   pub before : AllFit (take replica replicas) needs
-  pub verdict_is : verdict ≡ verdict_of needs (taken_up 0 (take replica replicas)) replica rows
+  pub verdict_is : verdict ≡ verdict_of needs (opening_generations 0 (take replica replicas)) replica rows
   pub refused : verdict ≢ Pass
 
 abbrev pub IsNoStart : List LogRow → List (Option (List Row)) → StartNo → Type 0
@@ -75,7 +75,7 @@ abbrev pub Boards : List LogRow → List (Option (List Row)) → (room : ℕ) �
     → Type 0
 Boards rows replicas room (Ok board) = MayStart rows replicas × (board
     ≡ record {
-      generations = taken_up 0 replicas;
+      generations = opening_generations 0 replicas;
       needs = needs_of (first_rows replicas) rows;
       proposal = None;
       room = room;

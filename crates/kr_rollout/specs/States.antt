@@ -62,9 +62,9 @@ taken_from current held number [] = []
 taken_from current held number (generation ∷ generations) =
     taken_of current held number generation ∷ taken_from current held (number + 1) generations
 
-abbrev pub taken : State → List Taken
-taken st = taken_from st.current st.held 0 st.generations
+abbrev pub board_generations : State → List Taken
+board_generations st = taken_from st.current st.held 0 st.generations
 
 -- the verdict on new settings of a replica
 abbrev pub verdict_on : State → ℕ → List Row → Verdict
-verdict_on st replica rows = verdict_of st.needs (taken st) replica rows
+verdict_on st replica rows = verdict_of st.needs (board_generations st) replica rows

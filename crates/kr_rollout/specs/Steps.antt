@@ -25,15 +25,15 @@ use Rattle.kr_rollout.specs.Writes.{Writes}
 -- ---- the state after an entry: what isn't named stays
 
 -- the configuration that a replica was given
-abbrev pub given : Did → List Generation
-given (Reload replica p expect) = record { replica = replica; published = p } ∷ []
-given (Join replica p) = record { replica = replica; published = p } ∷ []
-given did = []
+abbrev pub given_generation : Did → List Generation
+given_generation (Reload replica p expect) = record { replica = replica; published = p } ∷ []
+given_generation (Join replica p) = record { replica = replica; published = p } ∷ []
+given_generation did = []
 
-abbrev pub added : Gave → Did → List Generation
-added (Reloaded number) did = given did
-added (Joined number) did = given did
-added gave did = []
+abbrev pub new_generations : Gave → Did → List Generation
+new_generations (Reloaded number) did = given_generation did
+new_generations (Joined number) did = given_generation did
+new_generations gave did = []
 
 -- the replica whose current generation changes
 abbrev pub with_current : Did → Option ℕ → List (Option ℕ) → List (Option ℕ)
@@ -58,13 +58,13 @@ abbrev pub put_row : Option Row → List LogRow
 put_row None = []
 put_row (Some row) = put_of row.path row.resource row.stored ∷ []
 
-abbrev pub written : Did → Option Row → List LogRow
-written (Delete path) row = delete_of path ∷ []
-written did row = put_row row
+abbrev pub written_row : Did → Option Row → List LogRow
+written_row (Delete path) row = delete_of path ∷ []
+written_row did row = put_row row
 
-abbrev pub grown : Gave → Did → Option Row → List LogRow
-grown (Written revision) did row = written did row
-grown gave did row = []
+abbrev pub new_rows : Gave → Did → Option Row → List LogRow
+new_rows (Written revision) did row = written_row did row
+new_rows gave did row = []
 
 -- a put needs the writer of the held configuration, a delete nothing
 abbrev pub put_need : Option Publication → Option Row → List Need → List Need
@@ -88,11 +88,11 @@ needs_after gave did published row needs = needs
 
 abbrev pub after : State → Entry → State
 after st e = record {
-  generations = st.generations ++ added e.line.gave e.line.did;
+  generations = st.generations ++ new_generations e.line.gave e.line.did;
   current = current_after e.line.gave e.line.did st.current;
   held = held_after e.line.gave e.line.seat st.held;
   needs = needs_after e.line.gave e.line.did e.published e.row st.needs;
-  rows = st.rows ++ grown e.line.gave e.line.did e.row;
+  rows = st.rows ++ new_rows e.line.gave e.line.did e.row;
   count = e.line.faults;
 }
 

@@ -3,7 +3,7 @@ ghost use Rattle.std.specs.Prelude.{◌≡◌, ◌<◌, ◌≤◌, ◌+◌, leng
 ghost use Rattle.std.specs.Option.{option_map};
 ghost use Rattle.kr_provider.specs.Publication.{IsPublished};
 ghost use Rattle.kr_rollout.specs.Openings.{opening_by, IsFirstIn, AreAmong, generations_from, current_from, settings_of};
-ghost use Rattle.kr_rollout.specs.inner.Opens.{rows_in, settings_rows, generation_at, numbered, number_after, Opens};
+ghost use Rattle.kr_rollout.specs.inner.Opens.{rows_in, settings_rows, generation_at, number_if_in, number_after, Opens};
 
 use crate::generation::Generation;
 use crate::opening_board::{StartNo, board_of};
@@ -178,15 +178,15 @@ fn number_replicas(
     let mut current = Vec::new(alloc);
     let mut number = 0u32;
     for replica in replicas {
-        current.push(numbered(replica, number))?;
+        current.push(number_if_in(replica, number))?;
         number = number_after(replica, number);
     }
     Ok(current)
 }
 
 /// The number, for a replica that is in.
-fn numbered(replica: &Option<Shared<Published>>, number: u32) -> Option<u32>
-    ensures { result ≡ numbered replica.now number }
+fn number_if_in(replica: &Option<Shared<Published>>, number: u32) -> Option<u32>
+    ensures { result ≡ number_if_in replica.now number }
 {
     match replica {
         Some(_) => Some(number),

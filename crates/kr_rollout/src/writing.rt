@@ -143,7 +143,7 @@ fn refusal(why: PutNo) -> Answer
     }
 }
 
-fn written(wrote: Result<u64, PutNo>) -> Answer
+fn put_answer(wrote: Result<u64, PutNo>) -> Answer
     ensures { result ≡ written_as wrote }
 {
     match wrote {
@@ -152,7 +152,7 @@ fn written(wrote: Result<u64, PutNo>) -> Answer
     }
 }
 
-fn deleted(wrote: Result<Option<u64>, PutNo>) -> Answer
+fn delete_answer(wrote: Result<Option<u64>, PutNo>) -> Answer
     ensures { result ≡ deleted_as wrote }
 {
     match wrote {
@@ -163,7 +163,7 @@ fn deleted(wrote: Result<Option<u64>, PutNo>) -> Answer
 }
 
 /// The answer as the journal has it.
-fn told(answer: &Answer) -> Gave
+fn line_answer(answer: &Answer) -> Gave
     ensures { result ≡ gave_of answer.now }
 {
     match answer {
@@ -234,8 +234,8 @@ impl<T: Tape> Rollout<T> {
             who,
             stored,
         );
-        let answer = written(result);
-        let gave = told(&answer);
+        let answer = put_answer(result);
+        let gave = line_answer(&answer);
         let did = Did::Put {
             path,
             resource,
@@ -251,8 +251,8 @@ impl<T: Tape> Rollout<T> {
         ensures { Serves self.old seat (event.Delete path) result.0 result.1 self.new }
     {
         let result = delete_value(&mut self.store, &mut self.board, path.as_str());
-        let answer = deleted(result);
-        let gave = told(&answer);
+        let answer = delete_answer(result);
+        let gave = line_answer(&answer);
         let line = self.line(seat, Did::Delete { path }, gave);
         (answer, line)
     }
@@ -277,8 +277,8 @@ impl<T: Tape> Rollout<T> {
             revision,
             stored,
         );
-        let answer = written(result);
-        let gave = told(&answer);
+        let answer = put_answer(result);
+        let gave = line_answer(&answer);
         let line = self.line(seat, Did::Replace { path, revision }, gave);
         (answer, line)
     }

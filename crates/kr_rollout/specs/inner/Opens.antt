@@ -14,7 +14,7 @@ use Rattle.kr_judge.specs.Verdicts.{verdict_of}
 use Rattle.kr_rollout.specs.declared.opening_board.StartNo.{StartNo}
 use Rattle.kr_rollout.specs.declared.opening_board.StartNo.TheVariants.{Stray, Unfit, NoMemory}
 use Rattle.kr_rollout.specs.Openings.{provider_of, needs_of, settings_of, start_of, HasNoStray}
-use Rattle.kr_rollout.specs.Starts.{taken_up, IsLeastStray, AllFit, IsUnfit, IsNoStart, MayStart}
+use Rattle.kr_rollout.specs.Starts.{opening_generations, IsLeastStray, AllFit, IsUnfit, IsNoStart, MayStart}
 use Rattle.kr_provider.specs.Publication.{Publication}
 use Rattle.kr_rollout.specs.declared.generation.Generation.{Generation}
 use Rattle.kr_rollout.specs.declared.opening.Opening.{Opening}
@@ -82,7 +82,7 @@ TakesUp replica (Some rows) old new result = Admits replica rows old new result
 abbrev pub TakesAllUp : List (Option (List Row)) → BoardState → BoardState
     → Result (Unit {0}) StartNo → Type 0
 TakesAllUp replicas old new (Ok done) =
-    AllFit replicas old.needs × (new ≡ record old { generations = taken_up 0 replicas })
+    AllFit replicas old.needs × (new ≡ record old { generations = opening_generations 0 replicas })
 TakesAllUp replicas old new (Err (Stray path)) = ⊥
 TakesAllUp replicas old new (Err (Unfit replica verdict)) =
     IsUnfit replicas old.needs replica verdict
@@ -95,9 +95,9 @@ abbrev pub generation_at : ℕ → Option Publication → List Generation
 generation_at replica None = []
 generation_at replica (Some p) = record { replica = replica; published = p } ∷ []
 
-abbrev pub numbered : Option Publication → ℕ → Option ℕ
-numbered None number = None
-numbered (Some p) number = Some number
+abbrev pub number_if_in : Option Publication → ℕ → Option ℕ
+number_if_in None number = None
+number_if_in (Some p) number = Some number
 
 abbrev pub number_after : Option Publication → ℕ → ℕ
 number_after None number = number

@@ -38,8 +38,8 @@ returns g c =
     (c.self.invariant.0.held c.args.seat c.in-Some.number held_is) c.index-2.ensures c.get-published.ensures in
     let who_is : c.writer_of-who.result.now ≡ writer_of (list_at may.3 c.args.resource) =
     c.writer_of-who.ensures.writer ∙ (λ i. writer_of (list_at (sym same i) (c.as_str.ensures i))) in
-    seen _ c.args.self.now _ c.args.seat (event.Put c.args.path c.args.resource c.args.plain c.args.stored) (written_as c.put_value-result.result) c.written-answer.result c.told-gave.result c.line-line.result
-    c.self.view_is c.written-answer.ensures c.told-gave.ensures c.line-line.ensures
+    seen _ c.args.self.now _ c.args.seat (event.Put c.args.path c.args.resource c.args.plain c.args.stored) (written_as c.put_value-result.result) c.put_answer-answer.result c.line_answer-gave.result c.line-line.result
+    c.self.view_is c.put_answer-answer.ensures c.line_answer-gave.ensures c.line-line.ensures
     (put_serves c.self.inside.store c.put_value-result.new.store c.self.inside.board c.put_value-result.new.board c.self.inside.generations.items c.self.inside.current.items c.self.inside.held.items c.self.inside.first_rows c.self.inside.replicas.0 c.self.inside.names.0 c.self.inside.reloads.items c.self.inside.first_faults
     c.args.seat c.self.invariant.0 l c.self.invariant.1 may.2 c.args.path c.args.resource c.args.plain c.args.stored may.3 may.4 may.5 may.0 may.1 may.6 c.put_value-result.result
     (subst (λ path. Puts c.self.inside.store c.put_value-result.new.store (put_of path c.args.resource c.args.stored) c.put_value-result.result) c.as_str-2.ensures

@@ -30,8 +30,8 @@ returns g c =
     read_number c.self.inside.held.items c.args.seat c.index.result.now (omega (arith, l, c.self.invariant.0.seats)) c.index.ensures ∙ c.in-Some.is in
     let same = own_published c.self.inside.generations.items c.self.inside.held.items c.args.seat c.in-Some.number may.1 may.2 c.get-published.result.now c.index-2.result.now held_is may.4 may.5
     (c.self.invariant.0.held c.args.seat c.in-Some.number held_is) c.index-2.ensures c.get-published.ensures in
-    seen _ c.args.self.now _ c.args.seat (event.Replace c.args.path c.args.revision c.args.stored) (written_as c.replace_live-result.result) c.written-answer.result c.told-gave.result c.line-line.result
-    c.self.view_is c.written-answer.ensures c.told-gave.ensures c.line-line.ensures
+    seen _ c.args.self.now _ c.args.seat (event.Replace c.args.path c.args.revision c.args.stored) (written_as c.replace_live-result.result) c.put_answer-answer.result c.line_answer-gave.result c.line-line.result
+    c.self.view_is c.put_answer-answer.ensures c.line_answer-gave.ensures c.line-line.ensures
     (replace_serves c.self.inside.store c.replace_live-result.new.store c.self.inside.board c.replace_live-result.new.board c.self.inside.generations.items c.self.inside.current.items c.self.inside.held.items c.self.inside.first_rows c.self.inside.replicas.0 c.self.inside.names.0 c.self.inside.reloads.items c.self.inside.first_faults
     c.args.seat c.self.invariant.0 l c.self.invariant.1 may.1 c.args.path c.args.revision c.args.stored may.2 may.3 may.4 may.5 may.0 may.6 may.7 c.replace_live-result.result
     (subst (λ p. ReplacesBy p c.self.inside.store c.replace_live-result.new.store c.args.path c.args.revision c.args.stored c.self.inside.board c.replace_live-result.new.board c.replace_live-result.result) (sym same)
