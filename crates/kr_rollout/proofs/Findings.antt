@@ -27,9 +27,14 @@ pub record IsIn (rows : List LogRow) (row : Row) : Type 0 where
   pub is : row_at rows row.revision ≡ Some row
 
 stays : (rows more : List LogRow) (row : Row) → IsIn rows row → IsIn (rows ++ more) row
-stays rows more row i = record { within = omega (arith, i.within, length-append rows more); is = row_front rows more row.revision i.within ∙ i.is }
+stays rows more row i = record {
+  within = omega (arith, i.within, length-append rows more);
+  is =
+      row_front rows more row.revision i.within ∙ i.is;
+}
 
-all_stay : (rows more : List LogRow) (row : Option Row) → IfSome row (IsIn rows) → IfSome row (IsIn (rows ++ more))
+all_stay : (rows more : List LogRow) (row : Option Row) → IfSome row (IsIn rows)
+    → IfSome row (IsIn (rows ++ more))
 all_stay rows more None i = tt
 all_stay rows more (Some row) i = stays rows more row i
 
@@ -47,15 +52,18 @@ row_in rows (suc k) row e = by (slice_get rows k) refl e
           is = ap (row_at rows) r ∙ ap (row_here (suc k)) is ∙ e;
         }
 
-pub at_within : (rows : List LogRow) (k : ℕ) (row : Row) → row_at rows k ≡ Some row → k ≤ length rows
+pub at_within : (rows : List LogRow) (k : ℕ) (row : Row) → row_at rows k ≡ Some row
+    → k ≤ length rows
 at_within rows zero row e = omega arith
 at_within rows (suc k) row e = by (slice_get rows k) refl e
   where
-    by : (o : Option LogRow) → slice_get rows k ≡ o → row_here (suc k) o ≡ Some row → suc k ≤ length rows
+    by : (o : Option LogRow) → slice_get rows k ≡ o → row_here (suc k) o ≡ Some row
+        → suc k ≤ length rows
     by None is e = absurd (none-some row e)
     by (Some own) is e = omega (arith, slice_get_within rows k own is)
 
-found_in_rows : (rows : List LogRow) (gave : Gave) (row : Option Row) → row ≡ row_at rows (revision_in gave) → IfSome (found_by gave row) (IsIn rows)
+found_in_rows : (rows : List LogRow) (gave : Gave) (row : Option Row)
+    → row ≡ row_at rows (revision_in gave) → IfSome (found_by gave row) (IsIn rows)
 found_in_rows rows (Adopted n) row e = tt
 found_in_rows rows (Found revision) row e = by row e
   where
@@ -77,7 +85,8 @@ found_in_rows rows StoreFailed row e = tt
 found_in_rows rows (StoreFull needed) row e = tt
 found_in_rows rows Nothing row e = tt
 
-then_in : (rows more : List LogRow) (did : Did) (gave : Gave) (row now : Option Row) → row ≡ row_at (rows ++ more) (revision_in gave) → IfSome now (IsIn rows)
+then_in : (rows more : List LogRow) (did : Did) (gave : Gave) (row now : Option Row)
+    → row ≡ row_at (rows ++ more) (revision_in gave) → IfSome now (IsIn rows)
     → IfSome (found_then did gave row now) (IsIn (rows ++ more))
 then_in rows more (Adopt replica) gave row now e i = tt
 then_in rows more (Fetch path) gave row now e i = found_in_rows (rows ++ more) gave row e
@@ -90,10 +99,12 @@ then_in rows more (Reload replica p expect) gave row now e i = all_stay rows mor
 then_in rows more (Join replica p) gave row now e i = all_stay rows more now i
 then_in rows more (Leave replica) gave row now e i = all_stay rows more now i
 
-run_finds : (o : Opening) (st : State) (history : List Entry) (seat : ℕ) (now : Option Row) → IsRun o st history → IfSome now (IsIn st.rows)
+run_finds : (o : Opening) (st : State) (history : List Entry) (seat : ℕ) (now : Option Row)
+    → IsRun o st history → IfSome now (IsIn st.rows)
     → IfSome (found_from now (of_seat seat_of seat history)) (IsIn (state_from st history).rows)
 run_finds o st [] seat now r i = i
-run_finds o st (e ∷ history) seat now r i = by (cases_eq e.line.seat seat) (run_finds o (after st e) history seat)
+run_finds o st (e ∷ history) seat now r i =
+    by (cases_eq e.line.seat seat) (run_finds o (after st e) history seat)
   where
     more : List LogRow
     more = new_rows e.line.gave e.line.did e.row
@@ -102,14 +113,23 @@ run_finds o st (e ∷ history) seat now r i = by (cases_eq e.line.seat seat) (ru
     row_is = ap (λ (x : Entry). x.row) r.0.payload
 
     by : (e.line.seat ≡ seat) ⊎ (e.line.seat ≡ seat → ⊥)
-        → ((now : Option Row) → IsRun o (after st e) history → IfSome now (IsIn (after st e).rows) → IfSome (found_from now (of_seat seat_of seat history)) (IsIn (state_from (after st e) history).rows))
-        → IfSome (found_from now (of_seat seat_of seat (e ∷ history))) (IsIn (state_from (after st e) history).rows)
+        → ((now : Option Row) → IsRun o (after st e) history → IfSome now (IsIn (after st e).rows)
+        → IfSome (found_from now (of_seat seat_of seat history))
+        (IsIn (state_from (after st e) history).rows))
+        → IfSome (found_from now (of_seat seat_of seat (e ∷ history)))
+        (IsIn (state_from (after st e) history).rows)
     by (inl same) again =
-        subst (λ b. IfSome (found_from now (cond b (e ∷ of_seat seat_of seat history) (of_seat seat_of seat history))) (IsIn (state_from (after st e) history).rows)) (sym (eq-eqb e.line.seat seat same))
-        (again (found_then e.line.did e.line.gave e.row now) r.1 (then_in st.rows more e.line.did e.line.gave e.row now row_is i))
+        subst (λ b. IfSome (found_from now (cond b (e ∷ of_seat seat_of seat history)
+        (of_seat seat_of seat history))) (IsIn (state_from (after st e) history).rows))
+        (sym (eq-eqb e.line.seat seat same))
+        (again (found_then e.line.did e.line.gave e.row now) r.1
+        (then_in st.rows more e.line.did e.line.gave e.row now row_is i))
     by (inr other) again =
-        subst (λ b. IfSome (found_from now (cond b (e ∷ of_seat seat_of seat history) (of_seat seat_of seat history))) (IsIn (state_from (after st e) history).rows)) (sym (ne_eqb e.line.seat seat other))
+        subst (λ b. IfSome (found_from now (cond b (e ∷ of_seat seat_of seat history)
+        (of_seat seat_of seat history))) (IsIn (state_from (after st e) history).rows))
+        (sym (ne_eqb e.line.seat seat other))
         (again now r.1 (all_stay st.rows more now i))
 
-pub found_there : (o : Opening) (history : List Entry) (seat : ℕ) → IsLegal o history → IfSome (found_in (of_seat seat_of seat history)) (IsIn (state_of o history).rows)
+pub found_there : (o : Opening) (history : List Entry) (seat : ℕ) → IsLegal o history
+    → IfSome (found_in (of_seat seat_of seat history)) (IsIn (state_of o history).rows)
 found_there o history seat l = run_finds o (start_of o) history seat None l.runs tt

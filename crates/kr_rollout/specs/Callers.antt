@@ -30,7 +30,8 @@ with_published number (Some p) = Some (number, p)
 -- a number with the configuration of its generation
 abbrev pub number_with : List Generation → Option ℕ → Option (ℕ × Publication)
 number_with generations None = None
-number_with generations (Some number) = with_published number (published_at generations (Some number))
+number_with generations (Some number) = with_published number
+    (published_at generations (Some number))
 
 abbrev pub holding_then : Gave → Option Publication → Option (ℕ × Publication)
     → Option (ℕ × Publication)
@@ -68,7 +69,8 @@ found_in own = found_from None own
 
 -- ---- what it may ask
 
--- the value is a sealing of the data as which the row reads by the configuration, with some unwrapped source
+-- the value is a sealing of the data as which the row reads by the configuration, with some
+-- unwrapped source
 pub record IsResealing (p : Publication) (row : Row) (path stored : List ℕ) : Type 0 where
   pub plain : List ℕ
   pub reads : HasSomeReading (list_at p row.resource) path row.stored (data_of plain)
@@ -79,7 +81,8 @@ Allows o own (event.Adopt replica) = (replica < length o.replicas) × (holding o
 Allows o own (event.Fetch path) = IsPath path × IsSome (holding own)
 Allows o own (event.After path) = ((path ≡ []) ⊎ IsPath path) × IsSome (holding own)
 Allows o own (event.Put path resource plain stored) = IsPath path × IsResource resource
-    × (held : ℕ × Publication) × (holding own ≡ Some held) × IsSealing held.1 resource path plain stored
+    × (held : ℕ × Publication) × (holding own ≡ Some held)
+    × IsSealing held.1 resource path plain stored
 Allows o own (event.Delete path) = IsPath path
 Allows o own (event.Replace path revision stored) = IsPath path
     × (held : ℕ × Publication) × (holding own ≡ Some held)

@@ -15,7 +15,8 @@ FrontIsLegal = (o : Opening) (front more : List Entry) → IsLegal o (front ++ m
 
 -- what a seat holds by its own entries is what it holds in the state
 abbrev pub HoldingIsHeld : Type 0
-HoldingIsHeld = (o : Opening) (history : List Entry) (seat : ℕ) → IsLegal o history → seat < length o.reloads
+HoldingIsHeld = (o : Opening) (history : List Entry) (seat : ℕ) → IsLegal o history
+    → seat < length o.reloads
     → holding (of_seat seat_of seat history)
     ≡ number_with (state_of o history).generations (held_by (state_of o history) seat)
 

@@ -85,7 +85,8 @@ start_of o = record {
 }
 
 -- what a core begins with over a store
-abbrev pub opening_by : Kept → List (Option Publication) → (names : List (List ℕ)) → (reloads : List ℕ) → Opening
+abbrev pub opening_by : Kept → List (Option Publication) → (names : List (List ℕ))
+    → (reloads : List ℕ) → Opening
 opening_by store replicas names reloads = record {
   rows = store.rows;
   replicas = replicas;
@@ -101,7 +102,13 @@ room_of o = length o.replicas + sum o.reloads
 
 -- the board on which a state is judged
 abbrev pub board : Opening → State → BoardState
-board o st = record { generations = board_generations st; needs = st.needs; proposal = None; room = room_of o }
+board o st = record {
+  generations = board_generations st;
+  needs = st.needs;
+  proposal = None;
+  room =
+      room_of o;
+}
 
 -- each live row has a provider
 abbrev pub HasNoStray : (first : List Row) → List LogRow → Type 0

@@ -54,7 +54,8 @@ pub record IsUnfit (replicas : List (Option (List Row))) (needs : List Need) (re
   pub rows : List Row
   pub is : slice_get replicas replica ≡ Some (Some rows)
   pub before : AllFit (take replica replicas) needs
-  pub verdict_is : verdict ≡ verdict_of needs (opening_generations 0 (take replica replicas)) replica rows
+  pub verdict_is : verdict ≡ verdict_of needs
+      (opening_generations 0 (take replica replicas)) replica rows
   pub refused : verdict ≢ Pass
 
 abbrev pub IsNoStart : List LogRow → List (Option (List Row)) → StartNo → Type 0

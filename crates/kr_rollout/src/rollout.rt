@@ -47,7 +47,8 @@ impl<T: Tape> Model for Rollout<T> {
 
     ghost invariant = { λ r. IsCourse
         (opening_of r.store r.first_rows r.replicas.0 r.names.0 r.reloads.items r.first_faults)
-        (state_with r.store r.board r.generations.items r.current.items r.held.items) r.board × (r.first_rows ≤ length r.store.rows) };
+        (state_with r.store r.board r.generations.items r.current.items r.held.items) r.board
+        × (r.first_rows ≤ length r.store.rows) };
 }
 
 impl<T: Tape> Rollout<T> {

@@ -102,7 +102,8 @@ fn delete_value<T: Tape>(
     requires idle { board.old.proposal ≡ None }
     requires path { IsPath path.now }
     ensures store { Deletes store.old store.new path.now result }
-    ensures board { board.new ≡ record board.old { needs = needs_without result path.now board.old.needs } }
+    ensures board { board.new
+        ≡ record board.old { needs = needs_without result path.now board.old.needs } }
 {
     match store.delete(path) {
         Ok(Some(revision)) => {
@@ -297,7 +298,8 @@ fn replace_live<T: Tape>(
     requires idle { board.old.proposal ≡ None }
     requires path { IsPath path.now }
     requires stored { length stored ≤ longest_value }
-    ensures { ReplacesBy published.now store.old store.new path.now revision stored board.old board.new result }
+    ensures { ReplacesBy published.now store.old store.new path.now revision stored
+        board.old board.new result }
 {
     let row = match store.get(path) {
         Ok(Some(row)) => row,

@@ -75,7 +75,8 @@ Admits replica rows old new (Err (Unfit named verdict)) = (named ≡ replica)
 Admits replica rows old new (Err NoMemory) = ⊤
 
 -- those of a replica that is in
-abbrev pub TakesUp : ℕ → Option (List Row) → BoardState → BoardState → Result (Unit {0}) StartNo → Type 0
+abbrev pub TakesUp : ℕ → Option (List Row) → BoardState → BoardState → Result (Unit {0}) StartNo
+    → Type 0
 TakesUp replica None old new result = (new ≡ old) × (result ≡ Ok tt)
 TakesUp replica (Some rows) old new result = Admits replica rows old new result
 

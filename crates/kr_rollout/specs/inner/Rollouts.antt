@@ -71,11 +71,13 @@ MayServe c seat (event.Fetch path) = IsPath path × IsSome (held_by c.state seat
 MayServe c seat (event.After path) = ((path ≡ []) ⊎ IsPath path) × IsSome (held_by c.state seat)
 MayServe c seat (event.Put path resource plain stored) = IsPath path × IsResource resource
     × (number : ℕ) × (p : Publication) × (held_by c.state seat ≡ Some number)
-    × (published_at c.state.generations (Some number) ≡ Some p) × IsSealing p resource path plain stored
+    × (published_at c.state.generations (Some number) ≡ Some p)
+    × IsSealing p resource path plain stored
 MayServe c seat (event.Delete path) = IsPath path
 MayServe c seat (event.Replace path revision stored) = IsPath path
     × (number : ℕ) × (p : Publication) × (row : Row) × (held_by c.state seat ≡ Some number)
-    × (published_at c.state.generations (Some number) ≡ Some p) × (row_at c.state.rows revision ≡ Some row)
+    × (published_at c.state.generations (Some number) ≡ Some p)
+    × (row_at c.state.rows revision ≡ Some row)
     × IsResealing p row path stored
 MayServe c seat event.LetGo = IsSome (held_by c.state seat)
 

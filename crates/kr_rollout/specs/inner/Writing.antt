@@ -38,9 +38,19 @@ needs_without (Ok None) path needs = needs
 needs_without (Ok (Some revision)) path needs = drop_need needs path
 needs_without (Err why) path needs = needs
 
--- the row with this revision was replaced, or not; a value that was written needs the writer of the row's resource
-abbrev pub ReplacesBy : Publication → Kept → Kept → List ℕ → ℕ → List ℕ → BoardState → BoardState → Result ℕ PutNo → Type 0
-ReplacesBy p old new path revision stored before after (Ok to) = (row : Row) × IsLatestPut old.rows path revision row
+-- the row with this revision was replaced, or not; a value that was written needs the writer of the
+-- row's resource
+abbrev pub ReplacesBy : Publication → Kept → Kept → List ℕ → ℕ → List ℕ → BoardState → BoardState
+    → Result ℕ PutNo → Type 0
+ReplacesBy p old new path revision stored before after (Ok to) =
+    (row : Row) × IsLatestPut old.rows path revision row
     × Wrote old new (put_of path row.resource stored) to
-    × (after ≡ record before { needs = set_need before.needs (record { path = path; resource = row.resource; who = writer_of (list_at p row.resource) }) })
-ReplacesBy p old new path revision stored before after (Err why) = Replaces old new path revision stored (Err why) × (after ≡ before)
+    × (after ≡ record before {
+      needs = set_need before.needs (record {
+        path = path;
+        resource = row.resource;
+        who = writer_of (list_at p row.resource);
+      });
+    })
+ReplacesBy p old new path revision stored before after (Err why) =
+    Replaces old new path revision stored (Err why) × (after ≡ before)

@@ -8,19 +8,30 @@ use Rattle.kr_rollout.proofs.opening_board.note.Goals as goal
 
 pub returns-in_default : goal.returns-in_default
 returns-in_default c =
-    note_stray (rows_of c.args.first.now.entries.0) c.args.row.now c.args.board.now c.as_str-in_default.result.now c.stray.result c.stray.ensures c.as_str-in_default.ensures
-    (reader_none (rows_of c.args.first.now.entries.0) c.list_for-list.result.now c.args.row.now.resource c.args.row.now.stored
+    note_stray (rows_of c.args.first.now.entries.0) c.args.row.now c.args.board.now
+    c.as_str-in_default.result.now c.stray.result c.stray.ensures c.as_str-in_default.ensures
+    (reader_none (rows_of c.args.first.now.entries.0) c.list_for-list.result.now
+    c.args.row.now.resource c.args.row.now.stored
     (c.list_for-list.ensures ∙ ap (list_of (rows_of c.args.first.now.entries.0)) c.as_str.ensures)
-    (ap (reader_place c.list_for-list.result.now) (sym c.as_slice.ensures) ∙ sym c.reader_of.ensures ∙ c.in_default.is))
+    (ap (reader_place c.list_for-list.result.now) (sym c.as_slice.ensures) ∙ sym c.reader_of.ensures
+    ∙ c.in_default.is))
 
 pub returns-in-Ok : goal.returns-in-Ok
 returns-in-Ok c = (
   c.index-list-place.result,
-  reader_is (rows_of c.args.first.now.entries.0) c.list_for-list.result.now c.args.row.now.resource c.args.row.now.stored c.in-Some.place c.index-list-place.result
+  reader_is (rows_of c.args.first.now.entries.0) c.list_for-list.result.now c.args.row.now.resource
+      c.args.row.now.stored c.in-Some.place c.index-list-place.result
       (c.list_for-list.ensures ∙ ap (list_of (rows_of c.args.first.now.entries.0)) c.as_str.ensures)
-      (ap (reader_place c.list_for-list.result.now) (sym c.as_slice.ensures) ∙ sym c.reader_of.ensures ∙ c.in-Some.is)
+      (ap (reader_place c.list_for-list.result.now) (sym c.as_slice.ensures)
+      ∙ sym c.reader_of.ensures ∙ c.in-Some.is)
       c.index-list-place.is,
   c.in-Ok.ensures.ok ∙ (λ i. record c.args.board.now {
-    needs = set_need c.args.board.now.needs (record { path = c.as_str-2.ensures i; resource = c.as_str-3.ensures i; who = c.index-list-place.result });
+    needs = set_need c.args.board.now.needs
+        (record {
+          path = c.as_str-2.ensures i;
+          resource = c.as_str-3.ensures i;
+          who =
+              c.index-list-place.result;
+        });
   }),
 )
