@@ -21,8 +21,8 @@ use kr_provider::Published;
 use kr_provider::laws::size_of_sealing;
 use kr_store::{PutNo, Store};
 
-/// Puts a value that needs the provider. The need is proposed before the row is written, so that it is settled without
-/// memory.
+/// Puts a value that needs the provider. The need is proposed before the row is written, so that it
+/// is settled without memory.
 fn put_value<T: Tape>(
     store: &mut Store<T>,
     board: &mut Board,
@@ -57,8 +57,8 @@ fn put_value<T: Tape>(
     }
 }
 
-/// Puts a value that needs the provider in the place of the row with this revision, where that is still the path's last
-/// one.
+/// Puts a value that needs the provider in the place of the row with this revision, where that is
+/// still the path's last one.
 fn replace_value<T: Tape>(
     store: &mut Store<T>,
     board: &mut Board,
@@ -285,8 +285,8 @@ impl<T: Tape> Rollout<T> {
     }
 }
 
-/// Puts a value in the place of the row with this revision, for the same resource, where that is still the path's last
-/// one. The value needs the provider by which the configuration writes.
+/// Puts a value in the place of the row with this revision, for the same resource, where that is
+/// still the path's last one. The value needs the provider by which the configuration writes.
 fn replace_live<T: Tape>(
     store: &mut Store<T>,
     board: &mut Board,
