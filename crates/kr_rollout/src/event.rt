@@ -28,8 +28,8 @@ pub enum Event {
     Delete {
         path: Text,
     },
-    /// Put the data of the row that the seat found last, sealed anew by the generation that it holds, in the place of that
-    /// row, where it is still the path's last one.
+    /// Put the data of the row that the seat found last, sealed anew by the generation that it
+    /// holds, in the place of that row, where it is still the path's last one.
     Replace {
         path: Text,
         revision: u64,
