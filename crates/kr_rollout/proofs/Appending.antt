@@ -108,8 +108,7 @@ pub legal_more : (o : Opening) (history : List Entry) (e : Entry) → IsLegal o 
 legal_more o history e l s = record {
   opens = l.opens;
   fit = l.fit;
-  runs =
-      run_more o (start_of o) history e l.runs s;
+  runs = run_more o (start_of o) history e l.runs s;
 }
 
 -- what a core's lines name is there
@@ -165,8 +164,7 @@ pub front_law : FrontIsLegal
 front_law o front more l = record {
   opens = l.opens;
   fit = l.fit;
-  runs =
-      run_front o (start_of o) front more l.runs;
+  runs = run_front o (start_of o) front more l.runs;
 }
 
 -- ---- the core
@@ -176,8 +174,7 @@ module _ (old : CoreState) (before now : Course) (lines more : List Line) (line 
     (view : record {
       opening = before.opening;
       history = entries_by before.state lines;
-      room =
-          room;
+      room = room;
     } ≡ old)
     (core : IsCore before.opening before.state lines spare room)
     (serves : Serves before seat event answer line now)

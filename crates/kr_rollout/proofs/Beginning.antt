@@ -93,16 +93,13 @@ start_taken o = same_taken (current_from 0 o.replicas)
 pub start_board : (o : Opening) → board o (start_of o)
     ≡ record {
       generations = opening_generations 0 (settings_of o.replicas);
-      needs =
-          needs_of (first_rows (settings_of o.replicas)) o.rows;
+      needs = needs_of (first_rows (settings_of o.replicas)) o.rows;
       proposal = None;
-      room =
-          length o.replicas + sum o.reloads;
+      room = length o.replicas + sum o.reloads;
     }
 start_board o = ap (λ gs. record {
   generations = gs;
-  needs =
-      needs_of (first_rows (settings_of o.replicas)) o.rows;
+  needs = needs_of (first_rows (settings_of o.replicas)) o.rows;
   proposal = None;
   room = room_of o;
 })
@@ -212,8 +209,7 @@ module _ (store : Kept) (rs : List (Option Publication)) (names : List (List ℕ
   })
       (record {
         opening = opening_by store rs names reloads;
-        state =
-            start_of (opening_by store rs names reloads);
+        state = start_of (opening_by store rs names reloads);
       })
   opened =
       let r : take first store.rows ≡ store.rows = ap (λ n. take n store.rows) first_is
@@ -226,8 +222,7 @@ module _ (store : Kept) (rs : List (Option Publication)) (names : List (List ℕ
           replicas = rs;
           names = names;
           reloads = kept_is i;
-          limit =
-              store.limit;
+          limit = store.limit;
           count = count_is i;
         };
         state = record {

@@ -44,12 +44,10 @@ module _ (replicas : List (Option Settings)) (first : List Row) (rows : List Log
         let b = needs_noted n in (
           record {
             readable = no_stray n;
-            fit =
-                subst (λ (x : BoardState). AllFit (rows_in replicas) x.needs) b t.0;
+            fit = subst (λ (x : BoardState). AllFit (rows_in replicas) x.needs) b t.0;
           },
           t.1 ∙ ap (λ (x : BoardState). record x {
-            generations =
-                opening_generations 0 (rows_in replicas);
+            generations = opening_generations 0 (rows_in replicas);
           }) b,
         )
 

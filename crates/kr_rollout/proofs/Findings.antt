@@ -29,8 +29,7 @@ pub record IsIn (rows : List LogRow) (row : Row) : Type 0 where
 stays : (rows more : List LogRow) (row : Row) → IsIn rows row → IsIn (rows ++ more) row
 stays rows more row i = record {
   within = omega (arith, i.within, length-append rows more);
-  is =
-      row_front rows more row.revision i.within ∙ i.is;
+  is = row_front rows more row.revision i.within ∙ i.is;
 }
 
 all_stay : (rows more : List LogRow) (row : Option Row) → IfSome row (IsIn rows)

@@ -24,8 +24,7 @@ others_same current held now number change n g m d =
     ap (λ h. record {
       replica = g.replica;
       rows = g.published.rows;
-      current =
-          list_any (is_number n) current;
+      current = list_any (is_number n) current;
       holders = h;
     }) (m.others n d)
 
@@ -89,8 +88,7 @@ takes current held seat number l e = record {
       ap (λ h. record {
         replica = g.replica;
         rows = g.published.rows;
-        current =
-            list_any (is_number number) current;
+        current = list_any (is_number number) current;
         holders = h;
       }) h);
 }
@@ -110,8 +108,7 @@ gives current held seat number l e = record {
       ap (λ h. record {
         replica = g.replica;
         rows = g.published.rows;
-        current =
-            list_any (is_number number) current;
+        current = list_any (is_number number) current;
         holders = h;
       }) h);
 }

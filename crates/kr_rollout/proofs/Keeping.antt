@@ -39,8 +39,7 @@ with_seat st seat now = record st { held = slice_set st.held seat now }
 
 abbrev pub with_board : BoardState → (Taken → Taken) → ℕ → BoardState
 with_board kept change number = record kept {
-  generations =
-      changed_at change number kept.generations;
+  generations = changed_at change number kept.generations;
 }
 
 pub course_takes : (o : Opening) (st : State) (kept : BoardState) (seat replica number : ℕ)

@@ -232,8 +232,7 @@ need_path first path (change.Put resource stored) need e = by (provider_of first
     by : (who : Option Who) → option_map (λ who. record {
       path = path;
       resource = resource;
-      who =
-          who;
+      who = who;
     }) who ≡ Some need → need.path ≡ path
     by (Some who) e = sym (ap (λ (n : Need). n.path) (same_Some _ need e))
     by None e = absurd (none-some need e)

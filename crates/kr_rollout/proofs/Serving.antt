@@ -68,8 +68,7 @@ held_only st held =
       current = st.current;
       held = held;
       needs = st.needs;
-      rows =
-          r i;
+      rows = r i;
       count = st.count;
     })
 
@@ -176,8 +175,7 @@ told c seat event answer s l rules is reach shows =
         did_is = refl;
         gave_is = refl;
         shows = shows;
-        stores =
-            stores_still event answer _ s;
+        stores = stores_still event answer _ s;
       };
     }
 
@@ -324,16 +322,14 @@ no_memory_adopt c seat replica number l may is =
     (record {
       row = omega arith;
       replaced = omega arith;
-      generation =
-          names_none (length c.state.generations) (held_by c.state seat) Nothing may.1 tt;
+      generation = names_none (length c.state.generations) (held_by c.state seat) Nothing may.1 tt;
     }) tt
 
 -- the seat holds something else
 abbrev pub holds_now : Course → ℕ → Option ℕ → Course
 holds_now c seat number = record {
   opening = c.opening;
-  state =
-      record c.state { held = slice_set c.state.held seat number };
+  state = record c.state { held = slice_set c.state.held seat number };
 }
 
 pub adopted : (c : Course) (kept : BoardState) (seat replica number : ℕ) (p : Publication)
@@ -435,22 +431,19 @@ adopted_at o store kept next generations current held old line seat replica numb
     is there line_is =
     let here : Course = record {
       opening = o;
-      state =
-          state_with store kept generations current held;
+      state = state_with store kept generations current held;
     } in
     let l2 = subst (λ (c : Course). seat < length c.opening.reloads) (sym view) l in
     let may2 = subst (λ (c : Course). MayServe c seat (event.Adopt replica)) (sym view) may in
     let base = adopted here kept seat replica number p k l2 may2 is there in
     let now : record {
       opening = o;
-      state =
-          state_with store next generations current (slice_set held seat (Some number));
+      state = state_with store next generations current (slice_set held seat (Some number));
     }
     ≡ holds_now here seat (Some number) =
     ap (λ (b : BoardState). record {
       opening = o;
-      state =
-          state_with store b generations current (slice_set held seat (Some number));
+      state = state_with store b generations current (slice_set held seat (Some number));
     }) e in
     let lines : line ≡ line_now here.state seat (Adopt replica) (Adopted number) = line_is
     ∙ ap (λ (c : Course). line_now c.state seat (Adopt replica) (Adopted number)) (sym view) in

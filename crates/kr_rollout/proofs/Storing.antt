@@ -83,8 +83,7 @@ stepped c next seat asked given opening state l held rules is writes counted rea
         did_is = refl;
         gave_is = refl;
         shows = shows;
-        stores =
-            stores;
+        stores = stores;
       };
     }
 
@@ -174,15 +173,13 @@ module _ (store next : Kept) (kept later : BoardState) (generations : List Gener
   abbrev here : Course
   here = record {
     opening = opening_of store first rs names reloads count;
-    state =
-        state_with store kept generations current held;
+    state = state_with store kept generations current held;
   }
 
   abbrev soon : Course
   soon = record {
     opening = opening_of next first rs names reloads count;
-    state =
-        state_with next later generations current held;
+    state = state_with next later generations current held;
   }
 
   -- the opening stays
@@ -244,8 +241,7 @@ module _ (store next : Kept) (kept later : BoardState) (generations : List Gener
         generations = generations ++ [];
         current = current;
         held = held;
-        needs =
-            kept.needs;
+        needs = kept.needs;
         rows = store.rows ++ [];
         count = next.count;
       })
@@ -351,8 +347,7 @@ module _ (store next : Kept) (kept later : BoardState) (generations : List Gener
               record {
                 stored = stored;
                 sealing = sealing;
-                row_is =
-                    refl;
+                row_is = refl;
               },
             ),
             f.within,
@@ -361,8 +356,7 @@ module _ (store next : Kept) (kept later : BoardState) (generations : List Gener
           f.later (record {
             row = omega arith;
             replaced = omega arith;
-            generation =
-                bound_is StoreFailed;
+            generation = bound_is StoreFailed;
           }) tt tt
       put_serves (Err (no.Full needed)) r b =
           let row = put_of path resource stored in
@@ -389,8 +383,7 @@ module _ (store next : Kept) (kept later : BoardState) (generations : List Gener
           (record {
             row = omega arith;
             replaced = omega arith;
-            generation =
-                bound_is (StoreFull needed);
+            generation = bound_is (StoreFull needed);
           }) tt tt
       put_serves (Err (no.Changed last)) r b = absurd r
       put_serves (Err no.NoMemory) r b =
@@ -425,8 +418,7 @@ module _ (store next : Kept) (kept later : BoardState) (generations : List Gener
           (record {
             row = omega arith;
             replaced = omega arith;
-            generation =
-                any_bound Absent refl;
+            generation = any_bound Absent refl;
           }) tt tt
       delete_serves (Ok (Some revision)) d b =
           let w = d.1 in
@@ -476,8 +468,7 @@ module _ (store next : Kept) (kept later : BoardState) (generations : List Gener
           f.later (record {
             row = omega arith;
             replaced = omega arith;
-            generation =
-                any_bound StoreFailed refl;
+            generation = any_bound StoreFailed refl;
           }) tt tt
       delete_serves (Err (no.Full needed)) d b =
           let r = d.1 in
@@ -493,8 +484,7 @@ module _ (store next : Kept) (kept later : BoardState) (generations : List Gener
           (record {
             row = omega arith;
             replaced = omega arith;
-            generation =
-                any_bound (StoreFull needed) refl;
+            generation = any_bound (StoreFull needed) refl;
           }) tt tt
       delete_serves (Err (no.Changed last)) d b = absurd d
       delete_serves (Err no.NoMemory) d b =
@@ -507,8 +497,7 @@ module _ (store next : Kept) (kept later : BoardState) (generations : List Gener
           (record {
             row = omega arith;
             replaced = omega arith;
-            generation =
-                any_bound Nothing refl;
+            generation = any_bound Nothing refl;
           }) tt tt
 
     -- ---- a replacement
@@ -539,8 +528,7 @@ module _ (store next : Kept) (kept later : BoardState) (generations : List Gener
           record {
             plain = re.plain;
             reads = re.reads;
-            sealed =
-                record { stored = stored; sealing = re.sealing; row_is = refl };
+            sealed = record { stored = stored; sealing = re.sealing; row_is = refl };
           }
 
       there_before : revision ≤ length store.rows
@@ -615,8 +603,7 @@ module _ (store next : Kept) (kept later : BoardState) (generations : List Gener
           )
           f.later (record {
             row = omega arith;
-            replaced =
-                omega (arith, there_before, ap (λ (rows : List LogRow). length rows) f.rows);
+            replaced = omega (arith, there_before, ap (λ (rows : List LogRow). length rows) f.rows);
             generation = bound_then StoreFailed;
           }) tt tt
       replace_serves (Err (no.Full needed)) r =
@@ -645,10 +632,8 @@ module _ (store next : Kept) (kept later : BoardState) (generations : List Gener
           (omega (arith, ap (λ (s : Kept). s.count) q.0))
           (record {
             row = omega arith;
-            replaced =
-                omega (arith, there_before, ap (λ (x : List LogRow). length x) rows);
-            generation =
-                bound_then (StoreFull needed);
+            replaced = omega (arith, there_before, ap (λ (x : List LogRow). length x) rows);
+            generation = bound_then (StoreFull needed);
           }) tt tt
       replace_serves (Err (no.Changed last)) r =
           let same = r.0.1 in
@@ -661,10 +646,8 @@ module _ (store next : Kept) (kept later : BoardState) (generations : List Gener
           (omega (arith, ap (λ (s : Kept). s.count) same))
           (record {
             row = omega arith;
-            replaced =
-                omega (arith, there_before, ap (λ (x : List LogRow). length x) rows);
-            generation =
-                bound_then (Changed last);
+            replaced = omega (arith, there_before, ap (λ (x : List LogRow). length x) rows);
+            generation = bound_then (Changed last);
           }) tt tt
       replace_serves (Err no.NoMemory) r =
           let same = r.0 in
@@ -677,8 +660,6 @@ module _ (store next : Kept) (kept later : BoardState) (generations : List Gener
           (omega (arith, ap (λ (s : Kept). s.count) same))
           (record {
             row = omega arith;
-            replaced =
-                omega (arith, there_before, ap (λ (x : List LogRow). length x) rows);
-            generation =
-                bound_then Nothing;
+            replaced = omega (arith, there_before, ap (λ (x : List LogRow). length x) rows);
+            generation = bound_then Nothing;
           }) tt tt

@@ -161,8 +161,7 @@ pub taken_begin : (rs : List (Option (List Row))) (old : BoardState) → old.gen
     → AreTaken rs old old 0
 taken_begin rs old e = record {
   board_is = ap (λ gs. record old { generations = gs }) e;
-  fit =
-      none_fit old.needs;
+  fit = none_fit old.needs;
 }
 
 rows_at : (replicas : List (Option Settings)) (i : ℕ) (o : Option Settings) → i < length replicas

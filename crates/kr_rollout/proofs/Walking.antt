@@ -42,8 +42,7 @@ abbrev pub live_need : List Row → stored_row.Row → Option Need
 live_need first row = option_map (λ who. record {
   path = row.path;
   resource = row.resource;
-  who =
-      who;
+  who = who;
 }) (provider_of first row.resource row.stored)
 
 -- the live rows up to a path are noted, and no path is that has no live row

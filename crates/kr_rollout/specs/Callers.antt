@@ -30,8 +30,8 @@ with_published number (Some p) = Some (number, p)
 -- a number with the configuration of its generation
 abbrev pub number_with : List Generation → Option ℕ → Option (ℕ × Publication)
 number_with generations None = None
-number_with generations (Some number) = with_published number
-    (published_at generations (Some number))
+number_with generations (Some number) =
+    with_published number (published_at generations (Some number))
 
 abbrev pub holding_then : Gave → Option Publication → Option (ℕ × Publication)
     → Option (ℕ × Publication)

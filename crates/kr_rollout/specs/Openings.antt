@@ -34,12 +34,8 @@ provider_of first resource stored = reader_in (list_of first resource) stored
 -- provider for it
 abbrev pub need_of : (first : List Row) → List ℕ → Change → Option Need
 need_of first path (change.Put resource stored) =
-    option_map (λ who. record {
-      path =
-          path;
-      resource = resource;
-      who = who;
-    }) (provider_of first resource stored)
+    option_map (λ who. record { path = path; resource = resource; who = who })
+    (provider_of first resource stored)
 need_of first path change.Delete = None
 
 abbrev pub with_need : Option Need → List Need → List Need
@@ -106,8 +102,7 @@ board o st = record {
   generations = board_generations st;
   needs = st.needs;
   proposal = None;
-  room =
-      room_of o;
+  room = room_of o;
 }
 
 -- each live row has a provider

@@ -25,8 +25,7 @@ opening_generations replica [] = []
 opening_generations replica (None ∷ replicas) = opening_generations (replica + 1) replicas
 opening_generations replica (Some rows ∷ replicas) =
     record {
-      replica =
-          replica;
+      replica = replica;
       rows = rows;
       current = true;
       holders = 0;

@@ -72,8 +72,7 @@ put_need None row needs = needs
 put_need (Some p) None needs = needs
 put_need (Some p) (Some row) needs =
     set_need needs (record {
-      path =
-          row.path;
+      path = row.path;
       resource = row.resource;
       who = writer_of (list_at p row.resource);
     })

@@ -17,7 +17,8 @@ pub enum Event {
     After {
         path: Text,
     },
-    /// Put the plain data, sealed by the generation that the seat holds, under the path, as an object of the resource.
+    /// Put the plain data, sealed by the generation that the seat holds, under the path, as an
+    /// object of the resource.
     Put {
         path: Text,
         resource: Text,

@@ -40,8 +40,7 @@ abbrev pub Notes : (first : List Row) → stored_row.Row → BoardState → Boar
 Notes first row old new (Ok done) =
     (who : Who) × (provider_of first row.resource row.stored ≡ Some who)
     × (new ≡ record old {
-      needs =
-          set_need old.needs (record { path = row.path; resource = row.resource; who = who });
+      needs = set_need old.needs (record { path = row.path; resource = row.resource; who = who });
     })
 Notes first row old new (Err (Stray path)) =
     (path ≡ row.path) × (provider_of first row.resource row.stored ≡ None)

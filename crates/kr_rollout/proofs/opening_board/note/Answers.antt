@@ -30,8 +30,7 @@ returns-in-Ok c = (
         (record {
           path = c.as_str-2.ensures i;
           resource = c.as_str-3.ensures i;
-          who =
-              c.index-list-place.result;
+          who = c.index-list-place.result;
         });
   }),
 )

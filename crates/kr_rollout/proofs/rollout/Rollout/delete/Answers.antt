@@ -31,7 +31,6 @@ returns g c =
     c.delete_value-result.result) c.as_str.ensures c.delete_value-result.ensures.store)
     (c.delete_value-result.ensures.board ∙ ap
     (λ path. record c.self.inside.board {
-      needs =
-          needs_without c.delete_value-result.result path c.self.inside.board.needs;
+      needs = needs_without c.delete_value-result.result path c.self.inside.board.needs;
     })
     c.as_str.ensures))

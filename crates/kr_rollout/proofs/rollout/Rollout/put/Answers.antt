@@ -38,8 +38,7 @@ invariant_of-self g c =
     c.self.inside.names.0 c.self.inside.reloads.items c.self.inside.first_faults
     (needs_with c.put_value-result.result (record {
       path = c.as_str-2.result.now;
-      resource =
-          c.as_str-3.result.now;
+      resource = c.as_str-3.result.now;
       who = c.writer_of-who.result.now;
     }) c.self.inside.board.needs)
     (put_of c.as_str-2.result.now c.as_str-3.result.now c.args.stored) c.put_value-result.result
