@@ -1,28 +1,26 @@
 -- The state at an opening: its board, and what holds of it.
-use Rattle.std.proofs.Common.{◌≡◌, ℕ, zero, suc, ◌<◌, ◌≤◌, ◌+◌, ◌==◌, Bool, true, false, List, [], ◌∷◌, length, get_or, take, cond, replicate, count_by, map, Contains, Option, None, Some, Ok, IfSome, IsTrue, refl, sym, ap, subst, ◌∙◌, arith, ◌⊎◌, inl, inr}
+use Rattle.std.proofs.Common.{◌≡◌, ℕ, zero, suc, ◌<◌, ◌≤◌, ◌+◌, Bool, true, false, List, [], ◌∷◌, length, get_or, take, cond, replicate, count_by, Contains, Option, None, Some, Ok, IfSome, refl, sym, ap, subst, ◌∙◌, arith, ◌⊎◌, inl, inr}
 use Rattle.std.specs.Prelude.{◌||◌, sum, All}
-use Rattle.std.specs.List.{slice_get, list_any, sum_by}
+use Rattle.std.specs.List.{slice_get, list_any}
 use Rattle.std.specs.Option.{option_map}
 use Rattle.std.proofs.lemmas.Bool.{eq-eqb, cases_eq, cases_order}
 use Rattle.std.proofs.lemmas.List.{length-replicate, take_all}
 use Rattle.std.proofs.lemmas.List.Sums.{sum_by-cons}
 use Rattle.std.proofs.lemmas.Option.{none-some, same_Some}
-use Rattle.kr_store.specs.declared.rows.LogRow.{LogRow}
 use Rattle.kr_store.specs.Rows.{AreRows}
 use Rattle.kr_store.specs.Stores.{Kept}
 use Rattle.kr_config.specs.Kept.{Row}
 use Rattle.kr_provider.specs.Publication.{Publication, IsPublished}
 use Rattle.kr_judge.specs.declared.need.Need.{Need}
-use Rattle.kr_judge.specs.Boards.{Taken, BoardState}
+use Rattle.kr_judge.specs.Boards.{BoardState}
 use Rattle.kr_rollout.specs.declared.generation.Generation.{Generation}
 use Rattle.kr_rollout.specs.declared.opening.Opening.{Opening}
-use Rattle.kr_rollout.specs.Entries.{published_at}
-use Rattle.kr_rollout.specs.States.{State, number_at, is_number, taken_of, taken_from, board_generations, IsLiveNumber, IsLive}
-use Rattle.kr_rollout.specs.Openings.{first_rows, needs_of, generations_from, current_from, settings_of, first_of, start_of, room_of, board, opening_by, NamesAmong, AreAmong, IsAdmitted, IsFirstIn, IsOpening}
+use Rattle.kr_rollout.specs.States.{number_at, is_number, taken_from, board_generations, IsLive}
+use Rattle.kr_rollout.specs.Openings.{first_rows, needs_of, generations_from, current_from, settings_of, start_of, room_of, board, opening_by, NamesAmong, AreAmong, IsAdmitted, IsFirstIn}
 use Rattle.kr_rollout.specs.Fits.{AreFit, IsFit}
 use Rattle.kr_rollout.specs.Histories.{IsLegal}
-use Rattle.kr_rollout.specs.Starts.{opening_generations, AllFit, MayStart, Boards}
-use Rattle.kr_rollout.specs.inner.Rollouts.{Course, opening_of, state_with, AreNumbers, IsCourse, IsCore}
+use Rattle.kr_rollout.specs.Starts.{opening_generations, MayStart, Boards}
+use Rattle.kr_rollout.specs.inner.Rollouts.{Course, opening_of, state_with, IsCourse, IsCore}
 
 -- ---- numbers
 
@@ -93,13 +91,16 @@ start_taken o = same_taken (current_from 0 o.replicas)
 pub start_board : (o : Opening) → board o (start_of o)
     ≡ record {
       generations = opening_generations 0 (settings_of o.replicas);
-      needs = needs_of (first_rows (settings_of o.replicas)) o.rows;
+      needs =
+          needs_of (first_rows (settings_of o.replicas)) o.rows;
       proposal = None;
-      room = length o.replicas + sum o.reloads;
+      room =
+          length o.replicas + sum o.reloads;
     }
 start_board o = ap (λ gs. record {
   generations = gs;
-  needs = needs_of (first_rows (settings_of o.replicas)) o.rows;
+  needs =
+      needs_of (first_rows (settings_of o.replicas)) o.rows;
   proposal = None;
   room = room_of o;
 })
@@ -209,7 +210,8 @@ module _ (store : Kept) (rs : List (Option Publication)) (names : List (List ℕ
   })
       (record {
         opening = opening_by store rs names reloads;
-        state = start_of (opening_by store rs names reloads);
+        state =
+            start_of (opening_by store rs names reloads);
       })
   opened =
       let r : take first store.rows ≡ store.rows = ap (λ n. take n store.rows) first_is
@@ -222,7 +224,8 @@ module _ (store : Kept) (rs : List (Option Publication)) (names : List (List ℕ
           replicas = rs;
           names = names;
           reloads = kept_is i;
-          limit = store.limit;
+          limit =
+              store.limit;
           count = count_is i;
         };
         state = record {

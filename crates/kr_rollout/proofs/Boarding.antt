@@ -1,14 +1,13 @@
 -- The opening's board, made of the live rows and then of the replicas.
-use Rattle.std.proofs.Common.{◌≡◌, ℕ, List, [], Option, None, Ok, Err, refl, sym, ap, subst, ◌∙◌}
+use Rattle.std.proofs.Common.{◌≡◌, ℕ, List, [], Option, None, Ok, Err, sym, ap, subst, ◌∙◌}
 use Rattle.kr_store.specs.declared.rows.LogRow.{LogRow}
 use Rattle.kr_config.specs.declared.settings.Settings.{Settings}
-use Rattle.kr_config.specs.Kept.{Row, rows_of}
-use Rattle.kr_judge.specs.declared.need.Need.{Need}
+use Rattle.kr_config.specs.Kept.{Row}
 use Rattle.kr_judge.specs.Boards.{BoardState}
 use Rattle.kr_rollout.specs.declared.opening_board.StartNo.{StartNo}
 use Rattle.kr_rollout.specs.declared.opening_board.StartNo.TheVariants.{Stray, Unfit, NoMemory}
 use Rattle.kr_rollout.specs.Openings.{first_rows, needs_of, HasNoStray}
-use Rattle.kr_rollout.specs.Starts.{opening_generations, AllFit, IsUnfit, IsLeastStray, IsNoStart, MayStart, Boards}
+use Rattle.kr_rollout.specs.Starts.{opening_generations, AllFit, IsUnfit, IsLeastStray, Boards}
 use Rattle.kr_rollout.specs.inner.Opens.{rows_in, NotesAll, TakesAllUp}
 
 module _ (replicas : List (Option Settings)) (first : List Row) (rows : List LogRow) (room : ℕ)
@@ -44,10 +43,12 @@ module _ (replicas : List (Option Settings)) (first : List Row) (rows : List Log
         let b = needs_noted n in (
           record {
             readable = no_stray n;
-            fit = subst (λ (x : BoardState). AllFit (rows_in replicas) x.needs) b t.0;
+            fit =
+                subst (λ (x : BoardState). AllFit (rows_in replicas) x.needs) b t.0;
           },
           t.1 ∙ ap (λ (x : BoardState). record x {
-            generations = opening_generations 0 (rows_in replicas);
+            generations =
+                opening_generations 0 (rows_in replicas);
           }) b,
         )
 

@@ -1,11 +1,10 @@
 -- What a seat's own entries say that it found stands there still.
-use Rattle.std.proofs.Common.{◌≡◌, ℕ, zero, suc, ◌≤◌, ◌+◌, ◌⊎◌, cond, List, [], ◌∷◌, ◌++◌, length, Option, None, Some, IfSome, refl, sym, ap, subst, ◌∙◌, arith, inl, inr, length-append}
+use Rattle.std.proofs.Common.{◌≡◌, ℕ, zero, suc, ◌≤◌, ◌⊎◌, cond, List, [], ◌∷◌, ◌++◌, length, Option, None, Some, IfSome, refl, sym, ap, subst, ◌∙◌, arith, inl, inr, length-append}
 use Rattle.std.specs.List.{slice_get}
 use Rattle.std.proofs.lemmas.Bool.{cases_eq, eq-eqb, ne_eqb}
-use Rattle.std.proofs.lemmas.Option.{none-some, same_Some, slice_get_within}
+use Rattle.std.proofs.lemmas.Option.{none-some, slice_get_within}
 use Rattle.kr_store.specs.declared.rows.LogRow.{LogRow}
 use Rattle.kr_store.specs.declared.rows.Row.{Row}
-use Rattle.kr_store.specs.Rows.{row_of}
 use Rattle.kr_rollout.specs.declared.line.Did.{Did}
 use Rattle.kr_rollout.specs.declared.line.Did.TheVariants.{Adopt, Fetch, After, Put, Delete, Replace, LetGo, Reload, Join, Leave}
 use Rattle.kr_rollout.specs.declared.line.Gave.{Gave}
@@ -16,7 +15,7 @@ use Rattle.kr_rollout.specs.Lines.{of_seat}
 use Rattle.kr_rollout.specs.Entries.{row_here, row_at, revision_in, seat_of}
 use Rattle.kr_rollout.specs.States.{State}
 use Rattle.kr_rollout.specs.Openings.{start_of}
-use Rattle.kr_rollout.specs.Steps.{after, new_rows, IsStep}
+use Rattle.kr_rollout.specs.Steps.{after, new_rows}
 use Rattle.kr_rollout.specs.Histories.{state_from, state_of, IsRun, IsLegal}
 use Rattle.kr_rollout.specs.Callers.{found_by, found_then, found_from, found_in}
 use Rattle.kr_rollout.proofs.Revisions.{row_front, revision_is}
@@ -29,7 +28,8 @@ pub record IsIn (rows : List LogRow) (row : Row) : Type 0 where
 stays : (rows more : List LogRow) (row : Row) → IsIn rows row → IsIn (rows ++ more) row
 stays rows more row i = record {
   within = omega (arith, i.within, length-append rows more);
-  is = row_front rows more row.revision i.within ∙ i.is;
+  is =
+      row_front rows more row.revision i.within ∙ i.is;
 }
 
 all_stay : (rows more : List LogRow) (row : Option Row) → IfSome row (IsIn rows)

@@ -1,7 +1,7 @@
 -- A seat takes or gives up a generation: what that changes on the board.
-use Rattle.std.proofs.Common.{◌≡◌, ◌≢◌, ℕ, zero, suc, ◌<◌, ◌≤◌, ◌+◌, ◌^◌, ◌-◌, ◌==◌, Bool, true, false, cond, List, [], ◌∷◌, length, get_or, set, count_by, Option, None, Some, refl, sym, ap, subst, ◌∙◌, arith}
+use Rattle.std.proofs.Common.{◌≡◌, ◌≢◌, ℕ, zero, suc, ◌<◌, ◌≤◌, ◌+◌, ◌^◌, ◌-◌, ◌==◌, Bool, true, false, cond, List, [], ◌∷◌, length, count_by, Option, None, Some, refl, sym, ap, subst, ◌∙◌, arith}
 use Rattle.std.specs.Prelude.{IsTrue, ◌||◌, nat_lt, slice_set}
-use Rattle.std.specs.List.{list_any, slice_get, sum_by}
+use Rattle.std.specs.List.{list_any, slice_get}
 use Rattle.std.specs.Option.{option_map, IsSomeAnd}
 use Rattle.std.proofs.lemmas.List.Sums.{sum_by-set, count_by-le-length}
 use Rattle.std.proofs.lemmas.List.Folds.{list_any_at}
@@ -24,7 +24,8 @@ others_same current held now number change n g m d =
     ap (λ h. record {
       replica = g.replica;
       rows = g.published.rows;
-      current = list_any (is_number n) current;
+      current =
+          list_any (is_number n) current;
       holders = h;
     }) (m.others n d)
 
@@ -88,7 +89,8 @@ takes current held seat number l e = record {
       ap (λ h. record {
         replica = g.replica;
         rows = g.published.rows;
-        current = list_any (is_number number) current;
+        current =
+            list_any (is_number number) current;
         holders = h;
       }) h);
 }
@@ -108,7 +110,8 @@ gives current held seat number l e = record {
       ap (λ h. record {
         replica = g.replica;
         rows = g.published.rows;
-        current = list_any (is_number number) current;
+        current =
+            list_any (is_number number) current;
         holders = h;
       }) h);
 }

@@ -1,9 +1,8 @@
 -- What a seat's own entries say that it holds is what the state says.
-use Rattle.std.proofs.Common.{◌≡◌, ℕ, zero, suc, ◌<◌, ◌≤◌, ◌+◌, ◌⊎◌, ◌==◌, Bool, true, false, cond, List, [], ◌∷◌, ◌++◌, length, get_or, replicate, Option, None, Some, IsSome, IfSome, refl, sym, ap, subst, ◌∙◌, arith, inl, inr, length-append}
-use Rattle.std.specs.Prelude.{slice_set, ⊤}
-use Rattle.std.specs.List.{filter, slice_get}
+use Rattle.std.proofs.Common.{◌≡◌, ℕ, zero, suc, ◌<◌, ◌⊎◌, cond, List, [], ◌∷◌, ◌++◌, length, replicate, Option, None, Some, IsSome, IfSome, refl, sym, ap, subst, ◌∙◌, arith, inl, inr, length-append}
+use Rattle.std.specs.List.{slice_get}
 use Rattle.std.specs.Option.{option_map}
-use Rattle.std.proofs.lemmas.Bool.{cases_eq, eqb-true, eqb-false, eq-eqb, ne_eqb}
+use Rattle.std.proofs.lemmas.Bool.{cases_eq, eq-eqb, ne_eqb}
 use Rattle.std.proofs.lemmas.List.{length-set, get_or-set_same, get_or-set_other, length-replicate}
 use Rattle.std.proofs.lemmas.Option.{same_Some, none-some}
 use Rattle.kr_provider.specs.Publication.{Publication}
@@ -25,7 +24,7 @@ use Rattle.kr_rollout.specs.Steps.{after, new_generations, held_after, IsStep}
 use Rattle.kr_rollout.specs.Histories.{state_from, state_of, IsRun, IsLegal}
 use Rattle.kr_rollout.specs.Callers.{with_published, number_with, holding_then, holding_from, holding, Allows, MayAsk}
 use Rattle.kr_rollout.specs.Laws.{HoldingIsHeld, FoundIsThere}
-use Rattle.kr_rollout.specs.inner.Rollouts.{Course, AreNumbers, MayServe}
+use Rattle.kr_rollout.specs.inner.Rollouts.{AreNumbers, MayServe}
 use Rattle.kr_rollout.proofs.Findings.{IsIn, found_there}
 use Rattle.kr_rollout.proofs.Revisions.{published_front}
 use Rattle.kr_rollout.proofs.Keeping.{numbers_set}

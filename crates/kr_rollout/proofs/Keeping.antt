@@ -1,18 +1,17 @@
 -- What holds of a rollout holds after a seat takes or gives up a generation.
-use Rattle.std.proofs.Common.{◌≡◌, ℕ, zero, suc, ◌∷◌, [], ◌<◌, ◌≤◌, ◌⊎◌, List, length, get_or, set, Option, None, Some, IfSome, refl, sym, ap, subst, ◌∙◌, arith, inl, inr}
+use Rattle.std.proofs.Common.{◌≡◌, ℕ, zero, suc, ◌∷◌, [], ◌<◌, ◌⊎◌, List, length, get_or, Option, None, Some, IfSome, sym, ap, subst, ◌∙◌, arith, inl, inr}
 use Rattle.std.specs.Prelude.{slice_set}
 use Rattle.std.proofs.lemmas.Bool.{cases_eq}
 use Rattle.std.proofs.lemmas.List.{length-set, get_or-set_same, get_or-set_other}
 use Rattle.std.proofs.lemmas.Option.{same_Some, none-some}
 use Rattle.kr_store.specs.Stores.{Kept}
 use Rattle.kr_judge.specs.Boards.{BoardState, Taken, changed_at, held_more, held_less, MayHold, IsHeld}
-use Rattle.kr_rollout.specs.declared.event.Event.TheVariants as event
 use Rattle.kr_rollout.specs.declared.generation.Generation.{Generation}
 use Rattle.kr_rollout.specs.declared.opening.Opening.{Opening}
 use Rattle.kr_rollout.specs.Entries.{published_at}
-use Rattle.kr_rollout.specs.States.{State, number_at, current_of, held_by, board_generations}
+use Rattle.kr_rollout.specs.States.{State, number_at, current_of, held_by}
 use Rattle.kr_rollout.specs.Openings.{board}
-use Rattle.kr_rollout.specs.inner.Rollouts.{Course, IsCourse, AreNumbers, MayServe, state_with}
+use Rattle.kr_rollout.specs.inner.Rollouts.{IsCourse, AreNumbers, state_with}
 use Rattle.kr_rollout.proofs.Holders.{takes, gives, moved, may_hold, may_release}
 
 -- another number at a place
@@ -39,7 +38,8 @@ with_seat st seat now = record st { held = slice_set st.held seat now }
 
 abbrev pub with_board : BoardState → (Taken → Taken) → ℕ → BoardState
 with_board kept change number = record kept {
-  generations = changed_at change number kept.generations;
+  generations =
+      changed_at change number kept.generations;
 }
 
 pub course_takes : (o : Opening) (st : State) (kept : BoardState) (seat replica number : ℕ)

@@ -1,6 +1,6 @@
 -- Needs by their paths: what is found at a path, and that needs in order with the same finds are
 -- the same.
-use Rattle.std.proofs.Common.{◌≡◌, ℕ, ◌+◌, Bool, true, false, cond, List, [], ◌∷◌, map, is_some, Option, None, Some, refl, sym, ap, subst, ◌∙◌}
+use Rattle.std.proofs.Common.{◌≡◌, ℕ, ◌+◌, Bool, true, false, List, [], ◌∷◌, map, is_some, Option, None, Some, refl, sym, ap, subst, ◌∙◌}
 use Rattle.std.specs.Prelude.{if◌then◌else◌}
 use Rattle.std.specs.List.{AllByRecursion}
 use Rattle.std.specs.List.Sorted.{IsStrictlySortedBy}
@@ -232,7 +232,8 @@ need_path first path (change.Put resource stored) need e = by (provider_of first
     by : (who : Option Who) → option_map (λ who. record {
       path = path;
       resource = resource;
-      who = who;
+      who =
+          who;
     }) who ≡ Some need → need.path ≡ path
     by (Some who) e = sym (ap (λ (n : Need). n.path) (same_Some _ need e))
     by None e = absurd (none-some need e)

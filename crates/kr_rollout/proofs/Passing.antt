@@ -1,18 +1,16 @@
 -- What a verdict that passes says: the new settings read all that is stored and written, and are
 -- read.
-use Rattle.std.proofs.Common.{◌≡◌, ℕ, zero, suc, ◌<◌, ◌≤◌, ◌+◌, Bool, true, false, cond, List, [], ◌∷◌, ◌++◌, length, get_or, map, Contains, Option, None, Some, IsTrue, refl, sym, ap, subst, ◌∙◌, arith, lit≤, inl, inr}
+use Rattle.std.proofs.Common.{◌≡◌, ℕ, zero, suc, ◌<◌, ◌≤◌, ◌+◌, Bool, true, false, cond, List, [], ◌∷◌, ◌++◌, length, get_or, map, Contains, None, Some, IsTrue, refl, sym, ap, subst, ◌∙◌, arith}
 use Rattle.std.specs.Prelude.{◌&&◌, not, if◌then◌else◌, nat_le}
 use Rattle.std.specs.List.{filter, flat_map, list_all, list_any}
 use Rattle.std.specs.Option.{option_to_list}
-use Rattle.std.proofs.lemmas.Bool.{both_ways, not-false, and_parts}
+use Rattle.std.proofs.lemmas.Bool.{not-false, and_parts}
 use Rattle.std.proofs.lemmas.Bool.Decides.{nat_tests}
 use Rattle.std.proofs.lemmas.List.Elements.{Contains-append_right}
-use Rattle.std.proofs.lemmas.Option.{none-some}
 use Rattle.kr_config.specs.declared.class.Class.{Class}
 use Rattle.kr_config.specs.declared.class.Class.TheVariants.{Exact, Group, Rest}
 use Rattle.kr_config.specs.declared.pattern.Pattern.{Pattern}
 use Rattle.kr_config.specs.declared.who.Who.{Who}
-use Rattle.kr_config.specs.declared.who.Who.TheVariants.{Identity}
 use Rattle.kr_config.specs.Kept.{Row, apart, keeps, keeps_row, keeps_patterns, keeps_providers, patterns_in, keys_in, kms_in}
 use Rattle.kr_config.specs.Lists.{first_list, list_of, class_list}
 use Rattle.kr_config.specs.Patterns.{matches, covers_group, covers_rest}
@@ -21,12 +19,11 @@ use Rattle.kr_config.proofs.Narrowing.{each_class_narrows}
 use Rattle.kr_provider.specs.Publication.{Publication, IsPublished, list_at}
 use Rattle.kr_provider.specs.Readers.{writer_of}
 use Rattle.kr_judge.specs.declared.need.Need.{Need}
-use Rattle.kr_judge.specs.declared.verdict.Verdict.{Verdict}
 use Rattle.kr_judge.specs.declared.verdict.Verdict.TheVariants.{Pass, DropsStored, DropsWriter, Unread}
 use Rattle.kr_judge.specs.Boards.{Taken, is_live}
 use Rattle.kr_judge.specs.Providers.{has, unread_writer}
 use Rattle.kr_judge.specs.Tables.{table_of}
-use Rattle.kr_judge.specs.Verdicts.{numbered, is_other, others, judged_classes, unread, dropped, drops_writer, isnt_read, lost_writers, unread_writers, reasons, first_or_pass, verdict_of}
+use Rattle.kr_judge.specs.Verdicts.{numbered, is_other, others, judged_classes, unread, dropped, drops_writer, isnt_read, lost_writers, unread_writers, first_or_pass, verdict_of}
 use Rattle.kr_judge.proofs.Members.{has_members}
 use Rattle.kr_judge.proofs.Tables.{table_computes}
 

@@ -1,13 +1,11 @@
 -- Serving an event: that its line's entry is a step.
-use Rattle.std.proofs.Common.{◌≡◌, ℕ, ◌<◌, ◌≤◌, ◌++◌, ◌⊎◌, List, [], length, Option, None, Some, IsSome, IfSome, refl, sym, ap, subst, ◌∙◌, arith, append-nil}
+use Rattle.std.proofs.Common.{◌≡◌, ℕ, ◌<◌, ◌++◌, List, [], length, Option, None, Some, IsSome, IfSome, refl, sym, ap, subst, ◌∙◌, arith, append-nil}
 use Rattle.std.specs.Prelude.{⊤, slice_set}
-use Rattle.std.proofs.lemmas.List.{length-set}
-use Rattle.kr_base.specs.Rules.{IsPath}
 use Rattle.kr_store.specs.declared.rows.Row.{Row}
 use Rattle.kr_store.specs.Rows.{live}
 use Rattle.kr_store.specs.Stores.{Kept, IsNext}
 use Rattle.kr_provider.specs.Publication.{Publication}
-use Rattle.kr_judge.specs.Boards.{BoardState, Taken, changed_at, held_more, held_less}
+use Rattle.kr_judge.specs.Boards.{BoardState, held_more}
 use Rattle.kr_rollout.specs.declared.answer.Answer.{Answer}
 use Rattle.kr_rollout.specs.declared.answer.Answer.TheVariants as answer
 use Rattle.kr_rollout.specs.declared.event.Event.{Event}
@@ -22,11 +20,10 @@ use Rattle.kr_rollout.specs.declared.opening.Entry.{Entry}
 use Rattle.kr_rollout.specs.declared.opening.Opening.{Opening}
 use Rattle.kr_rollout.specs.Entries.{entry_of, published_at, named_by, Reaches}
 use Rattle.kr_rollout.specs.States.{State, number_at, current_of, held_by}
-use Rattle.kr_rollout.specs.Openings.{board}
 use Rattle.kr_rollout.specs.Answers.{IsAnswer}
 use Rattle.kr_rollout.specs.Writes.{Writes}
 use Rattle.kr_rollout.specs.Steps.{after, IsStep, KeepsRules}
-use Rattle.kr_rollout.specs.Callers.{did_of, gave_of, Shows, StoresIt, Records}
+use Rattle.kr_rollout.specs.Callers.{did_of, gave_of, Shows, StoresIt}
 use Rattle.kr_rollout.specs.inner.Rollouts.{Course, IsCourse, AreNumbers, line_now, state_with, MayServe, Serves}
 use Rattle.kr_rollout.proofs.Revisions.{live_at}
 use Rattle.kr_rollout.proofs.Keeping.{with_board}
@@ -68,7 +65,8 @@ held_only st held =
       current = st.current;
       held = held;
       needs = st.needs;
-      rows = r i;
+      rows =
+          r i;
       count = st.count;
     })
 
@@ -175,7 +173,8 @@ told c seat event answer s l rules is reach shows =
         did_is = refl;
         gave_is = refl;
         shows = shows;
-        stores = stores_still event answer _ s;
+        stores =
+            stores_still event answer _ s;
       };
     }
 
@@ -322,14 +321,16 @@ no_memory_adopt c seat replica number l may is =
     (record {
       row = omega arith;
       replaced = omega arith;
-      generation = names_none (length c.state.generations) (held_by c.state seat) Nothing may.1 tt;
+      generation =
+          names_none (length c.state.generations) (held_by c.state seat) Nothing may.1 tt;
     }) tt
 
 -- the seat holds something else
 abbrev pub holds_now : Course → ℕ → Option ℕ → Course
 holds_now c seat number = record {
   opening = c.opening;
-  state = record c.state { held = slice_set c.state.held seat number };
+  state =
+      record c.state { held = slice_set c.state.held seat number };
 }
 
 pub adopted : (c : Course) (kept : BoardState) (seat replica number : ℕ) (p : Publication)
@@ -431,19 +432,22 @@ adopted_at o store kept next generations current held old line seat replica numb
     is there line_is =
     let here : Course = record {
       opening = o;
-      state = state_with store kept generations current held;
+      state =
+          state_with store kept generations current held;
     } in
     let l2 = subst (λ (c : Course). seat < length c.opening.reloads) (sym view) l in
     let may2 = subst (λ (c : Course). MayServe c seat (event.Adopt replica)) (sym view) may in
     let base = adopted here kept seat replica number p k l2 may2 is there in
     let now : record {
       opening = o;
-      state = state_with store next generations current (slice_set held seat (Some number));
+      state =
+          state_with store next generations current (slice_set held seat (Some number));
     }
     ≡ holds_now here seat (Some number) =
     ap (λ (b : BoardState). record {
       opening = o;
-      state = state_with store b generations current (slice_set held seat (Some number));
+      state =
+          state_with store b generations current (slice_set held seat (Some number));
     }) e in
     let lines : line ≡ line_now here.state seat (Adopt replica) (Adopted number) = line_is
     ∙ ap (λ (c : Course). line_now c.state seat (Adopt replica) (Adopted number)) (sym view) in

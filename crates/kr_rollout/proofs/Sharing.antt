@@ -1,11 +1,10 @@
 -- What a rollout keeps of its replicas, made one by one.
-use Rattle.std.proofs.Common.{◌≡◌, ℕ, zero, suc, ◌<◌, ◌≤◌, ◌+◌, List, [], ◌∷◌, ◌++◌, length, get_or, take, map, Option, None, Some, IfSome, refl, sym, ap, subst, ◌∙◌, arith, length-take}
+use Rattle.std.proofs.Common.{◌≡◌, ℕ, suc, ◌<◌, ◌≤◌, ◌+◌, List, [], ◌∷◌, ◌++◌, length, get_or, take, Option, None, Some, IfSome, refl, sym, ap, subst, ◌∙◌, arith, length-take}
 use Rattle.std.specs.Prelude.{All}
 use Rattle.std.specs.Option.{option_map}
 use Rattle.std.proofs.lemmas.List.{take_all, map-append, append-nil}
 use Rattle.std.proofs.lemmas.List.Elements.{All-nil, All-push}
 use Rattle.kr_config.specs.declared.settings.Settings.{Settings}
-use Rattle.kr_config.specs.Kept.{Row, rows_of}
 use Rattle.kr_provider.specs.Publication.{Publication, IsPublished}
 use Rattle.kr_judge.proofs.Parts.{take_at_more}
 use Rattle.kr_rollout.specs.declared.generation.Generation.{Generation}

@@ -1,6 +1,5 @@
 -- Events that write to the store: that their lines' entries are steps.
-use Rattle.std.proofs.Common.{◌≡◌, ℕ, zero, suc, ◌<◌, ◌≤◌, ◌+◌, List, [], ◌∷◌, ◌++◌, length, take, get_or, is_some, Option, None, Some, IsSome, IfSome, Result, Ok, Err, refl, sym, ap, subst, ◌∙◌, arith, append-nil, length-append}
-use Rattle.std.specs.Prelude.{⊤}
+use Rattle.std.proofs.Common.{◌≡◌, ℕ, suc, ◌<◌, ◌≤◌, ◌+◌, List, [], ◌∷◌, ◌++◌, length, take, get_or, is_some, Option, None, Some, IfSome, Result, Ok, Err, refl, sym, ap, subst, ◌∙◌, arith, append-nil, length-append}
 use Rattle.std.specs.List.{slice_get}
 use Rattle.std.specs.Option.{option_map}
 use Rattle.std.proofs.lemmas.List.{take-append-le}
@@ -10,33 +9,31 @@ use Rattle.kr_store.specs.declared.answers.PutNo.TheVariants as no
 use Rattle.kr_store.specs.declared.rows.LogRow.{LogRow}
 use Rattle.kr_store.specs.declared.rows.Row.{Row}
 use Rattle.kr_store.specs.File.{file_bytes}
-use Rattle.kr_store.specs.Rows.{live, put_of, delete_of, row_of}
-use Rattle.kr_store.specs.Stores.{Kept, Puts, Deletes, Replaces, IsLatestPut, Wrote, Fails}
+use Rattle.kr_store.specs.Rows.{put_of, delete_of, row_of}
+use Rattle.kr_store.specs.Stores.{Kept, Puts, Deletes, IsLatestPut}
 use Rattle.kr_provider.specs.Publication.{Publication, list_at}
 use Rattle.kr_provider.specs.Readers.{writer_of}
 use Rattle.kr_provider.specs.Sealing.{IsSealing}
 use Rattle.kr_judge.specs.declared.need.Need.{Need}
-use Rattle.kr_judge.specs.Boards.{BoardState, set_need, drop_need}
+use Rattle.kr_judge.specs.Boards.{BoardState, drop_need}
 use Rattle.kr_rollout.specs.declared.answer.Answer.{Answer}
 use Rattle.kr_rollout.specs.declared.answer.Answer.TheVariants as answer
 use Rattle.kr_rollout.specs.declared.event.Event.{Event}
 use Rattle.kr_rollout.specs.declared.event.Event.TheVariants as event
 use Rattle.kr_rollout.specs.declared.generation.Generation.{Generation}
-use Rattle.kr_rollout.specs.declared.line.Did.{Did}
 use Rattle.kr_rollout.specs.declared.line.Did.TheVariants.{Put, Delete, Replace}
 use Rattle.kr_rollout.specs.declared.line.Gave.{Gave}
 use Rattle.kr_rollout.specs.declared.line.Gave.TheVariants.{Absent, Written, Changed, StoreFailed, StoreFull, Nothing}
 use Rattle.kr_rollout.specs.declared.line.Line.{Line}
 use Rattle.kr_rollout.specs.declared.opening.Entry.{Entry}
-use Rattle.kr_rollout.specs.declared.opening.Opening.{Opening}
 use Rattle.kr_rollout.specs.Entries.{entry_of, published_at, named_by, adopted_in, row_here, row_at, Reaches}
 use Rattle.kr_rollout.specs.States.{State, number_at, held_by}
 use Rattle.kr_rollout.specs.Openings.{board}
 use Rattle.kr_rollout.specs.Answers.{IsAnswer}
-use Rattle.kr_rollout.specs.Writes.{Writes, IsSealedPut, IsSealedAnew, file_size}
-use Rattle.kr_rollout.specs.Steps.{after, put_need, put_row, IsStep, KeepsRules}
-use Rattle.kr_rollout.specs.Callers.{did_of, gave_of, stored_in, IsResealing, Shows, StoresIt, Records}
-use Rattle.kr_rollout.specs.inner.Rollouts.{Course, opening_of, state_with, IsCourse, AreNumbers, line_now, MayServe, Serves}
+use Rattle.kr_rollout.specs.Writes.{Writes, IsSealedAnew}
+use Rattle.kr_rollout.specs.Steps.{after, put_need, put_row, KeepsRules}
+use Rattle.kr_rollout.specs.Callers.{did_of, gave_of, IsResealing, Shows, StoresIt}
+use Rattle.kr_rollout.specs.inner.Rollouts.{Course, opening_of, state_with, IsCourse, line_now, Serves}
 use Rattle.kr_rollout.specs.inner.Writing.{written_as, deleted_as, needs_with, needs_without, ReplacesBy}
 use Rattle.std.proofs.lemmas.Option.{same_Some}
 use Rattle.kr_rollout.proofs.Findings.{at_within}
@@ -83,7 +80,8 @@ stepped c next seat asked given opening state l held rules is writes counted rea
         did_is = refl;
         gave_is = refl;
         shows = shows;
-        stores = stores;
+        stores =
+            stores;
       };
     }
 
@@ -173,13 +171,15 @@ module _ (store next : Kept) (kept later : BoardState) (generations : List Gener
   abbrev here : Course
   here = record {
     opening = opening_of store first rs names reloads count;
-    state = state_with store kept generations current held;
+    state =
+        state_with store kept generations current held;
   }
 
   abbrev soon : Course
   soon = record {
     opening = opening_of next first rs names reloads count;
-    state = state_with next later generations current held;
+    state =
+        state_with next later generations current held;
   }
 
   -- the opening stays
@@ -241,7 +241,8 @@ module _ (store next : Kept) (kept later : BoardState) (generations : List Gener
         generations = generations ++ [];
         current = current;
         held = held;
-        needs = kept.needs;
+        needs =
+            kept.needs;
         rows = store.rows ++ [];
         count = next.count;
       })
@@ -347,7 +348,8 @@ module _ (store next : Kept) (kept later : BoardState) (generations : List Gener
               record {
                 stored = stored;
                 sealing = sealing;
-                row_is = refl;
+                row_is =
+                    refl;
               },
             ),
             f.within,
@@ -356,7 +358,8 @@ module _ (store next : Kept) (kept later : BoardState) (generations : List Gener
           f.later (record {
             row = omega arith;
             replaced = omega arith;
-            generation = bound_is StoreFailed;
+            generation =
+                bound_is StoreFailed;
           }) tt tt
       put_serves (Err (no.Full needed)) r b =
           let row = put_of path resource stored in
@@ -383,7 +386,8 @@ module _ (store next : Kept) (kept later : BoardState) (generations : List Gener
           (record {
             row = omega arith;
             replaced = omega arith;
-            generation = bound_is (StoreFull needed);
+            generation =
+                bound_is (StoreFull needed);
           }) tt tt
       put_serves (Err (no.Changed last)) r b = absurd r
       put_serves (Err no.NoMemory) r b =
@@ -418,7 +422,8 @@ module _ (store next : Kept) (kept later : BoardState) (generations : List Gener
           (record {
             row = omega arith;
             replaced = omega arith;
-            generation = any_bound Absent refl;
+            generation =
+                any_bound Absent refl;
           }) tt tt
       delete_serves (Ok (Some revision)) d b =
           let w = d.1 in
@@ -468,7 +473,8 @@ module _ (store next : Kept) (kept later : BoardState) (generations : List Gener
           f.later (record {
             row = omega arith;
             replaced = omega arith;
-            generation = any_bound StoreFailed refl;
+            generation =
+                any_bound StoreFailed refl;
           }) tt tt
       delete_serves (Err (no.Full needed)) d b =
           let r = d.1 in
@@ -484,7 +490,8 @@ module _ (store next : Kept) (kept later : BoardState) (generations : List Gener
           (record {
             row = omega arith;
             replaced = omega arith;
-            generation = any_bound (StoreFull needed) refl;
+            generation =
+                any_bound (StoreFull needed) refl;
           }) tt tt
       delete_serves (Err (no.Changed last)) d b = absurd d
       delete_serves (Err no.NoMemory) d b =
@@ -497,7 +504,8 @@ module _ (store next : Kept) (kept later : BoardState) (generations : List Gener
           (record {
             row = omega arith;
             replaced = omega arith;
-            generation = any_bound Nothing refl;
+            generation =
+                any_bound Nothing refl;
           }) tt tt
 
     -- ---- a replacement
@@ -528,7 +536,8 @@ module _ (store next : Kept) (kept later : BoardState) (generations : List Gener
           record {
             plain = re.plain;
             reads = re.reads;
-            sealed = record { stored = stored; sealing = re.sealing; row_is = refl };
+            sealed =
+                record { stored = stored; sealing = re.sealing; row_is = refl };
           }
 
       there_before : revision ≤ length store.rows
@@ -603,7 +612,8 @@ module _ (store next : Kept) (kept later : BoardState) (generations : List Gener
           )
           f.later (record {
             row = omega arith;
-            replaced = omega (arith, there_before, ap (λ (rows : List LogRow). length rows) f.rows);
+            replaced =
+                omega (arith, there_before, ap (λ (rows : List LogRow). length rows) f.rows);
             generation = bound_then StoreFailed;
           }) tt tt
       replace_serves (Err (no.Full needed)) r =
@@ -632,8 +642,10 @@ module _ (store next : Kept) (kept later : BoardState) (generations : List Gener
           (omega (arith, ap (λ (s : Kept). s.count) q.0))
           (record {
             row = omega arith;
-            replaced = omega (arith, there_before, ap (λ (x : List LogRow). length x) rows);
-            generation = bound_then (StoreFull needed);
+            replaced =
+                omega (arith, there_before, ap (λ (x : List LogRow). length x) rows);
+            generation =
+                bound_then (StoreFull needed);
           }) tt tt
       replace_serves (Err (no.Changed last)) r =
           let same = r.0.1 in
@@ -646,8 +658,10 @@ module _ (store next : Kept) (kept later : BoardState) (generations : List Gener
           (omega (arith, ap (λ (s : Kept). s.count) same))
           (record {
             row = omega arith;
-            replaced = omega (arith, there_before, ap (λ (x : List LogRow). length x) rows);
-            generation = bound_then (Changed last);
+            replaced =
+                omega (arith, there_before, ap (λ (x : List LogRow). length x) rows);
+            generation =
+                bound_then (Changed last);
           }) tt tt
       replace_serves (Err no.NoMemory) r =
           let same = r.0 in
@@ -660,6 +674,8 @@ module _ (store next : Kept) (kept later : BoardState) (generations : List Gener
           (omega (arith, ap (λ (s : Kept). s.count) same))
           (record {
             row = omega arith;
-            replaced = omega (arith, there_before, ap (λ (x : List LogRow). length x) rows);
-            generation = bound_then Nothing;
+            replaced =
+                omega (arith, there_before, ap (λ (x : List LogRow). length x) rows);
+            generation =
+                bound_then Nothing;
           }) tt tt

@@ -1,7 +1,6 @@
 -- The replicas' settings are taken up one by one.
-use Rattle.std.proofs.Common.{◌≡◌, ℕ, zero, suc, ◌<◌, ◌≤◌, ◌+◌, ◌==◌, Bool, true, false, List, [], ◌∷◌, ◌++◌, length, get_or, take, drop, map, Contains, Option, None, Some, Result, Ok, Err, IsTrue, refl, sym, ap, subst, ◌∙◌, arith, inl, inr, ◌⊎◌, length-take, length-append}
-use Rattle.std.specs.Prelude.{◌&&◌, ◌||◌, ◌≢◌, not, nat_lt}
-use Rattle.std.specs.List.{slice_get}
+use Rattle.std.proofs.Common.{◌≡◌, ℕ, zero, suc, ◌<◌, ◌≤◌, ◌+◌, true, List, [], ◌∷◌, ◌++◌, length, get_or, take, drop, Contains, Option, None, Some, Result, Ok, Err, IsTrue, refl, sym, ap, subst, ◌∙◌, arith, inl, inr, ◌⊎◌, length-take}
+use Rattle.std.specs.Prelude.{◌&&◌, not}
 use Rattle.std.specs.Option.{option_map}
 use Rattle.std.proofs.lemmas.Bool.{ne_eqb}
 use Rattle.std.proofs.lemmas.List.{take-append-drop, take_all}
@@ -13,14 +12,11 @@ use Rattle.kr_config.specs.Kept.{Row, keeps, rows_of}
 use Rattle.kr_config.specs.Lists.{list_of, class_list}
 use Rattle.kr_provider.specs.Readers.{writer_of}
 use Rattle.kr_judge.specs.declared.need.Need.{Need}
-use Rattle.kr_judge.specs.declared.verdict.Verdict.{Verdict}
-use Rattle.kr_judge.specs.declared.verdict.Verdict.TheVariants.{Pass}
-use Rattle.kr_judge.specs.Boards.{Taken, BoardState, left_by, without_current, is_live}
-use Rattle.kr_judge.specs.Verdicts.{verdict_of, is_other}
+use Rattle.kr_judge.specs.Boards.{Taken, BoardState, left_by, without_current}
+use Rattle.kr_judge.specs.Verdicts.{is_other}
 use Rattle.kr_judge.proofs.Parts.{take_at_more}
 use Rattle.kr_rollout.specs.declared.opening_board.StartNo.{StartNo}
 use Rattle.kr_rollout.specs.declared.opening_board.StartNo.TheVariants.{Stray, Unfit, NoMemory}
-use Rattle.kr_rollout.specs.Fits.{AreFit}
 use Rattle.kr_rollout.specs.Starts.{opening_generations, AllFit, IsUnfit}
 use Rattle.kr_rollout.specs.inner.Opens.{rows_in, settings_rows, Admits, TakesUp, TakesAllUp}
 use Rattle.kr_rollout.proofs.Passing.{passed, AreReadable, own_writer, class_some}
@@ -161,7 +157,8 @@ pub taken_begin : (rs : List (Option (List Row))) (old : BoardState) → old.gen
     → AreTaken rs old old 0
 taken_begin rs old e = record {
   board_is = ap (λ gs. record old { generations = gs }) e;
-  fit = none_fit old.needs;
+  fit =
+      none_fit old.needs;
 }
 
 rows_at : (replicas : List (Option Settings)) (i : ℕ) (o : Option Settings) → i < length replicas

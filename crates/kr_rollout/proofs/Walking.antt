@@ -1,7 +1,7 @@
 -- Going through the live rows by paths: what stands on the board, and that the walk ends.
-use Rattle.std.proofs.Common.{◌≡◌, ◌≢◌, ℕ, zero, suc, ◌<◌, ◌≤◌, ◌+◌, Bool, true, false, cond, List, [], ◌∷◌, ◌++◌, length, get_or, count_by, is_some, Option, None, Some, Ok, Err, IsSome, refl, sym, ap, subst, ◌∙◌, arith, ◌⊎◌, inl, inr}
+use Rattle.std.proofs.Common.{◌≡◌, ◌≢◌, ℕ, zero, suc, ◌<◌, ◌≤◌, Bool, true, false, cond, List, [], ◌∷◌, ◌++◌, length, get_or, count_by, is_some, Option, None, Some, Ok, Err, IsSome, refl, sym, ap, subst, ◌∙◌, arith, ◌⊎◌, inl, inr}
 use Rattle.std.specs.Prelude.{if◌then◌else◌, find, position, nat_lt}
-use Rattle.std.specs.List.{slice_get, sum_by, position_or_len}
+use Rattle.std.specs.List.{slice_get, position_or_len}
 use Rattle.std.specs.Option.{option_map}
 use Rattle.std.specs.Str.{bytes_eq}
 use Rattle.std.specs.Ordering.{is_lt, ordering_reverse}
@@ -31,10 +31,10 @@ use Rattle.kr_judge.specs.Boards.{AreByPath, BoardState, set_need}
 use Rattle.kr_judge.proofs.Needs.{sorted_nil, sorted_set}
 use Rattle.kr_rollout.specs.declared.opening_board.StartNo.{StartNo}
 use Rattle.kr_rollout.specs.declared.opening_board.StartNo.TheVariants.{Stray, Unfit, NoMemory}
-use Rattle.kr_rollout.specs.inner.Opens.{IsStrayOf, Notes, NotesAll}
+use Rattle.kr_rollout.specs.inner.Opens.{IsStrayOf, Notes}
 use Rattle.kr_rollout.specs.Openings.{provider_of, need_of, needs_of, HasNoStray}
 use Rattle.kr_rollout.specs.Starts.{IsStray, IsLeastStray}
-use Rattle.kr_rollout.proofs.Revisions.{last_at, live_at}
+use Rattle.kr_rollout.proofs.Revisions.{last_at}
 use Rattle.kr_rollout.proofs.Needing.{need_at, set_found, equal_by, same_path, own_path, last_row, needed, needs_found, needs_sorted, same_needs}
 
 -- what a live row needs
@@ -42,7 +42,8 @@ abbrev pub live_need : List Row → stored_row.Row → Option Need
 live_need first row = option_map (λ who. record {
   path = row.path;
   resource = row.resource;
-  who = who;
+  who =
+      who;
 }) (provider_of first row.resource row.stored)
 
 -- the live rows up to a path are noted, and no path is that has no live row

@@ -16,7 +16,7 @@ use Rattle.kr_rollout.specs.declared.line.Line.{Line}
 use Rattle.kr_rollout.specs.declared.opening.Entry.{Entry}
 use Rattle.kr_rollout.specs.declared.opening.Opening.{Opening}
 use Rattle.kr_rollout.specs.Entries.{entry_of, published_at, row_at}
-use Rattle.kr_rollout.specs.States.{State, number_at, current_of, held_by}
+use Rattle.kr_rollout.specs.States.{State, number_at, held_by}
 use Rattle.kr_rollout.specs.Openings.{board}
 use Rattle.kr_rollout.specs.Steps.{IsStep, after}
 use Rattle.kr_rollout.specs.Histories.{IsLegal, state_of}

@@ -1,4 +1,4 @@
-use Rattle.std.proofs.Common.{◌≡◌, None, Some, sym, ap, ◌∙◌}
+use Rattle.std.proofs.Common.{sym, ap, ◌∙◌}
 use Rattle.kr_config.specs.Kept.{rows_of}
 use Rattle.kr_config.specs.Lists.{list_of}
 use Rattle.kr_judge.specs.Boards.{set_need}
@@ -30,7 +30,8 @@ returns-in-Ok c = (
         (record {
           path = c.as_str-2.ensures i;
           resource = c.as_str-3.ensures i;
-          who = c.index-list-place.result;
+          who =
+              c.index-list-place.result;
         });
   }),
 )

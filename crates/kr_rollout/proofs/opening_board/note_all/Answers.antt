@@ -1,4 +1,4 @@
-use Rattle.std.proofs.Common.{[], None, Some, refl, sym, ap, subst, ◌∙◌}
+use Rattle.std.proofs.Common.{[], None, refl, sym, ap, subst, ◌∙◌}
 use Rattle.kr_config.specs.Kept.{rows_of}
 use Rattle.kr_store.specs.declared.rows.Row.{Row}
 use Rattle.kr_store.specs.Stores.{IsNext}

@@ -1,7 +1,7 @@
-use Rattle.std.proofs.Common.{◌≡◌, ◌<◌, length, ℕ, None, Some, sym, ap, subst, ◌∙◌, arith}
+use Rattle.std.proofs.Common.{◌≡◌, ◌<◌, length, Some, sym, ap, subst, ◌∙◌, arith}
 use Rattle.kr_rollout.specs.declared.event.Event.TheVariants as event
 use Rattle.kr_rollout.specs.States.{number_at}
-use Rattle.kr_rollout.specs.inner.Rollouts.{Course, opening_of, MayServe}
+use Rattle.kr_rollout.specs.inner.Rollouts.{Course, MayServe}
 use Rattle.kr_rollout.proofs.Keeping.{read_number, read_published, board_holds, course_taken}
 use Rattle.kr_rollout.proofs.Serving.{adopted_at}
 use Rattle.kr_rollout.proofs.rollout.Rollout.adopt.Goals as goal

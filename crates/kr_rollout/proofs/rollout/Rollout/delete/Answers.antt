@@ -1,15 +1,9 @@
-use Rattle.std.proofs.Common.{◌≡◌, ◌<◌, ℕ, length, Some, refl, sym, ap, subst, ◌∙◌, arith}
-use Rattle.kr_store.specs.Rows.{put_of}
-use Rattle.kr_store.specs.Stores.{Puts, Deletes}
-use Rattle.kr_provider.specs.Publication.{Publication, IsPublished, list_at}
-use Rattle.kr_provider.specs.Readers.{writer_of}
-use Rattle.kr_judge.specs.Boards.{BoardState}
+use Rattle.std.proofs.Common.{◌<◌, length, sym, ap, subst, ◌∙◌}
+use Rattle.kr_store.specs.Stores.{Deletes}
 use Rattle.kr_rollout.specs.declared.event.Event.TheVariants as event
-use Rattle.kr_rollout.specs.States.{number_at}
 use Rattle.kr_rollout.specs.inner.Rollouts.{Course, MayServe}
-use Rattle.kr_rollout.specs.inner.Writing.{written_as, deleted_as, needs_with, needs_without, ReplacesBy}
-use Rattle.kr_rollout.proofs.Keeping.{read_number}
-use Rattle.kr_rollout.proofs.Storing.{seen, own_published, grown_course, put_serves, delete_serves, replace_serves}
+use Rattle.kr_rollout.specs.inner.Writing.{deleted_as, needs_without}
+use Rattle.kr_rollout.proofs.Storing.{seen, delete_serves}
 use Rattle.kr_rollout.proofs.rollout.Rollout.delete.Goals as goal
 
 pub returns : goal.returns
@@ -31,6 +25,7 @@ returns g c =
     c.delete_value-result.result) c.as_str.ensures c.delete_value-result.ensures.store)
     (c.delete_value-result.ensures.board ∙ ap
     (λ path. record c.self.inside.board {
-      needs = needs_without c.delete_value-result.result path c.self.inside.board.needs;
+      needs =
+          needs_without c.delete_value-result.result path c.self.inside.board.needs;
     })
     c.as_str.ensures))

@@ -1,7 +1,5 @@
-use Rattle.std.proofs.Common.{sym, ap, subst, ◌∙◌}
+use Rattle.std.proofs.Common.{sym, ap, ◌∙◌}
 use Rattle.kr_store.specs.declared.rows.Row.{Row}
-use Rattle.kr_store.specs.Stores.{IsNext}
-use Rattle.kr_rollout.specs.inner.Rollouts.{Course}
 use Rattle.kr_rollout.proofs.Serving.{found_at}
 use Rattle.kr_rollout.proofs.rollout.Rollout.fetch.Goals as goal
 

@@ -1,15 +1,14 @@
-use Rattle.std.proofs.Common.{◌≡◌, ◌<◌, ℕ, length, Some, refl, sym, ap, subst, ◌∙◌, arith}
+use Rattle.std.proofs.Common.{◌≡◌, ◌<◌, length, Some, sym, subst, ◌∙◌, arith}
 use Rattle.kr_store.specs.Rows.{put_of}
-use Rattle.kr_store.specs.Stores.{Puts, Deletes}
+use Rattle.kr_store.specs.Stores.{Puts}
 use Rattle.kr_provider.specs.Publication.{Publication, IsPublished, list_at}
 use Rattle.kr_provider.specs.Readers.{writer_of}
-use Rattle.kr_judge.specs.Boards.{BoardState}
 use Rattle.kr_rollout.specs.declared.event.Event.TheVariants as event
 use Rattle.kr_rollout.specs.States.{number_at}
 use Rattle.kr_rollout.specs.inner.Rollouts.{Course, MayServe}
-use Rattle.kr_rollout.specs.inner.Writing.{written_as, deleted_as, needs_with, needs_without, ReplacesBy}
+use Rattle.kr_rollout.specs.inner.Writing.{written_as, needs_with}
 use Rattle.kr_rollout.proofs.Keeping.{read_number}
-use Rattle.kr_rollout.proofs.Storing.{seen, own_published, grown_course, put_serves, delete_serves, replace_serves}
+use Rattle.kr_rollout.proofs.Storing.{seen, own_published, grown_course, put_serves}
 use Rattle.kr_rollout.proofs.rollout.Rollout.put.Goals as goal
 
 pub put_value-result-requires-clause-stored : goal.put_value-result-requires-clause-stored
@@ -38,7 +37,8 @@ invariant_of-self g c =
     c.self.inside.names.0 c.self.inside.reloads.items c.self.inside.first_faults
     (needs_with c.put_value-result.result (record {
       path = c.as_str-2.result.now;
-      resource = c.as_str-3.result.now;
+      resource =
+          c.as_str-3.result.now;
       who = c.writer_of-who.result.now;
     }) c.self.inside.board.needs)
     (put_of c.as_str-2.result.now c.as_str-3.result.now c.args.stored) c.put_value-result.result

@@ -1,15 +1,11 @@
-use Rattle.std.proofs.Common.{◌≡◌, ◌<◌, ℕ, length, Some, refl, sym, ap, subst, ◌∙◌, arith}
-use Rattle.kr_store.specs.Rows.{put_of}
-use Rattle.kr_store.specs.Stores.{Puts, Deletes}
-use Rattle.kr_provider.specs.Publication.{Publication, IsPublished, list_at}
-use Rattle.kr_provider.specs.Readers.{writer_of}
-use Rattle.kr_judge.specs.Boards.{BoardState}
+use Rattle.std.proofs.Common.{◌≡◌, ◌<◌, length, Some, sym, subst, ◌∙◌, arith}
+use Rattle.kr_provider.specs.Publication.{Publication, IsPublished}
 use Rattle.kr_rollout.specs.declared.event.Event.TheVariants as event
 use Rattle.kr_rollout.specs.States.{number_at}
 use Rattle.kr_rollout.specs.inner.Rollouts.{Course, MayServe}
-use Rattle.kr_rollout.specs.inner.Writing.{written_as, deleted_as, needs_with, needs_without, ReplacesBy}
+use Rattle.kr_rollout.specs.inner.Writing.{written_as, ReplacesBy}
 use Rattle.kr_rollout.proofs.Keeping.{read_number}
-use Rattle.kr_rollout.proofs.Storing.{seen, own_published, grown_course, put_serves, delete_serves, replace_serves}
+use Rattle.kr_rollout.proofs.Storing.{seen, own_published, replace_serves}
 use Rattle.kr_rollout.proofs.rollout.Rollout.replace.Goals as goal
 
 pub replace_live-result-requires-clause-stored : goal.replace_live-result-requires-clause-stored
