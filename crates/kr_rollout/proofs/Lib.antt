@@ -13,3 +13,4 @@ pub mod Findings
 pub mod Sharing
 pub mod Boarding
 pub mod Storing
+pub mod Refusing

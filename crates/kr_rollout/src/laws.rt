@@ -1,5 +1,11 @@
 //! Laws of the definitions, for a reader and for callers' proofs. The functions do nothing.
-ghost use Rattle.kr_rollout.specs.Laws.{FrontIsLegal, HoldingIsHeld, FoundIsThere};
+ghost use Rattle.kr_rollout.specs.Laws.{FrontIsLegal, HoldingIsHeld, FoundIsThere, UnfitIsUnfit};
+
+/// A replica that is named as unfit doesn't fit with the others, so a start is refused for that
+/// only where the opening doesn't fit.
+pub fn unfit_is_unfit()
+    ensures { UnfitIsUnfit }
+{}
 
 /// A front of a legal history is legal.
 pub fn front_is_legal()

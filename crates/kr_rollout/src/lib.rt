@@ -19,7 +19,7 @@ pub use answer::Answer;
 pub use event::Event;
 pub use generation::Generation;
 pub use journal::Core;
-pub use laws::{found_is_there, front_is_legal, holding_is_held};
+pub use laws::{found_is_there, front_is_legal, holding_is_held, unfit_is_unfit};
 pub use line::{Did, Gave, Line};
 pub use opening::{Entry, Opening};
 pub use opening_board::{StartNo, board_of};

@@ -111,6 +111,7 @@ fn note(alloc: Global, first: &Settings, row: &Row, board: &mut Board) -> Result
     }
 }
 
+/// What is answered to a row of this path that has no provider.
 fn stray(alloc: Global, path: &str) -> StartNo
     ensures { IsStrayOf path.now result }
 {
@@ -166,6 +167,7 @@ fn take_up(
     }
 }
 
+/// Whether there is a reason against the settings.
 fn is_refusal(verdict: &Verdict) -> bool
     ensures { result ≡ is_refusal verdict.now }
 {

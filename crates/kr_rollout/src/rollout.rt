@@ -94,7 +94,7 @@ impl<T: Tape> Rollout<T> {
         self.store
     }
 
-    // The line of an event that is answered now.
+    /// The line of an event that is answered now.
     pub fn line(&self, seat: u32, did: Did, gave: Gave) -> Line
         requires { seat < length self.now.opening.reloads }
         ensures { result ≡ line_now self.now.state seat did gave }
@@ -108,7 +108,8 @@ impl<T: Tape> Rollout<T> {
         }
     }
 
-    // The configuration is shared before anything changes.
+    /// Adopts the replica's current generation. The configuration is shared before anything
+    /// changes.
     fn adopt(&mut self, seat: u32, replica: u32) -> (Answer, Line)
         requires seat_in { seat < length self.old.opening.reloads }
         requires may { MayServe self.old seat (event.Adopt replica) }
@@ -139,6 +140,7 @@ impl<T: Tape> Rollout<T> {
         }
     }
 
+    /// Finds the path's live row.
     fn fetch(&mut self, seat: u32, path: Text) -> (Answer, Line)
         requires seat_in { seat < length self.old.opening.reloads }
         requires may { MayServe self.old seat (event.Fetch path) }
@@ -163,6 +165,7 @@ impl<T: Tape> Rollout<T> {
         }
     }
 
+    /// Finds the live row with the least path above this one.
     fn find_next(&mut self, seat: u32, path: Text) -> (Answer, Line)
         requires seat_in { seat < length self.old.opening.reloads }
         requires may { MayServe self.old seat (event.After path) }
@@ -187,6 +190,7 @@ impl<T: Tape> Rollout<T> {
         }
     }
 
+    /// Lets the held generation go. It takes no memory.
     fn let_go(&mut self, seat: u32) -> (Answer, Line)
         requires seat_in { seat < length self.old.opening.reloads }
         requires may { MayServe self.old seat event.LetGo }

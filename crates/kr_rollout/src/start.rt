@@ -58,7 +58,7 @@ impl<T: Tape> Rollout<T> {
     }
 }
 
-// What a rollout keeps of its replicas and seats at the opening.
+/// What a rollout keeps of its replicas and seats at the opening.
 #[derive(Drop)]
 struct Made {
     settings: List<Option<Shared<Settings>>>,
@@ -70,7 +70,7 @@ struct Made {
     room: u32,
 }
 
-// Everything that takes memory, so that nothing is half done.
+/// Makes all of it, before the store is given up.
 fn make(
     alloc: Global,
     replicas: &[Option<Shared<Published>>],
@@ -104,6 +104,7 @@ fn make(
     })
 }
 
+/// The settings of the replicas that are in.
 #[tactic(auto, using(crate::proofs::Sharing::shared_begin, crate::proofs::Sharing::shared_more, crate::proofs::Sharing::shared_end, crate::proofs::Sharing::shared_published))]
 fn share_settings(
     alloc: Global,
@@ -119,6 +120,7 @@ fn share_settings(
     Ok(List::from_vec(settings))
 }
 
+/// The settings of a replica that is in.
 fn settings_in(replica: &Option<Shared<Published>>) -> Result<Option<Shared<Settings>>, NoMemory>
     ensures rows { IfOk result (λ settings.
         settings_rows settings ≡ option_map (λ p. p.rows) replica.now) }
@@ -133,6 +135,7 @@ fn settings_in(replica: &Option<Shared<Published>>) -> Result<Option<Shared<Sett
     }
 }
 
+/// The generations of the replicas that are in, with room for so many in all.
 #[tactic(auto, using(crate::proofs::Sharing::made_begin, crate::proofs::Sharing::made_step, crate::proofs::Sharing::made_end))]
 fn share_generations(
     alloc: Global,
@@ -150,7 +153,7 @@ fn share_generations(
     Ok(generations)
 }
 
-/// The generation of a replica that is in.
+/// Adds the generation of a replica that is in.
 fn add_generation(
     generations: &mut Vec<Generation>,
     replica: u32,
@@ -167,6 +170,7 @@ fn add_generation(
     Ok(())
 }
 
+/// The number of each replica's generation, of those that are in.
 #[tactic(auto, using(crate::proofs::Sharing::numbered_begin, crate::proofs::Sharing::numbered_step, crate::proofs::Sharing::numbered_end, crate::proofs::Sharing::numbered_room))]
 fn number_replicas(
     alloc: Global,

@@ -133,6 +133,7 @@ fn refuse_replacing<T: Tape>(
     }
 }
 
+/// What is answered where the store refused a row.
 fn refusal(why: PutNo) -> Answer
     ensures { result ≡ refused_as why }
 {
@@ -144,6 +145,7 @@ fn refusal(why: PutNo) -> Answer
     }
 }
 
+/// What is answered to a put.
 fn put_answer(wrote: Result<u64, PutNo>) -> Answer
     ensures { result ≡ written_as wrote }
 {
@@ -153,6 +155,7 @@ fn put_answer(wrote: Result<u64, PutNo>) -> Answer
     }
 }
 
+/// What is answered to a delete.
 fn delete_answer(wrote: Result<Option<u64>, PutNo>) -> Answer
     ensures { result ≡ deleted_as wrote }
 {
@@ -199,7 +202,7 @@ fn writer_of<'a>(published: &'a Published, resource: &str) -> &'a Who
     &list[0]
 }
 
-/// What is known of each configuration.
+/// Tells what each published configuration keeps.
 fn known(published: &Published)
     ensures { IsPublished published.now }
 {
@@ -207,6 +210,7 @@ fn known(published: &Published)
 }
 
 impl<T: Tape> Rollout<T> {
+    /// Puts a value that was sealed by the held generation.
     pub fn put(
         &mut self,
         seat: u32,
@@ -246,6 +250,7 @@ impl<T: Tape> Rollout<T> {
         (answer, line)
     }
 
+    /// Deletes the path's live row.
     pub fn delete(&mut self, seat: u32, path: Text) -> (Answer, Line)
         requires seat_in { seat < length self.old.opening.reloads }
         requires may { MayServe self.old seat (event.Delete path) }
@@ -258,6 +263,7 @@ impl<T: Tape> Rollout<T> {
         (answer, line)
     }
 
+    /// Puts a value, sealed anew, in the place of the row that the seat found last.
     pub fn replace(&mut self, seat: u32, path: Text, revision: u64, stored: Bytes) -> (Answer, Line)
         requires seat_in { seat < length self.old.opening.reloads }
         requires may { MayServe self.old seat (event.Replace path revision stored) }
