@@ -31,6 +31,7 @@ HoldingIsHeld = (o : Opening) (history : List Entry) (seat : ℕ) → IsLegal o 
 
 -- the row that a seat found last is still that of its revision
 abbrev pub FoundIsThere : Type 0
-FoundIsThere = (o : Opening) (history : List Entry) (seat : ℕ) (row : stored_row.Row) → IsLegal o history
+FoundIsThere = (o : Opening) (history : List Entry) (seat : ℕ) (row : stored_row.Row)
+    → IsLegal o history
     → found_in (of_seat seat_of seat history) ≡ Some row
     → row_at (state_of o history).rows row.revision ≡ Some row
