@@ -6,9 +6,9 @@ use Rattle.kr_config.specs.Kept.{Row}
 use Rattle.kr_judge.specs.Boards.{BoardState}
 use Rattle.kr_rollout.specs.declared.opening_board.StartNo.{StartNo}
 use Rattle.kr_rollout.specs.declared.opening_board.StartNo.TheVariants.{Stray, Unfit, NoMemory}
-use Rattle.kr_rollout.specs.Openings.{first_rows, needs_of, HasNoStray}
+use Rattle.kr_rollout.specs.Openings.{first_rows, needs_of, HasNoStray, rows_in}
 use Rattle.kr_rollout.specs.Starts.{opening_generations, AllFit, IsUnfit, IsLeastStray, Boards}
-use Rattle.kr_rollout.specs.inner.Opens.{rows_in, NotesAll, TakesAllUp}
+use Rattle.kr_rollout.specs.inner.Opens.{NotesAll, TakesAllUp}
 
 module _ (replicas : List (Option Settings)) (first : List Row) (rows : List LogRow) (room : ℕ)
     (empty noted : BoardState)

@@ -1,5 +1,5 @@
 -- Settings that fit with those that are live aren't refused.
-use Rattle.std.proofs.Common.{◌≡◌, ℕ, zero, suc, ◌<◌, ◌≤◌, ◌+◌, Bool, true, false, cond, List, [], ◌∷◌, ◌++◌, length, take, drop, map, Contains, Option, None, Some, refl, sym, ap, subst, ◌∙◌, arith}
+use Rattle.std.proofs.Common.{◌≡◌, ℕ, zero, suc, ◌+◌, Bool, true, false, cond, List, [], ◌∷◌, ◌++◌, take, drop, map, Contains, Option, None, Some, refl, ap, subst, ◌∙◌, arith}
 use Rattle.std.specs.Prelude.{not, if◌then◌else◌}
 use Rattle.std.specs.List.{filter, flat_map, slice_get}
 use Rattle.std.specs.Option.{option_to_list}
@@ -12,14 +12,13 @@ use Rattle.kr_config.specs.Kept.{Row}
 use Rattle.kr_config.specs.Lists.{list_of, class_list}
 use Rattle.kr_provider.specs.Readers.{writer_of}
 use Rattle.kr_judge.specs.declared.need.Need.{Need}
-use Rattle.kr_judge.specs.declared.verdict.Verdict.{Verdict}
 use Rattle.kr_judge.specs.declared.verdict.Verdict.TheVariants.{Pass, DropsStored, DropsWriter, Unread}
 use Rattle.kr_judge.specs.Boards.{Taken}
 use Rattle.kr_judge.specs.Providers.{has, unread_writer}
 use Rattle.kr_judge.specs.Verdicts.{numbered, is_other, others, judged_classes, unread, dropped, drops_writer, isnt_read, lost_writers, unread_writers, first_or_pass, verdict_of}
 use Rattle.kr_judge.proofs.Members.{has_members}
 use Rattle.kr_rollout.specs.Laws.{UnfitIsUnfit}
-use Rattle.kr_rollout.specs.Starts.{opening_generations, AllFit}
+use Rattle.kr_rollout.specs.Starts.{opening_generations}
 
 -- ---- lists of which nothing is left
 

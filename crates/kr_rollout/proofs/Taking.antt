@@ -18,8 +18,9 @@ use Rattle.kr_judge.proofs.Parts.{take_at_more}
 use Rattle.kr_rollout.specs.declared.opening_board.StartNo.{StartNo}
 use Rattle.kr_rollout.specs.declared.opening_board.StartNo.TheVariants.{Stray, Unfit, NoMemory}
 use Rattle.kr_rollout.specs.Starts.{opening_generations, AllFit, IsUnfit}
-use Rattle.kr_rollout.specs.inner.Opens.{rows_in, settings_rows, Admits, TakesUp, TakesAllUp}
+use Rattle.kr_rollout.specs.inner.Opens.{Admits, TakesUp, TakesAllUp}
 use Rattle.kr_rollout.proofs.Passing.{passed, AreReadable, own_writer, class_some}
+use Rattle.kr_rollout.specs.Openings.{rows_in, settings_rows}
 
 abbrev pub fresh : ℕ → List Row → Taken
 fresh replica rows = record { replica = replica; rows = rows; current = true; holders = 0 }

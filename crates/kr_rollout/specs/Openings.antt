@@ -8,7 +8,8 @@ use Rattle.kr_store.specs.declared.rows.Change.TheVariants as change
 use Rattle.kr_store.specs.Rows.{latest, live, AreRows}
 use Rattle.kr_store.specs.Stores.{Kept}
 use Rattle.kr_config.specs.declared.who.Who.{Who}
-use Rattle.kr_config.specs.Kept.{Row}
+use Rattle.kr_config.specs.declared.settings.Settings.{Settings}
+use Rattle.kr_config.specs.Kept.{Row, rows_of}
 use Rattle.kr_config.specs.Lists.{list_of}
 use Rattle.kr_provider.specs.Publication.{Publication, IsPublished, plugins_in}
 use Rattle.kr_provider.specs.Readers.{reader_in}
@@ -17,6 +18,13 @@ use Rattle.kr_judge.specs.Boards.{BoardState, set_need}
 use Rattle.kr_rollout.specs.declared.generation.Generation.{Generation}
 use Rattle.kr_rollout.specs.declared.opening.Opening.{Opening}
 use Rattle.kr_rollout.specs.States.{State, board_generations}
+
+-- settings by their rows
+abbrev pub settings_rows : Option Settings → Option (List Row)
+settings_rows settings = option_map (λ s. rows_of s.entries.0) settings
+
+abbrev pub rows_in : List (Option Settings) → List (Option (List Row))
+rows_in replicas = map settings_rows replicas
 
 -- ---- what the rows need
 

@@ -1,9 +1,9 @@
 //! The board of a store's rows and of the replicas' settings.
 ghost use Rattle.std.specs.Prelude.{◌≡◌, ◌<◌, ◌≤◌, [], length, None};
 ghost use Rattle.kr_config.specs.Kept.{rows_of};
-ghost use Rattle.kr_rollout.specs.Openings.{IsFirstIn, first_rows};
+ghost use Rattle.kr_rollout.specs.Openings.{IsFirstIn, first_rows, rows_in, settings_rows};
 ghost use Rattle.kr_rollout.specs.Starts.{Boards};
-ghost use Rattle.kr_rollout.specs.inner.Opens.{rows_in, settings_rows, IsStrayOf, Notes, NotesAll, TakesUp, TakesAllUp, is_refusal};
+ghost use Rattle.kr_rollout.specs.inner.Opens.{IsStrayOf, Notes, NotesAll, TakesUp, TakesAllUp, is_refusal};
 
 use kr_base::{List, NoMemory, Shared, Tape, Text};
 use kr_config::Settings;

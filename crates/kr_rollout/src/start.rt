@@ -1,9 +1,9 @@
 //! The start of a rollout.
-ghost use Rattle.std.specs.Prelude.{◌≡◌, ◌<◌, ◌≤◌, ◌+◌, length, map, sum, replicate, ◌++◌, All, None, IsOk, IfOk, IfSome, IfErr, OnOk};
+ghost use Rattle.std.specs.Prelude.{◌≡◌, ◌<◌, ◌≤◌, ◌+◌, length, sum, replicate, ◌++◌, All, None, IsOk, IfOk, IfSome, IfErr, OnOk};
 ghost use Rattle.std.specs.Option.{option_map};
 ghost use Rattle.kr_provider.specs.Publication.{IsPublished};
-ghost use Rattle.kr_rollout.specs.Openings.{opening_by, IsFirstIn, AreAmong, generations_from, current_from, settings_of};
-ghost use Rattle.kr_rollout.specs.inner.Opens.{rows_in, settings_rows, generation_at, number_if_in, number_after, Opens};
+ghost use Rattle.kr_rollout.specs.Openings.{opening_by, IsFirstIn, AreAmong, generations_from, current_from, settings_of, rows_in, settings_rows};
+ghost use Rattle.kr_rollout.specs.inner.Opens.{generation_at, number_if_in, number_after, Opens};
 
 use crate::generation::Generation;
 use crate::opening_board::{StartNo, board_of};

@@ -1,12 +1,10 @@
 -- How the opening's board is made: from the live rows one by one, then from the replicas one by
 -- one.
-use Rattle.std.specs.Prelude.{◌≡◌, ◌≢◌, ℕ, ◌+◌, List, [], ◌∷◌, ◌++◌, map, Bool, true, false, Option, None, Some, Result, Ok, Err, ⊤}
-use Rattle.std.specs.Option.{option_map}
+use Rattle.std.specs.Prelude.{◌≡◌, ◌≢◌, ℕ, ◌+◌, List, [], ◌∷◌, ◌++◌, Bool, true, false, Option, None, Some, Result, Ok, Err, ⊤}
 use Rattle.kr_store.specs.declared.rows.LogRow.{LogRow}
 use Rattle.kr_store.specs.declared.rows.Row as stored_row
-use Rattle.kr_config.specs.declared.settings.Settings.{Settings}
 use Rattle.kr_config.specs.declared.who.Who.{Who}
-use Rattle.kr_config.specs.Kept.{Row, rows_of}
+use Rattle.kr_config.specs.Kept.{Row}
 use Rattle.kr_judge.specs.declared.verdict.Verdict.{Verdict}
 use Rattle.kr_judge.specs.declared.verdict.Verdict.TheVariants.{Pass, DropsStored, DropsWriter, Unread}
 use Rattle.kr_judge.specs.Boards.{BoardState, set_need, without_current}
@@ -20,13 +18,6 @@ use Rattle.kr_rollout.specs.declared.generation.Generation.{Generation}
 use Rattle.kr_rollout.specs.declared.opening.Opening.{Opening}
 use Rattle.kr_rollout.specs.Histories.{IsLegal}
 use Rattle.kr_rollout.specs.inner.Rollouts.{Course}
-
--- settings by their rows
-abbrev pub settings_rows : Option Settings → Option (List Row)
-settings_rows settings = option_map (λ s. rows_of s.entries.0) settings
-
-abbrev pub rows_in : List (Option Settings) → List (Option (List Row))
-rows_in replicas = map settings_rows replicas
 
 -- the path, or there was no memory for it
 abbrev pub IsStrayOf : List ℕ → StartNo → Type 0
