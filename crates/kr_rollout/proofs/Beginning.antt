@@ -175,7 +175,7 @@ admitted names rs a p k d l = by (get_or rs k d) (p k d l) (a k d l)
     by None x y = tt
     by (Some q) x y = (x, y)
 
-pub start_legal : (o : Opening) → AreRows o.rows → IsFirstIn o.replicas
+pub start_legal : (o : Opening) → AreRows o.format o.rows → IsFirstIn o.replicas
     → All (λ replica. IfSome replica (IsAdmitted o.names)) o.replicas
     → MayStart o.rows (settings_of o.replicas) → IsLegal o []
 start_legal o rows first each m = record {
@@ -220,6 +220,7 @@ module _ (store : Kept) (rs : List (Option Publication)) (names : List (List ℕ
       ap (λ (x : BoardState). x.needs) board_is in
       (λ i. record {
         opening = record {
+          format = store.format;
           rows = r i;
           replicas = rs;
           names = names;
@@ -246,7 +247,7 @@ module _ (store : Kept) (rs : List (Option Publication)) (names : List (List ℕ
       (start_of (opening_by store rs names reloads)) x) (sym board_is)
       (start_course (opening_by store rs names reloads) few))
 
-  pub opened_legal : AreRows store.rows → IsFirstIn rs → AreAmong names rs
+  pub opened_legal : AreRows store.format store.rows → IsFirstIn rs → AreAmong names rs
       → All (λ replica. IfSome replica IsPublished) rs
       → IsLegal (opening_by store rs names reloads) []
   opened_legal rows in_first among published =

@@ -6,19 +6,19 @@ use Rattle.std.specs.Option.{option_map, IsSomeAnd}
 use Rattle.std.proofs.lemmas.List.Sums.{sum_by-set, count_by-le-length}
 use Rattle.std.proofs.lemmas.List.Folds.{list_any_at}
 use Rattle.std.proofs.lemmas.Bool.{eq-eqb, ne_eqb}
-use Rattle.kr_judge.specs.Boards.{Taken, changed_at, held_more, held_less, MayHold, IsHeld, is_live}
+use Rattle.kr_judge.specs.Boards.{GenerationState, changed_at, held_more, held_less, MayHold, IsHeld, is_live}
 use Rattle.kr_rollout.specs.declared.generation.Generation.{Generation}
 use Rattle.kr_rollout.specs.States.{number_at, is_number, taken_of, taken_from}
 
 -- how a change of the seats shows at one generation, and at no other
-pub record Moves (current held now : List (Option ℕ)) (number : ℕ) (change : Taken
-    → Taken) : Type 0 where
+pub record Moves (current held now : List (Option ℕ)) (number : ℕ) (change : GenerationState
+    → GenerationState) : Type 0 where
   pub others : (n : ℕ) → n ≢ number → count_by (is_number n) held ≡ count_by (is_number n) now
   pub here : (g : Generation) → change (taken_of current held number g)
       ≡ taken_of current now number g
 
-others_same : (current held now : List (Option ℕ)) (number : ℕ) (change : Taken
-    → Taken) (n : ℕ) (g : Generation) → Moves current held now number change
+others_same : (current held now : List (Option ℕ)) (number : ℕ) (change : GenerationState
+    → GenerationState) (n : ℕ) (g : Generation) → Moves current held now number change
     → n ≢ number → taken_of current held n g ≡ taken_of current now n g
 others_same current held now number change n g m d =
     ap (λ h. record {
@@ -29,8 +29,8 @@ others_same current held now number change n g m d =
       holders = h;
     }) (m.others n d)
 
-beyond : (current held now : List (Option ℕ)) (number : ℕ) (change : Taken
-    → Taken) (k : ℕ) (gs : List Generation) → Moves current held now number change
+beyond : (current held now : List (Option ℕ)) (number : ℕ) (change : GenerationState
+    → GenerationState) (k : ℕ) (gs : List Generation) → Moves current held now number change
     → number < k → taken_from current held k gs ≡ taken_from current now k gs
 beyond current held now number change k [] m l = refl
 beyond current held now number change k (g ∷ gs) m l =
@@ -38,8 +38,8 @@ beyond current held now number change k (g ∷ gs) m l =
     let tail = beyond current held now number change (k + 1) gs m (omega arith) in
     (λ i. head i ∷ tail i)
 
-pub moved : (current held now : List (Option ℕ)) (number : ℕ) (change : Taken
-    → Taken) (k i : ℕ) (gs : List Generation) → Moves current held now number change
+pub moved : (current held now : List (Option ℕ)) (number : ℕ) (change : GenerationState
+    → GenerationState) (k i : ℕ) (gs : List Generation) → Moves current held now number change
     → k + i ≡ number → i < length gs → changed_at change i (taken_from current held k gs)
     ≡ taken_from current now k gs
 moved current held now number change k i [] m e l = absurd (omega arith)

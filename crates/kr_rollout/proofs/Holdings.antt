@@ -15,7 +15,7 @@ use Rattle.kr_rollout.specs.declared.line.Gave.{Gave}
 use Rattle.kr_rollout.specs.declared.line.Gave.TheVariants.{Adopted, Found, Absent, Written, Changed, Released, Reloaded, Joined, Refused, Moved, Present, Departed, Gone, StoreFailed, StoreFull, Nothing}
 use Rattle.kr_rollout.specs.declared.opening.Entry.{Entry}
 use Rattle.kr_rollout.specs.declared.opening.Opening.{Opening}
-use Rattle.kr_rollout.specs.Lines.{of_seat}
+use Rattle.kr_base.specs.Lines.{of_seat}
 use Rattle.kr_rollout.specs.Entries.{published_at, named_by, row_at, seat_of}
 use Rattle.kr_rollout.specs.States.{State, number_at, held_by}
 use Rattle.kr_rollout.specs.Openings.{start_of}

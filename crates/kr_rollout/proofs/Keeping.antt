@@ -5,7 +5,7 @@ use Rattle.std.proofs.lemmas.Bool.{cases_eq}
 use Rattle.std.proofs.lemmas.List.{length-set, get_or-set_same, get_or-set_other}
 use Rattle.std.proofs.lemmas.Option.{same_Some, none-some}
 use Rattle.kr_store.specs.Stores.{Kept}
-use Rattle.kr_judge.specs.Boards.{BoardState, Taken, changed_at, held_more, held_less, MayHold, IsHeld}
+use Rattle.kr_judge.specs.Boards.{BoardState, GenerationState, changed_at, held_more, held_less, MayHold, IsHeld}
 use Rattle.kr_rollout.specs.declared.generation.Generation.{Generation}
 use Rattle.kr_rollout.specs.declared.opening.Opening.{Opening}
 use Rattle.kr_rollout.specs.Entries.{published_at}
@@ -36,7 +36,7 @@ numbers_set numbers generations at now k l w place number e = by (cases_eq place
 abbrev pub with_seat : State → ℕ → Option ℕ → State
 with_seat st seat now = record st { held = slice_set st.held seat now }
 
-abbrev pub with_board : BoardState → (Taken → Taken) → ℕ → BoardState
+abbrev pub with_board : BoardState → (GenerationState → GenerationState) → ℕ → BoardState
 with_board kept change number = record kept {
   generations =
       changed_at change number kept.generations;

@@ -13,4 +13,5 @@ pub mod Findings
 pub mod Sharing
 pub mod Boarding
 pub mod Storing
+pub mod Replacing
 pub mod Refusing

@@ -227,7 +227,7 @@ some_last rows path v e = by (latest rows path) e
 
 need_path : (first : List Row) (path : List ℕ) (c : Change) (need : Need)
     → need_of first path c ≡ Some need → need.path ≡ path
-need_path first path (change.Put resource stored) need e = by (provider_of first resource stored) e
+need_path first path (change.Put resource stored check) need e = by (provider_of first resource stored) e
   where
     by : (who : Option Who) → option_map (λ who. record {
       path = path;

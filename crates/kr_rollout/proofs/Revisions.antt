@@ -75,7 +75,7 @@ pub record IsAtRevision (rows : List LogRow) (path : List ℕ) (row : Row) : Typ
 
 pub revision_is : (n : ℕ) (path : List ℕ) (c : Change) (row : Row) → row_of n path c ≡ Some row
     → (row.revision ≡ n) × (row.path ≡ path)
-revision_is n path (change.Put resource stored) row e = let r =
+revision_is n path (change.Put resource stored check) row e = let r =
     sym (same_Some _ row e) in (ap (λ (x : Row). x.revision) r, ap (λ (x : Row). x.path) r)
 revision_is n path change.Delete row e = absurd (none-some row e)
 

@@ -8,7 +8,6 @@ use Rattle.kr_store.specs.declared.answers.PutNo.{PutNo}
 use Rattle.kr_store.specs.declared.answers.PutNo.TheVariants as no
 use Rattle.kr_store.specs.declared.rows.LogRow.{LogRow}
 use Rattle.kr_store.specs.declared.rows.Row.{Row}
-use Rattle.kr_store.specs.File.{file_bytes}
 use Rattle.kr_store.specs.Rows.{put_of, delete_of, row_of}
 use Rattle.kr_store.specs.Stores.{Kept, Puts, Deletes, IsLatestPut}
 use Rattle.kr_provider.specs.Publication.{Publication, list_at}
@@ -30,11 +29,12 @@ use Rattle.kr_rollout.specs.Entries.{entry_of, published_at, named_by, adopted_i
 use Rattle.kr_rollout.specs.States.{State, number_at, held_by}
 use Rattle.kr_rollout.specs.Openings.{board}
 use Rattle.kr_rollout.specs.Answers.{IsAnswer}
+use Rattle.kr_rollout.specs.Checks.{written_check}
 use Rattle.kr_rollout.specs.Writes.{Writes, IsSealedAnew}
 use Rattle.kr_rollout.specs.Steps.{after, put_need, put_row, KeepsRules}
 use Rattle.kr_rollout.specs.Callers.{did_of, gave_of, IsResealing, Shows, StoresIt}
 use Rattle.kr_rollout.specs.inner.Rollouts.{Course, opening_of, state_with, IsCourse, line_now, Serves}
-use Rattle.kr_rollout.specs.inner.Writing.{written_as, deleted_as, needs_with, needs_without, ReplacesBy}
+use Rattle.kr_rollout.specs.inner.Writing.{written_as, deleted_as, needs_with, needs_without, sealed_over, ReplacesBy}
 use Rattle.std.proofs.lemmas.Option.{same_Some}
 use Rattle.kr_rollout.proofs.Findings.{at_within}
 use Rattle.kr_rollout.proofs.Keeping.{read_published}
@@ -112,14 +112,20 @@ own_published generations held seat number n p q g a b there l is e =
 -- a put leaves the rows, or one more
 pub puts_grow : (store next : Kept) (row : LogRow) (result : Result ℕ PutNo)
     → Puts store next row result → (more : List LogRow) × (next.rows ≡ store.rows ++ more)
-    × (next.limit ≡ store.limit)
-puts_grow store next row (Ok revision) w = (row ∷ [], w.rows, w.limit)
-puts_grow store next row (Err no.Failed) f = ([], f.rows ∙ sym (append-nil store.rows), f.limit)
+    × (next.limit ≡ store.limit) × (next.format ≡ store.format)
+puts_grow store next row (Ok revision) w = (row ∷ [], w.rows, w.limit, w.format)
+puts_grow store next row (Err no.Failed) f = (
+  [],
+  f.rows ∙ sym (append-nil store.rows),
+  f.limit,
+  f.format,
+)
 puts_grow store next row (Err (no.Full needed)) r = (
   [],
   ap (λ (s : Kept). s.rows) r.0
       ∙ sym (append-nil store.rows),
   ap (λ (s : Kept). s.limit) r.0,
+  ap (λ (s : Kept). s.format) r.0,
 )
 puts_grow store next row (Err (no.Changed last)) r = absurd r
 puts_grow store next row (Err no.NoMemory) r = (
@@ -127,6 +133,7 @@ puts_grow store next row (Err no.NoMemory) r = (
   ap (λ (s : Kept). s.rows) r
       ∙ sym (append-nil store.rows),
   ap (λ (s : Kept). s.limit) r,
+  ap (λ (s : Kept). s.format) r,
 )
 
 -- ---- one more row
@@ -184,12 +191,13 @@ module _ (store next : Kept) (kept later : BoardState) (generations : List Gener
 
   -- the opening stays
   pub same_opening : (more : List LogRow) → first ≤ length store.rows
-      → next.rows ≡ store.rows ++ more → next.limit ≡ store.limit
+      → next.rows ≡ store.rows ++ more → next.limit ≡ store.limit → next.format ≡ store.format
       → opening_of next first rs names reloads count ≡ opening_of store first rs names reloads count
-  same_opening more l e limit =
+  same_opening more l e limit format =
       let r : take first next.rows ≡ take first store.rows = ap (take first) e
       ∙ take-append-le first store.rows more l in
       (λ i. record {
+        format = format i;
         rows = r i;
         replicas = rs;
         names = names;
@@ -200,15 +208,15 @@ module _ (store next : Kept) (kept later : BoardState) (generations : List Gener
 
   -- what holds of the course stays
   pub same_course : (more : List LogRow) (needs : List Need) → first ≤ length store.rows
-      → next.rows ≡ store.rows ++ more → next.limit ≡ store.limit
+      → next.rows ≡ store.rows ++ more → next.limit ≡ store.limit → next.format ≡ store.format
       → later ≡ record kept { needs = needs }
       → IsCourse (opening_of store first rs names reloads count)
       (state_with store kept generations current held) kept
       → IsCourse (opening_of next first rs names reloads count)
       (state_with next later generations current held) later
-  same_course more needs l e limit later_is k =
+  same_course more needs l e limit format later_is k =
       subst (λ o. IsCourse o (state_with next later generations current held) later)
-      (sym (same_opening more l e limit)) (record {
+      (sym (same_opening more l e limit format)) (record {
         board_is = later_is ∙ ap (λ (b : BoardState). record b { needs = needs }) k.board_is
             ∙ ap (λ n. record (board (opening_of store first rs names reloads count)
             (state_with store kept generations current held)) { needs = n })
@@ -229,7 +237,7 @@ module _ (store next : Kept) (kept later : BoardState) (generations : List Gener
       (state_with next later generations current held) later × (first ≤ length next.rows)
   grown_course needs row result l p later_is k =
       let g = puts_grow store next row result p in (
-        same_course g.0 needs l g.1 g.2 later_is k,
+        same_course g.0 needs l g.1 g.2 g.3 later_is k,
         omega
             (arith, ap (λ (rows : List LogRow). length rows) g.1, length-append store.rows g.0),
       )
@@ -276,7 +284,7 @@ module _ (store next : Kept) (kept later : BoardState) (generations : List Gener
           (k.held seat number held_is)
 
       pub put_serves : (result : Result ℕ PutNo)
-          → Puts store next (put_of path resource stored) result
+          → Puts store next (put_of path resource stored (written_check store.format p resource)) result
           → later ≡ record kept {
             needs = needs_with result
                 (record { path = path; resource = resource; who = writer_of (list_at p resource) })
@@ -286,7 +294,7 @@ module _ (store next : Kept) (kept later : BoardState) (generations : List Gener
           (line_now soon.state seat (Put path resource plain) (gave_of (written_as result)))
           soon
       put_serves (Ok revision) w b =
-          let row = put_of path resource stored in
+          let row = put_of path resource stored (written_check store.format p resource) in
           let row_is : row_at next.rows revision ≡ row_of revision path row.change =
           row_new store.rows next.rows row revision w.rows w.revision_is in
           let needs_are : later.needs ≡ put_need
@@ -298,7 +306,7 @@ module _ (store next : Kept) (kept later : BoardState) (generations : List Gener
           ∙ sym (ap (λ r. store.rows ++ put_row r) row_is) in
           let g = sym (append-nil generations) in
           stepped here soon seat (event.Put path resource plain stored) (answer.Written revision)
-          (same_opening (row ∷ []) room w.rows w.limit)
+          (same_opening (row ∷ []) room w.rows w.limit w.format)
           (λ i. record {
             generations = g i;
             current = current;
@@ -318,8 +326,7 @@ module _ (store next : Kept) (kept later : BoardState) (generations : List Gener
                 row_is = refl;
               },
             ),
-            subst (λ rows. length (file_bytes rows) ≤ store.limit) w.rows
-                w.within,
+            w.within,
             row_is,
           )
           w.later
@@ -336,9 +343,9 @@ module _ (store next : Kept) (kept later : BoardState) (generations : List Gener
           })
           tt (ap (option_map (λ (r : Row). r.stored)) row_is)
       put_serves (Err no.Failed) f b =
-          let row = put_of path resource stored in
+          let row = put_of path resource stored (written_check store.format p resource) in
           stepped here soon seat (event.Put path resource plain stored) answer.StoreFailed
-          (same_opening [] room (f.rows ∙ sym (append-nil store.rows)) f.limit)
+          (same_opening [] room (f.rows ∙ sym (append-nil store.rows)) f.limit f.format)
           (stays_so (ap (λ (x : BoardState). x.needs) b) f.rows)
           l refl (path_rule, resource_rule, sealing.plain_is) (ap is_some held_is) (
             row,
@@ -362,11 +369,12 @@ module _ (store next : Kept) (kept later : BoardState) (generations : List Gener
                 bound_is StoreFailed;
           }) tt tt
       put_serves (Err (no.Full needed)) r b =
-          let row = put_of path resource stored in
+          let row = put_of path resource stored (written_check store.format p resource) in
           let rows = ap (λ (s : Kept). s.rows) r.0 in
           stepped here soon seat (event.Put path resource plain stored) (answer.StoreFull needed)
           (same_opening [] room (rows ∙ sym (append-nil store.rows))
-          (ap (λ (s : Kept). s.limit) r.0))
+          (ap (λ (s : Kept). s.limit) r.0)
+          (ap (λ (s : Kept). s.format) r.0))
           (stays_so (ap (λ (x : BoardState). x.needs) b) rows)
           l refl (path_rule, resource_rule, sealing.plain_is) (ap is_some held_is) (
             row,
@@ -393,7 +401,8 @@ module _ (store next : Kept) (kept later : BoardState) (generations : List Gener
       put_serves (Err no.NoMemory) r b =
           let rows = ap (λ (s : Kept). s.rows) r in
           stepped here soon seat (event.Put path resource plain stored) answer.NoMemory
-          (same_opening [] room (rows ∙ sym (append-nil store.rows)) (ap (λ (s : Kept). s.limit) r))
+          (same_opening [] room (rows ∙ sym (append-nil store.rows)) (ap (λ (s : Kept). s.limit) r)
+          (ap (λ (s : Kept). s.format) r))
           (stays_so (ap (λ (x : BoardState). x.needs) b) rows)
           l refl (path_rule, resource_rule, sealing.plain_is) (ap is_some held_is) tt
           (omega (arith, ap (λ (s : Kept). s.count) r))
@@ -415,7 +424,8 @@ module _ (store next : Kept) (kept later : BoardState) (generations : List Gener
           let rows = ap (λ (s : Kept). s.rows) d.1 in
           stepped here soon seat (event.Delete path) answer.Absent
           (same_opening [] room (rows ∙ sym (append-nil store.rows))
-          (ap (λ (s : Kept). s.limit) d.1))
+          (ap (λ (s : Kept). s.limit) d.1)
+          (ap (λ (s : Kept). s.format) d.1))
           (stays_so (ap (λ (x : BoardState). x.needs) b) rows)
           l refl path_rule d.0 tt
           (omega (arith, ap (λ (s : Kept). s.count) d.1))
@@ -434,7 +444,7 @@ module _ (store next : Kept) (kept later : BoardState) (generations : List Gener
           let needs_are : later.needs ≡ drop_need kept.needs path =
           ap (λ (x : BoardState). x.needs) b in
           stepped here soon seat (event.Delete path) (answer.Written revision)
-          (same_opening (row ∷ []) room w.rows w.limit)
+          (same_opening (row ∷ []) room w.rows w.limit w.format)
           (λ i. record {
             generations = g i;
             current = current;
@@ -446,7 +456,7 @@ module _ (store next : Kept) (kept later : BoardState) (generations : List Gener
           l refl path_rule (d.0, w.revision_is) (
             row,
             (d.0, refl),
-            subst (λ rows. length (file_bytes rows) ≤ store.limit) w.rows w.within,
+            w.within,
             row_is,
           )
           w.later
@@ -466,7 +476,7 @@ module _ (store next : Kept) (kept later : BoardState) (generations : List Gener
           let f = d.1 in
           let row = delete_of path in
           stepped here soon seat (event.Delete path) answer.StoreFailed
-          (same_opening [] room (f.rows ∙ sym (append-nil store.rows)) f.limit)
+          (same_opening [] room (f.rows ∙ sym (append-nil store.rows)) f.limit f.format)
           (stays_so (ap (λ (x : BoardState). x.needs) b) f.rows)
           l refl path_rule tt
           (row, (d.0, refl), f.within, f.rose)
@@ -482,7 +492,8 @@ module _ (store next : Kept) (kept later : BoardState) (generations : List Gener
           let rows = ap (λ (s : Kept). s.rows) r.0 in
           stepped here soon seat (event.Delete path) (answer.StoreFull needed)
           (same_opening [] room (rows ∙ sym (append-nil store.rows))
-          (ap (λ (s : Kept). s.limit) r.0))
+          (ap (λ (s : Kept). s.limit) r.0)
+          (ap (λ (s : Kept). s.format) r.0))
           (stays_so (ap (λ (x : BoardState). x.needs) b) rows)
           l refl path_rule tt
           (row, (d.0, refl), r.1, r.2)
@@ -497,7 +508,8 @@ module _ (store next : Kept) (kept later : BoardState) (generations : List Gener
       delete_serves (Err no.NoMemory) d b =
           let rows = ap (λ (s : Kept). s.rows) d in
           stepped here soon seat (event.Delete path) answer.NoMemory
-          (same_opening [] room (rows ∙ sym (append-nil store.rows)) (ap (λ (s : Kept). s.limit) d))
+          (same_opening [] room (rows ∙ sym (append-nil store.rows)) (ap (λ (s : Kept). s.limit) d)
+          (ap (λ (s : Kept). s.format) d))
           (stays_so (ap (λ (x : BoardState). x.needs) b) rows)
           l refl path_rule tt tt
           (omega (arith, ap (λ (s : Kept). s.count) d))
@@ -529,7 +541,7 @@ module _ (store next : Kept) (kept later : BoardState) (generations : List Gener
           ∙ ap (row_at store.rows) latest.revision_is ∙ row_is)
 
       anew : (own : Row) → IsLatestPut store.rows path revision own
-          → IsSealedAnew p path own (put_of path own.resource stored)
+          → IsSealedAnew store.format p path own (sealed_over store p own path stored)
       anew own latest =
           let re = subst (λ (x : Row). IsResealing p x path stored)
           (sym (own_is own latest)) resealing in
@@ -550,7 +562,7 @@ module _ (store next : Kept) (kept later : BoardState) (generations : List Gener
       replace_serves (Ok to) r =
           let own = r.0 in
           let w = r.2 in
-          let new = put_of path own.resource stored in
+          let new = sealed_over store p own path stored in
           let new_is : row_at next.rows to ≡ row_of to path new.change =
           row_new store.rows next.rows new to w.rows w.revision_is in
           let needs_are : later.needs ≡ put_need
@@ -562,7 +574,7 @@ module _ (store next : Kept) (kept later : BoardState) (generations : List Gener
           ∙ sym (ap (λ x. store.rows ++ put_row x) new_is) in
           let g = sym (append-nil generations) in
           stepped here soon seat (event.Replace path revision stored) (answer.Written to)
-          (same_opening (new ∷ []) room w.rows w.limit)
+          (same_opening (new ∷ []) room w.rows w.limit w.format)
           (λ i. record {
             generations = g i;
             current = current;
@@ -574,8 +586,7 @@ module _ (store next : Kept) (kept later : BoardState) (generations : List Gener
           l refl path_rule (ap is_some held_is, (own, r.1), w.revision_is) (
             new,
             (p, own, published_then (Written to), r.1.is, r.1.revision_is, anew own r.1),
-            subst
-                (λ rows. length (file_bytes rows) ≤ store.limit) w.rows w.within,
+            w.within,
             new_is,
           )
           w.later
@@ -600,9 +611,9 @@ module _ (store next : Kept) (kept later : BoardState) (generations : List Gener
       replace_serves (Err no.Failed) r =
           let own = r.0.0 in
           let f = r.0.2 in
-          let new = put_of path own.resource stored in
+          let new = sealed_over store p own path stored in
           stepped here soon seat (event.Replace path revision stored) answer.StoreFailed
-          (same_opening [] room (f.rows ∙ sym (append-nil store.rows)) f.limit)
+          (same_opening [] room (f.rows ∙ sym (append-nil store.rows)) f.limit f.format)
           (stays_so (ap (λ (x : BoardState). x.needs) r.1) f.rows)
           l refl path_rule (ap is_some held_is) (
             new,
@@ -619,11 +630,12 @@ module _ (store next : Kept) (kept later : BoardState) (generations : List Gener
       replace_serves (Err (no.Full needed)) r =
           let own = r.0.0 in
           let q = r.0.2 in
-          let new = put_of path own.resource stored in
+          let new = sealed_over store p own path stored in
           let rows = ap (λ (s : Kept). s.rows) q.0 in
           stepped here soon seat (event.Replace path revision stored) (answer.StoreFull needed)
           (same_opening [] room (rows ∙ sym (append-nil store.rows))
-          (ap (λ (s : Kept). s.limit) q.0))
+          (ap (λ (s : Kept). s.limit) q.0)
+          (ap (λ (s : Kept). s.format) q.0))
           (stays_so (ap (λ (x : BoardState). x.needs) r.1) rows)
           l refl path_rule (ap is_some held_is) (
             new,
@@ -652,7 +664,8 @@ module _ (store next : Kept) (kept later : BoardState) (generations : List Gener
           let rows = ap (λ (s : Kept). s.rows) same in
           stepped here soon seat (event.Replace path revision stored) (answer.Changed last)
           (same_opening [] room (rows ∙ sym (append-nil store.rows))
-          (ap (λ (s : Kept). s.limit) same))
+          (ap (λ (s : Kept). s.limit) same)
+          (ap (λ (s : Kept). s.format) same))
           (stays_so (ap (λ (x : BoardState). x.needs) r.1) rows)
           l refl path_rule (ap is_some held_is, (λ s. r.0.2 s.0 s.1), r.0.0) tt
           (omega (arith, ap (λ (s : Kept). s.count) same))
@@ -668,7 +681,8 @@ module _ (store next : Kept) (kept later : BoardState) (generations : List Gener
           let rows = ap (λ (s : Kept). s.rows) same in
           stepped here soon seat (event.Replace path revision stored) answer.NoMemory
           (same_opening [] room (rows ∙ sym (append-nil store.rows))
-          (ap (λ (s : Kept). s.limit) same))
+          (ap (λ (s : Kept). s.limit) same)
+          (ap (λ (s : Kept). s.format) same))
           (stays_so (ap (λ (x : BoardState). x.needs) r.1) rows)
           l refl path_rule (ap is_some held_is) tt
           (omega (arith, ap (λ (s : Kept). s.count) same))

@@ -12,7 +12,7 @@ use Rattle.kr_config.specs.Kept.{Row, keeps, rows_of}
 use Rattle.kr_config.specs.Lists.{list_of, class_list}
 use Rattle.kr_provider.specs.Readers.{writer_of}
 use Rattle.kr_judge.specs.declared.need.Need.{Need}
-use Rattle.kr_judge.specs.Boards.{Taken, BoardState, left_by, without_current}
+use Rattle.kr_judge.specs.Boards.{GenerationState, BoardState, left_by, without_current}
 use Rattle.kr_judge.specs.Verdicts.{is_other}
 use Rattle.kr_judge.proofs.Parts.{take_at_more}
 use Rattle.kr_rollout.specs.declared.opening_board.StartNo.{StartNo}
@@ -22,7 +22,7 @@ use Rattle.kr_rollout.specs.inner.Opens.{Admits, TakesUp, TakesAllUp}
 use Rattle.kr_rollout.proofs.Passing.{passed, AreReadable, own_writer, class_some}
 use Rattle.kr_rollout.specs.Openings.{rows_in, settings_rows}
 
-abbrev pub fresh : ℕ → List Row → Taken
+abbrev pub fresh : ℕ → List Row → GenerationState
 fresh replica rows = record { replica = replica; rows = rows; current = true; holders = 0 }
 
 taken_none : (k : ℕ) (rs : List (Option (List Row)))
@@ -59,7 +59,7 @@ left_alone k i (Some rows ∷ rs) l =
 -- settings that are taken up are a live generation, of another replica
 taken_there : (k i : ℕ) (rs : List (Option (List Row))) (rows : List Row) → k + length rs ≤ i
     → Contains rs (Some rows)
-    → (t : Taken) × Contains (opening_generations k rs) t × (is_other i t ≡ true) × (t.rows ≡ rows)
+    → (t : GenerationState) × Contains (opening_generations k rs) t × (is_other i t ≡ true) × (t.rows ≡ rows)
 taken_there k i [] rows l (p, w, e) = absurd (omega (arith, w))
 taken_there k i (None ∷ rs) rows l (zero, w, e) = absurd (none-some rows e)
 taken_there k i (None ∷ rs) rows l (suc p, w, e) =

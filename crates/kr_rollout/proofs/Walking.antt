@@ -17,6 +17,7 @@ use Rattle.std.proofs.lemmas.List.Quantifiers.{position-Some}
 use Rattle.kr_base.specs.Rules.{IsPath}
 use Rattle.kr_config.specs.Lists.{list_of}
 use Rattle.kr_provider.specs.Readers.{is_reader, reader_in, reader_place}
+use Rattle.kr_store.specs.declared.format.Format.{Format}
 use Rattle.kr_store.specs.declared.rows.LogRow.{LogRow}
 use Rattle.kr_store.specs.declared.rows.Row as stored_row
 use Rattle.kr_store.specs.declared.rows.Change.{Change}
@@ -58,24 +59,26 @@ pub record AreNoted (first : List Row) (rows : List LogRow) (after : List ℕ)
 
 -- ---- paths of rows
 
-follows_at : (before rows : List LogRow) (place : ℕ) (row : LogRow) → AllFollow before rows
+follows_at : (format : Format) (before rows : List LogRow) (place : ℕ) (row : LogRow)
+    → AllFollow format before rows
     → slice_get rows place ≡ Some row → IsPath row.path
-follows_at before [] place row f e = absurd (none-some row e)
-follows_at before (first ∷ rows) zero row f e =
+follows_at format before [] place row f e = absurd (none-some row e)
+follows_at format before (first ∷ rows) zero row f e =
     subst (λ (r : LogRow). IsPath r.path) (same_Some first row e) f.0.path
-follows_at before (first ∷ rows) (suc place) row f e =
-    follows_at (before ++ first ∷ []) rows place row f.1 e
+follows_at format before (first ∷ rows) (suc place) row f e =
+    follows_at format (before ++ first ∷ []) rows place row f.1 e
 
-pub path_of_live : (rows : List LogRow) (path : List ℕ) (row : stored_row.Row) → AreRows rows
+pub path_of_live : (format : Format) (rows : List LogRow) (path : List ℕ) (row : stored_row.Row)
+    → AreRows format rows
     → live rows path ≡ Some row → IsPath path
-path_of_live rows path row f e = by (latest rows path) refl e
+path_of_live format rows path row f e = by (latest rows path) refl e
   where
     by : (l : Option (ℕ × LogRow)) → latest rows path ≡ l → live_row l ≡ Some row → IsPath path
     by None is e = absurd (none-some row e)
     by (Some found) is e =
         let a = last_at 1 rows path found is in
         subst IsPath (same_path found.1.path path a.same)
-        (follows_at [] rows a.place found.1 f a.is)
+        (follows_at format [] rows a.place found.1 f a.is)
 
 no_empty_path : IsPath [] → ⊥
 no_empty_path p = omega (arith, p.0)
@@ -86,11 +89,12 @@ not_above_empty (byte ∷ path) n = absurd (n refl)
 
 -- ---- the walk
 
-pub noted_begin : (first : List Row) (rows : List LogRow) → AreRows rows → AreNoted first rows [] []
-noted_begin first rows f = record {
+pub noted_begin : (format : Format) (first : List Row) (rows : List LogRow) → AreRows format rows
+    → AreNoted first rows [] []
+noted_begin format first rows f = record {
   sorted = sorted_nil;
   here = λ path row e n. absurd (no_empty_path
-      (subst IsPath (not_above_empty path n) (path_of_live rows path row f e)));
+      (subst IsPath (not_above_empty path n) (path_of_live format rows path row f e)));
   none = λ path e. refl;
 }
 
@@ -204,7 +208,7 @@ live_last first rows path row e = by (latest rows path) e
   where
     put : (n : ℕ) (path : List ℕ) (c : Change) → row_of n path c ≡ Some row
         → need_of first path c ≡ live_need first row
-    put n path (change.Put resource stored) e = ap (live_need first) (same_Some _ row e)
+    put n path (change.Put resource stored check) e = ap (live_need first) (same_Some _ row e)
     put n path change.Delete e = absurd (none-some row e)
 
     by : (l : Option (ℕ × LogRow)) → live_row l ≡ Some row
@@ -218,7 +222,7 @@ dead_last first rows path e = by (latest rows path) e
   where
     put : (n : ℕ) (path : List ℕ) (c : Change) → row_of n path c ≡ None
         → need_of first path c ≡ None
-    put n path (change.Put resource stored) e = absurd (none-some _ (sym e))
+    put n path (change.Put resource stored check) e = absurd (none-some _ (sym e))
     put n path change.Delete e = refl
 
     by : (l : Option (ℕ × LogRow)) → live_row l ≡ None

@@ -6,7 +6,7 @@ use Rattle.kr_judge.specs.declared.need.Need.{Need}
 use Rattle.kr_judge.specs.declared.verdict.Verdict.{Verdict}
 use Rattle.kr_rollout.specs.declared.opening.Entry.{Entry}
 use Rattle.kr_rollout.specs.declared.opening.Opening.{Opening}
-use Rattle.kr_rollout.specs.Lines.{of_seat}
+use Rattle.kr_base.specs.Lines.{of_seat}
 use Rattle.kr_rollout.specs.Entries.{row_at, seat_of}
 use Rattle.kr_rollout.specs.States.{held_by}
 use Rattle.kr_rollout.specs.Histories.{state_of, IsLegal}

@@ -1,4 +1,4 @@
-pub mod Lines
+pub mod Checks
 pub mod Entries
 pub mod States
 pub mod Openings

@@ -41,7 +41,7 @@ provider_of first resource stored = reader_in (list_of first resource) stored
 -- what a row needs: nothing where it deletes, and where the first replica's settings have no
 -- provider for it
 abbrev pub need_of : (first : List Row) → List ℕ → Change → Option Need
-need_of first path (change.Put resource stored) =
+need_of first path (change.Put resource stored check) =
     option_map (λ who. record { path = path; resource = resource; who = who })
     (provider_of first resource stored)
 need_of first path change.Delete = None
@@ -92,6 +92,7 @@ start_of o = record {
 abbrev pub opening_by : Kept → List (Option Publication) → (names : List (List ℕ))
     → (reloads : List ℕ) → Opening
 opening_by store replicas names reloads = record {
+  format = store.format;
   rows = store.rows;
   replicas = replicas;
   names = names;
@@ -136,7 +137,7 @@ IsFirstIn [] = ⊥
 IsFirstIn (replica ∷ replicas) = IsSome replica
 
 pub record IsOpening (o : Opening) : Type 0 where
-  pub rows : AreRows o.rows
+  pub rows : AreRows o.format o.rows
   pub first : IsFirstIn o.replicas
   pub admitted : All (λ replica. IfSome replica (IsAdmitted o.names)) o.replicas
   pub readable : HasNoStray (first_of o) o.rows

@@ -10,7 +10,7 @@ use Rattle.kr_config.specs.Nexts.{name_cmp}
 use Rattle.kr_judge.specs.declared.need.Need.{Need}
 use Rattle.kr_judge.specs.declared.verdict.Verdict.{Verdict}
 use Rattle.kr_judge.specs.declared.verdict.Verdict.TheVariants.{Pass}
-use Rattle.kr_judge.specs.Boards.{BoardState, Taken}
+use Rattle.kr_judge.specs.Boards.{BoardState, GenerationState}
 use Rattle.kr_judge.specs.Verdicts.{verdict_of}
 use Rattle.kr_rollout.specs.declared.opening.Opening.{Opening}
 use Rattle.kr_rollout.specs.declared.opening_board.StartNo.{StartNo}
@@ -20,7 +20,7 @@ use Rattle.kr_rollout.specs.Openings.{first_rows, provider_of, needs_of, setting
 use Rattle.kr_rollout.specs.Cores.{CoreState}
 
 -- the generations of the replicas that are in, from this replica on, as they are judged
-abbrev pub opening_generations : ℕ → List (Option (List Row)) → List Taken
+abbrev pub opening_generations : ℕ → List (Option (List Row)) → List GenerationState
 opening_generations replica [] = []
 opening_generations replica (None ∷ replicas) = opening_generations (replica + 1) replicas
 opening_generations replica (Some rows ∷ replicas) =

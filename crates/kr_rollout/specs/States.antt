@@ -6,7 +6,7 @@ use Rattle.kr_store.specs.declared.rows.LogRow.{LogRow}
 use Rattle.kr_config.specs.Kept.{Row}
 use Rattle.kr_judge.specs.declared.need.Need.{Need}
 use Rattle.kr_judge.specs.declared.verdict.Verdict.{Verdict}
-use Rattle.kr_judge.specs.Boards.{Taken}
+use Rattle.kr_judge.specs.Boards.{GenerationState}
 use Rattle.kr_judge.specs.Verdicts.{verdict_of}
 use Rattle.kr_rollout.specs.declared.generation.Generation.{Generation}
 use Rattle.kr_rollout.specs.Entries.{published_at}
@@ -49,7 +49,7 @@ abbrev pub is_number : ℕ → Option ℕ → Bool
 is_number number None = false
 is_number number (Some own) = own == number
 
-abbrev pub taken_of : (current held : List (Option ℕ)) → ℕ → Generation → Taken
+abbrev pub taken_of : (current held : List (Option ℕ)) → ℕ → Generation → GenerationState
 taken_of current held number generation = record {
   replica = generation.replica;
   rows = generation.published.rows;
@@ -57,12 +57,12 @@ taken_of current held number generation = record {
   holders = count_by (is_number number) held;
 }
 
-abbrev pub taken_from : (current held : List (Option ℕ)) → ℕ → List Generation → List Taken
+abbrev pub taken_from : (current held : List (Option ℕ)) → ℕ → List Generation → List GenerationState
 taken_from current held number [] = []
 taken_from current held number (generation ∷ generations) =
     taken_of current held number generation ∷ taken_from current held (number + 1) generations
 
-abbrev pub board_generations : State → List Taken
+abbrev pub board_generations : State → List GenerationState
 board_generations st = taken_from st.current st.held 0 st.generations
 
 -- the verdict on new settings of a replica

@@ -56,7 +56,7 @@ held_after gave seat held = held
 -- the row that was written: a delete, or else the put that the entry names
 abbrev pub put_row : Option Row → List LogRow
 put_row None = []
-put_row (Some row) = put_of row.path row.resource row.stored ∷ []
+put_row (Some row) = put_of row.path row.resource row.stored row.check ∷ []
 
 abbrev pub written_row : Did → Option Row → List LogRow
 written_row (Delete path) row = delete_of path ∷ []

@@ -4,7 +4,7 @@ ghost use Rattle.kr_rollout.specs.Callers.{MayAsk};
 ghost use Rattle.kr_rollout.specs.Cores.{Applies};
 ghost use Rattle.kr_rollout.specs.Entries.{seat_of};
 ghost use Rattle.kr_rollout.specs.Histories.{IsLegal, state_of};
-ghost use Rattle.kr_rollout.specs.Lines.{of_seat};
+ghost use Rattle.kr_base.specs.Lines.{of_seat};
 ghost use Rattle.kr_rollout.specs.Openings.{board, opening_by, IsFirstIn, AreAmong};
 ghost use Rattle.kr_rollout.specs.Starts.{Starts};
 

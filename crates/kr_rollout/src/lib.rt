@@ -4,6 +4,7 @@
 #![tactic(auto)]
 
 mod answer;
+mod check;
 mod event;
 mod generation;
 mod journal;

@@ -4,11 +4,13 @@
 use crate::line::Line;
 use kr_base::Text;
 use kr_provider::Published;
-use kr_store::{LogRow, Row};
+use kr_store::{Format, LogRow, Row};
 use std::collections::LinkedList;
 
 /// What a core was started with.
 pub struct Opening {
+    /// How the store's file is written.
+    pub format: Format,
     /// The store's rows, in the order written.
     pub rows: LinkedList<LogRow>,
     /// The configurations of the replicas, of those that are in.

@@ -3,15 +3,17 @@ ghost use Rattle.std.specs.Prelude.{◌≡◌, ◌<◌, ◌≤◌, length, None}
 ghost use Rattle.kr_provider.specs.Publication.{IsPublished, list_at};
 ghost use Rattle.kr_provider.specs.Readers.{writer_of};
 ghost use Rattle.kr_base.specs.Rules.{IsPath, IsResource};
-ghost use Rattle.kr_store.specs.Rows.{longest_value, put_of};
+ghost use Rattle.kr_store.specs.Rows.{longest_value, put_of, check_in};
 ghost use Rattle.kr_store.specs.Stores.{Puts, Deletes, Replaces};
 ghost use Rattle.kr_rollout.specs.Answers.{IsStill};
+ghost use Rattle.kr_rollout.specs.Checks.{store_check};
 ghost use Rattle.kr_rollout.specs.Callers.{gave_of};
 ghost use Rattle.kr_rollout.specs.declared.event.Event.TheVariants as event;
 ghost use Rattle.kr_rollout.specs.inner.Rollouts.{MayServe, Serves};
-ghost use Rattle.kr_rollout.specs.inner.Writing.{refused_as, written_as, deleted_as, needs_with, needs_without, ReplacesBy};
+ghost use Rattle.kr_rollout.specs.inner.Writing.{refused_as, written_as, deleted_as, needs_with, needs_without, StaysBy, ReplacesBy};
 
 use crate::answer::Answer;
+use crate::check::store_check;
 use crate::line::{Did, Gave, Line};
 use crate::rollout::Rollout;
 use kr_base::{Bytes, NoMemory, Tape, Text};
@@ -19,7 +21,7 @@ use kr_config::Who;
 use kr_judge::Board;
 use kr_provider::Published;
 use kr_provider::laws::size_of_sealing;
-use kr_store::{PutNo, Store};
+use kr_store::{Check, PutNo, Store};
 
 /// Puts a value that needs the provider. The need is proposed before the row is written, so that it
 /// is settled without memory.
@@ -35,7 +37,9 @@ fn put_value<T: Tape>(
     requires path { IsPath path.now }
     requires resource { IsResource resource.now }
     requires stored { length stored ≤ longest_value }
-    ensures store { Puts store.old store.new (put_of path.now resource.now stored) result }
+    ensures store { Puts store.old store.new
+        (put_of path.now resource.now stored (check_in store.old.format (store_check who.now)))
+        result }
     ensures board { board.new ≡ record board.old {
       needs = needs_with result
           (record { path = path.now; resource = resource.now; who = who.now }) board.old.needs;
@@ -45,7 +49,7 @@ fn put_value<T: Tape>(
         Ok(()) => {}
         Err(NoMemory) => return Err(PutNo::NoMemory),
     }
-    match store.put(path, resource, stored) {
+    match store.put(path, resource, stored, store_check(who)) {
         Ok(revision) => {
             board.settle(true);
             Ok(revision)
@@ -71,7 +75,8 @@ fn replace_value<T: Tape>(
     requires idle { board.old.proposal ≡ None }
     requires path { IsPath path.now }
     requires stored { length stored ≤ longest_value }
-    ensures store { Replaces store.old store.new path.now revision stored result }
+    ensures store { Replaces store.old store.new path.now revision stored (store_check who.now)
+        result }
     ensures board { board.new ≡ record board.old {
       needs = needs_with result
           (record { path = path.now; resource = resource.now; who = who.now }) board.old.needs;
@@ -81,7 +86,7 @@ fn replace_value<T: Tape>(
         Ok(()) => {}
         Err(NoMemory) => return Err(PutNo::NoMemory),
     }
-    match store.replace_if(path, revision, stored) {
+    match store.replace_if(path, revision, stored, store_check(who)) {
         Ok(revision) => {
             board.settle(true);
             Ok(revision)
@@ -115,8 +120,9 @@ fn delete_value<T: Tape>(
     }
 }
 
-/// Why a row that isn't the path's last put isn't replaced.
+/// Why a row that isn't the path's last put isn't replaced. The store keeps no check of it.
 fn refuse_replacing<T: Tape>(
+    published: &Published,
     store: &mut Store<T>,
     path: &str,
     revision: u64,
@@ -125,9 +131,10 @@ fn refuse_replacing<T: Tape>(
     requires path { IsPath path.now }
     requires stored { length stored ≤ longest_value }
     requires not { ¬ IsStill store.old.rows path.now revision }
-    ensures { Replaces store.old store.new path.now revision stored (Err result) }
+    ensures { StaysBy published.now store.old store.new path.now revision stored result }
 {
-    match store.replace_if(path, revision, stored) {
+    let check = Check { value: 0 };
+    match store.replace_if(path, revision, stored, check) {
         Ok(_) => unreachable!(),
         Err(why) => why,
     }
@@ -309,12 +316,12 @@ fn replace_live<T: Tape>(
 {
     let row = match store.get(path) {
         Ok(Some(row)) => row,
-        Ok(None) => return Err(refuse_replacing(store, path, revision, stored)),
+        Ok(None) => return Err(refuse_replacing(published, store, path, revision, stored)),
         Err(NoMemory) => return Err(PutNo::NoMemory),
     };
     let resource = row.get().resource.as_str();
     if row.get().revision != revision {
-        return Err(refuse_replacing(store, path, revision, stored));
+        return Err(refuse_replacing(published, store, path, revision, stored));
     }
     let who = writer_of(published, resource);
     replace_value(store, board, path, resource, revision, who, stored)

@@ -30,6 +30,7 @@ pub record Course : Type 0 where
 -- the opening's rows are the first ones of the store
 abbrev pub opening_of : Kept → ℕ → List (Option Publication) → List (List ℕ) → List ℕ → ℕ → Opening
 opening_of store first replicas names reloads count = record {
+  format = store.format;
   rows = take first store.rows;
   replicas = replicas;
   names = names;

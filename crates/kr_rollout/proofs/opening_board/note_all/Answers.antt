@@ -11,7 +11,7 @@ loop-row-init g c =
     let rows = c.args.store.now.rows in (
       subst (λ after. AreNoted first rows after c.args.board.now.needs) (sym c.new-after.ensures)
           (subst (λ needs. AreNoted first rows [] needs) (sym c.requires.0)
-          (noted_begin first rows c.known.ensures.1.0)),
+          (noted_begin c.args.store.now.format first rows c.known.ensures.1.0)),
       refl,
     )
 

@@ -2,7 +2,7 @@ use Rattle.std.proofs.Common.{sym, subst}
 use Rattle.kr_rollout.specs.Callers.{MayAsk}
 use Rattle.kr_rollout.specs.Cores.{CoreState}
 use Rattle.kr_rollout.specs.Entries.{seat_of}
-use Rattle.kr_rollout.specs.Lines.{of_seat}
+use Rattle.kr_base.specs.Lines.{of_seat}
 use Rattle.kr_rollout.specs.inner.Rollouts.{entries_by}
 use Rattle.kr_rollout.proofs.Appending.{core_after, applied}
 use Rattle.kr_rollout.proofs.Holdings.{may_serve}

@@ -1,9 +1,10 @@
 use Rattle.std.proofs.Common.{◌≡◌, ◌<◌, length, Some, sym, subst, ◌∙◌, arith}
-use Rattle.kr_store.specs.Rows.{put_of}
+use Rattle.kr_store.specs.Rows.{put_of, check_in}
 use Rattle.kr_store.specs.Stores.{Puts}
 use Rattle.kr_provider.specs.Publication.{Publication, IsPublished, list_at}
 use Rattle.kr_provider.specs.Readers.{writer_of}
 use Rattle.kr_rollout.specs.declared.event.Event.TheVariants as event
+use Rattle.kr_rollout.specs.Checks.{store_check, written_check}
 use Rattle.kr_rollout.specs.States.{number_at}
 use Rattle.kr_rollout.specs.inner.Rollouts.{Course, MayServe}
 use Rattle.kr_rollout.specs.inner.Writing.{written_as, needs_with}
@@ -41,7 +42,9 @@ invariant_of-self g c =
           c.as_str-3.result.now;
       who = c.writer_of-who.result.now;
     }) c.self.inside.board.needs)
-    (put_of c.as_str-2.result.now c.as_str-3.result.now c.args.stored) c.put_value-result.result
+    (put_of c.as_str-2.result.now c.as_str-3.result.now c.args.stored
+    (check_in c.self.inside.store.format (store_check c.writer_of-who.result.now)))
+    c.put_value-result.result
     c.self.invariant.1 c.put_value-result.ensures.store c.put_value-result.ensures.board
     c.self.invariant.0
 
@@ -73,10 +76,16 @@ returns g c =
     c.args.seat c.self.invariant.0 l c.self.invariant.1 may.2 c.args.path c.args.resource
     c.args.plain c.args.stored may.3 may.4 may.5 may.0 may.1 may.6 c.put_value-result.result
     (subst (λ path. Puts c.self.inside.store c.put_value-result.new.store
-    (put_of path c.args.resource c.args.stored) c.put_value-result.result) c.as_str-2.ensures
+    (put_of path c.args.resource c.args.stored
+    (written_check c.self.inside.store.format may.3 c.args.resource)) c.put_value-result.result) c.as_str-2.ensures
     (subst (λ resource. Puts c.self.inside.store c.put_value-result.new.store
-    (put_of c.as_str-2.result.now resource c.args.stored) c.put_value-result.result)
-    c.as_str-3.ensures c.put_value-result.ensures.store))
+    (put_of c.as_str-2.result.now resource c.args.stored
+    (written_check c.self.inside.store.format may.3 c.args.resource)) c.put_value-result.result)
+    c.as_str-3.ensures
+    (subst (λ who. Puts c.self.inside.store c.put_value-result.new.store
+    (put_of c.as_str-2.result.now c.as_str-3.result.now c.args.stored
+    (check_in c.self.inside.store.format (store_check who))) c.put_value-result.result)
+    who_is c.put_value-result.ensures.store)))
     (c.put_value-result.ensures.board ∙ (λ i. record c.self.inside.board {
       needs = needs_with c.put_value-result.result
           (record { path = c.as_str-2.ensures i; resource = c.as_str-3.ensures i; who = who_is i })
