@@ -121,6 +121,7 @@ fn delete_value<T: Tape>(
 }
 
 /// Why a row that isn't the path's last put isn't replaced. The store keeps no check of it.
+#[tactic(auto, using(crate::proofs::Replacing::stays_by))]
 fn refuse_replacing<T: Tape>(
     published: &Published,
     store: &mut Store<T>,
@@ -300,6 +301,7 @@ impl<T: Tape> Rollout<T> {
 
 /// Puts a value in the place of the row with this revision, for the same resource, where that is
 /// still the path's last one. The value needs the provider by which the configuration writes.
+#[tactic(auto, using(crate::proofs::Replacing::replaced_by))]
 fn replace_live<T: Tape>(
     store: &mut Store<T>,
     board: &mut Board,
