@@ -9,9 +9,9 @@ use Rattle.kr_store.specs.Rows.{latest, live, AreRows}
 use Rattle.kr_store.specs.Stores.{Kept}
 use Rattle.kr_config.specs.declared.who.Who.{Who}
 use Rattle.kr_config.specs.declared.settings.Settings.{Settings}
-use Rattle.kr_config.specs.Kept.{Row, rows_of}
+use Rattle.kr_config.specs.Kept.{Row, rows_of, plugins_in}
 use Rattle.kr_config.specs.Lists.{list_of}
-use Rattle.kr_provider.specs.Publication.{Publication, IsPublished, plugins_in}
+use Rattle.kr_provider.specs.Publication.{Publication, IsPublished}
 use Rattle.kr_provider.specs.Readers.{reader_in}
 use Rattle.kr_judge.specs.declared.need.Need.{Need}
 use Rattle.kr_judge.specs.Boards.{BoardState, set_need}
