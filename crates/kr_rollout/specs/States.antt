@@ -57,7 +57,8 @@ taken_of current held number generation = record {
   holders = count_by (is_number number) held;
 }
 
-abbrev pub taken_from : (current held : List (Option ℕ)) → ℕ → List Generation → List GenerationState
+abbrev pub taken_from : (current held : List (Option ℕ)) → ℕ → List Generation
+    → List GenerationState
 taken_from current held number [] = []
 taken_from current held number (generation ∷ generations) =
     taken_of current held number generation ∷ taken_from current held (number + 1) generations

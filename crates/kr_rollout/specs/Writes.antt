@@ -37,9 +37,11 @@ pub record IsSealedAnew (format : Format) (p : Publication) (path : List ℕ) (o
 abbrev pub WouldWrite : Format → Did → List LogRow → Option Publication → LogRow → Type 0
 WouldWrite format (Put path resource plain) rows held row =
     (p : Publication) × (held ≡ Some p) × IsSealedPut format p resource path plain row
-WouldWrite format (Delete path) rows held row = IsSome (live rows path) × (row ≡ delete_of path)
+WouldWrite format (Delete path) rows held row =
+    IsSome (live rows path) × (row ≡ delete_of path)
 WouldWrite format (Replace path revision) rows held row = (p : Publication) × (old : Row)
-    × (held ≡ Some p) × (live rows path ≡ Some old) × (old.revision ≡ revision) × IsSealedAnew format p path old row
+    × (held ≡ Some p) × (live rows path ≡ Some old) × (old.revision ≡ revision)
+    × IsSealedAnew format p path old row
 WouldWrite format did rows held row = ⊥
 
 -- how long the store's file is with one more row
@@ -48,10 +50,13 @@ file_size format rows row = length (file_bytes format (rows ++ row ∷ []))
 
 -- a row was written that fits; or the tape's count rose; or the row doesn't fit
 abbrev pub Writes : Gave → Opening → State → Entry → Type 0
-Writes (Written revision) o st e = (row : LogRow) × WouldWrite o.format e.line.did st.rows e.published row
+Writes (Written revision) o st e =
+    (row : LogRow) × WouldWrite o.format e.line.did st.rows e.published row
     × (file_size o.format st.rows row ≤ o.limit) × (e.row ≡ row_of revision row.path row.change)
-Writes StoreFailed o st e = (row : LogRow) × WouldWrite o.format e.line.did st.rows e.published row
+Writes StoreFailed o st e =
+    (row : LogRow) × WouldWrite o.format e.line.did st.rows e.published row
     × (file_size o.format st.rows row ≤ o.limit) × Rose st.count e.line.faults
-Writes (StoreFull needed) o st e = (row : LogRow) × WouldWrite o.format e.line.did st.rows e.published row
+Writes (StoreFull needed) o st e =
+    (row : LogRow) × WouldWrite o.format e.line.did st.rows e.published row
     × (needed ≡ file_size o.format st.rows row) × (o.limit < needed)
 Writes gave o st e = ⊤
