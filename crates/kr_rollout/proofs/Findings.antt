@@ -1,0 +1,134 @@
+-- What a seat's own entries say that it found stands there still.
+use Rattle.std.proofs.Common.{◌≡◌, ℕ, zero, suc, ◌≤◌, ◌⊎◌, cond, List, [], ◌∷◌, ◌++◌, length, Option, None, Some, IfSome, refl, sym, ap, subst, ◌∙◌, arith, inl, inr, length-append}
+use Rattle.std.specs.List.{slice_get}
+use Rattle.std.proofs.lemmas.Bool.{cases_eq, eq-eqb, ne_eqb}
+use Rattle.std.proofs.lemmas.Option.{none-some, slice_get_within}
+use Rattle.kr_store.specs.declared.rows.LogRow.{LogRow}
+use Rattle.kr_store.specs.declared.rows.Row.{Row}
+use Rattle.kr_rollout.specs.declared.line.Did.{Did}
+use Rattle.kr_rollout.specs.declared.line.Did.TheVariants.{Adopt, Fetch, After, Put, Delete, Replace, LetGo, Reload, Join, Leave}
+use Rattle.kr_rollout.specs.declared.line.Gave.{Gave}
+use Rattle.kr_rollout.specs.declared.line.Gave.TheVariants.{Adopted, Found, Absent, Written, Changed, Released, Reloaded, Joined, Refused, Moved, Present, Departed, Gone, StoreFailed, StoreFull, Nothing}
+use Rattle.kr_rollout.specs.declared.opening.Entry.{Entry}
+use Rattle.kr_rollout.specs.declared.opening.Opening.{Opening}
+use Rattle.kr_base.specs.Lines.{of_seat}
+use Rattle.kr_rollout.specs.Entries.{row_here, row_at, revision_in, seat_of}
+use Rattle.kr_rollout.specs.States.{State}
+use Rattle.kr_rollout.specs.Openings.{start_of}
+use Rattle.kr_rollout.specs.Steps.{after, new_rows}
+use Rattle.kr_rollout.specs.Histories.{state_from, state_of, IsRun, IsLegal}
+use Rattle.kr_rollout.specs.Callers.{found_by, found_then, found_from, found_in}
+use Rattle.kr_rollout.proofs.Revisions.{row_front, revision_is}
+
+-- the row is there, at its revision
+pub record IsIn (rows : List LogRow) (row : Row) : Type 0 where
+  pub within : row.revision ≤ length rows
+  pub is : row_at rows row.revision ≡ Some row
+
+stays : (rows more : List LogRow) (row : Row) → IsIn rows row → IsIn (rows ++ more) row
+stays rows more row i = record {
+  within = omega (arith, i.within, length-append rows more);
+  is =
+      row_front rows more row.revision i.within ∙ i.is;
+}
+
+all_stay : (rows more : List LogRow) (row : Option Row) → IfSome row (IsIn rows)
+    → IfSome row (IsIn (rows ++ more))
+all_stay rows more None i = tt
+all_stay rows more (Some row) i = stays rows more row i
+
+-- what is found by a revision is there
+row_in : (rows : List LogRow) (k : ℕ) (row : Row) → row_at rows k ≡ Some row → IsIn rows row
+row_in rows zero row e = absurd (none-some row e)
+row_in rows (suc k) row e = by (slice_get rows k) refl e
+  where
+    by : (o : Option LogRow) → slice_get rows k ≡ o → row_here (suc k) o ≡ Some row → IsIn rows row
+    by None is e = absurd (none-some row e)
+    by (Some own) is e =
+        let r : row.revision ≡ suc k = (revision_is (suc k) own.path own.change row e).0 in
+        record {
+          within = omega (arith, r, slice_get_within rows k own is);
+          is = ap (row_at rows) r ∙ ap (row_here (suc k)) is ∙ e;
+        }
+
+pub at_within : (rows : List LogRow) (k : ℕ) (row : Row) → row_at rows k ≡ Some row
+    → k ≤ length rows
+at_within rows zero row e = omega arith
+at_within rows (suc k) row e = by (slice_get rows k) refl e
+  where
+    by : (o : Option LogRow) → slice_get rows k ≡ o → row_here (suc k) o ≡ Some row
+        → suc k ≤ length rows
+    by None is e = absurd (none-some row e)
+    by (Some own) is e = omega (arith, slice_get_within rows k own is)
+
+found_in_rows : (rows : List LogRow) (gave : Gave) (row : Option Row)
+    → row ≡ row_at rows (revision_in gave) → IfSome (found_by gave row) (IsIn rows)
+found_in_rows rows (Adopted n) row e = tt
+found_in_rows rows (Found revision) row e = by row e
+  where
+    by : (row : Option Row) → row ≡ row_at rows revision → IfSome row (IsIn rows)
+    by None e = tt
+    by (Some r) e = row_in rows revision r (sym e)
+found_in_rows rows Absent row e = tt
+found_in_rows rows (Written revision) row e = tt
+found_in_rows rows (Changed last) row e = tt
+found_in_rows rows Released row e = tt
+found_in_rows rows (Reloaded number) row e = tt
+found_in_rows rows (Joined number) row e = tt
+found_in_rows rows (Refused verdict) row e = tt
+found_in_rows rows (Moved number) row e = tt
+found_in_rows rows (Present number) row e = tt
+found_in_rows rows (Departed number) row e = tt
+found_in_rows rows (Gone replica) row e = tt
+found_in_rows rows StoreFailed row e = tt
+found_in_rows rows (StoreFull needed) row e = tt
+found_in_rows rows Nothing row e = tt
+
+then_in : (rows more : List LogRow) (did : Did) (gave : Gave) (row now : Option Row)
+    → row ≡ row_at (rows ++ more) (revision_in gave) → IfSome now (IsIn rows)
+    → IfSome (found_then did gave row now) (IsIn (rows ++ more))
+then_in rows more (Adopt replica) gave row now e i = tt
+then_in rows more (Fetch path) gave row now e i = found_in_rows (rows ++ more) gave row e
+then_in rows more (After path) gave row now e i = found_in_rows (rows ++ more) gave row e
+then_in rows more (Put path resource plain) gave row now e i = all_stay rows more now i
+then_in rows more (Delete path) gave row now e i = all_stay rows more now i
+then_in rows more (Replace path revision) gave row now e i = all_stay rows more now i
+then_in rows more LetGo gave row now e i = all_stay rows more now i
+then_in rows more (Reload replica p expect) gave row now e i = all_stay rows more now i
+then_in rows more (Join replica p) gave row now e i = all_stay rows more now i
+then_in rows more (Leave replica) gave row now e i = all_stay rows more now i
+
+run_finds : (o : Opening) (st : State) (history : List Entry) (seat : ℕ) (now : Option Row)
+    → IsRun o st history → IfSome now (IsIn st.rows)
+    → IfSome (found_from now (of_seat seat_of seat history)) (IsIn (state_from st history).rows)
+run_finds o st [] seat now r i = i
+run_finds o st (e ∷ history) seat now r i =
+    by (cases_eq e.line.seat seat) (run_finds o (after st e) history seat)
+  where
+    more : List LogRow
+    more = new_rows e.line.gave e.line.did e.row
+
+    row_is : e.row ≡ row_at (st.rows ++ more) (revision_in e.line.gave)
+    row_is = ap (λ (x : Entry). x.row) r.0.payload
+
+    by : (e.line.seat ≡ seat) ⊎ (e.line.seat ≡ seat → ⊥)
+        → ((now : Option Row) → IsRun o (after st e) history → IfSome now (IsIn (after st e).rows)
+        → IfSome (found_from now (of_seat seat_of seat history))
+        (IsIn (state_from (after st e) history).rows))
+        → IfSome (found_from now (of_seat seat_of seat (e ∷ history)))
+        (IsIn (state_from (after st e) history).rows)
+    by (inl same) again =
+        subst (λ b. IfSome (found_from now (cond b (e ∷ of_seat seat_of seat history)
+        (of_seat seat_of seat history))) (IsIn (state_from (after st e) history).rows))
+        (sym (eq-eqb e.line.seat seat same))
+        (again (found_then e.line.did e.line.gave e.row now) r.1
+        (then_in st.rows more e.line.did e.line.gave e.row now row_is i))
+    by (inr other) again =
+        subst (λ b. IfSome (found_from now (cond b (e ∷ of_seat seat_of seat history)
+        (of_seat seat_of seat history))) (IsIn (state_from (after st e) history).rows))
+        (sym (ne_eqb e.line.seat seat other))
+        (again now r.1 (all_stay st.rows more now i))
+
+pub found_there : (o : Opening) (history : List Entry) (seat : ℕ) → IsLegal o history
+    → IfSome (found_in (of_seat seat_of seat history)) (IsIn (state_of o history).rows)
+found_there o history seat l = run_finds o (start_of o) history seat None l.runs tt

@@ -1,0 +1,17 @@
+pub mod Revisions
+pub mod Holders
+pub mod Keeping
+pub mod Serving
+pub mod Appending
+pub mod Holdings
+pub mod Needing
+pub mod Walking
+pub mod Passing
+pub mod Taking
+pub mod Beginning
+pub mod Findings
+pub mod Sharing
+pub mod Boarding
+pub mod Storing
+pub mod Replacing
+pub mod Refusing

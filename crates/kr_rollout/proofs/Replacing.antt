@@ -1,0 +1,71 @@
+-- What the store answers to a replacement, with the check of the writer of the row's resource.
+use Rattle.std.proofs.Common.{◌≡◌, ℕ, List, Some, Result, Ok, Err, sym, ap, subst, ◌∙◌}
+use Rattle.std.proofs.lemmas.Option.{same_Some}
+use Rattle.kr_store.specs.declared.answers.PutNo.{PutNo}
+use Rattle.kr_store.specs.declared.answers.PutNo.TheVariants as no
+use Rattle.kr_store.specs.declared.format.Check.{Check}
+use Rattle.kr_store.specs.declared.rows.LogRow.{LogRow}
+use Rattle.kr_store.specs.declared.rows.Row.{Row}
+use Rattle.kr_store.specs.Rows.{live}
+use Rattle.kr_store.specs.Stores.{Kept, IsLatestPut, Wrote, Fails, Refused, Replaces, put_over}
+use Rattle.kr_config.specs.declared.who.Who.{Who}
+use Rattle.kr_provider.specs.Publication.{Publication, list_at}
+use Rattle.kr_provider.specs.Readers.{writer_of}
+use Rattle.kr_judge.specs.Boards.{BoardState, set_need}
+use Rattle.kr_rollout.specs.Answers.{IsStill}
+use Rattle.kr_rollout.specs.Checks.{store_check}
+use Rattle.kr_rollout.specs.inner.Writing.{needs_with, sealed_over, StaysBy, ReplacesBy}
+
+-- what isn't the path's last put isn't replaced, whatever its check
+pub stays_by : (p : Publication) (old new : Kept) (path : List ℕ) (revision : ℕ)
+    (stored : List ℕ) (check : Check) (why : PutNo) → (IsStill old.rows path revision → ⊥)
+    → Replaces old new path revision stored check (Err why)
+    → StaysBy p old new path revision stored why
+stays_by p old new path revision stored check no.Failed n r = absurd (n (r.0, r.1))
+stays_by p old new path revision stored check (no.Full needed) n r = absurd (n (r.0, r.1))
+stays_by p old new path revision stored check (no.Changed to) n r = r
+stays_by p old new path revision stored check no.NoMemory n r = r
+
+module _ (p : Publication) (old new : Kept) (path : List ℕ) (revision : ℕ) (stored : List ℕ)
+    (own : Row) (who : Who) (there : live old.rows path ≡ Some own)
+    (who_is : who ≡ writer_of (list_at p own.resource)) where
+  same_own : (row : Row) → IsLatestPut old.rows path revision row → row ≡ own
+  same_own row latest = same_Some row own (sym latest.is ∙ there)
+
+  writer_is : (row : Row) → IsLatestPut old.rows path revision row
+      → who ≡ writer_of (list_at p row.resource)
+  writer_is row latest =
+      who_is ∙ ap (λ (x : Row). writer_of (list_at p x.resource)) (sym (same_own row latest))
+
+  over_is : (row : Row) → IsLatestPut old.rows path revision row
+      → ◌≡◌ {A = LogRow} (put_over old row path stored (store_check who))
+      (sealed_over old p row path stored)
+  over_is row latest = ap (λ (w : Who). put_over old row path stored (store_check w))
+      (writer_is row latest)
+
+  pub replaced_by : (resource : List ℕ) (before after : BoardState) (result : Result ℕ PutNo)
+      → resource ≡ own.resource
+      → Replaces old new path revision stored (store_check who) result
+      → after ≡ record before {
+        needs = needs_with result
+            (record { path = path; resource = resource; who = who }) before.needs;
+      }
+      → ReplacesBy p old new path revision stored before after result
+  replaced_by resource before after (Ok to) resource_is r b =
+      let resources : resource ≡ r.0.resource =
+      resource_is ∙ ap (λ (x : Row). x.resource) (sym (same_own r.0 r.1)) in
+      let writers = writer_is r.0 r.1 in (
+        r.0,
+        r.1,
+        subst (λ row. Wrote old new row to) (over_is r.0 r.1) r.2,
+        b ∙ (λ i. record before {
+          needs = set_need before.needs
+              (record { path = path; resource = resources i; who = writers i });
+        }),
+      )
+  replaced_by resource before after (Err no.Failed) resource_is r b =
+      ((r.0, r.1, subst (λ row. Fails old new row) (over_is r.0 r.1) r.2), b)
+  replaced_by resource before after (Err (no.Full needed)) resource_is r b =
+      ((r.0, r.1, subst (λ row. Refused old new row (no.Full needed)) (over_is r.0 r.1) r.2), b)
+  replaced_by resource before after (Err (no.Changed to)) resource_is r b = (r, b)
+  replaced_by resource before after (Err no.NoMemory) resource_is r b = (r, b)

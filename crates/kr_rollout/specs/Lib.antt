@@ -1,0 +1,14 @@
+pub mod Checks
+pub mod Entries
+pub mod States
+pub mod Openings
+pub mod Fits
+pub mod Answers
+pub mod Writes
+pub mod Steps
+pub mod Histories
+pub mod Callers
+pub mod Cores
+pub mod Starts
+pub mod inner
+pub mod Laws

@@ -1,0 +1,26 @@
+//! The core of a rollout: seats ask one thing at a time of a store and of the configurations of
+//! some replicas, and each is one line of one journal. The journal is a legal history, by which the
+//! core's state is known.
+#![tactic(auto)]
+
+mod answer;
+mod check;
+mod event;
+mod generation;
+mod journal;
+mod laws;
+mod line;
+mod opening;
+mod opening_board;
+mod rollout;
+mod start;
+mod writing;
+
+pub use answer::Answer;
+pub use event::Event;
+pub use generation::Generation;
+pub use journal::Core;
+pub use laws::{found_is_there, front_is_legal, holding_is_held, unfit_is_unfit};
+pub use line::{Did, Gave, Line};
+pub use opening::{Entry, Opening};
+pub use opening_board::{StartNo, board_of};

@@ -1,0 +1,210 @@
+//! The start of a rollout.
+ghost use Rattle.std.specs.Prelude.{◌≡◌, ◌<◌, ◌≤◌, ◌+◌, length, sum, replicate, ◌++◌, All, None, IsOk, IfOk, IfSome, IfErr, OnOk};
+ghost use Rattle.std.specs.Option.{option_map};
+ghost use Rattle.kr_provider.specs.Publication.{IsPublished};
+ghost use Rattle.kr_rollout.specs.Openings.{opening_by, IsFirstIn, AreAmong, generations_from, current_from, settings_of, rows_in, settings_rows};
+ghost use Rattle.kr_rollout.specs.inner.Opens.{generation_at, number_if_in, number_after, Opens};
+
+use crate::generation::Generation;
+use crate::opening_board::{StartNo, board_of};
+use crate::rollout::Rollout;
+use kr_base::{List, NoMemory, Shared, Tape, Text};
+use kr_config::Settings;
+use kr_provider::Published;
+use kr_store::Store;
+use std::alloc::Global;
+
+impl<T: Tape> Rollout<T> {
+    /// The rollout at its opening. A refusal gives the store back.
+    pub fn start(
+        alloc: Global,
+        store: Store<T>,
+        replicas: List<Option<Shared<Published>>>,
+        names: List<Text>,
+        seats: u32,
+        reloads: &[u32],
+    ) -> Result<Rollout<T>, (StartNo, Store<T>)>
+        requires first { IsFirstIn replicas.0 }
+        requires few { length replicas.0 ≤ 16 }
+        requires seats { (seats ≤ 64) × (length reloads.now ≡ seats) }
+        requires room { sum reloads.now ≤ 4000000 }
+        requires names { AreAmong names.0 replicas.0 }
+        ensures opens { Opens (opening_by store replicas.0 names.0 reloads.now) result }
+        ensures back { IfErr result (λ refused. refused.1 ≡ store) }
+    {
+        store.known();
+        let made = match make(alloc, replicas.as_slice(), seats, reloads) {
+            Ok(made) => made,
+            Err(NoMemory) => return Err((StartNo::NoMemory, store)),
+        };
+        let board = match board_of(alloc, &store, &made.settings, made.room) {
+            Ok(board) => board,
+            Err(why) => return Err((why, store)),
+        };
+        let first_rows = store.revision();
+        let first_faults = store.faults();
+        Ok(Rollout {
+            store,
+            board,
+            generations: made.generations,
+            current: made.current,
+            held: made.held,
+            first_rows,
+            replicas,
+            names,
+            reloads: made.reloads,
+            first_faults,
+        })
+    }
+}
+
+/// What a rollout keeps of its replicas and seats at the opening.
+#[derive(Drop)]
+struct Made {
+    settings: List<Option<Shared<Settings>>>,
+    generations: Vec<Generation>,
+    current: Vec<Option<u32>>,
+    held: Vec<Option<u32>>,
+    reloads: Vec<u32>,
+    /// How many generations there may be.
+    room: u32,
+}
+
+/// Makes all of it, before the store is given up.
+fn make(
+    alloc: Global,
+    replicas: &[Option<Shared<Published>>],
+    seats: u32,
+    reloads: &[u32],
+) -> Result<Made, NoMemory>
+    requires few { length replicas.now ≤ 16 }
+    requires room { sum reloads.now ≤ 4000000 }
+    ensures settings { IfOk result (λ made. rows_in made.settings.0 ≡ settings_of replicas.now) }
+    ensures published { IsOk result → All (λ replica. IfSome replica IsPublished) replicas.now }
+    ensures generations { IfOk result (λ made.
+        made.generations.items ≡ generations_from 0 replicas.now) }
+    ensures current { IfOk result (λ made. made.current.items ≡ current_from 0 replicas.now) }
+    ensures held { IfOk result (λ made. made.held.items ≡ replicate seats None) }
+    ensures reloads { IfOk result (λ made. made.reloads.items ≡ reloads.now) }
+    ensures room { IfOk result (λ made. made.room ≡ length replicas.now + sum reloads.now) }
+{
+    let settings = share_settings(alloc, replicas)?;
+    let room = replicas.len() as u32 + reloads.iter().sum::<u32>();
+    let generations = share_generations(alloc, replicas, room)?;
+    let current = number_replicas(alloc, replicas)?;
+    let held = vec![in alloc; None; seats as usize]?;
+    let reloads = Vec::from_slice(alloc, reloads)?;
+    Ok(Made {
+        settings,
+        generations,
+        current,
+        held,
+        reloads,
+        room,
+    })
+}
+
+/// The settings of the replicas that are in.
+#[tactic(auto, using(crate::proofs::Sharing::shared_begin, crate::proofs::Sharing::shared_more, crate::proofs::Sharing::shared_end, crate::proofs::Sharing::shared_published))]
+fn share_settings(
+    alloc: Global,
+    replicas: &[Option<Shared<Published>>],
+) -> Result<List<Option<Shared<Settings>>>, NoMemory>
+    ensures rows { IfOk result (λ settings. rows_in settings.0 ≡ settings_of replicas.now) }
+    ensures published { IsOk result → All (λ replica. IfSome replica IsPublished) replicas.now }
+{
+    let mut settings = Vec::new(alloc);
+    for replica in replicas {
+        settings.push(settings_in(replica)?)?;
+    }
+    Ok(List::from_vec(settings))
+}
+
+/// The settings of a replica that is in.
+fn settings_in(replica: &Option<Shared<Published>>) -> Result<Option<Shared<Settings>>, NoMemory>
+    ensures rows { IfOk result (λ settings.
+        settings_rows settings ≡ option_map (λ p. p.rows) replica.now) }
+    ensures published { IfSome replica.now IsPublished }
+{
+    match replica {
+        Some(published) => match published.get().settings.share() {
+            Ok(settings) => Ok(Some(settings)),
+            Err(NoMemory) => Err(NoMemory),
+        },
+        None => Ok(None),
+    }
+}
+
+/// The generations of the replicas that are in, with room for so many in all.
+#[tactic(auto, using(crate::proofs::Sharing::made_begin, crate::proofs::Sharing::made_step, crate::proofs::Sharing::made_end))]
+fn share_generations(
+    alloc: Global,
+    replicas: &[Option<Shared<Published>>],
+    room: u32,
+) -> Result<Vec<Generation>, NoMemory>
+    requires { length replicas.now ≤ 16 }
+    ensures { IfOk result (λ generations.
+        generations.items ≡ generations_from 0 replicas.now) }
+{
+    let mut generations = Vec::with_capacity(alloc, room as usize)?;
+    for (replica, published) in replicas.iter().enumerate() {
+        add_generation(&mut generations, replica as u32, published)?;
+    }
+    Ok(generations)
+}
+
+/// Adds the generation of a replica that is in.
+fn add_generation(
+    generations: &mut Vec<Generation>,
+    replica: u32,
+    published: &Option<Shared<Published>>,
+) -> Result<(), NoMemory>
+    ensures { OnOk result (generations.new.items
+        ≡ generations.old.items ++ generation_at replica published.now) }
+{
+    let Some(published) = published else {
+        return Ok(());
+    };
+    let published = published.share()?;
+    generations.push(Generation { replica, published })?;
+    Ok(())
+}
+
+/// The number of each replica's generation, of those that are in.
+#[tactic(auto, using(crate::proofs::Sharing::numbered_begin, crate::proofs::Sharing::numbered_step, crate::proofs::Sharing::numbered_end, crate::proofs::Sharing::numbered_room))]
+fn number_replicas(
+    alloc: Global,
+    replicas: &[Option<Shared<Published>>],
+) -> Result<Vec<Option<u32>>, NoMemory>
+    requires { length replicas.now ≤ 16 }
+    ensures { IfOk result (λ current. current.items ≡ current_from 0 replicas.now) }
+{
+    let mut current = Vec::new(alloc);
+    let mut number = 0u32;
+    for replica in replicas {
+        current.push(number_if_in(replica, number))?;
+        number = number_after(replica, number);
+    }
+    Ok(current)
+}
+
+/// The number, for a replica that is in.
+fn number_if_in(replica: &Option<Shared<Published>>, number: u32) -> Option<u32>
+    ensures { result ≡ number_if_in replica.now number }
+{
+    match replica {
+        Some(_) => Some(number),
+        None => None,
+    }
+}
+
+/// The number of the next replica that is in.
+fn number_after(replica: &Option<Shared<Published>>, number: u32) -> u32
+    requires { number < 100 }
+    ensures { result ≡ number_after replica.now number }
+{
+    match replica {
+        Some(_) => number + 1,
+        None => number,
+    }
+}

@@ -1,0 +1,330 @@
+//! Events that write to the store.
+ghost use Rattle.std.specs.Prelude.{◌≡◌, ◌<◌, ◌≤◌, length, None};
+ghost use Rattle.kr_provider.specs.Publication.{IsPublished, list_at};
+ghost use Rattle.kr_provider.specs.Readers.{writer_of};
+ghost use Rattle.kr_base.specs.Rules.{IsPath, IsResource};
+ghost use Rattle.kr_store.specs.Rows.{longest_value, put_of, check_in};
+ghost use Rattle.kr_store.specs.Stores.{Puts, Deletes, Replaces};
+ghost use Rattle.kr_rollout.specs.Answers.{IsStill};
+ghost use Rattle.kr_rollout.specs.Checks.{store_check};
+ghost use Rattle.kr_rollout.specs.Callers.{gave_of};
+ghost use Rattle.kr_rollout.specs.declared.event.Event.TheVariants as event;
+ghost use Rattle.kr_rollout.specs.inner.Rollouts.{MayServe, Serves};
+ghost use Rattle.kr_rollout.specs.inner.Writing.{refused_as, written_as, deleted_as, needs_with, needs_without, StaysBy, ReplacesBy};
+
+use crate::answer::Answer;
+use crate::check::store_check;
+use crate::line::{Did, Gave, Line};
+use crate::rollout::Rollout;
+use kr_base::{Bytes, NoMemory, Tape, Text};
+use kr_config::Who;
+use kr_judge::Board;
+use kr_provider::Published;
+use kr_provider::laws::size_of_sealing;
+use kr_store::{Check, PutNo, Store};
+
+/// Puts a value that needs the provider. The need is proposed before the row is written, so that it
+/// is settled without memory.
+fn put_value<T: Tape>(
+    store: &mut Store<T>,
+    board: &mut Board,
+    path: &str,
+    resource: &str,
+    who: &Who,
+    stored: Bytes,
+) -> Result<u64, PutNo>
+    requires idle { board.old.proposal ≡ None }
+    requires path { IsPath path.now }
+    requires resource { IsResource resource.now }
+    requires stored { length stored ≤ longest_value }
+    ensures store { Puts store.old store.new
+        (put_of path.now resource.now stored (check_in store.old.format (store_check who.now)))
+        result }
+    ensures board { board.new ≡ record board.old {
+      needs = needs_with result
+          (record { path = path.now; resource = resource.now; who = who.now }) board.old.needs;
+    } }
+{
+    match board.propose(path, resource, who) {
+        Ok(()) => {}
+        Err(NoMemory) => return Err(PutNo::NoMemory),
+    }
+    match store.put(path, resource, stored, store_check(who)) {
+        Ok(revision) => {
+            board.settle(true);
+            Ok(revision)
+        }
+        Err(why) => {
+            board.settle(false);
+            Err(why)
+        }
+    }
+}
+
+/// Puts a value that needs the provider in the place of the row with this revision, where that is
+/// still the path's last one.
+fn replace_value<T: Tape>(
+    store: &mut Store<T>,
+    board: &mut Board,
+    path: &str,
+    resource: &str,
+    revision: u64,
+    who: &Who,
+    stored: Bytes,
+) -> Result<u64, PutNo>
+    requires idle { board.old.proposal ≡ None }
+    requires path { IsPath path.now }
+    requires stored { length stored ≤ longest_value }
+    ensures store { Replaces store.old store.new path.now revision stored (store_check who.now)
+        result }
+    ensures board { board.new ≡ record board.old {
+      needs = needs_with result
+          (record { path = path.now; resource = resource.now; who = who.now }) board.old.needs;
+    } }
+{
+    match board.propose(path, resource, who) {
+        Ok(()) => {}
+        Err(NoMemory) => return Err(PutNo::NoMemory),
+    }
+    match store.replace_if(path, revision, stored, store_check(who)) {
+        Ok(revision) => {
+            board.settle(true);
+            Ok(revision)
+        }
+        Err(why) => {
+            board.settle(false);
+            Err(why)
+        }
+    }
+}
+
+/// Deletes the path's live row.
+fn delete_value<T: Tape>(
+    store: &mut Store<T>,
+    board: &mut Board,
+    path: &str,
+) -> Result<Option<u64>, PutNo>
+    requires idle { board.old.proposal ≡ None }
+    requires path { IsPath path.now }
+    ensures store { Deletes store.old store.new path.now result }
+    ensures board { board.new
+        ≡ record board.old { needs = needs_without result path.now board.old.needs } }
+{
+    match store.delete(path) {
+        Ok(Some(revision)) => {
+            board.drop_need(path);
+            Ok(Some(revision))
+        }
+        Ok(None) => Ok(None),
+        Err(why) => Err(why),
+    }
+}
+
+/// Why a row that isn't the path's last put isn't replaced. The store keeps no check of it.
+#[tactic(auto, using(crate::proofs::Replacing::stays_by))]
+fn refuse_replacing<T: Tape>(
+    published: &Published,
+    store: &mut Store<T>,
+    path: &str,
+    revision: u64,
+    stored: Bytes,
+) -> PutNo
+    requires path { IsPath path.now }
+    requires stored { length stored ≤ longest_value }
+    requires not { ¬ IsStill store.old.rows path.now revision }
+    ensures { StaysBy published.now store.old store.new path.now revision stored result }
+{
+    let check = Check { value: 0 };
+    match store.replace_if(path, revision, stored, check) {
+        Ok(_) => unreachable!(),
+        Err(why) => why,
+    }
+}
+
+/// What is answered where the store refused a row.
+fn refusal(why: PutNo) -> Answer
+    ensures { result ≡ refused_as why }
+{
+    match why {
+        PutNo::Failed => Answer::StoreFailed,
+        PutNo::Full { needed } => Answer::StoreFull { needed },
+        PutNo::Changed { revision } => Answer::Changed { revision },
+        PutNo::NoMemory => Answer::NoMemory,
+    }
+}
+
+/// What is answered to a put.
+fn put_answer(wrote: Result<u64, PutNo>) -> Answer
+    ensures { result ≡ written_as wrote }
+{
+    match wrote {
+        Ok(revision) => Answer::Written { revision },
+        Err(why) => refusal(why),
+    }
+}
+
+/// What is answered to a delete.
+fn delete_answer(wrote: Result<Option<u64>, PutNo>) -> Answer
+    ensures { result ≡ deleted_as wrote }
+{
+    match wrote {
+        Ok(Some(revision)) => Answer::Written { revision },
+        Ok(None) => Answer::Absent,
+        Err(why) => refusal(why),
+    }
+}
+
+/// The answer as the journal has it.
+fn line_answer(answer: &Answer) -> Gave
+    ensures { result ≡ gave_of answer.now }
+{
+    match answer {
+        Answer::Adopted { generation, .. } => Gave::Adopted {
+            generation: *generation,
+        },
+        Answer::Gone { replica } => Gave::Gone { replica: *replica },
+        Answer::Found(row) => Gave::Found {
+            revision: row.get().revision,
+        },
+        Answer::Absent => Gave::Absent,
+        Answer::Written { revision } => Gave::Written {
+            revision: *revision,
+        },
+        Answer::Changed { revision } => Gave::Changed {
+            revision: *revision,
+        },
+        Answer::StoreFailed => Gave::StoreFailed,
+        Answer::StoreFull { needed } => Gave::StoreFull { needed: *needed },
+        Answer::Released => Gave::Released,
+        Answer::NoMemory => Gave::Nothing,
+    }
+}
+
+/// The provider by which the configuration writes values of the resource.
+#[tactic(auto, using(crate::proofs::Passing::list_some, crate::proofs::Passing::first_writes))]
+fn writer_of<'a>(published: &'a Published, resource: &str) -> &'a Who
+    ensures writer { result.now ≡ writer_of (list_at published.now resource.now) }
+    ensures kept { IsPublished published.now }
+{
+    let list = published.list_for(resource);
+    &list[0]
+}
+
+/// Tells what each published configuration keeps.
+fn known(published: &Published)
+    ensures { IsPublished published.now }
+{
+    let _ = &published.settings;
+}
+
+impl<T: Tape> Rollout<T> {
+    /// Puts a value that was sealed by the held generation.
+    pub fn put(
+        &mut self,
+        seat: u32,
+        path: Text,
+        resource: Text,
+        plain: Bytes,
+        stored: Bytes,
+    ) -> (Answer, Line)
+        requires seat_in { seat < length self.old.opening.reloads }
+        requires may { MayServe self.old seat (event.Put path resource plain stored) }
+        ensures { Serves self.old seat (event.Put path resource plain stored)
+            result.0 result.1 self.new }
+    {
+        size_of_sealing();
+        let Some(number) = self.held[seat as usize] else {
+            unreachable!()
+        };
+        let published = self.generations[number as usize].published.get();
+        known(published);
+        let who = writer_of(published, resource.as_str());
+        let result = put_value(
+            &mut self.store,
+            &mut self.board,
+            path.as_str(),
+            resource.as_str(),
+            who,
+            stored,
+        );
+        let answer = put_answer(result);
+        let gave = line_answer(&answer);
+        let did = Did::Put {
+            path,
+            resource,
+            plain,
+        };
+        let line = self.line(seat, did, gave);
+        (answer, line)
+    }
+
+    /// Deletes the path's live row.
+    pub fn delete(&mut self, seat: u32, path: Text) -> (Answer, Line)
+        requires seat_in { seat < length self.old.opening.reloads }
+        requires may { MayServe self.old seat (event.Delete path) }
+        ensures { Serves self.old seat (event.Delete path) result.0 result.1 self.new }
+    {
+        let result = delete_value(&mut self.store, &mut self.board, path.as_str());
+        let answer = delete_answer(result);
+        let gave = line_answer(&answer);
+        let line = self.line(seat, Did::Delete { path }, gave);
+        (answer, line)
+    }
+
+    /// Puts a value, sealed anew, in the place of the row that the seat found last.
+    pub fn replace(&mut self, seat: u32, path: Text, revision: u64, stored: Bytes) -> (Answer, Line)
+        requires seat_in { seat < length self.old.opening.reloads }
+        requires may { MayServe self.old seat (event.Replace path revision stored) }
+        ensures { Serves self.old seat (event.Replace path revision stored)
+            result.0 result.1 self.new }
+    {
+        size_of_sealing();
+        let Some(number) = self.held[seat as usize] else {
+            unreachable!()
+        };
+        let published = self.generations[number as usize].published.get();
+        known(published);
+        let result = replace_live(
+            &mut self.store,
+            &mut self.board,
+            published,
+            path.as_str(),
+            revision,
+            stored,
+        );
+        let answer = put_answer(result);
+        let gave = line_answer(&answer);
+        let line = self.line(seat, Did::Replace { path, revision }, gave);
+        (answer, line)
+    }
+}
+
+/// Puts a value in the place of the row with this revision, for the same resource, where that is
+/// still the path's last one. The value needs the provider by which the configuration writes.
+#[tactic(auto, using(crate::proofs::Replacing::replaced_by))]
+fn replace_live<T: Tape>(
+    store: &mut Store<T>,
+    board: &mut Board,
+    published: &Published,
+    path: &str,
+    revision: u64,
+    stored: Bytes,
+) -> Result<u64, PutNo>
+    requires idle { board.old.proposal ≡ None }
+    requires path { IsPath path.now }
+    requires stored { length stored ≤ longest_value }
+    ensures { ReplacesBy published.now store.old store.new path.now revision stored
+        board.old board.new result }
+{
+    let row = match store.get(path) {
+        Ok(Some(row)) => row,
+        Ok(None) => return Err(refuse_replacing(published, store, path, revision, stored)),
+        Err(NoMemory) => return Err(PutNo::NoMemory),
+    };
+    let resource = row.get().resource.as_str();
+    if row.get().revision != revision {
+        return Err(refuse_replacing(published, store, path, revision, stored));
+    }
+    let who = writer_of(published, resource);
+    replace_value(store, board, path, resource, revision, who, stored)
+}
