@@ -358,6 +358,14 @@ impl<T: Tape> Store<T> {
         self.rows.as_slice().len() as u64
     }
 
+    /// Whether a write has failed since the last one that was done: what it wrote of its row may
+    /// then stand behind the file, until the next write cuts it off.
+    pub fn torn(&self) -> bool
+        ensures { result ≡ self.now.torn }
+    {
+        self.log.torn()
+    }
+
     /// How often the tape failed, up to the greatest number.
     pub fn faults(&self) -> u64
         ensures { result ≡ self.now.count }
