@@ -155,7 +155,8 @@ impl Board {
         self.generations.known();
     }
 
-    /// The first reason against new settings of the replica. It looks at the state that taking them up would make.
+    /// The first reason against new settings of the replica. It looks at the state that taking them
+    /// up would make.
     pub fn judge(&self, replica: u32, settings: &Settings) -> Result<Verdict, NoMemory>
         requires { self.now.proposal ≡ None }
         ensures judged { MatchResult result

@@ -9,7 +9,8 @@ use crate::generation_list::GenerationList;
 use crate::provider_lists::unread_writer;
 use kr_config::{BorrowedClass, Settings, Who, first_of};
 
-/// The first class after this one of those that the live generations and the new settings tell apart.
+/// The first class after this one of those that the live generations and the new settings tell
+/// apart.
 #[tactic(auto, using(crate::proofs::Raw::raw_begin, crate::proofs::Raw::raw_more, crate::proofs::Raw::raw_end, crate::proofs::Walks::loss_within))]
 fn next_class<'a>(
     generations: &'a GenerationList,
@@ -28,7 +29,8 @@ fn next_class<'a>(
     next
 }
 
-/// The first of these classes that the one settings write by a provider that isn't in the others' list.
+/// The first of these classes that the one settings write by a provider that isn't in the others'
+/// list.
 #[tactic(auto, using(crate::proofs::ClassSteps::left_begin, crate::proofs::ClassSteps::left_more, crate::proofs::ClassSteps::left_found, crate::proofs::ClassSteps::left_end, crate::proofs::ClassSteps::left_smaller))]
 pub fn first_unread<'a>(
     generations: &'a GenerationList,

@@ -13,7 +13,8 @@ use kr_config::Settings;
 use std::alloc::Global;
 use std::marker::Model;
 
-/// All generations, by their numbers, with room for more; and the numbers of those that are live, in order.
+/// All generations, by their numbers, with room for more; and the numbers of those that are live,
+/// in order.
 #[derive(Drop)]
 pub struct GenerationList {
     all: Vec<Generation>,

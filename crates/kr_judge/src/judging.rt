@@ -24,8 +24,8 @@ pub enum Writer {
     New,
 }
 
-/// The first class that the one of a generation's settings and the new ones write by a provider that isn't in the list
-/// of the other.
+/// The first class that the one of a generation's settings and the new ones write by a provider
+/// that isn't in the list of the other.
 fn first_at<'a>(
     generations: &'a GenerationList,
     writer: Writer,
@@ -42,7 +42,8 @@ fn first_at<'a>(
     }
 }
 
-/// The first of the other live generations, and of their classes the first, at which a writer isn't read.
+/// The first of the other live generations, and of their classes the first, at which a writer isn't
+/// read.
 #[tactic(auto, using(crate::proofs::Walks::loss_begin, crate::proofs::Walks::loss_within, crate::proofs::Walks::loss_skip, crate::proofs::Walks::loss_none, crate::proofs::Walks::loss_found, crate::proofs::Walks::loss_end))]
 pub fn first_loss<'a>(
     generations: &'a GenerationList,
@@ -51,7 +52,8 @@ pub fn first_loss<'a>(
     settings: &'a Settings,
 ) -> Option<(u32, BorrowedClass<'a>, &'a Who)>
     ensures { option_map (λ lost. (lost.0, lent_class lost.1, lost.2.now)) result
-        ≡ first (losses writer replica (rows_of settings.now.entries.0) generations.now.generations) }
+        ≡ first (losses writer replica (rows_of settings.now.entries.0)
+        generations.now.generations) }
 {
     for number in generations.live() {
         let generation = generations.at(*number);

@@ -15,8 +15,9 @@ use kr_config::{Settings, Who};
 use std::alloc::Global;
 use std::marker::Model;
 
-/// The needs, and at most one proposal of a need. What is kept by path and what is kept by pairs is the same; while
-/// there is a proposal, it stands in both already, so that settling it takes no memory.
+/// The needs, and at most one proposal of a need. What is kept by path and what is kept by pairs is
+/// the same; while there is a proposal, it stands in both already, so that settling it takes no
+/// memory.
 #[derive(Drop)]
 pub struct NeedIndex {
     places: PathMap,

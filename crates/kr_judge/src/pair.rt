@@ -41,14 +41,15 @@ impl Pair {
 
     /// Whether it is of this resource and this provider.
     pub fn is_of(&self, resource: &str, who: &Who) -> bool
-        ensures { result ≡ (bytes_eq self.now.resource resource.now && same_who self.now.who who.now) }
+        ensures { result
+            ≡ (bytes_eq self.now.resource resource.now && same_who self.now.who who.now) }
     {
         self.resource.as_str() == resource && is_same(&self.who, who)
     }
 }
 
-/// The place of the pair of this resource and this provider. Where there is none, one that no path needs gives its
-/// place to it.
+/// The place of the pair of this resource and this provider. Where there is none, one that no path
+/// needs gives its place to it.
 #[tactic(auto, using(crate::proofs::Pairs::as_before, crate::proofs::Pairs::replaced, crate::proofs::Pairs::pushed, crate::proofs::Pairs::label_put))]
 pub fn place_of_pair(
     pairs: &mut Vec<Pair>,
@@ -110,8 +111,8 @@ pub fn put_path(
     path: &str,
 ) -> Result<(), NoMemory>
     requires { place < length pairs.old.items }
-    ensures ok { OnOk result
-        (IsChangedAt (λ paths. insert_key name_cmp paths path.now) place pairs.old.items pairs.new.items) }
+    ensures ok { OnOk result (IsChangedAt (λ paths. insert_key name_cmp paths path.now) place
+        pairs.old.items pairs.new.items) }
     ensures err { OnErr result (pairs.new.items ≡ pairs.old.items) }
     ensures length { length pairs.new.items ≡ length pairs.old.items }
 {
@@ -122,7 +123,8 @@ pub fn put_path(
 #[tactic(auto, using(crate::proofs::Pairs::changed))]
 pub fn take_path(pairs: &mut Vec<Pair>, place: usize, path: &str)
     requires { place < length pairs.old.items }
-    ensures taken { IsChangedAt (remove_key (is_at (name_cmp path.now))) place pairs.old.items pairs.new.items }
+    ensures taken { IsChangedAt (remove_key (is_at (name_cmp path.now))) place
+        pairs.old.items pairs.new.items }
     ensures length { length pairs.new.items ≡ length pairs.old.items }
 {
     pairs[place].paths.remove(path);
@@ -132,7 +134,8 @@ pub fn take_path(pairs: &mut Vec<Pair>, place: usize, path: &str)
 #[tactic(auto, using(crate::proofs::Pairs::as_it_is, crate::proofs::Pairs::as_other))]
 pub fn take_unless(pairs: &mut Vec<Pair>, own: usize, place: usize, path: &str)
     requires { own < length pairs.old.items }
-    ensures moved { IsMoved (remove_key (is_at (name_cmp path.now))) own place pairs.old.items pairs.new.items }
+    ensures moved { IsMoved (remove_key (is_at (name_cmp path.now))) own place
+        pairs.old.items pairs.new.items }
     ensures labels { labels_of pairs.new.items ≡ labels_of pairs.old.items }
     ensures length { length pairs.new.items ≡ length pairs.old.items }
 {

@@ -92,7 +92,8 @@ abbrev pub MovesUnless : Bool → (List (List ℕ) → List (List ℕ)) → ℕ 
 MovesUnless true change own old new = new ≡ old
 MovesUnless false change own old new = IsChangedAt change own old new
 
-abbrev pub IsMoved : (List (List ℕ) → List (List ℕ)) → (own place : ℕ) → (old new : List Pair) → Type 0
+abbrev pub IsMoved : (List (List ℕ) → List (List ℕ)) → (own place : ℕ) → (old new : List Pair)
+    → Type 0
 IsMoved change own place old new = MovesUnless (own == place) change own old new
 
 -- what is seen of the places and the pairs
