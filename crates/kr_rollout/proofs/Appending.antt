@@ -18,7 +18,8 @@ use Rattle.kr_rollout.specs.Histories.{state_from, state_of, IsRun, IsLegal}
 use Rattle.kr_rollout.specs.Cores.{CoreState, Applies}
 use Rattle.kr_rollout.specs.Laws.{FrontIsLegal}
 use Rattle.kr_rollout.specs.inner.Rollouts.{RolloutState, Serves, entries_by, IsCore}
-use Rattle.kr_rollout.proofs.Revisions.{row_front, published_front}
+use Rattle.kr_store.proofs.Places.{row_stays}
+use Rattle.kr_rollout.proofs.Revisions.{published_front}
 
 -- ---- rows and generations only grow
 
@@ -77,8 +78,8 @@ entry_stays : (rows more : List LogRow) (generations others : List Generation) (
     → entry_of (rows ++ more) (generations ++ others) line ≡ entry_of rows generations line
 entry_stays rows more generations others line r =
     let p = published_front generations others (generation_named_in line) r.generation in
-    let a = row_front rows more (revision_in line.gave) r.row in
-    let b = row_front rows more (revision_replaced_in line.did) r.replaced in
+    let a = row_stays rows more (revision_in line.gave) r.row in
+    let b = row_stays rows more (revision_replaced_in line.did) r.replaced in
     (λ i. record { line = line; published = p i; row = a i; replaced = b i })
 
 pub entries_stay : (rows more : List LogRow) (generations others : List Generation)

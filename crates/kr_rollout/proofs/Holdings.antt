@@ -16,7 +16,8 @@ use Rattle.kr_rollout.specs.declared.line.Gave.TheVariants.{Adopted, Found, Abse
 use Rattle.kr_rollout.specs.declared.opening.Entry.{Entry}
 use Rattle.kr_rollout.specs.declared.opening.Opening.{Opening}
 use Rattle.kr_base.specs.Lines.{of_seat}
-use Rattle.kr_rollout.specs.Entries.{published_at, generation_named_by, row_at, seat_of}
+use Rattle.kr_store.specs.Rows.{row_at}
+use Rattle.kr_rollout.specs.Entries.{published_at, generation_named_by, seat_of}
 use Rattle.kr_rollout.specs.States.{State, number_at, held_by}
 use Rattle.kr_rollout.specs.Openings.{start_of}
 use Rattle.kr_rollout.specs.Answers.{IsAnswer}

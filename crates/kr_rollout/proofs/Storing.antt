@@ -8,7 +8,7 @@ use Rattle.kr_store.specs.declared.answers.PutNo.{PutNo}
 use Rattle.kr_store.specs.declared.answers.PutNo.TheVariants as no
 use Rattle.kr_store.specs.declared.rows.LogRow.{LogRow}
 use Rattle.kr_store.specs.declared.rows.Row.{Row}
-use Rattle.kr_store.specs.Rows.{put_of, delete_of, row_of}
+use Rattle.kr_store.specs.Rows.{put_of, delete_of, row_of, live_row, numbered, row_at}
 use Rattle.kr_store.specs.Stores.{Kept, Puts, Deletes, IsLatestPut}
 use Rattle.kr_provider.specs.Publication.{Publication, list_at}
 use Rattle.kr_provider.specs.Readers.{writer_of}
@@ -25,7 +25,7 @@ use Rattle.kr_rollout.specs.declared.line.Gave.{Gave}
 use Rattle.kr_rollout.specs.declared.line.Gave.TheVariants.{Absent, Written, Changed, StoreFailed, StoreFull, Nothing}
 use Rattle.kr_rollout.specs.declared.line.Line.{Line}
 use Rattle.kr_rollout.specs.declared.opening.Entry.{Entry}
-use Rattle.kr_rollout.specs.Entries.{entry_of, published_at, generation_named_by, generation_adopted_in, row_here, row_at, Reaches}
+use Rattle.kr_rollout.specs.Entries.{entry_of, published_at, generation_named_by, generation_adopted_in, Reaches}
 use Rattle.kr_rollout.specs.States.{State, number_at, held_by}
 use Rattle.kr_rollout.specs.Openings.{board}
 use Rattle.kr_rollout.specs.Answers.{IsAnswer}
@@ -36,9 +36,8 @@ use Rattle.kr_rollout.specs.Callers.{did_of, gave_of, IsResealing, Shows, Stores
 use Rattle.kr_rollout.specs.inner.Rollouts.{RolloutState, opening_of, state_with, IsRollout, line_now, Serves}
 use Rattle.kr_rollout.specs.inner.Writing.{written_as, deleted_as, needs_with, needs_without, sealed_over, ReplacesBy}
 use Rattle.std.proofs.lemmas.Option.{same_Some}
-use Rattle.kr_rollout.proofs.Findings.{at_within}
+use Rattle.kr_rollout.proofs.Revisions.{live_at, at_within}
 use Rattle.kr_rollout.proofs.Keeping.{read_published}
-use Rattle.kr_rollout.proofs.Revisions.{live_at}
 use Rattle.kr_rollout.proofs.Serving.{held_in}
 
 -- ---- a step between two courses
@@ -147,7 +146,7 @@ row_new : (rows next : List LogRow) (row : LogRow) (k : ℕ) → next ≡ rows +
 row_new rows next row k e n =
     let m : k ≡ suc (length rows) = omega (arith, n) in
     ap (λ rs. row_at rs k) e ∙ ap (row_at (rows ++ row ∷ [])) m
-    ∙ ap (row_here (suc (length rows))) (get_end rows row)
+    ∙ ap (λ o. live_row (numbered (suc (length rows)) o)) (get_end rows row)
     ∙ ap (λ j. row_of j row.path row.change) (sym m)
 
 names_some : (generations : List Generation) (held : Option ℕ) (number : ℕ) (p : Publication)

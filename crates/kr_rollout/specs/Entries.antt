@@ -1,11 +1,10 @@
 -- Entries: lines of the journal with the rows and the configuration that they name. They are
 -- computed from all rows and all generations, and more of these change none of them.
-use Rattle.std.specs.Prelude.{ℕ, zero, suc, ◌<◌, ◌≤◌, List, length, Option, None, Some, IfSome}
+use Rattle.std.specs.Prelude.{ℕ, ◌<◌, ◌≤◌, List, length, Option, None, Some, IfSome}
 use Rattle.std.specs.List.{slice_get}
 use Rattle.std.specs.Option.{option_map}
 use Rattle.kr_store.specs.declared.rows.LogRow.{LogRow}
-use Rattle.kr_store.specs.declared.rows.Row.{Row}
-use Rattle.kr_store.specs.Rows.{row_of}
+use Rattle.kr_store.specs.Rows.{row_at}
 use Rattle.kr_provider.specs.Publication.{Publication}
 use Rattle.kr_rollout.specs.declared.generation.Generation.{Generation}
 use Rattle.kr_rollout.specs.declared.line.Did.{Did}
@@ -14,15 +13,6 @@ use Rattle.kr_rollout.specs.declared.line.Gave.{Gave}
 use Rattle.kr_rollout.specs.declared.line.Gave.TheVariants.{Adopted, Found, Written}
 use Rattle.kr_rollout.specs.declared.line.Line.{Line}
 use Rattle.kr_rollout.specs.declared.opening.Entry.{Entry}
-
--- the row with this revision, where it puts a value
-abbrev pub row_here : ℕ → Option LogRow → Option Row
-row_here revision None = None
-row_here revision (Some row) = row_of revision row.path row.change
-
-abbrev pub row_at : List LogRow → ℕ → Option Row
-row_at rows zero = None
-row_at rows (suc k) = row_here (suc k) (slice_get rows k)
 
 -- the configuration of a generation
 abbrev pub published_at : List Generation → Option ℕ → Option Publication

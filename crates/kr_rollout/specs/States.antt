@@ -61,7 +61,8 @@ abbrev pub judged_generations : (current held : List (Option ℕ)) → ℕ → L
     → List GenerationState
 judged_generations current held number [] = []
 judged_generations current held number (generation ∷ generations) =
-    judged_generation current held number generation ∷ judged_generations current held (number + 1) generations
+    judged_generation current held number generation
+    ∷ judged_generations current held (number + 1) generations
 
 abbrev pub board_generations : State → List GenerationState
 board_generations st = judged_generations st.current st.held 0 st.generations

@@ -1,5 +1,5 @@
 //! The start of a rollout.
-ghost use Rattle.std.specs.Prelude.{◌≡◌, ◌<◌, ◌≤◌, ◌+◌, length, sum, replicate, ◌++◌, All, None, IsOk, IfOk, IfSome, IfErr, OnOk};
+ghost use Rattle.std.specs.Prelude.{◌≡◌, ◌<◌, ◌≤◌, ◌+◌, ◌^◌, length, sum, replicate, ◌++◌, All, None, IsOk, IfOk, IfSome, IfErr, OnOk};
 ghost use Rattle.std.specs.Option.{option_map};
 ghost use Rattle.kr_provider.specs.Publication.{IsPublished};
 ghost use Rattle.kr_rollout.specs.Openings.{opening_by, IsFirstIn, AreAmong, generations_from, current_from, settings_of, rows_in, settings_rows};
@@ -200,7 +200,7 @@ fn number_if_in(replica: &Option<Shared<Published>>, number: u32) -> Option<u32>
 
 /// The number of the next replica that is in.
 fn number_after(replica: &Option<Shared<Published>>, number: u32) -> u32
-    requires { number < 100 }
+    requires { number + 1 < 2 ^ 32 }
     ensures { result ≡ number_after replica.now number }
 {
     match replica {
