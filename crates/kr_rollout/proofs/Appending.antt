@@ -10,15 +10,16 @@ use Rattle.kr_rollout.specs.declared.generation.Generation.{Generation}
 use Rattle.kr_rollout.specs.declared.line.Line.{Line}
 use Rattle.kr_rollout.specs.declared.opening.Entry.{Entry}
 use Rattle.kr_rollout.specs.declared.opening.Opening.{Opening}
-use Rattle.kr_rollout.specs.Entries.{entry_of, named_in, revision_in, replaced_in, Reaches}
+use Rattle.kr_rollout.specs.Entries.{entry_of, generation_named_in, revision_in, revision_replaced_in, Reaches}
 use Rattle.kr_rollout.specs.States.{State}
 use Rattle.kr_rollout.specs.Openings.{start_of}
 use Rattle.kr_rollout.specs.Steps.{after, new_generations, new_rows, IsStep}
 use Rattle.kr_rollout.specs.Histories.{state_from, state_of, IsRun, IsLegal}
 use Rattle.kr_rollout.specs.Cores.{CoreState, Applies}
 use Rattle.kr_rollout.specs.Laws.{FrontIsLegal}
-use Rattle.kr_rollout.specs.inner.Rollouts.{Course, Serves, entries_by, IsCore}
-use Rattle.kr_rollout.proofs.Revisions.{row_front, published_front}
+use Rattle.kr_rollout.specs.inner.Rollouts.{RolloutState, Serves, entries_by, IsCore}
+use Rattle.kr_store.proofs.Places.{row_stays}
+use Rattle.kr_rollout.proofs.Revisions.{published_front}
 
 -- ---- rows and generations only grow
 
@@ -47,7 +48,7 @@ reaches_more : (rows next : List LogRow) (generations later : List Generation) (
 reaches_more rows next generations later line l m r = record {
   row = omega (arith, r.row);
   replaced = omega (arith, r.replaced);
-  generation = below_more (named_in line) (length generations) (length later) m r.generation;
+  generation = below_more (generation_named_in line) (length generations) (length later) m r.generation;
 }
 
 -- all that the lines name is there
@@ -76,9 +77,9 @@ entry_stays : (rows more : List LogRow) (generations others : List Generation) (
     → Reaches rows generations line
     → entry_of (rows ++ more) (generations ++ others) line ≡ entry_of rows generations line
 entry_stays rows more generations others line r =
-    let p = published_front generations others (named_in line) r.generation in
-    let a = row_front rows more (revision_in line.gave) r.row in
-    let b = row_front rows more (replaced_in line.did) r.replaced in
+    let p = published_front generations others (generation_named_in line) r.generation in
+    let a = row_stays rows more (revision_in line.gave) r.row in
+    let b = row_stays rows more (revision_replaced_in line.did) r.replaced in
     (λ i. record { line = line; published = p i; row = a i; replaced = b i })
 
 pub entries_stay : (rows more : List LogRow) (generations others : List Generation)
@@ -169,7 +170,7 @@ front_law o front more l = record {
 
 -- ---- the core
 
-module _ (old : CoreState) (before now : Course) (lines more : List Line) (line : Line)
+module _ (old : CoreState) (before now : RolloutState) (lines more : List Line) (line : Line)
     (spare left room seat : ℕ) (event : Event) (answer : Answer)
     (view : record {
       opening = before.opening;

@@ -15,12 +15,12 @@ use Rattle.kr_judge.specs.declared.need.Need.{Need}
 use Rattle.kr_judge.specs.Boards.{BoardState}
 use Rattle.kr_rollout.specs.declared.generation.Generation.{Generation}
 use Rattle.kr_rollout.specs.declared.opening.Opening.{Opening}
-use Rattle.kr_rollout.specs.States.{number_at, is_number, taken_from, board_generations, IsLive}
+use Rattle.kr_rollout.specs.States.{number_at, is_number, judged_generations, board_generations, IsLive}
 use Rattle.kr_rollout.specs.Openings.{first_rows, needs_of, generations_from, current_from, settings_of, start_of, room_of, board, opening_by, NamesAmong, AreAmong, IsAdmitted, IsFirstIn}
 use Rattle.kr_rollout.specs.Fits.{AreFit, IsFit}
 use Rattle.kr_rollout.specs.Histories.{IsLegal}
 use Rattle.kr_rollout.specs.Starts.{opening_generations, MayStart, Boards}
-use Rattle.kr_rollout.specs.inner.Rollouts.{Course, opening_of, state_with, IsCourse, IsCore}
+use Rattle.kr_rollout.specs.inner.Rollouts.{RolloutState, opening_of, state_with, IsRollout, IsCore}
 
 -- ---- numbers
 
@@ -72,7 +72,7 @@ same_taken : (current held : List (Option ℕ)) (k m : ℕ) (rs : List (Option P
     → ((j : ℕ) → m ≤ j → j < m + length (generations_from k rs)
     → list_any (is_number j) current ≡ true)
     → ((j : ℕ) → count_by (is_number j) held ≡ 0)
-    → taken_from current held m (generations_from k rs) ≡ opening_generations k (settings_of rs)
+    → judged_generations current held m (generations_from k rs) ≡ opening_generations k (settings_of rs)
 same_taken current held k m [] c h = refl
 same_taken current held k m (None ∷ rs) c h = same_taken current held (k + 1) m rs c h
 same_taken current held k m (Some p ∷ rs) c h =
@@ -127,9 +127,9 @@ none_there zero place = refl
 none_there (suc n) zero = refl
 none_there (suc n) (suc place) = none_there n place
 
-pub start_course : (o : Opening) → length o.reloads ≤ 64
-    → IsCourse o (start_of o) (board o (start_of o))
-start_course o few = record {
+pub start_rollout : (o : Opening) → length o.reloads ≤ 64
+    → IsRollout o (start_of o) (board o (start_of o))
+start_rollout o few = record {
   board_is = refl;
   current = λ place n e. omega (arith, current_numbers 0 0 o.replicas place n e);
   held = λ place n e. absurd (none-some n (sym (none_there (length o.reloads) place) ∙ e));
@@ -204,7 +204,7 @@ module _ (store : Kept) (rs : List (Option Publication)) (names : List (List ℕ
       room_is
       ∙ sym (start_board (opening_by store rs names reloads))
 
-  pub opened : ◌≡◌ {A = Course} (record {
+  pub opened : ◌≡◌ {A = RolloutState} (record {
     opening = opening_of store first rs names kept count;
     state = state_with store b generations current held;
   })
@@ -239,13 +239,13 @@ module _ (store : Kept) (rs : List (Option Publication)) (names : List (List ℕ
         };
       })
 
-  pub opened_course : length reloads ≤ 64 → IsCourse (opening_of store first rs names kept count)
+  pub opened_rollout : length reloads ≤ 64 → IsRollout (opening_of store first rs names kept count)
       (state_with store b generations current held) b
-  opened_course few =
-      subst (λ (c : Course). IsCourse c.opening c.state b) (sym opened)
-      (subst (λ x. IsCourse (opening_by store rs names reloads)
+  opened_rollout few =
+      subst (λ (c : RolloutState). IsRollout c.opening c.state b) (sym opened)
+      (subst (λ x. IsRollout (opening_by store rs names reloads)
       (start_of (opening_by store rs names reloads)) x) (sym board_is)
-      (start_course (opening_by store rs names reloads) few))
+      (start_rollout (opening_by store rs names reloads) few))
 
   pub opened_legal : AreRows store.format store.rows → IsFirstIn rs → AreAmong names rs
       → All (λ replica. IfSome replica IsPublished) rs
@@ -255,8 +255,8 @@ module _ (store : Kept) (rs : List (Option Publication)) (names : List (List ℕ
       (admitted names rs among published) boards.0
 
 -- a core with no line
-pub core_begin : (o : Opening) (c : Course) (spare room : ℕ)
+pub core_begin : (o : Opening) (c : RolloutState) (spare room : ℕ)
     → c ≡ record { opening = o; state = start_of o } → IsLegal o [] → room ≤ spare
     → IsCore c.opening c.state [] spare room
-core_begin o c spare room e l r = subst (λ (x : Course). IsCore x.opening x.state [] spare room)
+core_begin o c spare room e l r = subst (λ (x : RolloutState). IsCore x.opening x.state [] spare room)
     (sym e) (record { legal = l; leads = refl; room_in = omega arith })

@@ -8,7 +8,7 @@ use Rattle.kr_rollout.specs.declared.opening_board.StartNo.{StartNo}
 use Rattle.kr_rollout.specs.declared.opening_board.StartNo.TheVariants.{Stray, Unfit, NoMemory}
 use Rattle.kr_rollout.specs.Openings.{first_rows, needs_of, HasNoStray, rows_in}
 use Rattle.kr_rollout.specs.Starts.{opening_generations, AllFit, IsUnfit, IsLeastStray, Boards}
-use Rattle.kr_rollout.specs.inner.Opens.{NotesAll, TakesAllUp}
+use Rattle.kr_rollout.specs.inner.OpeningBoards.{NotesAll, TakesAllUp}
 
 module _ (replicas : List (Option Settings)) (first : List Row) (rows : List LogRow) (room : ℕ)
     (empty noted : BoardState)

@@ -16,7 +16,8 @@ use Rattle.kr_rollout.specs.declared.line.Gave.TheVariants.{Adopted, Found, Abse
 use Rattle.kr_rollout.specs.declared.opening.Entry.{Entry}
 use Rattle.kr_rollout.specs.declared.opening.Opening.{Opening}
 use Rattle.kr_base.specs.Lines.{of_seat}
-use Rattle.kr_rollout.specs.Entries.{published_at, named_by, row_at, seat_of}
+use Rattle.kr_store.specs.Rows.{row_at}
+use Rattle.kr_rollout.specs.Entries.{published_at, generation_named_by, seat_of}
 use Rattle.kr_rollout.specs.States.{State, number_at, held_by}
 use Rattle.kr_rollout.specs.Openings.{start_of}
 use Rattle.kr_rollout.specs.Answers.{IsAnswer}
@@ -161,11 +162,11 @@ adopts_from_none (Join replica p) n st held a = absurd a
 adopts_from_none (Leave replica) n st held a = absurd a
 
 names_adopted : (o : Opening) (st : State) (e : Entry) (n : ℕ) → IsStep o st e
-    → e.line.gave ≡ Adopted n → named_by e.line.held e.line.gave ≡ Some n
+    → e.line.gave ≡ Adopted n → generation_named_by e.line.held e.line.gave ≡ Some n
 names_adopted o st e n s g =
     let none = adopts_from_none e.line.did n st e.line.held
     (subst (λ gave. IsAnswer e.line.did gave st e.line.held) g s.answer) in
-    (λ i. named_by (none i) (g i))
+    (λ i. generation_named_by (none i) (g i))
 
 adopted_published : (o : Opening) (st : State) (e : Entry) → IsStep o st e → (n : ℕ)
     → e.line.gave ≡ Adopted n

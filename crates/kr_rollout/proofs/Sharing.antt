@@ -9,7 +9,7 @@ use Rattle.kr_provider.specs.Publication.{Publication, IsPublished}
 use Rattle.kr_judge.proofs.Parts.{take_at_more}
 use Rattle.kr_rollout.specs.declared.generation.Generation.{Generation}
 use Rattle.kr_rollout.specs.Openings.{generations_from, current_from, settings_of, rows_in, settings_rows}
-use Rattle.kr_rollout.specs.inner.Opens.{generation_at, number_if_in, number_after}
+use Rattle.kr_rollout.specs.inner.OpeningBoards.{generation_at, number_if_in, number_after}
 
 -- ---- numbers
 

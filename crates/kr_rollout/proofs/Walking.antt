@@ -32,7 +32,7 @@ use Rattle.kr_judge.specs.Boards.{AreByPath, BoardState, set_need}
 use Rattle.kr_judge.proofs.Needs.{sorted_nil, sorted_set}
 use Rattle.kr_rollout.specs.declared.opening_board.StartNo.{StartNo}
 use Rattle.kr_rollout.specs.declared.opening_board.StartNo.TheVariants.{Stray, Unfit, NoMemory}
-use Rattle.kr_rollout.specs.inner.Opens.{IsStrayOf, Notes}
+use Rattle.kr_rollout.specs.inner.OpeningBoards.{IsStrayOf, Notes}
 use Rattle.kr_rollout.specs.Openings.{provider_of, need_of, needs_of, HasNoStray}
 use Rattle.kr_rollout.specs.Starts.{IsStray, IsLeastStray}
 use Rattle.kr_rollout.proofs.Revisions.{last_at}

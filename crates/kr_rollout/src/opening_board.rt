@@ -3,7 +3,7 @@ ghost use Rattle.std.specs.Prelude.{◌≡◌, ◌<◌, ◌≤◌, [], length, N
 ghost use Rattle.kr_config.specs.Kept.{rows_of};
 ghost use Rattle.kr_rollout.specs.Openings.{IsFirstIn, first_rows, rows_in, settings_rows};
 ghost use Rattle.kr_rollout.specs.Starts.{Boards};
-ghost use Rattle.kr_rollout.specs.inner.Opens.{IsStrayOf, Notes, NotesAll, TakesUp, TakesAllUp, is_refusal};
+ghost use Rattle.kr_rollout.specs.inner.OpeningBoards.{IsStrayOf, Notes, NotesAll, TakesUp, TakesAllUp, is_refusal};
 
 use kr_base::{List, NoMemory, Shared, Tape, Text};
 use kr_config::Settings;

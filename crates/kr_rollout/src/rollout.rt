@@ -35,9 +35,9 @@ pub(crate) struct Rollout<T: Tape> {
 
 impl<T: Tape> Model for Rollout<T> {
     ghost use Rattle.std.specs.Prelude.{◌≤◌, length};
-    ghost use Rattle.kr_rollout.specs.inner.Rollouts.{Course, opening_of, state_with, IsCourse};
+    ghost use Rattle.kr_rollout.specs.inner.Rollouts.{RolloutState, opening_of, state_with, IsRollout};
 
-    ghost Value = { Course };
+    ghost Value = { RolloutState };
 
     ghost view = { λ r. record {
       opening = opening_of r.store r.first_rows r.replicas.0 r.names.0 r.reloads.items
@@ -45,7 +45,7 @@ impl<T: Tape> Model for Rollout<T> {
       state = state_with r.store r.board r.generations.items r.current.items r.held.items;
     } };
 
-    ghost invariant = { λ r. IsCourse
+    ghost invariant = { λ r. IsRollout
         (opening_of r.store r.first_rows r.replicas.0 r.names.0 r.reloads.items r.first_faults)
         (state_with r.store r.board r.generations.items r.current.items r.held.items) r.board
         × (r.first_rows ≤ length r.store.rows) };

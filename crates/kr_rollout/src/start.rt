@@ -1,9 +1,9 @@
 //! The start of a rollout.
-ghost use Rattle.std.specs.Prelude.{◌≡◌, ◌<◌, ◌≤◌, ◌+◌, length, sum, replicate, ◌++◌, All, None, IsOk, IfOk, IfSome, IfErr, OnOk};
+ghost use Rattle.std.specs.Prelude.{◌≡◌, ◌<◌, ◌≤◌, ◌+◌, ◌^◌, length, sum, replicate, ◌++◌, All, None, IsOk, IfOk, IfSome, IfErr, OnOk};
 ghost use Rattle.std.specs.Option.{option_map};
 ghost use Rattle.kr_provider.specs.Publication.{IsPublished};
 ghost use Rattle.kr_rollout.specs.Openings.{opening_by, IsFirstIn, AreAmong, generations_from, current_from, settings_of, rows_in, settings_rows};
-ghost use Rattle.kr_rollout.specs.inner.Opens.{generation_at, number_if_in, number_after, Opens};
+ghost use Rattle.kr_rollout.specs.inner.OpeningBoards.{generation_at, number_if_in, number_after, StartsRollout};
 
 use crate::generation::Generation;
 use crate::opening_board::{StartNo, board_of};
@@ -29,7 +29,7 @@ impl<T: Tape> Rollout<T> {
         requires seats { (seats ≤ 64) × (length reloads.now ≡ seats) }
         requires room { sum reloads.now ≤ 4000000 }
         requires names { AreAmong names.0 replicas.0 }
-        ensures opens { Opens (opening_by store replicas.0 names.0 reloads.now) result }
+        ensures opens { StartsRollout (opening_by store replicas.0 names.0 reloads.now) result }
         ensures back { IfErr result (λ refused. refused.1 ≡ store) }
     {
         store.known();
@@ -60,7 +60,7 @@ impl<T: Tape> Rollout<T> {
 
 /// What a rollout keeps of its replicas and seats at the opening.
 #[derive(Drop)]
-struct Made {
+struct StartParts {
     settings: List<Option<Shared<Settings>>>,
     generations: Vec<Generation>,
     current: Vec<Option<u32>>,
@@ -76,7 +76,7 @@ fn make(
     replicas: &[Option<Shared<Published>>],
     seats: u32,
     reloads: &[u32],
-) -> Result<Made, NoMemory>
+) -> Result<StartParts, NoMemory>
     requires few { length replicas.now ≤ 16 }
     requires room { sum reloads.now ≤ 4000000 }
     ensures settings { IfOk result (λ made. rows_in made.settings.0 ≡ settings_of replicas.now) }
@@ -94,7 +94,7 @@ fn make(
     let current = number_replicas(alloc, replicas)?;
     let held = vec![in alloc; None; seats as usize]?;
     let reloads = Vec::from_slice(alloc, reloads)?;
-    Ok(Made {
+    Ok(StartParts {
         settings,
         generations,
         current,
@@ -200,7 +200,7 @@ fn number_if_in(replica: &Option<Shared<Published>>, number: u32) -> Option<u32>
 
 /// The number of the next replica that is in.
 fn number_after(replica: &Option<Shared<Published>>, number: u32) -> u32
-    requires { number < 100 }
+    requires { number + 1 < 2 ^ 32 }
     ensures { result ≡ number_after replica.now number }
 {
     match replica {

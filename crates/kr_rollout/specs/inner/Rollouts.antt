@@ -2,6 +2,7 @@
 use Rattle.std.specs.Prelude.{◌≡◌, ℕ, ◌<◌, ◌≤◌, ◌+◌, ◌⊎◌, List, [], length, take, map, Option, None, Some, IsSome}
 use Rattle.kr_base.specs.Rules.{IsPath, IsResource}
 use Rattle.kr_store.specs.declared.rows.Row.{Row}
+use Rattle.kr_store.specs.Rows.{row_at}
 use Rattle.kr_store.specs.Stores.{Kept}
 use Rattle.kr_provider.specs.Publication.{Publication}
 use Rattle.kr_provider.specs.Sealing.{IsSealing}
@@ -15,7 +16,7 @@ use Rattle.kr_rollout.specs.declared.line.Gave.{Gave}
 use Rattle.kr_rollout.specs.declared.line.Line.{Line}
 use Rattle.kr_rollout.specs.declared.opening.Entry.{Entry}
 use Rattle.kr_rollout.specs.declared.opening.Opening.{Opening}
-use Rattle.kr_rollout.specs.Entries.{entry_of, published_at, row_at}
+use Rattle.kr_rollout.specs.Entries.{entry_of, published_at}
 use Rattle.kr_rollout.specs.States.{State, number_at, held_by}
 use Rattle.kr_rollout.specs.Openings.{board}
 use Rattle.kr_rollout.specs.Steps.{IsStep, after}
@@ -23,7 +24,7 @@ use Rattle.kr_rollout.specs.Histories.{IsLegal, state_of}
 use Rattle.kr_rollout.specs.Callers.{IsResealing, Records}
 
 -- what a rollout began with, and its state
-pub record Course : Type 0 where
+pub record RolloutState : Type 0 where
   pub opening : Opening
   pub state : State
 
@@ -56,7 +57,7 @@ AreNumbers numbers generations =
     (place number : ℕ) → number_at numbers place ≡ Some number → number < length generations
 
 -- what holds of it: the board is that of the state, and the numbers are those of generations
-pub record IsCourse (o : Opening) (st : State) (kept : BoardState) : Type 0 where
+pub record IsRollout (o : Opening) (st : State) (kept : BoardState) : Type 0 where
   pub board_is : kept ≡ board o st
   pub current : AreNumbers st.current st.generations
   pub held : AreNumbers st.held st.generations
@@ -65,7 +66,7 @@ pub record IsCourse (o : Opening) (st : State) (kept : BoardState) : Type 0 wher
   pub few : length o.reloads ≤ 64
 
 -- in this state the seat may ask this
-abbrev pub MayServe : Course → ℕ → Event → Type 0
+abbrev pub MayServe : RolloutState → ℕ → Event → Type 0
 MayServe c seat (event.Adopt replica) =
     (replica < length c.opening.replicas) × (held_by c.state seat ≡ None)
 MayServe c seat (event.Fetch path) = IsPath path × IsSome (held_by c.state seat)
@@ -89,8 +90,8 @@ line_now st seat did gave =
 
 -- the line's entry is a step and records the event and its answer, and the state is the one after
 -- it
-pub record Serves (old : Course) (seat : ℕ) (event : Event) (answer : Answer) (line : Line)
-    (new : Course) : Type 0 where
+pub record Serves (old : RolloutState) (seat : ℕ) (event : Event) (answer : Answer) (line : Line)
+    (new : RolloutState) : Type 0 where
   pub opening : new.opening ≡ old.opening
   pub state : new.state ≡ after old.state (entry_of new.state.rows new.state.generations line)
   pub step : IsStep old.opening old.state (entry_of new.state.rows new.state.generations line)

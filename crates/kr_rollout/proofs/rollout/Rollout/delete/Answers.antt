@@ -1,16 +1,16 @@
 use Rattle.std.proofs.Common.{◌<◌, length, sym, ap, subst, ◌∙◌}
 use Rattle.kr_store.specs.Stores.{Deletes}
 use Rattle.kr_rollout.specs.declared.event.Event.TheVariants as event
-use Rattle.kr_rollout.specs.inner.Rollouts.{Course, MayServe}
+use Rattle.kr_rollout.specs.inner.Rollouts.{RolloutState, MayServe}
 use Rattle.kr_rollout.specs.inner.Writing.{deleted_as, needs_without}
 use Rattle.kr_rollout.proofs.Storing.{seen, delete_serves}
 use Rattle.kr_rollout.proofs.rollout.Rollout.delete.Goals as goal
 
 pub returns : goal.returns
 returns g c =
-    let may = subst (λ (x : Course). MayServe x c.args.seat (event.Delete c.args.path))
+    let may = subst (λ (x : RolloutState). MayServe x c.args.seat (event.Delete c.args.path))
     (sym c.self.view_is) c.requires.may in
-    let l = subst (λ (x : Course). c.args.seat < length x.opening.reloads)
+    let l = subst (λ (x : RolloutState). c.args.seat < length x.opening.reloads)
     (sym c.self.view_is) c.requires.seat_in in
     seen _ c.args.self.now _ c.args.seat (event.Delete c.args.path)
     (deleted_as c.delete_value-result.result) c.delete_answer-answer.result

@@ -6,18 +6,18 @@ use Rattle.kr_provider.specs.Readers.{writer_of}
 use Rattle.kr_rollout.specs.declared.event.Event.TheVariants as event
 use Rattle.kr_rollout.specs.Checks.{store_check, written_check}
 use Rattle.kr_rollout.specs.States.{number_at}
-use Rattle.kr_rollout.specs.inner.Rollouts.{Course, MayServe}
+use Rattle.kr_rollout.specs.inner.Rollouts.{RolloutState, MayServe}
 use Rattle.kr_rollout.specs.inner.Writing.{written_as, needs_with}
 use Rattle.kr_rollout.proofs.Keeping.{read_number}
-use Rattle.kr_rollout.proofs.Storing.{seen, own_published, grown_course, put_serves}
+use Rattle.kr_rollout.proofs.Storing.{seen, own_published, grown_rollout, put_serves}
 use Rattle.kr_rollout.proofs.rollout.Rollout.put.Goals as goal
 
 pub put_value-result-requires-clause-stored : goal.put_value-result-requires-clause-stored
 put_value-result-requires-clause-stored g c =
-    let may = subst (λ (x : Course). MayServe x c.args.seat
+    let may = subst (λ (x : RolloutState). MayServe x c.args.seat
     (event.Put c.args.path c.args.resource c.args.plain c.args.stored))
     (sym c.self.view_is) c.requires.may in
-    let l = subst (λ (x : Course). c.args.seat < length x.opening.reloads)
+    let l = subst (λ (x : RolloutState). c.args.seat < length x.opening.reloads)
     (sym c.self.view_is) c.requires.seat_in in
     let held_is : number_at c.self.inside.held.items c.args.seat ≡ Some c.in-Some.number =
     read_number c.self.inside.held.items c.args.seat c.index.result.now
@@ -32,7 +32,7 @@ put_value-result-requires-clause-stored g c =
 
 pub invariant_of-self : goal.invariant_of-self
 invariant_of-self g c =
-    grown_course c.self.inside.store c.put_value-result.new.store c.self.inside.board
+    grown_rollout c.self.inside.store c.put_value-result.new.store c.self.inside.board
     c.put_value-result.new.board c.self.inside.generations.items c.self.inside.current.items
     c.self.inside.held.items c.self.inside.first_rows c.self.inside.replicas.0
     c.self.inside.names.0 c.self.inside.reloads.items c.self.inside.first_faults
@@ -50,10 +50,10 @@ invariant_of-self g c =
 
 pub returns : goal.returns
 returns g c =
-    let may = subst (λ (x : Course). MayServe x c.args.seat
+    let may = subst (λ (x : RolloutState). MayServe x c.args.seat
     (event.Put c.args.path c.args.resource c.args.plain c.args.stored))
     (sym c.self.view_is) c.requires.may in
-    let l = subst (λ (x : Course). c.args.seat < length x.opening.reloads)
+    let l = subst (λ (x : RolloutState). c.args.seat < length x.opening.reloads)
     (sym c.self.view_is) c.requires.seat_in in
     let held_is : number_at c.self.inside.held.items c.args.seat ≡ Some c.in-Some.number =
     read_number c.self.inside.held.items c.args.seat c.index.result.now

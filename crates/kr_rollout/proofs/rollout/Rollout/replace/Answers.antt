@@ -2,7 +2,7 @@ use Rattle.std.proofs.Common.{◌≡◌, ◌<◌, length, Some, sym, subst, ◌�
 use Rattle.kr_provider.specs.Publication.{Publication, IsPublished}
 use Rattle.kr_rollout.specs.declared.event.Event.TheVariants as event
 use Rattle.kr_rollout.specs.States.{number_at}
-use Rattle.kr_rollout.specs.inner.Rollouts.{Course, MayServe}
+use Rattle.kr_rollout.specs.inner.Rollouts.{RolloutState, MayServe}
 use Rattle.kr_rollout.specs.inner.Writing.{written_as, ReplacesBy}
 use Rattle.kr_rollout.proofs.Keeping.{read_number}
 use Rattle.kr_rollout.proofs.Storing.{seen, own_published, replace_serves}
@@ -10,10 +10,10 @@ use Rattle.kr_rollout.proofs.rollout.Rollout.replace.Goals as goal
 
 pub replace_live-result-requires-clause-stored : goal.replace_live-result-requires-clause-stored
 replace_live-result-requires-clause-stored g c =
-    let may = subst (λ (x : Course). MayServe x c.args.seat
+    let may = subst (λ (x : RolloutState). MayServe x c.args.seat
     (event.Replace c.args.path c.args.revision c.args.stored))
     (sym c.self.view_is) c.requires.may in
-    let l = subst (λ (x : Course). c.args.seat < length x.opening.reloads)
+    let l = subst (λ (x : RolloutState). c.args.seat < length x.opening.reloads)
     (sym c.self.view_is) c.requires.seat_in in
     let held_is : number_at c.self.inside.held.items c.args.seat ≡ Some c.in-Some.number =
     read_number c.self.inside.held.items c.args.seat c.index.result.now
@@ -28,10 +28,10 @@ replace_live-result-requires-clause-stored g c =
 
 pub returns : goal.returns
 returns g c =
-    let may = subst (λ (x : Course). MayServe x c.args.seat
+    let may = subst (λ (x : RolloutState). MayServe x c.args.seat
     (event.Replace c.args.path c.args.revision c.args.stored))
     (sym c.self.view_is) c.requires.may in
-    let l = subst (λ (x : Course). c.args.seat < length x.opening.reloads)
+    let l = subst (λ (x : RolloutState). c.args.seat < length x.opening.reloads)
     (sym c.self.view_is) c.requires.seat_in in
     let held_is : number_at c.self.inside.held.items c.args.seat ≡ Some c.in-Some.number =
     read_number c.self.inside.held.items c.args.seat c.index.result.now

@@ -3,12 +3,12 @@ use Rattle.std.specs.Prelude.{sum, All}
 use Rattle.kr_provider.specs.Publication.{Publication, IsPublished}
 use Rattle.kr_rollout.specs.Openings.{generations_from, current_from, settings_of}
 use Rattle.kr_rollout.specs.Starts.{Boards}
-use Rattle.kr_rollout.proofs.Beginning.{opened, opened_course, opened_legal}
+use Rattle.kr_rollout.proofs.Beginning.{opened, opened_rollout, opened_legal}
 use Rattle.kr_rollout.proofs.rollout.Rollout.start.Goals as goal
 
 pub invariant_of-result : goal.invariant_of-result
 invariant_of-result g c = (
-  opened_course c.args.store c.args.replicas.0 c.args.names.0 c.args.reloads.now
+  opened_rollout c.args.store c.args.replicas.0 c.args.names.0 c.args.reloads.now
       c.in-Ok-board_of.board c.in-Ok.made.generations.items c.in-Ok.made.current.items
       c.in-Ok.made.held.items
       c.in-Ok.made.reloads.items c.revision-first_rows.result c.faults-first_faults.result

@@ -17,7 +17,7 @@ use Rattle.kr_provider.specs.Publication.{Publication}
 use Rattle.kr_rollout.specs.declared.generation.Generation.{Generation}
 use Rattle.kr_rollout.specs.declared.opening.Opening.{Opening}
 use Rattle.kr_rollout.specs.Histories.{IsLegal}
-use Rattle.kr_rollout.specs.inner.Rollouts.{Course}
+use Rattle.kr_rollout.specs.inner.Rollouts.{RolloutState}
 
 -- the path, or there was no memory for it
 abbrev pub IsStrayOf : List ℕ → StartNo → Type 0
@@ -60,7 +60,7 @@ Admits replica rows old new (Ok done) = (verdict_of old.needs old.generations re
           ++ record { replica = replica; rows = rows; current = true; holders = 0 } ∷ [];
     })
 Admits replica rows old new (Err (Stray path)) = ⊥
-Admits replica rows old new (Err (Unfit named verdict)) = (named ≡ replica)
+Admits replica rows old new (Err (Unfit other verdict)) = (other ≡ replica)
     × (verdict ≡ verdict_of old.needs old.generations replica rows) × (verdict ≢ Pass)
 Admits replica rows old new (Err NoMemory) = ⊤
 
@@ -95,7 +95,7 @@ number_after None number = number
 number_after (Some p) number = number + 1
 
 -- a rollout at its opening, with which a history may begin
-abbrev pub Opens : {S : Type 0} → Opening → Result Course (StartNo × S) → Type 0
-Opens o (Ok course) = IsLegal o [] ×
+abbrev pub StartsRollout : {S : Type 0} → Opening → Result RolloutState (StartNo × S) → Type 0
+StartsRollout o (Ok course) = IsLegal o [] ×
     MayStart o.rows (settings_of o.replicas) × (course ≡ record { opening = o; state = start_of o })
-Opens o (Err (why, store)) = IsNoStart o.rows (settings_of o.replicas) why
+StartsRollout o (Err (why, store)) = IsNoStart o.rows (settings_of o.replicas) why
