@@ -15,3 +15,7 @@ pub mod Boarding
 pub mod Storing
 pub mod Replacing
 pub mod Refusing
+pub mod Effects
+pub mod Sound
+pub mod Fitting
+pub mod Judging

@@ -12,3 +12,7 @@ pub mod Cores
 pub mod Starts
 pub mod inner
 pub mod Laws
+pub mod Judgements
+pub mod Contents
+pub mod Honesty
+pub mod FitLaws

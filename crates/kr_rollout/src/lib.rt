@@ -9,6 +9,7 @@ mod event;
 mod generation;
 mod journal;
 mod laws;
+mod laws_fit;
 mod line;
 mod opening;
 mod opening_board;
@@ -21,6 +22,10 @@ pub use event::Event;
 pub use generation::Generation;
 pub use journal::Core;
 pub use laws::{found_is_there, front_is_legal, holding_is_held, unfit_is_unfit};
+pub use laws_fit::{
+    judged_by_fit, legal_fits, opening_fits, refresh_is_not_refused, stray_is_stray,
+    verdict_is_exact,
+};
 pub use line::{Did, Gave, Line};
 pub use opening::{Entry, Opening};
 pub use opening_board::{StartNo, board_of};
