@@ -152,6 +152,18 @@ current_owner k m (Some p ∷ rs) (suc place) n e =
       replica = r.replica ∙ further_on k place;
     }
 
+at_start : (place : ℕ) → ◌≡◌ {A = Option ℕ} (Some (0 + place)) (Some place)
+at_start place = let e : 0 + place ≡ place = omega arith in ap Some e
+
+own_at : (rs : List (Option Publication)) (place n : ℕ)
+    → number_at (current_from 0 rs) place ≡ Some n
+    → option_map (λ (g : Generation). g.replica) (slice_get (generations_from 0 rs) n) ≡ Some place
+own_at rs place n e =
+    let r = current_owner 0 0 rs place n e in
+    let m : n ≡ r.at = omega (arith, r.number) in
+    ap (λ j. option_map (λ (g : Generation). g.replica) (slice_get (generations_from 0 rs) j)) m
+    ∙ r.replica ∙ at_start place
+
 none_there : (n place : ℕ) → number_at (replicate n None) place ≡ None
 none_there zero place = refl
 none_there (suc n) zero = refl
@@ -162,9 +174,7 @@ pub start_rollout : (o : Opening) → length o.reloads ≤ 64
 start_rollout o few = record {
   board_is = refl;
   current = λ place n e. omega (arith, current_numbers 0 0 o.replicas place n e);
-  own = λ place n e. let r = current_owner 0 0 o.replicas place n e in
-      ap (λ j. option_map (λ (g : Generation). g.replica)
-      (slice_get (generations_from 0 o.replicas) j)) (ap (λ (j : ℕ). j) r.number) ∙ r.replica;
+  own = own_at o.replicas;
   held = λ place n e. absurd (none-some n (sym (none_there (length o.reloads) place) ∙ e));
   replicas = current_long 0 o.replicas;
   seats = length-replicate (length o.reloads) None;

@@ -34,7 +34,7 @@ use Rattle.kr_rollout.specs.declared.opening_board.StartNo.{StartNo}
 use Rattle.kr_rollout.specs.declared.opening_board.StartNo.TheVariants.{Stray, OtherSecret, Unfit, NoMemory}
 use Rattle.kr_rollout.specs.Checks.{keeps_check}
 use Rattle.kr_rollout.specs.inner.OpeningBoards.{IsStrayOf, Notes, NotesAll, first_other, no_other}
-use Rattle.kr_rollout.specs.Openings.{provider_of, need_of, needs_of, HasNoStray, IsOtherSecret, HasNoOtherSecret}
+use Rattle.kr_rollout.specs.Openings.{provider_of, need_of, needs_of, HasNoStray, IsOtherSecret}
 use Rattle.kr_rollout.specs.Starts.{IsStray, IsLeastStray, IsLeastOther}
 use Rattle.kr_rollout.proofs.Revisions.{last_at}
 use Rattle.kr_rollout.proofs.Needing.{need_at, set_found, equal_by, same_path, own_path, last_row, needed, needs_found, needs_sorted, same_needs}
@@ -415,7 +415,7 @@ module _ (first : List Row) (rows : List LogRow) (after : List ℕ) (row : store
   own_kept kept other =
       let same : row ≡ other.0 = same_Some row other.0 (sym next.1 ∙ other.2) in
       let writers : who ≡ other.1 = same_Some who other.1 (sym is
-          ∙ ap (λ (r : stored_row.Row). provider_of first r.resource r.stored) same ∙ other.3) in
+      ∙ ap (λ (r : stored_row.Row). provider_of first r.resource r.stored) same ∙ other.3) in
       both_ways (keeps_check other.0.check other.1) other.4
       (subst (λ (r : stored_row.Row). keeps_check r.check other.1 ≡ true) same
       (subst (λ w. keeps_check row.check w ≡ true) writers kept))
@@ -467,6 +467,22 @@ kept_end first rows after None start now kept next none e = (
   e,
 )
 kept_end first rows after (Some path) start now kept next none e = (none, kept)
+
+-- why the walk ends before its end
+pub note_stops : (first : List Row) (rows : List LogRow) (start now next : BoardState)
+    (after asked : List ℕ) (row seen : stored_row.Row) (why : StartNo)
+    → AreNoted first rows after now.needs → IsNext rows asked (Some row) → asked ≡ after
+    → seen ≡ row → Notes first seen now next (Err why) → NotesAll first rows start next (Err why)
+note_stops first rows start now next after asked row seen (Stray path) noted is asked_is seen_is n =
+    let m = subst (λ (r : stored_row.Row). Notes first r now next (Err (Stray path))) seen_is n in
+    subst (λ p. IsLeastStray first rows p) (sym m.0)
+    (stray_next first rows after now.needs row noted
+    (subst (λ p. IsNext rows p (Some row)) asked_is is) m.1)
+note_stops first rows start now next after asked row seen (OtherSecret path) noted is asked_is
+    seen_is n = absurd n
+note_stops first rows start now next after asked row seen (Unfit replica verdict) noted is asked_is
+    seen_is n = absurd n
+note_stops first rows start now next after asked row seen NoMemory noted is asked_is seen_is n = tt
 
 -- ---- the loop
 

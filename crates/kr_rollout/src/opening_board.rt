@@ -31,7 +31,7 @@ pub enum StartNo {
 /// is in. Each row's provider is the one that the first replica's settings have for it. The
 /// replicas are taken up in order, each judged on those before it; those that are in get the
 /// generations 0, 1 and so on.
-#[tactic(auto, using(crate::proofs::Boarding::board_made, crate::proofs::Boarding::board_stray, crate::proofs::Boarding::board_unfit))]
+#[tactic(auto, using(crate::proofs::Boarding::board_stray))]
 pub fn board_of<T: Tape>(
     alloc: Global,
     store: &Store<T>,

@@ -3,7 +3,7 @@ use Rattle.kr_config.specs.Kept.{rows_of}
 use Rattle.kr_store.specs.declared.rows.Row.{Row}
 use Rattle.kr_store.specs.Stores.{IsNext}
 use Rattle.kr_rollout.specs.inner.OpeningBoards.{NotesAll}
-use Rattle.kr_rollout.proofs.Walking.{AreNoted, AreKept, noted_begin, noted_end, kept_begin, kept_end, walk_step}
+use Rattle.kr_rollout.proofs.Walking.{AreNoted, AreKept, noted_begin, noted_end, kept_begin, kept_end, walk_step, note_stops}
 use Rattle.kr_rollout.proofs.opening_board.note_all.Goals as goal
 
 pub loop-row-init : goal.loop-row-init
@@ -39,9 +39,21 @@ pub loop-row-preserved : goal.loop-row-preserved
 loop-row-preserved g c =
     let rows = c.args.store.now.rows in
     walk_step (rows_of c.args.first.now.entries.0) rows c.args.board.now c.loop-row.board
-    c.note.new.board c.loop-row.after c.in-Ok-copy.path c.as_str.result.now c.in-Ok-Some.row
-    c.get.result.now
-    c.loop-row.invariant (subst (λ o. IsNext rows c.as_str.result.now o) c.in-Ok-Some.field-0-is
+    c.note.new.board c.loop-row.after c.in-Ok-copy.path c.as_str.result.now
+    c.as_str-in-loop-row.result.now c.in-Ok-Some.row c.get.result.now c.in-Ok.kept c.loop-row.other
+    c.in-Ok-first_other.other c.loop-row.invariant
+    (subst (λ o. IsNext rows c.as_str.result.now o) c.in-Ok-Some.field-0-is
     c.in-Ok-Some.ensures.next) c.as_str.ensures c.get.ensures c.in-Ok.ensures
-    (c.in-Ok-copy.ensures ∙ c.as_str-in-loop-row.ensures
-    ∙ ap (λ (r : Row). r.path) c.get-in-loop-row.ensures)
+    c.in-Ok-first_other.ensures
+    (c.as_str-in-loop-row.ensures ∙ ap (λ (r : Row). r.path) c.get-in-loop-row.ensures)
+    (c.in-Ok-copy.ensures ∙ c.as_str-in-loop-row-2.ensures
+    ∙ ap (λ (r : Row). r.path) c.get-in-loop-row-2.ensures)
+
+pub returns-in-Err-note : goal.returns-in-Err-note
+returns-in-Err-note g c =
+    let rows = c.args.store.now.rows in
+    note_stops (rows_of c.args.first.now.entries.0) rows c.args.board.now c.loop-row.board
+    c.note.new.board c.loop-row.after c.as_str.result.now c.in-Ok-Some.row c.get.result.now
+    c.in-Err-note.why c.loop-row.invariant.0
+    (subst (λ o. IsNext rows c.as_str.result.now o) c.in-Ok-Some.field-0-is
+    c.in-Ok-Some.ensures.next) c.as_str.ensures c.get.ensures c.in-Err-note.ensures

@@ -1,4 +1,3 @@
-use Rattle.std.proofs.Common.{◌≡◌}
 use Rattle.kr_config.specs.Kept.{rows_of}
 use Rattle.kr_rollout.proofs.Walking.{IsWalked, left_after}
 use Rattle.kr_rollout.proofs.opening_board.note_all.Given as goal
