@@ -15,3 +15,6 @@ pub mod Boarding
 pub mod Storing
 pub mod Replacing
 pub mod Refusing
+pub mod Budgets
+pub mod Changing
+pub mod Reloading

@@ -14,7 +14,7 @@ use Rattle.kr_store.proofs.Places.{found_in, live_at_revision}
 use Rattle.kr_rollout.specs.declared.generation.Generation.{Generation}
 use Rattle.kr_rollout.specs.Entries.{published_at}
 
-get_front : {X : Type 0} (xs ys : List X) (k : ℕ) → k < length xs
+pub get_front : {X : Type 0} (xs ys : List X) (k : ℕ) → k < length xs
     → slice_get (xs ++ ys) k ≡ slice_get xs k
 get_front [] ys k l = absurd (omega arith)
 get_front (x ∷ xs) ys zero l = refl

@@ -162,7 +162,7 @@ names_bound generations held number gave e l =
     subst (λ h. IfSome (generation_named_by h gave) (λ n. n < length generations)) (sym e) l
 
 -- a seat that may hold something adopts nothing by a write
-names_any : (generations : List Generation) (held : Option ℕ) (gave : Gave) → generation_adopted_in gave ≡ None
+pub names_any : (generations : List Generation) (held : Option ℕ) (gave : Gave) → generation_adopted_in gave ≡ None
     → IfSome held (λ n. n < length generations)
     → IfSome (generation_named_by held gave) (λ n. n < length generations)
 names_any generations None gave e l = subst (λ h. IfSome h (λ n. n < length generations)) (sym e) tt
