@@ -16,7 +16,7 @@ use Rattle.kr_rollout.specs.declared.line.Gave.TheVariants.{Adopted, Found, Abse
 use Rattle.kr_rollout.specs.declared.opening.Entry.{Entry}
 use Rattle.kr_rollout.specs.declared.opening.Opening.{Opening}
 use Rattle.kr_base.specs.Lines.{of_seat}
-use Rattle.kr_store.specs.Rows.{row_at}
+use Rattle.kr_store.specs.Rows.{put_at}
 use Rattle.kr_rollout.specs.Entries.{published_at, generation_named_by, seat_of}
 use Rattle.kr_rollout.specs.States.{State, number_at, held_by}
 use Rattle.kr_rollout.specs.Openings.{start_of, room_of}
@@ -345,7 +345,7 @@ may_serve o st history seat asked l budgets is may = by asked may.allowed
         let found = subst (λ (s : State). IsIn s.rows a.3) (sym is)
         (subst (λ r. IfSome r (IsIn (state_of o history).rows)) a.4
         (found_there o history seat l)) in
-        (a.0, a.1.0, a.1.1, a.3, q.0, q.1, ap (row_at st.rows) (sym a.6) ∙ found.is, a.7)
+        (a.0, a.1.0, a.1.1, a.3, q.0, q.1, ap (put_at st.rows) (sym a.6) ∙ found.is, a.7)
     by (event.Adopt replica) a = (
       a.0,
       nothing_held st.generations (held_by st seat)

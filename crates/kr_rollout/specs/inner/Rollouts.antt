@@ -4,7 +4,7 @@ use Rattle.std.specs.List.{slice_get}
 use Rattle.std.specs.Option.{option_map}
 use Rattle.kr_base.specs.Rules.{IsPath, IsResource}
 use Rattle.kr_store.specs.declared.rows.Row.{Row}
-use Rattle.kr_store.specs.Rows.{row_at}
+use Rattle.kr_store.specs.Rows.{put_at}
 use Rattle.kr_store.specs.Stores.{Kept}
 use Rattle.kr_provider.specs.Publication.{Publication}
 use Rattle.kr_provider.specs.Sealing.{IsSealing}
@@ -94,7 +94,7 @@ MayServe c seat (event.Delete path) = IsPath path
 MayServe c seat (event.Replace path revision stored) = IsPath path
     × (number : ℕ) × (p : Publication) × (row : Row) × (held_by c.state seat ≡ Some number)
     × (published_at c.state.generations (Some number) ≡ Some p)
-    × (row_at c.state.rows revision ≡ Some row)
+    × (put_at c.state.rows revision ≡ Some row)
     × IsResealing p row path stored
 MayServe c seat event.LetGo = IsSome (held_by c.state seat)
 MayServe c seat (event.Reload replica p expect) = MayTake c replica p
