@@ -234,8 +234,9 @@ start_legal o rows first each m = record {
 
 module _ (store : Kept) (rs : List (Option Publication)) (names : List (List ℕ)) (reloads : List ℕ)
     (b : BoardState) (generations : List Generation) (current held : List (Option ℕ))
-    (kept : List ℕ) (first count room : ℕ) (first_is : first ≡ length store.rows)
-    (count_is : count ≡ store.count) (generations_is : generations ≡ generations_from 0 rs)
+    (kept : List ℕ) (first count : ℕ) (torn : Bool) (room : ℕ)
+    (first_is : first ≡ length store.rows)
+    (count_is : count ≡ store.count) (torn_is : torn ≡ store.torn) (generations_is : generations ≡ generations_from 0 rs)
     (current_is : current ≡ current_from 0 rs) (held_is : held ≡ replicate (length reloads) None)
     (kept_is : kept ≡ reloads) (room_is : room ≡ length rs + sum reloads)
     (boards : Boards store.rows (settings_of rs) room (Ok b)) where
@@ -251,7 +252,7 @@ module _ (store : Kept) (rs : List (Option Publication)) (names : List (List ℕ
       ∙ sym (start_board (opening_by store rs names reloads))
 
   pub opened : ◌≡◌ {A = RolloutState} (record {
-    opening = opening_of store first rs names kept count;
+    opening = opening_of store first rs names kept count torn;
     state = state_with store b generations current held;
   })
       (record {
@@ -274,6 +275,7 @@ module _ (store : Kept) (rs : List (Option Publication)) (names : List (List ℕ
           limit =
               store.limit;
           count = count_is i;
+          torn = torn_is i;
         };
         state = record {
           generations = generations_is i;
@@ -285,7 +287,7 @@ module _ (store : Kept) (rs : List (Option Publication)) (names : List (List ℕ
         };
       })
 
-  pub opened_rollout : length reloads ≤ 64 → IsRollout (opening_of store first rs names kept count)
+  pub opened_rollout : length reloads ≤ 64 → IsRollout (opening_of store first rs names kept count torn)
       (state_with store b generations current held) b
   opened_rollout few =
       subst (λ (c : RolloutState). IsRollout c.opening c.state b) (sym opened)

@@ -18,3 +18,4 @@ pub mod Refusing
 pub mod Budgets
 pub mod Changing
 pub mod Reloading
+pub mod Growing

@@ -43,6 +43,7 @@ impl<T: Tape> Rollout<T> {
         };
         let first_rows = store.revision();
         let first_faults = store.faults();
+        let first_torn = store.torn();
         Ok(Rollout {
             store,
             board,
@@ -54,6 +55,7 @@ impl<T: Tape> Rollout<T> {
             names,
             reloads: made.reloads,
             first_faults,
+            first_torn,
             alloc,
         })
     }

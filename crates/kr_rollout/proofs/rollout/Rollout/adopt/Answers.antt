@@ -44,6 +44,7 @@ invariant_of-self g c =
           c.args.seat c.args.replica c.in-Some.generation c.hold.ensures l may.1 is,
       c.self.invariant.1,
       c.self.invariant.2,
+      c.self.invariant.3,
     )
 
 pub returns-in-Ok : goal.returns-in-Ok

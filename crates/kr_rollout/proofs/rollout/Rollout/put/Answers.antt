@@ -11,6 +11,7 @@ use Rattle.kr_rollout.specs.inner.Rollouts.{RolloutState, MayServe}
 use Rattle.kr_rollout.specs.inner.Writing.{written_as, needs_with}
 use Rattle.kr_rollout.proofs.Keeping.{read_number}
 use Rattle.kr_rollout.proofs.Storing.{seen, own_published, grown_rollout, put_serves}
+use Rattle.kr_rollout.proofs.Growing.{faults_put}
 use Rattle.kr_rollout.proofs.rollout.Rollout.put.Goals as goal
 
 pub put_value-result-requires-clause-stored : goal.put_value-result-requires-clause-stored
@@ -37,6 +38,7 @@ invariant_of-self g c =
     c.put_value-result.new.board c.self.inside.generations.0 c.self.inside.current.items
     c.self.inside.held.items c.self.inside.first_rows c.self.inside.replicas.0
     c.self.inside.names.0 c.self.inside.reloads.items c.self.inside.first_faults
+    c.self.inside.first_torn
     (needs_with c.put_value-result.result (record {
       path = c.as_str-2.result.now;
       resource =
@@ -48,7 +50,16 @@ invariant_of-self g c =
     c.put_value-result.result
     c.self.invariant.1 c.put_value-result.ensures.store c.put_value-result.ensures.board
     c.self.invariant.0 in
-    (grown.0, grown.1, c.self.invariant.2)
+    (
+      grown.0,
+      grown.1,
+      c.self.invariant.2,
+      faults_put c.self.inside.first_torn c.self.inside.first_faults c.self.inside.store
+          c.put_value-result.new.store
+          (put_of c.as_str-2.result.now c.as_str-3.result.now c.args.stored
+          (check_in c.self.inside.store.format (store_check c.writer_of-who.result.now)))
+          c.put_value-result.result c.put_value-result.ensures.store c.self.invariant.3,
+    )
 
 pub returns : goal.returns
 returns g c =
@@ -75,6 +86,7 @@ returns g c =
     c.put_value-result.new.board c.self.inside.generations.0 c.self.inside.current.items
     c.self.inside.held.items c.self.inside.first_rows c.self.inside.replicas.0
     c.self.inside.names.0 c.self.inside.reloads.items c.self.inside.first_faults
+    c.self.inside.first_torn
     c.args.seat c.self.invariant.0 l c.self.invariant.1 may.2 c.args.path c.args.resource
     c.args.plain c.args.stored may.3 may.4 may.5 may.0 may.1 may.6 c.put_value-result.result
     (subst (λ path. Puts c.self.inside.store c.put_value-result.new.store

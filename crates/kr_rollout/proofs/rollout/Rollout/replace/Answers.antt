@@ -7,7 +7,27 @@ use Rattle.kr_rollout.specs.inner.Rollouts.{RolloutState, MayServe}
 use Rattle.kr_rollout.specs.inner.Writing.{written_as, ReplacesBy}
 use Rattle.kr_rollout.proofs.Keeping.{read_number}
 use Rattle.kr_rollout.proofs.Storing.{seen, own_published, replace_serves}
+use Rattle.kr_rollout.proofs.Growing.{faults_replace, grown_replace}
 use Rattle.kr_rollout.proofs.rollout.Rollout.replace.Goals as goal
+
+pub invariant_of-self : goal.invariant_of-self
+invariant_of-self g c =
+    let grown = grown_replace c.self.inside.store c.replace_live-result.new.store
+    c.self.inside.board c.replace_live-result.new.board c.self.inside.generations.0
+    c.self.inside.current.items c.self.inside.held.items c.self.inside.first_rows
+    c.self.inside.replicas.0 c.self.inside.names.0 c.self.inside.reloads.items
+    c.self.inside.first_faults c.self.inside.first_torn c.self.invariant.1 c.self.invariant.0
+    c.get-published.result.now c.as_str.result.now c.args.revision c.args.stored
+    c.replace_live-result.result c.replace_live-result.ensures in (
+      grown.0,
+      grown.1,
+      c.self.invariant.2,
+      faults_replace c.get-published.result.now c.self.inside.first_torn
+          c.self.inside.first_faults c.self.inside.store c.replace_live-result.new.store
+          c.as_str.result.now c.args.revision c.args.stored c.self.inside.board
+          c.replace_live-result.new.board c.replace_live-result.result
+          c.replace_live-result.ensures c.self.invariant.3,
+    )
 
 pub replace_live-result-requires-clause-stored : goal.replace_live-result-requires-clause-stored
 replace_live-result-requires-clause-stored g c =
@@ -50,6 +70,7 @@ returns g c =
     c.replace_live-result.new.board c.self.inside.generations.0 c.self.inside.current.items
     c.self.inside.held.items c.self.inside.first_rows c.self.inside.replicas.0
     c.self.inside.names.0 c.self.inside.reloads.items c.self.inside.first_faults
+    c.self.inside.first_torn
     c.args.seat c.self.invariant.0 l c.self.invariant.1 may.1 c.args.path c.args.revision
     c.args.stored may.2 may.3 may.4 may.5 may.0 may.6 may.7 c.replace_live-result.result
     (subst (λ p. ReplacesBy p c.self.inside.store c.replace_live-result.new.store c.args.path
