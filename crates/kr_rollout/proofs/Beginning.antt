@@ -205,7 +205,6 @@ pub start_fits : (o : Opening) → MayStart o.rows (settings_of o.replicas) → 
 start_fits o m = fit_less (IsLive (start_of o))
     (λ rows. Contains (settings_of o.replicas) (Some rows)) (start_of o).needs
     (λ rows l. is_replicas 0 o.replicas l.0 rows l.2) m.fit
-
 -- --none_within : (n : ℕ) → 0 ≤ n
 none_within n = omega arith
 

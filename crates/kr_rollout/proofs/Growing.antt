@@ -7,9 +7,10 @@ use Rattle.kr_store.specs.declared.answers.PutNo.TheVariants as no
 use Rattle.kr_store.specs.declared.rows.LogRow.{LogRow}
 use Rattle.kr_store.specs.Rows.{delete_of}
 use Rattle.kr_store.specs.Stores.{Kept, Wrote, Fails, Puts, Deletes}
-use Rattle.kr_provider.specs.Publication.{Publication}
+use Rattle.kr_provider.specs.Publication.{Publication, list_at}
+use Rattle.kr_provider.specs.Readers.{writer_of}
 use Rattle.kr_judge.specs.declared.need.Need.{Need}
-use Rattle.kr_judge.specs.Boards.{BoardState}
+use Rattle.kr_judge.specs.Boards.{BoardState, set_need}
 use Rattle.kr_rollout.specs.declared.generation.Generation.{Generation}
 use Rattle.kr_rollout.specs.inner.Rollouts.{opening_of, state_with, IsRollout, KeepsFaults}
 use Rattle.kr_rollout.specs.inner.Writing.{needs_without, sealed_over, StaysBy, ReplacesBy}
@@ -136,7 +137,14 @@ replaced_needs : (p : Publication) (store next : Kept) (path : List ℕ) (revisi
     (stored : List ℕ) (kept later : BoardState) (result : Result ℕ PutNo)
     → ReplacesBy p store next path revision stored kept later result
     → (needs : List Need) × (later ≡ record kept { needs = needs })
-replaced_needs p store next path revision stored kept later (Ok to) r = (_, r.3)
+replaced_needs p store next path revision stored kept later (Ok to) r = (
+  set_need kept.needs (record {
+    path = path;
+    resource = r.0.resource;
+    who = writer_of (list_at p r.0.resource);
+  }),
+  r.3,
+)
 replaced_needs p store next path revision stored kept later (Err why) r = (kept.needs, r.1)
 
 -- ---- the rollout

@@ -37,7 +37,6 @@ use Rattle.kr_rollout.specs.inner.Rollouts.{RolloutState, opening_of, state_with
 use Rattle.kr_rollout.specs.inner.Writing.{written_as, deleted_as, needs_with, needs_without, sealed_over, ReplacesBy}
 use Rattle.std.proofs.lemmas.Option.{same_Some}
 use Rattle.kr_rollout.proofs.Revisions.{live_at, at_within}
-use Rattle.kr_rollout.proofs.Keeping.{read_published}
 use Rattle.kr_rollout.proofs.Serving.{held_in}
 
 -- ---- a step between two courses
@@ -100,13 +99,13 @@ seen here old next seat asked given ans gave line view ans_is gave_is line_is s 
 
 -- the configuration that a seat holds is the one that is read
 pub own_published : (generations : List Generation) (held : List (Option ℕ)) (seat number n : ℕ)
-    (p q : Publication) (g : Generation) → number_at held seat ≡ Some number
+    (p q own : Publication) → number_at held seat ≡ Some number
     → number_at held seat ≡ Some n → published_at generations (Some n) ≡ Some p
-    → number < length generations → g ≡ get_or generations number g → q ≡ g.published → p ≡ q
-own_published generations held seat number n p q g a b there l is e =
+    → published_at generations (Some number) ≡ Some own → q ≡ own → p ≡ q
+own_published generations held seat number n p q own a b there is e =
     let same : number ≡ n = same_Some number n (sym a ∙ b) in
     same_Some p q (sym there ∙ ap (λ k. published_at generations (Some k)) (sym same)
-    ∙ read_published generations number g l is ∙ ap (λ (x : Publication). Some x) (sym e))
+    ∙ is ∙ ap (λ (x : Publication). Some x) (sym e))
 
 -- a put leaves the rows, or one more
 pub puts_grow : (store next : Kept) (row : LogRow) (result : Result ℕ PutNo)

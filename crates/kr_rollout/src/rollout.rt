@@ -7,7 +7,7 @@ ghost use Rattle.kr_rollout.specs.inner.Rollouts.{line_now, MayServe, Serves};
 
 use crate::answer::Answer;
 use crate::event::Event;
-use crate::generation::Generation;
+use crate::generation::{Generation, published_of};
 use crate::line::{Did, Gave, Line};
 use kr_base::{List, NoMemory, Shared, Tape, Text};
 use kr_judge::Board;
@@ -53,11 +53,11 @@ impl<T: Tape> Model for Rollout<T> {
 
     ghost invariant = { λ r. IsRollout
         (opening_of r.store r.first_rows r.replicas.0 r.names.0 r.reloads.items r.first_faults
-            r.first_torn)
+        r.first_torn)
         (state_with r.store r.board r.generations.0 r.current.items r.held.items) r.board
         × (r.first_rows ≤ length r.store.rows)
         × (length r.replicas.0 + sum r.reloads.items
-            ≤ length r.generations.0 + r.generations.1)
+        ≤ length r.generations.0 + r.generations.1)
         × KeepsFaults r.first_torn r.first_faults r.store };
 }
 
@@ -140,9 +140,7 @@ impl<T: Tape> Rollout<T> {
             let line = self.line(seat, did, Gave::Gone { replica });
             return (Answer::Gone { replica }, line);
         };
-        match self.generations.as_slice()[generation as usize]
-            .published
-            .share() {
+        match published_of(self.generations.as_slice(), generation).share() {
             Ok(published) => {
                 let line = self.line(seat, did, Gave::Adopted { generation });
                 self.board.hold(generation);

@@ -1,4 +1,4 @@
-use Rattle.std.proofs.Common.{◌+◌, List, length, replicate, Option, None, Ok, IfSome, refl, sym, inl, ap, subst, ◌∙◌, arith}
+use Rattle.std.proofs.Common.{ℕ, ◌+◌, List, length, replicate, Option, None, Ok, IfSome, refl, sym, inl, ap, subst, ◌∙◌, arith}
 use Rattle.std.specs.Prelude.{sum, All}
 use Rattle.kr_provider.specs.Publication.{Publication, IsPublished}
 use Rattle.kr_rollout.specs.Openings.{generations_from, current_from, settings_of}
@@ -25,7 +25,13 @@ invariant_of-result g c = (
       (c.in-Ok.ensures.settings ∙ ap settings_of c.as_slice.ensures) c.in-Ok-board_of.ensures)
       (omega (arith, c.requires.seats.0, c.requires.seats.1)),
   omega (arith, c.revision-first_rows.ensures),
-  omega (arith, c.in-Ok.ensures.spare, c.in-Ok.ensures.room, c.in-Ok.ensures.reloads),
+  omega (
+    arith,
+    c.in-Ok.ensures.spare,
+    c.in-Ok.ensures.room,
+    ap (λ (l : List ℕ). sum l) c.in-Ok.ensures.reloads,
+    ap (λ (l : List (Option Publication)). length l) c.as_slice.ensures,
+  ),
   record {
     later = omega (arith, c.faults-first_faults.ensures);
     torn_since = λ e. inl (c.torn-first_torn.ensures ∙ e);
