@@ -205,10 +205,8 @@ pub start_fits : (o : Opening) → MayStart o.rows (settings_of o.replicas) → 
 start_fits o m = fit_less (IsLive (start_of o))
     (λ rows. Contains (settings_of o.replicas) (Some rows)) (start_of o).needs
     (λ rows l. is_replicas 0 o.replicas l.0 rows l.2) m.fit
--- --none_within : (n : ℕ) → 0 ≤ n
-none_within n = omega arith
 
--- a core with no line
+-- ---- a core with no line
 
 pub admitted : (names : List (List ℕ)) (rs : List (Option Publication)) → AreAmong names rs
     → All (λ replica. IfSome replica IsPublished) rs
