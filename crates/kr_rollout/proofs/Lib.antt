@@ -15,7 +15,11 @@ pub mod Boarding
 pub mod Storing
 pub mod Replacing
 pub mod Refusing
+pub mod Budgets
+pub mod Changing
 pub mod Effects
-pub mod Sound
 pub mod Fitting
+pub mod Growing
 pub mod Judging
+pub mod Reloading
+pub mod Sound

@@ -1,5 +1,5 @@
 -- Events that write to the store: that their lines' entries are steps.
-use Rattle.std.proofs.Common.{◌≡◌, ℕ, suc, ◌<◌, ◌≤◌, ◌+◌, List, [], ◌∷◌, ◌++◌, length, take, get_or, is_some, Option, None, Some, IfSome, Result, Ok, Err, refl, sym, ap, subst, ◌∙◌, arith, append-nil, length-append}
+use Rattle.std.proofs.Common.{◌≡◌, ℕ, suc, ◌<◌, ◌≤◌, ◌+◌, Bool, List, [], ◌∷◌, ◌++◌, length, take, get_or, is_some, Option, None, Some, IfSome, Result, Ok, Err, refl, sym, ap, subst, ◌∙◌, arith, append-nil, length-append}
 use Rattle.std.specs.List.{slice_get}
 use Rattle.std.specs.Option.{option_map}
 use Rattle.std.proofs.lemmas.List.{take-append-le}
@@ -8,7 +8,7 @@ use Rattle.kr_store.specs.declared.answers.PutNo.{PutNo}
 use Rattle.kr_store.specs.declared.answers.PutNo.TheVariants as no
 use Rattle.kr_store.specs.declared.rows.LogRow.{LogRow}
 use Rattle.kr_store.specs.declared.rows.Row.{Row}
-use Rattle.kr_store.specs.Rows.{put_of, delete_of, row_of, live_row, numbered, row_at}
+use Rattle.kr_store.specs.Rows.{put_of, delete_of, row_of, live_row, with_revision, put_at}
 use Rattle.kr_store.specs.Stores.{Kept, Puts, Deletes, IsLatestPut}
 use Rattle.kr_provider.specs.Publication.{Publication, list_at}
 use Rattle.kr_provider.specs.Readers.{writer_of}
@@ -37,7 +37,6 @@ use Rattle.kr_rollout.specs.inner.Rollouts.{RolloutState, opening_of, state_with
 use Rattle.kr_rollout.specs.inner.Writing.{written_as, deleted_as, needs_with, needs_without, sealed_over, ReplacesBy}
 use Rattle.std.proofs.lemmas.Option.{same_Some}
 use Rattle.kr_rollout.proofs.Revisions.{live_at, at_within}
-use Rattle.kr_rollout.proofs.Keeping.{read_published}
 use Rattle.kr_rollout.proofs.Serving.{held_in}
 
 -- ---- a step between two courses
@@ -100,13 +99,13 @@ seen here old next seat asked given ans gave line view ans_is gave_is line_is s 
 
 -- the configuration that a seat holds is the one that is read
 pub own_published : (generations : List Generation) (held : List (Option ℕ)) (seat number n : ℕ)
-    (p q : Publication) (g : Generation) → number_at held seat ≡ Some number
+    (p q own : Publication) → number_at held seat ≡ Some number
     → number_at held seat ≡ Some n → published_at generations (Some n) ≡ Some p
-    → number < length generations → g ≡ get_or generations number g → q ≡ g.published → p ≡ q
-own_published generations held seat number n p q g a b there l is e =
+    → published_at generations (Some number) ≡ Some own → q ≡ own → p ≡ q
+own_published generations held seat number n p q own a b there is e =
     let same : number ≡ n = same_Some number n (sym a ∙ b) in
     same_Some p q (sym there ∙ ap (λ k. published_at generations (Some k)) (sym same)
-    ∙ read_published generations number g l is ∙ ap (λ (x : Publication). Some x) (sym e))
+    ∙ is ∙ ap (λ (x : Publication). Some x) (sym e))
 
 -- a put leaves the rows, or one more
 pub puts_grow : (store next : Kept) (row : LogRow) (result : Result ℕ PutNo)
@@ -142,11 +141,11 @@ get_end [] x = refl
 get_end (y ∷ ys) x = get_end ys x
 
 row_new : (rows next : List LogRow) (row : LogRow) (k : ℕ) → next ≡ rows ++ row ∷ []
-    → k ≡ length rows + 1 → row_at next k ≡ row_of k row.path row.change
+    → k ≡ length rows + 1 → put_at next k ≡ row_of k row.path row.change
 row_new rows next row k e n =
     let m : k ≡ suc (length rows) = omega (arith, n) in
-    ap (λ rs. row_at rs k) e ∙ ap (row_at (rows ++ row ∷ [])) m
-    ∙ ap (λ o. live_row (numbered (suc (length rows)) o)) (get_end rows row)
+    ap (λ rs. put_at rs k) e ∙ ap (put_at (rows ++ row ∷ [])) m
+    ∙ ap (λ o. live_row (with_revision (suc (length rows)) o)) (get_end rows row)
     ∙ ap (λ j. row_of j row.path row.change) (sym m)
 
 names_some : (generations : List Generation) (held : Option ℕ) (number : ℕ) (p : Publication)
@@ -162,7 +161,7 @@ names_bound generations held number gave e l =
     subst (λ h. IfSome (generation_named_by h gave) (λ n. n < length generations)) (sym e) l
 
 -- a seat that may hold something adopts nothing by a write
-names_any : (generations : List Generation) (held : Option ℕ) (gave : Gave) → generation_adopted_in gave ≡ None
+pub names_any : (generations : List Generation) (held : Option ℕ) (gave : Gave) → generation_adopted_in gave ≡ None
     → IfSome held (λ n. n < length generations)
     → IfSome (generation_named_by held gave) (λ n. n < length generations)
 names_any generations None gave e l = subst (λ h. IfSome h (λ n. n < length generations)) (sym e) tt
@@ -173,17 +172,17 @@ names_any generations (Some n) gave e l = l
 module _ (store next : Kept) (kept later : BoardState) (generations : List Generation)
     (current held : List (Option ℕ))
     (first : ℕ) (rs : List (Option Publication)) (names : List (List ℕ)) (reloads : List ℕ)
-    (count : ℕ) where
+    (count : ℕ) (torn : Bool) where
   abbrev here : RolloutState
   here = record {
-    opening = opening_of store first rs names reloads count;
+    opening = opening_of store first rs names reloads count torn;
     state =
         state_with store kept generations current held;
   }
 
   abbrev soon : RolloutState
   soon = record {
-    opening = opening_of next first rs names reloads count;
+    opening = opening_of next first rs names reloads count torn;
     state =
         state_with next later generations current held;
   }
@@ -191,7 +190,7 @@ module _ (store next : Kept) (kept later : BoardState) (generations : List Gener
   -- the opening stays
   pub same_opening : (more : List LogRow) → first ≤ length store.rows
       → next.rows ≡ store.rows ++ more → next.limit ≡ store.limit → next.format ≡ store.format
-      → opening_of next first rs names reloads count ≡ opening_of store first rs names reloads count
+      → opening_of next first rs names reloads count torn ≡ opening_of store first rs names reloads count torn
   same_opening more l e limit format =
       let r : take first next.rows ≡ take first store.rows = ap (take first) e
       ∙ take-append-le first store.rows more l in
@@ -203,24 +202,26 @@ module _ (store next : Kept) (kept later : BoardState) (generations : List Gener
         reloads = reloads;
         limit = limit i;
         count = count;
+        torn = torn;
       })
 
   -- what holds of the course stays
   pub same_rollout : (more : List LogRow) (needs : List Need) → first ≤ length store.rows
       → next.rows ≡ store.rows ++ more → next.limit ≡ store.limit → next.format ≡ store.format
       → later ≡ record kept { needs = needs }
-      → IsRollout (opening_of store first rs names reloads count)
+      → IsRollout (opening_of store first rs names reloads count torn)
       (state_with store kept generations current held) kept
-      → IsRollout (opening_of next first rs names reloads count)
+      → IsRollout (opening_of next first rs names reloads count torn)
       (state_with next later generations current held) later
   same_rollout more needs l e limit format later_is k =
       subst (λ o. IsRollout o (state_with next later generations current held) later)
       (sym (same_opening more l e limit format)) (record {
         board_is = later_is ∙ ap (λ (b : BoardState). record b { needs = needs }) k.board_is
-            ∙ ap (λ n. record (board (opening_of store first rs names reloads count)
+            ∙ ap (λ n. record (board (opening_of store first rs names reloads count torn)
             (state_with store kept generations current held)) { needs = n })
             (sym (ap (λ (b : BoardState). b.needs) later_is));
         current = k.current;
+        own = k.own;
         held = k.held;
         replicas = k.replicas;
         seats = k.seats;
@@ -230,9 +231,9 @@ module _ (store next : Kept) (kept later : BoardState) (generations : List Gener
   pub grown_rollout : (needs : List Need) (row : LogRow) (result : Result ℕ PutNo)
       → first ≤ length store.rows → Puts store next row result
       → later ≡ record kept { needs = needs }
-      → IsRollout (opening_of store first rs names reloads count)
+      → IsRollout (opening_of store first rs names reloads count torn)
       (state_with store kept generations current held) kept
-      → IsRollout (opening_of next first rs names reloads count)
+      → IsRollout (opening_of next first rs names reloads count torn)
       (state_with next later generations current held) later × (first ≤ length next.rows)
   grown_rollout needs row result l p later_is k =
       let g = puts_grow store next row result p in (
@@ -264,7 +265,7 @@ module _ (store next : Kept) (kept later : BoardState) (generations : List Gener
         count = next.count;
       })
 
-  module _ (seat : ℕ) (k : IsRollout (opening_of store first rs names reloads count)
+  module _ (seat : ℕ) (k : IsRollout (opening_of store first rs names reloads count torn)
       (state_with store kept generations current held) kept) (l : seat < length reloads)
       (room : first ≤ length store.rows) where
     -- ---- a put
@@ -294,14 +295,14 @@ module _ (store next : Kept) (kept later : BoardState) (generations : List Gener
           soon
       put_serves (Ok revision) w b =
           let row = put_of path resource stored (written_check store.format p resource) in
-          let row_is : row_at next.rows revision ≡ row_of revision path row.change =
+          let row_is : put_at next.rows revision ≡ row_of revision path row.change =
           row_new store.rows next.rows row revision w.rows w.revision_is in
           let needs_are : later.needs ≡ put_need
           (published_at generations (generation_named_by (number_at held seat) (Written revision)))
-          (row_at next.rows revision) kept.needs =
+          (put_at next.rows revision) kept.needs =
           ap (λ (x : BoardState). x.needs) b ∙ sym
           (λ i. put_need (published_is (Written revision) i) (row_is i) kept.needs) in
-          let rows_are : next.rows ≡ store.rows ++ put_row (row_at next.rows revision) = w.rows
+          let rows_are : next.rows ≡ store.rows ++ put_row (put_at next.rows revision) = w.rows
           ∙ sym (ap (λ r. store.rows ++ put_row r) row_is) in
           let g = sym (append-nil generations) in
           stepped here soon seat (event.Put path resource plain stored) (answer.Written revision)
@@ -437,7 +438,7 @@ module _ (store next : Kept) (kept later : BoardState) (generations : List Gener
       delete_serves (Ok (Some revision)) d b =
           let w = d.1 in
           let row = delete_of path in
-          let row_is : row_at next.rows revision ≡ None =
+          let row_is : put_at next.rows revision ≡ None =
           row_new store.rows next.rows row revision w.rows w.revision_is in
           let g = sym (append-nil generations) in
           let needs_are : later.needs ≡ drop_need kept.needs path =
@@ -523,7 +524,7 @@ module _ (store next : Kept) (kept later : BoardState) (generations : List Gener
     module _ (number : ℕ) (path : List ℕ) (revision : ℕ) (stored : List ℕ) (p : Publication)
         (row : Row) (held_is : number_at held seat ≡ Some number)
         (there : published_at generations (Some number) ≡ Some p)
-        (path_rule : IsPath path) (row_is : row_at store.rows revision ≡ Some row)
+        (path_rule : IsPath path) (row_is : put_at store.rows revision ≡ Some row)
         (resealing : IsResealing p row path stored) where
       published_then : (gave : Gave) → published_at generations
           (generation_named_by (number_at held seat) gave) ≡ Some p
@@ -537,7 +538,7 @@ module _ (store next : Kept) (kept later : BoardState) (generations : List Gener
       -- the path's last put is the row that was found
       own_is : (own : Row) → IsLatestPut store.rows path revision own → own ≡ row
       own_is own latest = same_Some own row (sym (live_at store.rows path own latest.is).row_is
-          ∙ ap (row_at store.rows) latest.revision_is ∙ row_is)
+          ∙ ap (put_at store.rows) latest.revision_is ∙ row_is)
 
       anew : (own : Row) → IsLatestPut store.rows path revision own
           → IsSealedAnew store.format p path own (sealed_over store p own path stored)
@@ -562,14 +563,14 @@ module _ (store next : Kept) (kept later : BoardState) (generations : List Gener
           let own = r.0 in
           let w = r.2 in
           let new = sealed_over store p own path stored in
-          let new_is : row_at next.rows to ≡ row_of to path new.change =
+          let new_is : put_at next.rows to ≡ row_of to path new.change =
           row_new store.rows next.rows new to w.rows w.revision_is in
           let needs_are : later.needs ≡ put_need
           (published_at generations (generation_named_by (number_at held seat) (Written to)))
-          (row_at next.rows to) kept.needs =
+          (put_at next.rows to) kept.needs =
           ap (λ (x : BoardState). x.needs) r.3 ∙ sym
           (λ i. put_need (published_then (Written to) i) (new_is i) kept.needs) in
-          let rows_are : next.rows ≡ store.rows ++ put_row (row_at next.rows to) = w.rows
+          let rows_are : next.rows ≡ store.rows ++ put_row (put_at next.rows to) = w.rows
           ∙ sym (ap (λ x. store.rows ++ put_row x) new_is) in
           let g = sym (append-nil generations) in
           stepped here soon seat (event.Replace path revision stored) (answer.Written to)
