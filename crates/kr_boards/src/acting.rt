@@ -1,4 +1,5 @@
-//! The lines: a call, and behind it what it is made with, parted by single spaces.
+//! The lines: a call, and behind it what it is made with, parted by single spaces. What isn't of
+//! the form is answered by `line`.
 //!
 //!     settings NAME JSON            a configuration in one line
 //!     board ROOM                    a board in place of the last one
@@ -13,39 +14,54 @@
 //!     again TIMES REPLICA NAME      prints the last verdict of as many
 //!     live                          prints the numbers of the live generations
 //!     paths RESOURCE NAME           prints how many paths need the provider, and the first
+//!     # TEXT                        says nothing
+use crate::asking::ask;
 use crate::named::NamedSettings;
 use crate::play::{Play, Then};
-use crate::printing::{add_numbers, add_paths, add_verdict};
-use crate::wrong::Wrong;
+use crate::wrong::{Wrong, number_of, two_words};
 use std::alloc::{AllocError, Global};
 
-/// Makes the line's call, and tells what is printed for it. A line that is empty or begins with `#`
-/// says nothing.
-pub fn act(
+/// Makes the line's call, and tells what is printed for it.
+pub fn answer(
+    alloc: Global,
+    named: &mut NamedSettings,
+    current: &mut Option<Play>,
+    line: &str,
+) -> Result<Vec<u8>, AllocError> {
+    match act(alloc, named, current, line) {
+        Ok(text) => Ok(text),
+        Err(Wrong::Form) => b"line\n".to_vec(alloc),
+        Err(Wrong::Memory) => Err(AllocError),
+    }
+}
+
+fn act(
     alloc: Global,
     named: &mut NamedSettings,
     current: &mut Option<Play>,
     line: &str,
 ) -> Result<Vec<u8>, Wrong> {
-    let mut answer = Vec::new(alloc);
-    if line.is_empty() || line.starts_with('#') {
-        return Ok(answer);
+    let (key, rest) = match line.split_once(' ') {
+        Some(parts) => parts,
+        None => (line, ""),
+    };
+    match key {
+        "#" => Ok(Vec::new(alloc)),
+        "settings" => silent(alloc, named.add(alloc, rest)),
+        "board" => silent(alloc, begin(alloc, current, rest)),
+        _ => match current {
+            Some(play) => act_on(alloc, named, play, key, rest),
+            None => Err(Wrong::Form),
+        },
     }
-    let mut words: Vec<&str> = Vec::new(alloc);
-    for word in line.split(' ') {
-        words.push(word).map_err(AllocError::from)?;
+}
+
+/// Nothing is printed.
+fn silent(alloc: Global, done: Result<(), Wrong>) -> Result<Vec<u8>, Wrong> {
+    match done {
+        Ok(()) => Ok(Vec::new(alloc)),
+        Err(why) => Err(why),
     }
-    match words.as_slice() {
-        ["settings", name, text] => named.add(alloc, name, text)?,
-        ["board", room] => *current = Some(Play::new(alloc, number_of(room)?)?),
-        words => {
-            let Some(play) = current else {
-                return Err(Wrong::Form);
-            };
-            act_on(alloc, named, play, words, &mut answer)?;
-        }
-    }
-    Ok(answer)
 }
 
 /// Makes a call on the board.
@@ -53,70 +69,46 @@ fn act_on(
     alloc: Global,
     named: &NamedSettings,
     play: &mut Play,
-    words: &[&str],
-    answer: &mut Vec<u8>,
-) -> Result<(), Wrong> {
-    match words {
-        ["add", replica, name] => add(named, play, replica, name, Then::Stays),
-        ["hold", replica, name] => add(named, play, replica, name, Then::IsHeld),
-        ["leave", replica, name] => add(named, play, replica, name, Then::Leaves),
-        ["need", path, resource, name] => {
-            play.set_need(path, resource, named.writer(name, resource)?)
+    key: &str,
+    rest: &str,
+) -> Result<Vec<u8>, Wrong> {
+    match key {
+        "add" => silent(alloc, add(named, play, rest, Then::Stays)),
+        "hold" => silent(alloc, add(named, play, rest, Then::IsHeld)),
+        "leave" => silent(alloc, add(named, play, rest, Then::Leaves)),
+        "need" => silent(alloc, set_need(named, play, rest)),
+        "keep" => silent(alloc, propose(named, play, rest, true)),
+        "undo" => silent(alloc, propose(named, play, rest, false)),
+        "drop" => {
+            play.drop_need(rest);
+            Ok(Vec::new(alloc))
         }
-        ["keep", path, resource, name] => {
-            play.propose(path, resource, named.writer(name, resource)?, true)
-        }
-        ["undo", path, resource, name] => {
-            play.propose(path, resource, named.writer(name, resource)?, false)
-        }
-        ["drop", path] => {
-            play.drop_need(path);
-            Ok(())
-        }
-        words => ask(alloc, named, play, words, answer),
+        _ => ask(alloc, named, play, key, rest),
     }
 }
 
-/// The replica takes the settings up.
-fn add(
-    named: &NamedSettings,
-    play: &mut Play,
-    replica: &str,
-    name: &str,
-    then: Then,
-) -> Result<(), Wrong> {
+/// `ROOM`.
+fn begin(alloc: Global, current: &mut Option<Play>, rest: &str) -> Result<(), Wrong> {
+    *current = Some(Play::new(alloc, number_of(rest)?)?);
+    Ok(())
+}
+
+/// `REPLICA NAME`.
+fn add(named: &NamedSettings, play: &mut Play, rest: &str, then: Then) -> Result<(), Wrong> {
+    let (replica, name) = two_words(rest)?;
     play.add(number_of(replica)?, named.at(name)?.share()?, then)
 }
 
-/// Asks the board, which stays as it is.
-fn ask(
-    alloc: Global,
-    named: &NamedSettings,
-    play: &Play,
-    words: &[&str],
-    answer: &mut Vec<u8>,
-) -> Result<(), Wrong> {
-    match words {
-        ["judge", replica, name] => {
-            let verdict = play.judge(1, number_of(replica)?, named.at(name)?.get())?;
-            add_verdict(alloc, answer, &verdict)
-        }
-        ["again", times, replica, name] => {
-            let settings = named.at(name)?.get();
-            let verdict = play.judge(number_of(times)?, number_of(replica)?, settings)?;
-            add_verdict(alloc, answer, &verdict)
-        }
-        ["live"] => add_numbers(answer, play.live()),
-        ["paths", resource, name] => {
-            add_paths(answer, play.paths(resource, named.writer(name, resource)?))
-        }
-        _ => Err(Wrong::Form),
-    }
+/// `PATH RESOURCE NAME`.
+fn set_need(named: &NamedSettings, play: &mut Play, rest: &str) -> Result<(), Wrong> {
+    let (path, rest) = two_words(rest)?;
+    let (resource, name) = two_words(rest)?;
+    play.set_need(path, resource, named.writer(resource, name)?)
 }
 
-fn number_of(text: &str) -> Result<u32, Wrong> {
-    match text.parse::<u32>() {
-        Ok(number) => Ok(number),
-        Err(_) => Err(Wrong::Form),
-    }
+/// `PATH RESOURCE NAME`.
+fn propose(named: &NamedSettings, play: &mut Play, rest: &str, keep: bool) -> Result<(), Wrong> {
+    let (path, rest) = two_words(rest)?;
+    let (resource, name) = two_words(rest)?;
+    play.propose(path, resource, named.writer(resource, name)?, keep)
 }

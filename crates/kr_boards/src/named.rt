@@ -1,5 +1,5 @@
 //! Settings by their names.
-use crate::wrong::Wrong;
+use crate::wrong::{Wrong, two_words};
 use kr_base::Shared;
 use kr_config::{ConfigErr, Settings, Who, read};
 use std::alloc::{AllocError, Global};
@@ -17,17 +17,10 @@ impl NamedSettings {
         }
     }
 
-    /// Reads a configuration and keeps it by the name.
-    pub fn add(&mut self, alloc: Global, name: &str, text: &str) -> Result<(), Wrong> {
-        let settings = match read(alloc, text.as_bytes()) {
-            Ok(settings) => settings,
-            Err(ConfigErr::No(_)) => return Err(Wrong::Form),
-            Err(ConfigErr::NoMemory) => return Err(Wrong::Memory),
-        };
-        let Ok(shared) = Shared::new(alloc, settings) else {
-            return Err(Wrong::Memory);
-        };
-        let own = (name.to_string(alloc)?, shared);
+    /// Reads a name and a configuration, and keeps that by the name.
+    pub fn add(&mut self, alloc: Global, rest: &str) -> Result<(), Wrong> {
+        let (name, text) = two_words(rest)?;
+        let own = (name.to_string(alloc)?, settings_of(alloc, text)?);
         self.all.push(own).map_err(AllocError::from)?;
         Ok(())
     }
@@ -43,11 +36,22 @@ impl NamedSettings {
     }
 
     /// The provider by which the settings of the name write the resource.
-    pub fn writer(&self, name: &str, resource: &str) -> Result<&Who, Wrong> {
+    pub fn writer(&self, resource: &str, name: &str) -> Result<&Who, Wrong> {
         let settings = self.at(name)?;
         match settings.get().list_for(resource).first() {
             Some(who) => Ok(who),
             None => Err(Wrong::Form),
         }
+    }
+}
+
+fn settings_of(alloc: Global, text: &str) -> Result<Shared<Settings>, Wrong> {
+    match read(alloc, text.as_bytes()) {
+        Ok(settings) => match Shared::new(alloc, settings) {
+            Ok(shared) => Ok(shared),
+            Err(_) => Err(Wrong::Memory),
+        },
+        Err(ConfigErr::No(_)) => Err(Wrong::Form),
+        Err(ConfigErr::NoMemory) => Err(Wrong::Memory),
     }
 }

@@ -3,54 +3,59 @@ use crate::wrong::Wrong;
 use itoa::Buffer;
 use kr_base::{Bytes, List, MemSink};
 use kr_judge::{PathSet, Verdict};
-use std::alloc::{AllocError, Global};
+use std::alloc::Global;
 
 /// How many bytes a verdict's text may have.
 const ROOM: usize = 4096;
 
-/// Adds the text of the verdict and of its copy, which are the same, once.
-pub fn add_verdict(alloc: Global, answer: &mut Vec<u8>, verdict: &Verdict) -> Result<(), Wrong> {
+/// The text of the verdict's copy.
+pub fn verdict_line(alloc: Global, verdict: &Verdict) -> Result<Vec<u8>, Wrong> {
     let copy = verdict.copy(alloc)?;
     let mut sink = MemSink::new(Bytes::new(alloc), ROOM, List::new(alloc))?;
-    let Ok(()) = copy.write(&mut sink) else {
-        return Err(Wrong::Form);
-    };
-    answer.extend_from_slice(sink.bytes())?;
-    end_line(answer)
+    match copy.write(&mut sink) {
+        Ok(()) => line_of(alloc, sink.bytes()),
+        Err(_) => Err(Wrong::Form),
+    }
 }
 
-/// Adds the numbers.
-pub fn add_numbers(answer: &mut Vec<u8>, numbers: &[u32]) -> Result<(), Wrong> {
-    answer.extend_from_slice(b"live")?;
+/// `live`, and the numbers.
+pub fn numbers_line(alloc: Global, numbers: &[u32]) -> Result<Vec<u8>, Wrong> {
+    let mut line = b"live".to_vec(alloc)?;
     for number in numbers {
-        add_number(answer, *number as usize)?;
+        add_number(&mut line, *number as usize)?;
     }
-    end_line(answer)
+    line.extend_from_slice(b"\n")?;
+    Ok(line)
 }
 
-/// Adds how many paths there are, and the first.
-pub fn add_paths(answer: &mut Vec<u8>, paths: Option<&PathSet>) -> Result<(), Wrong> {
-    answer.extend_from_slice(b"paths")?;
-    let Some(paths) = paths else {
-        add_number(answer, 0)?;
-        return end_line(answer);
-    };
-    add_number(answer, paths.len())?;
-    if let Some(first) = paths.first() {
-        answer.extend_from_slice(b" ")?;
-        answer.extend_from_slice(first.as_bytes())?;
+/// `paths`, how many there are, and the first.
+pub fn paths_line(alloc: Global, paths: Option<&PathSet>) -> Result<Vec<u8>, Wrong> {
+    match paths {
+        Some(paths) => first_line(alloc, paths.len(), paths.first()),
+        None => first_line(alloc, 0, None),
     }
-    end_line(answer)
 }
 
-fn add_number(answer: &mut Vec<u8>, number: usize) -> Result<(), Wrong> {
+fn first_line(alloc: Global, count: usize, first: Option<&str>) -> Result<Vec<u8>, Wrong> {
+    let mut line = b"paths".to_vec(alloc)?;
+    add_number(&mut line, count)?;
+    if let Some(path) = first {
+        line.extend_from_slice(b" ")?;
+        line.extend_from_slice(path.as_bytes())?;
+    }
+    line.extend_from_slice(b"\n")?;
+    Ok(line)
+}
+
+fn line_of(alloc: Global, text: &[u8]) -> Result<Vec<u8>, Wrong> {
+    let mut line = text.to_vec(alloc)?;
+    line.extend_from_slice(b"\n")?;
+    Ok(line)
+}
+
+fn add_number(line: &mut Vec<u8>, number: usize) -> Result<(), Wrong> {
     let mut digits = Buffer::new();
-    answer.extend_from_slice(b" ")?;
-    answer.extend_from_slice(digits.format(number).as_bytes())?;
-    Ok(())
-}
-
-fn end_line(answer: &mut Vec<u8>) -> Result<(), Wrong> {
-    answer.push(b'\n').map_err(AllocError::from)?;
+    line.extend_from_slice(b" ")?;
+    line.extend_from_slice(digits.format(number).as_bytes())?;
     Ok(())
 }

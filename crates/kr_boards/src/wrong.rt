@@ -1,4 +1,4 @@
-//! What a line comes to that can't be answered.
+//! Why a line has no answer, and the words of a line.
 use kr_base::NoMemory;
 use std::alloc::AllocError;
 
@@ -17,5 +17,20 @@ impl From<AllocError> for Wrong {
 impl From<NoMemory> for Wrong {
     fn from(_error: NoMemory) -> Wrong {
         Wrong::Memory
+    }
+}
+
+/// The first word, and what stands behind the space.
+pub fn two_words(text: &str) -> Result<(&str, &str), Wrong> {
+    match text.split_once(' ') {
+        Some(words) => Ok(words),
+        None => Err(Wrong::Form),
+    }
+}
+
+pub fn number_of(text: &str) -> Result<u32, Wrong> {
+    match text.parse::<u32>() {
+        Ok(number) => Ok(number),
+        Err(_) => Err(Wrong::Form),
     }
 }

@@ -29,7 +29,7 @@ fn counts_while_held(alloc: Global) -> Option<bool> {
     let number = board.add(0, keyed.share().ok()?);
     board.hold(number);
     board.leave(0);
-    let held = board.live() == &[0] && board.judge(0, plain.get()).ok()? == unread;
+    let held = board.live() == [0u32].as_slice() && board.judge(0, plain.get()).ok()? == unread;
     board.release(number);
     let gone = board.live().is_empty() && board.judge(0, plain.get()).ok()? == Verdict::Pass;
     Some(held && gone)
@@ -44,7 +44,7 @@ fn is_written_in_part(alloc: Global) -> Option<bool> {
     };
     let fails = List::from_vec(vec![in alloc; 3u64].ok()?);
     let mut sink = MemSink::new(Bytes::new(alloc), 100, fails).ok()?;
-    Some(verdict.write(&mut sink).is_err() && sink.bytes() == b"unread 7")
+    Some(verdict.write(&mut sink).is_err() && sink.bytes() == b"unread 7".as_slice())
 }
 
 #[test]
