@@ -59,8 +59,8 @@ class Generation:
 
 
 class Board:
-    def __init__(self):
-        self.generations, self.needs = [], {}
+    def __init__(self, room):
+        self.room, self.generations, self.needs = room, [], {}
 
     def add(self, replica, entries):
         self.leave(replica)
@@ -96,34 +96,81 @@ class Board:
         return " ".join(["paths", str(len(found))] + found[:1])
 
 
+class Form(Exception):
+    """A line isn't of the form."""
+
+
+class Play:
+    """The named settings and the board."""
+
+    def __init__(self):
+        self.named, self.board = {}, None
+
+    def at(self, name):
+        if name not in self.named:
+            raise Form
+        return self.named[name]
+
+    def need_of(self, resource, name):
+        return resource, configuration.list_for(self.at(name), resource)[0]
+
+    def add(self, key, replica, name):
+        if len(self.board.generations) == self.board.room:
+            raise Form
+        self.board.add(replica, self.at(name))
+        if key == "hold":
+            self.board.generations[-1].holders += 1
+        elif key == "leave":
+            self.board.leave(replica)
+
+    def line(self, key, words):
+        """What is printed for a line, or None."""
+        if key == "settings":
+            self.named[words[0]] = configuration.read(words[1].encode())
+        elif key == "board":
+            self.board = Board(number_of(words[0]))
+        elif self.board is None:
+            raise Form
+        elif key in ("add", "hold", "leave"):
+            self.add(key, number_of(words[0]), words[1])
+        elif key in ("need", "keep", "undo"):
+            need = self.need_of(words[1], words[2])
+            if key != "undo":
+                self.board.needs[words[0]] = need
+        elif key == "drop":
+            self.board.needs.pop(words[0], None)
+        else:
+            return self.question(key, words)
+
+    def question(self, key, words):
+        if key in ("judge", "again"):
+            return self.board.verdict(number_of(words[-2]), self.at(words[-1]))
+        if key == "live":
+            return " ".join(["live"] + [str(number) for number, _ in self.board.live()])
+        if key == "paths":
+            return self.board.paths(*self.need_of(*words))
+        raise Form
+
+
+def number_of(text):
+    if not text.isdecimal():
+        raise Form
+    return int(text)
+
+
 def answers(lines):
     """What the program prints for the lines."""
-    named, board, printed = {}, Board(), []
+    play, printed = Play(), []
     for line in lines:
         key, *words = line.split(" ")
-        if key == "settings":
-            named[words[0]] = configuration.read(words[1].encode())
-        elif key == "board":
-            board = Board()
-        elif key in ("add", "hold", "leave"):
-            replica = int(words[0])
-            board.add(replica, named[words[1]])
-            if key == "hold":
-                board.generations[-1].holders += 1
-            elif key == "leave":
-                board.leave(replica)
-        elif key in ("need", "keep"):
-            board.needs[words[0]] = (words[1], configuration.list_for(named[words[2]], words[1])[0])
-        elif key == "drop":
-            board.needs.pop(words[0], None)
-        elif key in ("judge", "again"):
-            printed.append(board.verdict(int(words[-2]), named[words[-1]]))
-        elif key == "live":
-            printed.append(" ".join(["live"] + [str(number) for number, _ in board.live()]))
-        elif key == "paths":
-            printed.append(board.paths(words[0], configuration.list_for(named[words[1]], words[0])[0]))
-        elif key != "undo" and line and not line.startswith("#"):
-            raise ValueError(line)
+        if key == "#":
+            continue
+        try:
+            answer = play.line(key, words)
+        except Form:
+            answer = "line"
+        if answer is not None:
+            printed.append(answer)
     return printed
 
 
@@ -199,6 +246,11 @@ def classes():
     yield from ("board 2", "add 0 all-key", "add 1 all-gcm", "judge 2 all-key", "judge 2 all-gcm", "judge 1 all-key", "judge 0 all-gcm")
 
 
+def lines_out_of_form():
+    yield from ("board x", "board 1", "add 0 nobody", "add x old", "add 0 old", "add 1 old", "judge 0 nobody", "judge x old")
+    yield from ("paths secrets nobody", "need /a secrets nobody", "jump", "live")
+
+
 PATTERNS = ("secrets", "pods", "pods.apps", "jobs.batch", "*.apps", "*.batch", "*.", "*.*")
 RESOURCES = ("secrets", "pods", "pods.apps", "jobs.batch", "nodes")
 PATHS = tuple(f"/{a}{b}" for a in "abc" for b in ("", "/x", "0"))
@@ -242,7 +294,9 @@ def drawn_boards(names, boards):
 
 
 def calls():
+    yield "live"
     yield from change_of_keys()
+    yield from lines_out_of_form()
     yield from stored_objects()
     yield from classes()
     yield from ("# drawn settings and boards",)
