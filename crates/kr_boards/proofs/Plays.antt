@@ -1,10 +1,10 @@
 -- A board with one more generation.
-use Rattle.std.proofs.Common.{◌≡◌, ℕ, zero, suc, ◌<◌, ◌+◌, Bool, true, false, List, [], ◌∷◌, ◌++◌, length, map, refl, sym, ap, subst, ◌∙◌, arith}
-use Rattle.std.specs.Prelude.{◌==◌, ◌&&◌, ◌||◌, ◌^◌, IsTrue}
+use Rattle.std.proofs.Common.{◌≡◌, ℕ, zero, suc, ◌+◌, Bool, true, false, List, [], ◌∷◌, ◌++◌, length, refl, sym, ap, subst, ◌∙◌, arith}
+use Rattle.std.specs.Prelude.{◌==◌, ◌&&◌, ◌||◌, IsTrue}
 use Rattle.std.specs.List.{list_any}
 use Rattle.std.proofs.lemmas.List.{length-append, length-map}
 use Rattle.std.proofs.lemmas.Bool.Decides.{Decides-eqb}
-use Rattle.kr_judge.specs.Boards.{GenerationState, is_live, left_by, without_current, is_current_of, held_more, changed_at, MayHold}
+use Rattle.kr_judge.specs.Boards.{GenerationState, is_live, left_by, without_current, is_current_of, changed_at, MayHold}
 
 pub length_added : (replica : ℕ) (gs : List GenerationState) (new : GenerationState) (n : ℕ) → length gs ≡ n → length (without_current replica gs ++ new ∷ []) ≡ n + 1
 length_added replica gs new n h = omega (arith, h, length-append (without_current replica gs) (new ∷ []), length-map gs (left_by replica))
