@@ -18,7 +18,7 @@ use Rattle.std.proofs.lemmas.Cmp.{nat_list_cmp_total, tied_itself}
 use Rattle.kr_config.specs.declared.who.Who.{Who}
 use Rattle.kr_config.specs.declared.who.Who.TheVariants.{Identity}
 use Rattle.kr_config.specs.Nexts.{name_cmp}
-use Rattle.kr_judge.specs.Boards.{AreByPath, set_need, drop_need}
+use Rattle.kr_judge.specs.Boards.{set_need, drop_need}
 use Rattle.kr_judge.specs.inner.Indexes.{AreSorted, need_of, needs_of, paths_of}
 use Rattle.kr_judge.proofs.Lists.{here, there, filtered_none, map_empty, one_truth}
 use Rattle.kr_judge.proofs.Needs.{equal_paths}

@@ -1,9 +1,8 @@
 -- Changes of one generation.
-use Rattle.std.proofs.Common.{◌≡◌, ℕ, zero, suc, ◌<◌, ◌+◌, ◌^◌, ◌-◌, ◌≤◌, Bool, true, false, List, [], ◌∷◌, ◌++◌, length, get_or, set, take, drop, map, refl, sym, ap, subst, ◌∙◌, arith, append_assoc, append-nil}
-use Rattle.std.specs.Prelude.{◌==◌, ◌&&◌, not, IsTrue}
+use Rattle.std.proofs.Common.{◌≡◌, ℕ, zero, suc, ◌<◌, ◌+◌, ◌^◌, Bool, List, [], ◌∷◌, length, get_or, set, refl, sym, ap, subst, ◌∙◌, arith}
+use Rattle.std.specs.Prelude.{IsTrue}
 use Rattle.std.specs.List.{slice_get}
 use Rattle.std.specs.Option.{IsSomeAnd}
-use Rattle.std.proofs.lemmas.List.{take_more_set, drop-set-lt, take_all, map-append, length-set}
 use Rattle.kr_judge.specs.declared.generation.Generation.{Generation}
 use Rattle.kr_judge.specs.Boards.{GenerationState, changed_at, held_more, held_less, MayHold, IsHeld, is_live}
 use Rattle.kr_judge.specs.inner.Lives.{uncurrent}

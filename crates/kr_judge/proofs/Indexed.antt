@@ -1,6 +1,6 @@
 -- What is kept by path and by pair stays the same.
-use Rattle.std.proofs.Common.{◌≡◌, ◌≢◌, ℕ, zero, suc, ◌<◌, ◌≤◌, Bool, true, false, List, [], ◌∷◌, length, get_or, Option, None, Some, Contains, map, refl, sym, ap, subst, ◌∙◌, ◌⊎◌, inl, inr, arith}
-use Rattle.std.specs.Prelude.{◌==◌, cond, if◌then◌else◌, IsSome, MatchOption, ⊤}
+use Rattle.std.proofs.Common.{◌≡◌, ℕ, zero, suc, ◌<◌, ◌≤◌, Bool, true, false, List, [], ◌∷◌, length, get_or, Option, None, Some, Contains, map, refl, sym, ap, subst, ◌∙◌, inl, inr, arith}
+use Rattle.std.specs.Prelude.{◌==◌, cond, if◌then◌else◌, IsSome}
 use Rattle.std.specs.Ordering.{match_ordering, is_eq}
 use Rattle.std.specs.declared.cmp.Ordering.{Ordering}
 use Rattle.std.specs.declared.cmp.Ordering.TheVariants.{Less, Equal, Greater}
@@ -13,13 +13,13 @@ use Rattle.std.proofs.lemmas.Bool.Decides.{Decides-eqb}
 use Rattle.kr_config.specs.declared.who.Who.{Who}
 use Rattle.kr_config.specs.Nexts.{name_cmp}
 use Rattle.std.specs.List.Sorted.{IsStrictlySortedBy}
-use Rattle.kr_judge.specs.Boards.{AreByPath, set_need, drop_need}
+use Rattle.kr_judge.specs.Boards.{AreByPath, set_need}
 use Rattle.kr_judge.proofs.Needs.{sorted_drop}
 use Rattle.kr_judge.specs.declared.pair.Pair.{Pair}
 use Rattle.kr_judge.specs.declared.proposal.Proposal.{Proposal}
-use Rattle.kr_judge.specs.inner.Indexes.{AreSorted, need_of, needs_of, paths_of, labels_of, kept_paths, with_proposed, without_proposed, Stands, IsIndexed, AreAsBefore, IsChangedAt}
+use Rattle.kr_judge.specs.inner.Indexes.{AreSorted, need_of, needs_of, paths_of, labels_of, kept_paths, with_proposed, without_proposed, IsIndexed, AreAsBefore, IsChangedAt}
 use Rattle.kr_judge.proofs.Lists.{here, there}
-use Rattle.kr_judge.proofs.Entries.{Entries, has_path, needs_with, needs_without, needs_relabelled, paths_with, paths_beside, paths_without, not_among, is_among, taken_and_put, put_and_taken, key_put_and_taken, key_put_twice, at_itself}
+use Rattle.kr_judge.proofs.Entries.{Entries, has_path, needs_with, needs_without, needs_relabelled, paths_with, paths_beside, paths_without, not_among, is_among, taken_and_put, key_put_and_taken, key_put_twice, at_itself}
 
 abbrev kept_at : List Pair → ℕ → List (List ℕ)
 kept_at pairs place = get_or (kept_paths pairs) place []
@@ -33,7 +33,7 @@ number_is a b h = (Decides-eqb a b).0 h
 none_some : (es : Entries) (path : List ℕ) (i : ℕ) → found es path ≡ None → found es path ≡ Some i → ⊥
 none_some es path i n s = (let e : None ≡ Some i = sym n ∙ s in cc)
 
-other_some : (es : Entries) (path : List ℕ) (q i : ℕ) → found es path ≡ Some q → (q == i) ≡ false → found es path ≡ Some i → ⊥
+pub other_some : (es : Entries) (path : List ℕ) (q i : ℕ) → found es path ≡ Some q → (q == i) ≡ false → found es path ≡ Some i → ⊥
 other_some es path q i own o s =
     let e : Some q ≡ Some i = sym own ∙ s in
     let same : q ≡ i = cc in
@@ -64,7 +64,7 @@ key_kept (x ∷ xs) path h = by (name_cmp path x) h
     by Equal k = cc
     by Greater k = cc
 
-proposed_kept : (p : Option Proposal) (i : ℕ) (xs : List (List ℕ)) → with_proposed p i xs ≡ [] → xs ≡ []
+pub proposed_kept : (p : Option Proposal) (i : ℕ) (xs : List (List ℕ)) → with_proposed p i xs ≡ [] → xs ≡ []
 proposed_kept None i xs h = h
 proposed_kept (Some p) i xs h = by (p.place == i) h
   where
@@ -231,11 +231,11 @@ dropped_none es pairs path ix none sorted = record {
 }
 
 -- needs by path
-shown_paths : (labels : List (List ℕ × Who)) (es : Entries) → map (λ need. need.path) (needs_of labels es) ≡ map (λ e. e.0) es
+pub shown_paths : (labels : List (List ℕ × Who)) (es : Entries) → map (λ need. need.path) (needs_of labels es) ≡ map (λ e. e.0) es
 shown_paths labels [] = refl
 shown_paths labels (e ∷ es) = ap (λ l. e.0 ∷ l) (shown_paths labels es)
 
-needs_sorted : (labels : List (List ℕ × Who)) (es : Entries) → AreSorted es → AreByPath (needs_of labels es)
+pub needs_sorted : (labels : List (List ℕ × Who)) (es : Entries) → AreSorted es → AreByPath (needs_of labels es)
 needs_sorted labels es s = subst (IsStrictlySortedBy name_cmp) (sym (shown_paths labels es)) s
 
 pub by_path : (labels : List (List ℕ × Who)) (es : Entries) (pairs : List Pair) (p : Option Proposal) → IsIndexed es pairs p → AreByPath (needs_of labels (without_proposed p es))

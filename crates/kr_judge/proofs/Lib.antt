@@ -9,6 +9,7 @@ pub mod Indexed
 pub mod IndexSteps
 pub mod Earliest
 pub mod IndexViews
+pub mod Scans
 pub mod Raw
 pub mod ClassSteps
 pub mod Walks

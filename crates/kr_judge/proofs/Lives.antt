@@ -1,7 +1,7 @@
 -- The numbers of the live generations, in order, and what changes them.
-use Rattle.std.proofs.Common.{◌≡◌, ℕ, zero, suc, ◌<◌, ◌≤◌, ◌+◌, Bool, true, false, List, [], ◌∷◌, ◌++◌, length, get_or, take, drop, Option, None, Some, Contains, map, refl, sym, ap, subst, ◌∙◌, ◌⊎◌, inl, inr, arith}
+use Rattle.std.proofs.Common.{◌≡◌, ℕ, zero, suc, ◌<◌, ◌≤◌, ◌+◌, Bool, true, false, List, [], ◌∷◌, ◌++◌, length, get_or, take, drop, Some, Contains, map, refl, sym, ap, ◌∙◌, inl, inr, arith}
 use Rattle.std.specs.Prelude.{◌==◌, ◌&&◌, ◌||◌, not, cond, nat_lt, if◌then◌else◌, IsTrue, ◌^◌}
-use Rattle.std.specs.List.{filter, flat_map, slice_get}
+use Rattle.std.specs.List.{filter, slice_get}
 use Rattle.std.specs.Option.{IsSomeAnd}
 use Rattle.std.proofs.lemmas.List.{drop_more, take_more, get_or-map, length-map}
 use Rattle.std.proofs.lemmas.Bool.{lt-ltb}
@@ -10,7 +10,8 @@ use Rattle.std.proofs.lemmas.Option.{slice_get_within}
 use Rattle.std.proofs.lemmas.Bool.Decides.{Decides-eqb}
 use Rattle.kr_judge.specs.Boards.{GenerationState, is_live, left_by, without_current, is_current_of, changed_at, held_more, held_less, MayHold, IsHeld, HasOneCurrent}
 use Rattle.kr_judge.specs.Verdicts.{with_numbers, is_other, others}
-use Rattle.kr_judge.specs.inner.Lives.{live_from, live_numbers, uncurrent}
+use Rattle.kr_judge.specs.inner.Lives.{uncurrent}
+use Rattle.kr_judge.specs.Scans.{live_from, live_numbers}
 use Rattle.kr_judge.proofs.Lists.{cases}
 
 abbrev numbers : ℕ → List GenerationState → List ℕ

@@ -1,6 +1,6 @@
 -- Needs stay in the order of their paths, and what is needed at a path.
-use Rattle.std.proofs.Common.{◌≡◌, ℕ, ◌<◌, ◌≤◌, ◌+◌, Bool, true, false, List, [], ◌∷◌, ◌++◌, None, Some, Ok, Err, length, get_or, take, drop, map, refl, sym, ap, subst, ◌∙◌, arith, append_assoc, append-nil, add-one}
-use Rattle.std.specs.Prelude.{slice_set, if◌then◌else◌, cond, Option}
+use Rattle.std.proofs.Common.{◌≡◌, ℕ, Bool, true, false, List, [], ◌∷◌, None, Some, map, refl, sym, ap, subst, ◌∙◌}
+use Rattle.std.specs.Prelude.{if◌then◌else◌, cond}
 use Rattle.std.specs.List.{AllByRecursion}
 use Rattle.std.specs.List.Sorted.{IsStrictlySortedBy}
 use Rattle.std.specs.Str.{bytes_eq}
@@ -10,12 +10,10 @@ use Rattle.std.proofs.lemmas.Slice.Eq.{bytes_eq-Decides}
 use Rattle.std.specs.declared.cmp.Ordering.{Ordering}
 use Rattle.std.specs.declared.cmp.Ordering.TheVariants.{Less, Equal, Greater}
 use Rattle.std.proofs.lemmas.Cmp.{nat_list_cmp_total, tied_itself}
-use Rattle.std.proofs.lemmas.List.{set_split, take_all}
 use Rattle.kr_config.specs.Nexts.{name_cmp}
 use Rattle.kr_judge.specs.declared.need.Need.{Need}
 use Rattle.kr_judge.specs.Boards.{AreByPath, need_at, set_need, drop_need}
 use Rattle.kr_judge.specs.Laws.{StaySorted, SetAtPath, DropAtPath}
-use Rattle.kr_judge.proofs.Parts.{drop_at, drop_end, take_at_more}
 
 -- the order of paths
 pub equal_paths : (a b : List ℕ) → name_cmp a b ≡ Equal → a ≡ b

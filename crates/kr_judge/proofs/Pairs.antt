@@ -1,23 +1,18 @@
 -- Changes of the pairs that no path, or one path, is concerned by.
-use Rattle.std.proofs.Common.{◌≡◌, ℕ, zero, suc, ◌<◌, ◌+◌, Bool, true, false, List, [], ◌∷◌, ◌++◌, length, get_or, set, map, Result, Ok, Err, OnOk, refl, sym, ap, subst, ◌∙◌, arith}
-use Rattle.std.specs.Prelude.{◌==◌, ◌&&◌, if◌then◌else◌}
-use Rattle.std.specs.Str.{bytes_eq}
-use Rattle.std.specs.Cmp.{first_so, second_so}
-use Rattle.std.proofs.lemmas.Slice.Eq.{bytes_eq-Decides}
+use Rattle.std.proofs.Common.{◌≡◌, ℕ, zero, suc, ◌<◌, Bool, true, false, List, [], ◌∷◌, ◌++◌, length, get_or, set, Result, Ok, Err, OnOk, refl, sym, ap, subst, ◌∙◌, arith}
+use Rattle.std.specs.Prelude.{◌==◌, if◌then◌else◌}
 use Rattle.std.proofs.Math.Seq.{map-set_same}
 use Rattle.std.proofs.lemmas.List.{length-set, map-set, length-map, get_or-set_same, get_or-set_other}
 use Rattle.std.proofs.lemmas.Bool.Decides.{Decides-eqb}
 use Rattle.kr_config.specs.declared.who.Who.{Who}
 use Rattle.kr_config.specs.declared.who.Who.TheVariants.{Identity}
 use Rattle.kr_judge.specs.declared.pair.Pair.{Pair}
-use Rattle.kr_judge.specs.Providers.{same_who}
-use Rattle.kr_judge.proofs.Members.{is_one}
 use Rattle.kr_judge.specs.inner.Indexes.{labels_of, kept_paths, AreAsBefore, IsChangedAt, MovesUnless, IsMoved}
 
-abbrev path_lists : List Pair → ℕ → List (List ℕ)
+abbrev pub path_lists : List Pair → ℕ → List (List ℕ)
 path_lists pairs place = get_or (kept_paths pairs) place []
 
-abbrev label : List Pair → ℕ → List ℕ × Who
+abbrev pub label : List Pair → ℕ → List ℕ × Who
 label pairs place = get_or (labels_of pairs) place ([], Identity)
 
 pub as_before : (pairs : List Pair) → AreAsBefore pairs pairs
@@ -100,14 +95,6 @@ put_changed (Err x) change pairs at own new is h r w e = tt
 
 pub label_put : (pairs : List Pair) (at : ℕ) (new : Pair) (resource : List ℕ) (who : Who) → at < length pairs → new.resource ≡ resource → new.who ≡ who → label (set pairs at new) at ≡ (resource, who)
 label_put pairs at new resource who h r w = label_set pairs at new h ∙ ap (λ x. (x, new.who)) r ∙ ap (λ x. (resource, x)) w
-
--- the pair that is looked for
-pub found_pair : (pairs : List Pair) (at : ℕ) (own : Pair) (resource : List ℕ) (who : Who) → at < length pairs → own ≡ get_or pairs at own → (bytes_eq own.resource resource && same_who own.who who) ≡ true
-    → (at < length pairs) × (label pairs at ≡ (resource, who))
-found_pair pairs at own resource who h is e = (
-  h,
-  label_here pairs at own h is ∙ ap (λ r. (r, own.who)) ((bytes_eq-Decides own.resource resource).0 (first_so _ _ e)) ∙ ap (λ w. (resource, w)) (is_one own.who who (second_so _ _ e)),
-)
 
 -- a change at one pair, where it isn't the other
 pub as_it_is : (change : List (List ℕ) → List (List ℕ)) (own place : ℕ) (pairs : List Pair) → (own == place) ≡ true → IsMoved change own place pairs pairs

@@ -5,11 +5,10 @@ use Rattle.std.proofs.lemmas.List.{take-append-le, drop_all, length-append}
 use Rattle.std.specs.Io.KnownBytes.{Appends}
 use Rattle.std.proofs.KnownBytes.{Appends-trans}
 use Rattle.kr_base.specs.Streams.{AppendsFront}
-use Rattle.std.specs.Prelude.{codes, decimal, []}
+use Rattle.std.specs.Prelude.{codes, []}
 use Rattle.kr_config.specs.declared.class.Class.{Class}
 use Rattle.kr_config.specs.declared.who.Who.{Who}
-use Rattle.kr_judge.specs.declared.verdict.Verdict.{Verdict}
-use Rattle.kr_judge.specs.declared.verdict.Verdict.TheVariants.{DropsStored, DropsWriter}
+use Rattle.kr_judge.specs.declared.verdict.Verdict.TheVariants.{DropsStored}
 use Rattle.kr_judge.specs.Texts.{who_text, class_text, place_text, verdict_text}
 use Rattle.kr_judge.specs.inner.Pieces.{whole_text}
 
@@ -59,7 +58,3 @@ pub placed_pieces : (reason digits all text kind name : List ℕ) (class : Class
 placed_pieces reason digits all text kind name class who shown named =
     ap (λ l. reason ++ (digits ++ (codes " " ++ (all ++ (text ++ (codes " " ++ l)))))) (ap (λ n. kind ++ n) (append-nil name) ∙ named)
     ∙ ap (λ l. reason ++ (digits ++ (codes " " ++ l))) (sym (append_assoc all text (codes " " ++ who_text who)) ∙ ap (λ t. t ++ (codes " " ++ who_text who)) shown)
-
-pub writer_text : (verdict : Verdict) (generation : ℕ) (class : Class) (who : Who) (digits : List ℕ) → verdict ≡ DropsWriter generation class who → digits ≡ decimal generation
-    → codes "drops-writer " ++ place_text digits class who ≡ verdict_text verdict
-writer_text verdict generation class who digits is named = ap (λ d. codes "drops-writer " ++ place_text d class who) named ∙ sym (ap verdict_text is)

@@ -1,10 +1,9 @@
 -- What comes next among the classes of the new settings and of the live generations, one after another.
-use Rattle.std.proofs.Common.{◌≡◌, ◌≢◌, ℕ, ◌<◌, ◌≤◌, ◌+◌, Bool, true, false, List, [], ◌∷◌, ◌++◌, Option, None, Some, All, Contains, length, get_or, take, map, sym, ap, subst, ◌∙◌, inl, inr, arith, append-nil}
-use Rattle.std.specs.Prelude.{cond}
+use Rattle.std.proofs.Common.{◌≡◌, ◌≢◌, ℕ, ◌<◌, ◌≤◌, ◌+◌, true, false, List, [], ◌∷◌, ◌++◌, Option, None, Some, All, Contains, length, get_or, take, map, sym, ap, subst, ◌∙◌, inl, inr, arith, append-nil}
 use Rattle.std.specs.List.{filter, flat_map, slice_get}
 use Rattle.std.specs.declared.cmp.Ordering.TheVariants.{Less}
 use Rattle.std.proofs.lemmas.List.{take_all, map-append, length-map}
-use Rattle.std.proofs.lemmas.List.Elements.{filter-append, All-contains, All-contains_itself, All-weaker, Contains-append_left, Contains-append_right, Contains-append_cases}
+use Rattle.std.proofs.lemmas.List.Elements.{All-contains, All-contains_itself, All-weaker, Contains-append_left, Contains-append_right, Contains-append_cases}
 use Rattle.std.proofs.lemmas.Grind.{flat_map-append}
 use Rattle.kr_config.specs.declared.class.Class.{Class}
 use Rattle.kr_config.specs.declared.class.Class.TheVariants.{Rest}
@@ -16,7 +15,7 @@ use Rattle.kr_config.proofs.Narrowing.{next_in_table}
 use Rattle.kr_judge.specs.declared.generation.Generation.{Generation}
 use Rattle.kr_config.specs.declared.settings.Settings.{Settings}
 use Rattle.kr_judge.specs.Boards.{GenerationState, is_live}
-use Rattle.kr_judge.specs.inner.Lives.{live_from, live_numbers}
+use Rattle.kr_judge.specs.Scans.{live_from, live_numbers}
 use Rattle.kr_judge.specs.inner.Views.{generation_of}
 use Rattle.kr_judge.specs.Tables.{table_of}
 use Rattle.kr_judge.specs.Verdicts.{judged_classes}

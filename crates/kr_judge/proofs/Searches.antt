@@ -1,5 +1,5 @@
 -- Going through the live generations.
-use Rattle.std.proofs.Common.{◌≡◌, ℕ, zero, suc, ◌<◌, ◌≤◌, ◌+◌, Bool, true, false, List, [], ◌∷◌, length, get_or, drop, Some, map, refl, sym, ap, subst, ◌∙◌, arith}
+use Rattle.std.proofs.Common.{◌≡◌, ℕ, zero, suc, ◌<◌, ◌≤◌, ◌+◌, true, false, List, [], ◌∷◌, length, get_or, drop, Some, refl, ap, subst, ◌∙◌, arith}
 use Rattle.std.specs.Prelude.{cond}
 use Rattle.std.specs.List.{filter, slice_get}
 use Rattle.std.specs.Option.{IsSomeAnd}
@@ -7,7 +7,7 @@ use Rattle.std.proofs.lemmas.List.{length-map}
 use Rattle.kr_judge.specs.declared.generation.Generation.{Generation}
 use Rattle.kr_judge.specs.Boards.{GenerationState, is_current_of}
 use Rattle.kr_judge.specs.inner.Views.{generation_of, generations_of}
-use Rattle.kr_judge.specs.inner.Lives.{live_from, live_numbers}
+use Rattle.kr_judge.specs.Scans.{live_from, live_numbers}
 use Rattle.kr_judge.proofs.Parts.{drop_end}
 use Rattle.kr_judge.proofs.Lives.{live_within, live_step, none_current}
 

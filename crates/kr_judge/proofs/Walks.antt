@@ -13,7 +13,7 @@ use Rattle.kr_judge.specs.declared.judging.Writer.{Writer}
 use Rattle.kr_judge.specs.declared.judging.Writer.TheVariants.{Other, New}
 use Rattle.kr_judge.specs.Boards.{GenerationState}
 use Rattle.kr_judge.specs.Verdicts.{is_other, others, lost_writers, unread_writers, first}
-use Rattle.kr_judge.specs.inner.Lives.{live_from, live_numbers}
+use Rattle.kr_judge.specs.Scans.{live_from, live_numbers}
 use Rattle.kr_judge.specs.inner.Losses.{losses_at, losses}
 use Rattle.kr_judge.specs.inner.Views.{generation_of}
 use Rattle.kr_judge.proofs.Parts.{drop_end, first_none, first_some, first_map}

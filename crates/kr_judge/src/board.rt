@@ -1,14 +1,16 @@
 //! The board: what a verdict on new settings stands on.
-ghost use Rattle.std.specs.Prelude.{◌≡◌, ◌<◌, ◌≤◌, ◌+◌, ◌^◌, [], ◌∷◌, ◌++◌, length, true, IsTrue, None, Some, IsSome, IfOk, OnOk, OnErr, MatchResult, ◌≢◌};
+ghost use Rattle.std.specs.Prelude.{◌≡◌, ◌<◌, ◌≤◌, ◌+◌, ◌^◌, [], ◌∷◌, ◌++◌, length, true, IsTrue, None, Some, IsSome, IfSome, IfNone, IfOk, OnOk, OnErr, MatchResult, ◌≢◌};
 ghost use Rattle.std.specs.List.{list_any};
 ghost use Rattle.kr_config.specs.Kept.{rows_of};
 ghost use Rattle.kr_judge.specs.Boards.{without_current, is_current_of, held_more, held_less, changed_at, MayHold, IsHeld, HasOneCurrent, AreByPath, set_need, drop_need, settle_need};
+ghost use Rattle.kr_judge.specs.Scans.{live_numbers, paths_with};
 ghost use Rattle.kr_judge.specs.Verdicts.{verdict};
 ghost use Rattle.kr_judge.specs.declared.verdict.Verdict.TheVariants.{Pass};
 
 use crate::generation_list::GenerationList;
 use crate::judging;
 use crate::need_index::NeedIndex;
+use crate::path_set::PathSet;
 use crate::verdict::Verdict;
 use kr_base::{NoMemory, Shared};
 use kr_config::{Settings, Who};
@@ -153,6 +155,24 @@ impl Board {
     {
         self.needs.known();
         self.generations.known();
+    }
+
+    /// The numbers of the live generations, in their order. They are kept, in room that is there.
+    pub fn live(&self) -> &[u32]
+        ensures { result.now ≡ live_numbers self.now.generations }
+    {
+        self.generations.live()
+    }
+
+    /// The paths whose data need the provider in the list of the resource, in their order, which are
+    /// kept with their number; while there is a proposal of such a need, its path is among them.
+    pub fn paths(&self, resource: &str, who: &Who) -> Option<&PathSet>
+        ensures some { IfSome result (λ paths. paths.now
+            ≡ paths_with self.now.proposal resource.now who.now self.now.needs) }
+        ensures none { IfNone result
+            (paths_with self.now.proposal resource.now who.now self.now.needs ≡ []) }
+    {
+        self.needs.paths(resource, who)
     }
 
     /// The first reason against new settings of the replica. It looks at the state that taking them

@@ -3,7 +3,7 @@ ghost use Rattle.std.specs.Prelude.{◌≡◌, ◌<◌, ◌≤◌, ◌+◌, ◌+
 ghost use Rattle.std.specs.List.{filter, list_any, slice_get};
 ghost use Rattle.kr_config.specs.Kept.{rows_of};
 ghost use Rattle.kr_judge.specs.Boards.{HasOneCurrent, without_current, held_more, held_less, changed_at, MayHold, IsHeld};
-ghost use Rattle.kr_judge.specs.inner.Lives.{live_numbers};
+ghost use Rattle.kr_judge.specs.Scans.{live_numbers};
 ghost use Rattle.kr_judge.specs.inner.Views.{generation_of};
 
 use crate::generation::Generation;
@@ -25,7 +25,8 @@ pub struct GenerationList {
 impl Model for GenerationList {
     ghost use Rattle.std.specs.Prelude.{◌≡◌, ◌<◌, ◌≤◌, ◌^◌, vec_len, vec_capacity};
     ghost use Rattle.kr_judge.specs.Boards.{HasOneCurrent};
-    ghost use Rattle.kr_judge.specs.inner.Lives.{GenerationsState, live_numbers};
+    ghost use Rattle.kr_judge.specs.inner.Lives.{GenerationsState};
+    ghost use Rattle.kr_judge.specs.Scans.{live_numbers};
     ghost use Rattle.kr_judge.specs.inner.Views.{generations_of};
 
     ghost Value = { GenerationsState };

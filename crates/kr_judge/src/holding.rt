@@ -4,7 +4,8 @@ ghost use Rattle.std.specs.List.{filter, slice_get};
 ghost use Rattle.std.specs.Option.{IsSomeAnd};
 ghost use Rattle.kr_config.specs.Kept.{rows_of};
 ghost use Rattle.kr_judge.specs.Boards.{HasOneCurrent, is_live, without_current, is_current_of, held_more, held_less, changed_at, MayHold, IsHeld};
-ghost use Rattle.kr_judge.specs.inner.Lives.{uncurrent, live_numbers};
+ghost use Rattle.kr_judge.specs.inner.Lives.{uncurrent};
+ghost use Rattle.kr_judge.specs.Scans.{live_numbers};
 ghost use Rattle.kr_judge.specs.inner.Views.{generations_of};
 
 use crate::generation::Generation;

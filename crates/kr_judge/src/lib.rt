@@ -26,4 +26,5 @@ pub use laws::{
     providers_are_told_apart,
 };
 pub use need::Need;
+pub use path_set::PathSet;
 pub use verdict::Verdict;

@@ -1,14 +1,16 @@
 //! The needs of what is stored, by path and by pairs of a resource and a provider.
-ghost use Rattle.std.specs.Prelude.{◌≡◌, [], None, IsSome, OnOk, OnErr, Some};
+ghost use Rattle.std.specs.Prelude.{◌≡◌, [], None, IsSome, IfSome, IfNone, OnOk, OnErr, Some};
 ghost use Rattle.std.specs.Option.{option_map};
 ghost use Rattle.kr_config.specs.Kept.{rows_of};
 ghost use Rattle.kr_judge.specs.Boards.{AreByPath, drop_need, settle_need};
+ghost use Rattle.kr_judge.specs.Scans.{paths_with};
 ghost use Rattle.kr_judge.specs.Verdicts.{dropped_needs, first};
 ghost use Rattle.kr_judge.specs.inner.Earliest.{stored_by};
 
 use crate::first_dropped::first_dropped;
-use crate::pair::{Pair, place_of_pair};
+use crate::pair::{Pair, find_pair, place_of_pair};
 use crate::path_map::PathMap;
+use crate::path_set::PathSet;
 use crate::proposal::{Proposal, drop_path, keep_proposal, make_proposal, unmake_proposal};
 use kr_base::NoMemory;
 use kr_config::{Settings, Who};
@@ -27,7 +29,7 @@ pub struct NeedIndex {
 }
 
 impl Model for NeedIndex {
-    ghost use Rattle.kr_judge.specs.inner.Indexes.{NeedsState, IsIndexed, needs_of, labels_of, without_proposed, proposed_need};
+    ghost use Rattle.kr_judge.specs.inner.Indexes.{NeedsState, IsIndexed, AreApart, needs_of, labels_of, without_proposed, proposed_need};
 
     ghost Value = { NeedsState };
 
@@ -36,12 +38,13 @@ impl Model for NeedIndex {
       proposal = proposed_need (labels_of index.pairs.items) index.proposal;
     } };
 
-    ghost invariant = { λ index. IsIndexed index.places index.pairs.items index.proposal };
+    ghost invariant = { λ index. IsIndexed index.places index.pairs.items index.proposal
+        × AreApart (labels_of index.pairs.items) };
 }
 
 impl NeedIndex {
     /// No needs and no proposal.
-    #[tactic(auto, using(crate::proofs::IndexSteps::none_yet))]
+    #[tactic(auto, using(crate::proofs::IndexSteps::none_yet, crate::proofs::Scans::apart_nil))]
     pub fn new(alloc: Global) -> NeedIndex
         ensures { result ≡ record { needs = []; proposal = None } }
     {
@@ -63,6 +66,7 @@ impl NeedIndex {
     }
 
     /// Proposes a need.
+    #[tactic(auto, using(crate::proofs::Scans::apart_same))]
     pub fn propose(&mut self, path: &str, resource: &str, who: &Who) -> Result<(), NoMemory>
         requires { self.old.proposal ≡ None }
         ensures ok { OnOk result (self.new ≡ record self.old {
@@ -77,7 +81,7 @@ impl NeedIndex {
     }
 
     /// Makes the proposal the need of its path, or drops it. It takes no memory.
-    #[tactic(auto, using(crate::proofs::IndexViews::unmade_view))]
+    #[tactic(auto, using(crate::proofs::IndexViews::unmade_view, crate::proofs::Scans::apart_same))]
     pub fn settle(&mut self, keep: bool)
         requires { IsSome self.old.proposal }
         ensures { self.new ≡ record {
@@ -96,6 +100,7 @@ impl NeedIndex {
     }
 
     /// Nothing is needed at the path.
+    #[tactic(auto, using(crate::proofs::Scans::apart_same))]
     pub fn drop_need(&mut self, path: &str)
         requires { self.old.proposal ≡ None }
         ensures { self.new ≡ record self.old { needs = drop_need self.old.needs path.now } }
@@ -111,5 +116,19 @@ impl NeedIndex {
             (first (dropped_needs (rows_of settings.now.entries.0) self.now.needs)) }
     {
         first_dropped(self.pairs.as_slice(), settings)
+    }
+
+    /// The paths whose needs are of the resource and the provider, a proposed one among them.
+    #[tactic(auto, using(crate::proofs::Scans::kept_there, crate::proofs::Scans::kept_none))]
+    pub fn paths(&self, resource: &str, who: &Who) -> Option<&PathSet>
+        ensures some { IfSome result (λ paths. paths.now
+            ≡ paths_with self.now.proposal resource.now who.now self.now.needs) }
+        ensures none { IfNone result
+            (paths_with self.now.proposal resource.now who.now self.now.needs ≡ []) }
+    {
+        match find_pair(self.pairs.as_slice(), resource, who) {
+            Some(place) => Some(&self.pairs[place].paths),
+            None => None,
+        }
     }
 }

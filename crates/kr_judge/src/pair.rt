@@ -1,13 +1,11 @@
 //! Pairs of a resource and a provider, with the paths that need them.
-ghost use Rattle.std.specs.Prelude.{◌≡◌, ◌<◌, ◌≤◌, ◌&&◌, [], get_or, length, IfOk, IfSome, OnOk, OnErr};
-ghost use Rattle.std.specs.Str.{bytes_eq};
+ghost use Rattle.std.specs.Prelude.{◌≡◌, ◌<◌, ◌≤◌, [], get_or, length, position, IfOk, IfSome, OnOk, OnErr};
 ghost use Rattle.std.specs.BTreeMap.{is_at};
 ghost use Rattle.std.specs.BTreeSet.{insert_key};
 ghost use Rattle.std.specs.Set.{remove_key};
 ghost use Rattle.kr_config.specs.Nexts.{name_cmp};
 ghost use Rattle.kr_config.specs.declared.who.Who.TheVariants.{Identity};
-ghost use Rattle.kr_judge.specs.Providers.{same_who};
-ghost use Rattle.kr_judge.specs.inner.Indexes.{labels_of, kept_paths, AreAsBefore, IsChangedAt, IsMoved};
+ghost use Rattle.kr_judge.specs.inner.Indexes.{is_pair, labels_of, kept_paths, AreApart, AreAsBefore, IsChangedAt, IsMoved};
 
 use crate::path_set::PathSet;
 use crate::provider_lists::is_same;
@@ -41,8 +39,7 @@ impl Pair {
 
     /// Whether it is of this resource and this provider.
     pub fn is_of(&self, resource: &str, who: &Who) -> bool
-        ensures { result
-            ≡ (bytes_eq self.now.resource resource.now && same_who self.now.who who.now) }
+        ensures { result ≡ is_pair resource.now who.now self.now }
     {
         self.resource.as_str() == resource && is_same(&self.who, who)
     }
@@ -50,16 +47,18 @@ impl Pair {
 
 /// The place of the pair of this resource and this provider. Where there is none, one that no path
 /// needs gives its place to it.
-#[tactic(auto, using(crate::proofs::Pairs::as_before, crate::proofs::Pairs::replaced, crate::proofs::Pairs::pushed, crate::proofs::Pairs::label_put))]
+#[tactic(auto, using(crate::proofs::Pairs::as_before, crate::proofs::Pairs::replaced, crate::proofs::Pairs::pushed, crate::proofs::Pairs::label_put, crate::proofs::Scans::found_place, crate::proofs::Scans::apart_set, crate::proofs::Scans::apart_push))]
 pub fn place_of_pair(
     pairs: &mut Vec<Pair>,
     alloc: Global,
     resource: &str,
     who: &Who,
 ) -> Result<usize, NoMemory>
+    requires { AreApart (labels_of pairs.old.items) }
     ensures place { IfOk result (λ place. (place < length pairs.new.items)
         × (get_or (labels_of pairs.new.items) place ([], Identity) ≡ (resource.now, who.now))) }
     ensures before { AreAsBefore pairs.old.items pairs.new.items }
+    ensures apart { AreApart (labels_of pairs.new.items) }
     ensures length { length pairs.old.items ≤ length pairs.new.items }
 {
     if let Some(place) = find_pair(pairs.as_slice(), resource, who) {
@@ -76,17 +75,10 @@ pub fn place_of_pair(
 }
 
 /// The place of the pair of this resource and this provider.
-#[tactic(auto, using(crate::proofs::Pairs::found_pair))]
-fn find_pair(pairs: &[Pair], resource: &str, who: &Who) -> Option<usize>
-    ensures { IfSome result (λ place. (place < length pairs.now)
-        × (get_or (labels_of pairs.now) place ([], Identity) ≡ (resource.now, who.now))) }
+pub fn find_pair(pairs: &[Pair], resource: &str, who: &Who) -> Option<usize>
+    ensures { result ≡ position (is_pair resource.now who.now) pairs.now }
 {
-    for (place, pair) in pairs.iter().enumerate() {
-        if pair.is_of(resource, who) {
-            return Some(place);
-        }
-    }
-    None
+    pairs.iter().position(|pair| pair.is_of(resource, who))
 }
 
 /// The place of a pair that no path needs.

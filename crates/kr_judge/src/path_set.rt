@@ -29,7 +29,7 @@ impl Model for PathSet {
 
 impl PathSet {
     /// No paths.
-    pub fn new(alloc: Global) -> PathSet
+    pub(crate) fn new(alloc: Global) -> PathSet
         ensures { result ≡ [] }
     {
         PathSet {
@@ -56,7 +56,7 @@ impl PathSet {
 
     /// Puts a copy of the path to its place, unless it is there.
     #[tactic(auto, using(crate::proofs::Strings::key_put))]
-    pub fn insert(&mut self, alloc: Global, path: &str) -> Result<(), NoMemory>
+    pub(crate) fn insert(&mut self, alloc: Global, path: &str) -> Result<(), NoMemory>
         ensures ok { OnOk result (self.new ≡ insert_key name_cmp self.old path.now) }
         ensures err { OnErr result (self.new ≡ self.old) }
     {
@@ -69,7 +69,7 @@ impl PathSet {
 
     /// Takes the path away where it is there.
     #[tactic(auto, using(crate::proofs::Strings::key_gone))]
-    pub fn remove(&mut self, path: &str)
+    pub(crate) fn remove(&mut self, path: &str)
         ensures { self.new ≡ remove_key (is_at (name_cmp path.now)) self.old }
     {
         let _was_there = self.paths.remove(path);

@@ -1,53 +1,60 @@
-//! Configurations, and what a board says to them.
-mod boards;
-mod reasons;
-
-ghost use Rattle.std.specs.Prelude.{◌≡◌, None};
-
-use kr_base::{Bytes, List, MemSink, Shared};
-use kr_config::{Settings, read};
+//! A generation that is let go, and a sink that fails.
+use kr_base::{Bytes, List, MemSink, Shared, Text};
+use kr_config::{Class, Settings, Who, read};
 use kr_judge::{Board, Verdict};
 use std::alloc::Global;
 
-/// The first key, another key of its name, and a second key.
-const KEY1: &str = r#"{"aescbc":{"keys":[{"name":"key1","secret":"AAECAwQFBgcICQoLDA0ODw=="}]}}"#;
+const KEYED: &str = r#"{"apiVersion":"apiserver.config.k8s.io/v1","kind":"EncryptionConfiguration",
+"resources":[{"resources":["secrets"],
+"providers":[{"aescbc":{"keys":[{"name":"key1","secret":"AAECAwQFBgcICQoLDA0ODw=="}]}}]}]}"#;
 
-const OTHER1: &str = r#"{"aescbc":{"keys":[{"name":"key1","secret":"dGhpcyBpcyBwYXNzd29yZA=="}]}}"#;
+const PLAIN: &str = r#"{"apiVersion":"apiserver.config.k8s.io/v1","kind":"EncryptionConfiguration",
+"resources":[{"resources":["secrets"],"providers":[{"identity":{}},
+{"aescbc":{"keys":[{"name":"key1","secret":"AAECAwQFBgcICQoLDA0ODw=="}]}}]}]}"#;
 
-const KEY2: &str = r#"{"aescbc":{"keys":[{"name":"key2","secret":"c2VjcmV0IGlzIHNlY3VyZQ=="}]}}"#;
-
-/// Settings of one entry: a pattern with these keys, and identity behind them.
-fn settings(alloc: Global, pattern: &str, keys: &[&str]) -> Option<Shared<Settings>> {
-    let mut providers = String::new(alloc);
-    for key in keys {
-        providers.push_str(key).ok()?;
-        providers.push_str(",").ok()?;
-    }
-    let listed = providers.as_str();
-    let text = format!(in alloc;
-        "{{\"apiVersion\":\"apiserver.config.k8s.io/v1\",\"kind\":\"EncryptionConfiguration\",\"resources\":[{{\"resources\":[\"{pattern}\"],\"providers\":[{listed}{{\"identity\":{{}}}}]}}]}}"
-    ).ok()?;
-    let settings = read(alloc, text.as_str().as_bytes()).ok()?;
-    Shared::new(alloc, settings).ok()
+fn settings(alloc: Global, text: &str) -> Option<Shared<Settings>> {
+    Shared::new(alloc, read(alloc, text.as_bytes()).ok()?).ok()
 }
 
-/// Whether the verdict's text is this.
-fn is_text(alloc: Global, verdict: &Verdict, want: &str) -> bool {
-    let Ok(mut sink) = MemSink::new(Bytes::new(alloc), 200, List::new(alloc)) else {
-        return false;
+/// While one holds the replica's old settings, they must read what the new ones write.
+fn counts_while_held(alloc: Global) -> Option<bool> {
+    let keyed = settings(alloc, KEYED)?;
+    let plain = settings(alloc, PLAIN)?;
+    let unread = Verdict::Unread {
+        generation: 0,
+        class: Class::Exact(Text::copy(alloc, "secrets").ok()?),
+        who: Who::Identity,
     };
-    verdict.write(&mut sink).is_ok() && sink.bytes() == want.as_bytes()
+    let mut board = Board::new(alloc, 1).ok()?;
+    let number = board.add(0, keyed.share().ok()?);
+    board.hold(number);
+    board.leave(0);
+    let held = board.live() == [0u32].as_slice() && board.judge(0, plain.get()).ok()? == unread;
+    board.release(number);
+    let gone = board.live().is_empty() && board.judge(0, plain.get()).ok()? == Verdict::Pass;
+    Some(held && gone)
 }
 
-/// Whether this is the verdict on new settings of the replica, and its copy's.
-fn says(alloc: Global, board: &Board, replica: u32, new: &Settings, want: &str) -> bool
-    requires { board.now.proposal ≡ None }
-{
-    let Ok(verdict) = board.judge(replica, new) else {
-        return false;
+/// A sink that fails keeps the pieces that it took.
+fn is_written_in_part(alloc: Global) -> Option<bool> {
+    let verdict = Verdict::Unread {
+        generation: 7,
+        class: Class::Rest,
+        who: Who::Identity,
     };
-    let Ok(copy) = verdict.copy(alloc) else {
-        return false;
-    };
-    is_text(alloc, &verdict, want) && is_text(alloc, &copy, want)
+    let fails = List::from_vec(vec![in alloc; 3u64].ok()?);
+    let mut sink = MemSink::new(Bytes::new(alloc), 100, fails).ok()?;
+    Some(verdict.write(&mut sink).is_err() && sink.bytes() == b"unread 7".as_slice())
+}
+
+#[test]
+fn a_generation_counts_while_it_is_held(rt: HostRuntime) {
+    let alloc = rt.alloc();
+    assert!(rt; counts_while_held(alloc) == Some(true));
+}
+
+#[test]
+fn a_failing_sink_has_taken_a_front(rt: HostRuntime) {
+    let alloc = rt.alloc();
+    assert!(rt; is_written_in_part(alloc) == Some(true));
 }

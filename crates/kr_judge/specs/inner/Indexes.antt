@@ -1,9 +1,10 @@
 -- Needs as they are kept: for each path the place of its pair of a resource and a provider, and for
 -- each pair the paths that need it.
-use Rattle.std.specs.Prelude.{◌≡◌, ℕ, ◌<◌, ◌==◌, Bool, true, false, IsSome, if◌then◌else◌, List, [], length, get_or, map, MatchOption, Option, None, Some, ⊤}
+use Rattle.std.specs.Prelude.{◌≡◌, ℕ, ◌<◌, ◌==◌, ◌&&◌, Bool, true, false, IsSome, if◌then◌else◌, List, [], length, get_or, map, MatchOption, Option, None, Some, ⊤}
 use Rattle.std.specs.List.{filter}
 use Rattle.std.specs.List.Sorted.{IsStrictlySortedBy}
 use Rattle.std.specs.Option.{option_map}
+use Rattle.std.specs.Str.{bytes_eq}
 use Rattle.std.specs.Map.{lookup, remove_entry}
 use Rattle.std.specs.BTreeMap.{is_at}
 use Rattle.std.specs.BTreeSet.{insert_key}
@@ -13,6 +14,7 @@ use Rattle.kr_config.specs.Nexts.{name_cmp}
 use Rattle.kr_judge.specs.declared.need.Need.{Need}
 use Rattle.kr_judge.specs.declared.pair.Pair.{Pair}
 use Rattle.kr_judge.specs.declared.proposal.Proposal.{Proposal}
+use Rattle.kr_judge.specs.Providers.{same_who}
 
 -- paths with the places of their pairs, in order
 abbrev pub AreSorted : List (List ℕ × ℕ) → Type 0
@@ -33,9 +35,18 @@ needs_of labels entries = map (need_of labels) entries
 abbrev pub paths_of : ℕ → List (List ℕ × ℕ) → List (List ℕ)
 paths_of place entries = map (λ entry. entry.0) (filter (λ entry. entry.1 == place) entries)
 
+-- the pair is of the resource and the provider
+abbrev pub is_pair : List ℕ → Who → Pair → Bool
+is_pair resource who pair = bytes_eq pair.resource resource && same_who pair.who who
+
 -- the pairs' resources and providers, and their paths
 abbrev pub labels_of : List Pair → List (List ℕ × Who)
 labels_of pairs = map (λ pair. (pair.resource, pair.who)) pairs
+
+-- no two pairs are of one resource and one provider
+abbrev pub AreApart : List (List ℕ × Who) → Type 0
+AreApart labels = (place other : ℕ) → place < length labels → other < length labels
+    → get_or labels place ([], Identity) ≡ get_or labels other ([], Identity) → place ≡ other
 
 abbrev pub kept_paths : List Pair → List (List (List ℕ))
 kept_paths pairs = map (λ pair. pair.paths) pairs

@@ -1,4 +1,4 @@
-use Rattle.std.proofs.Common.{[], ◌∷◌, true, ap, ◌∙◌, refl, sym, arith}
+use Rattle.std.proofs.Common.{[], ◌∷◌, true, ap, ◌∙◌, refl, arith}
 use Rattle.std.proofs.lemmas.List.{map-append, length-map}
 use Rattle.kr_config.specs.Kept.{rows_of}
 use Rattle.kr_judge.specs.inner.Views.{generation_of, generations_of}

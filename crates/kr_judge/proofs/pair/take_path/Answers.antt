@@ -1,4 +1,4 @@
-use Rattle.std.proofs.Common.{refl, arith}
+use Rattle.std.proofs.Common.{refl}
 use Rattle.std.specs.Set.{remove_key}
 use Rattle.std.specs.BTreeMap.{is_at}
 use Rattle.kr_config.specs.Nexts.{name_cmp}

@@ -1,7 +1,6 @@
-use Rattle.std.proofs.Common.{map, ap, ◌∙◌}
+use Rattle.std.proofs.Common.{ap, ◌∙◌}
 use Rattle.std.specs.Map.{lookup, remove_entry}
 use Rattle.std.specs.BTreeMap.{is_at}
-use Rattle.std.specs.String.{string_bytes}
 use Rattle.kr_config.specs.Nexts.{name_cmp}
 use Rattle.kr_judge.proofs.Strings.{entry_found, entry_gone, pairs_of}
 use Rattle.kr_judge.proofs.path_map.PathMap.remove.Goals as goal
