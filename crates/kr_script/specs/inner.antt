@@ -1,0 +1,3 @@
+-- Definitions that serve inner contracts alone.
+pub mod Drafts
+pub mod Reading

@@ -1,0 +1,8 @@
+//! Laws of the definitions, for a reader. The functions do nothing.
+ghost use Rattle.kr_script.specs.Laws.{OneMeaning, SomeMeaning};
+
+/// A text means one thing alone, a fleet or a refusal, and each text means some thing.
+pub fn one_meaning()
+    ensures one { OneMeaning }
+    ensures some { SomeMeaning }
+{}
