@@ -12,8 +12,8 @@ use Rattle.serde_json.specs.Read.{read}
 use Rattle.kr_base.specs.Pairs.{Pairs, with_pair}
 use Rattle.kr_kms.specs.declared.plugin.Status.{Status}
 use Rattle.kr_kms.specs.declared.plugin.Wrapped.{Wrapped}
-use Rattle.kr_kms.specs.declared.replies.PluginCall.{PluginCall}
-use Rattle.kr_kms.specs.declared.replies.PluginCall.TheVariants as call
+use Rattle.kr_kms.specs.declared.replies.Asked.{Asked}
+use Rattle.kr_kms.specs.declared.replies.Asked.TheVariants as call
 use Rattle.kr_kms.specs.declared.replies.Reply.{Reply}
 use Rattle.kr_kms.specs.declared.replies.Reply.TheVariants as reply
 use Rattle.kr_kms.specs.declared.replies.ReplyNo.{ReplyNo}
@@ -54,13 +54,13 @@ wrapped_in value = option_and_then (λ key_id. option_and_then (λ annotations. 
     (bytes_at (codes "ciphertext") value)) (annotations_in value)) (text_at (codes "key_id") value)
 
 -- the reply to a call of this kind, where the value has the shape of one
-abbrev pub shaped_reply : PluginCall → Data → Option Reply
+abbrev pub shaped_reply : Asked → Data → Option Reply
 shaped_reply call.Status value = option_map reply.Status (status_in value)
 shaped_reply call.Encrypt value = option_map reply.Encrypt (wrapped_in value)
 shaped_reply call.Decrypt value = option_map reply.Decrypt (bytes_at (codes "plaintext") value)
 
 -- a text at `error` is a refusal, whatever stands beside it
-abbrev pub reply_in : PluginCall → Data → Result Reply ReplyNo
+abbrev pub reply_in : Asked → Data → Result Reply ReplyNo
 reply_in kind value = option_map_or (λ text. Err (Error text)) (text_at (codes "error") value)
     (option_map_or Ok (shaped_reply kind value) (Err Shape))
 
@@ -68,11 +68,11 @@ reply_in kind value = option_map_or (λ text. Err (Error text)) (text_at (codes 
 abbrev pub value_of : List ℕ → Option Data
 value_of line = if is_utf8 line then read line else None
 
-abbrev pub reply_of : PluginCall → List ℕ → Result Reply ReplyNo
+abbrev pub reply_of : Asked → List ℕ → Result Reply ReplyNo
 reply_of kind line = option_map_or (reply_in kind) (value_of line) (Err NotJson)
 
 -- want of memory may take the place of any other answer
-abbrev pub IsReply : PluginCall → List ℕ → Result Reply ReplyNo → Type 0
+abbrev pub IsReply : Asked → List ℕ → Result Reply ReplyNo → Type 0
 IsReply kind line (Ok reply) = reply_of kind line ≡ Ok reply
 IsReply kind line (Err NotJson) = reply_of kind line ≡ Err NotJson
 IsReply kind line (Err Shape) = reply_of kind line ≡ Err Shape

@@ -15,9 +15,9 @@ use serde_json::error::Category;
 use serde_json::{Map, Value};
 use std::alloc::Global;
 
-/// Which kind of request a reply answers.
+/// What a plugin was asked for, so the kind of a reply to it.
 #[derive(Clone, Copy, Debug, PartialEq, Eq)]
-pub enum PluginCall {
+pub enum Asked {
     /// For the status.
     Status,
     /// To wrap.
@@ -60,8 +60,8 @@ enum ShapeNo {
 }
 
 /// Reads a line, with or without its LF, as the reply to a call of this kind.
-pub fn read_reply(alloc: Global, call: PluginCall, line: &[u8]) -> Result<Reply, ReplyNo>
-    ensures { IsReply call line.now result }
+pub fn read_reply(alloc: Global, asked: Asked, line: &[u8]) -> Result<Reply, ReplyNo>
+    ensures { IsReply asked line.now result }
 {
     let value = match read_value(alloc, line) {
         Ok(value) => value,
@@ -70,7 +70,7 @@ pub fn read_reply(alloc: Global, call: PluginCall, line: &[u8]) -> Result<Reply,
     if let Some(text) = text_at(&value, "error") {
         return Err(refusal(alloc, text));
     }
-    match read_shape(alloc, call, &value) {
+    match read_shape(alloc, asked, &value) {
         Ok(reply) => Ok(reply),
         Err(ShapeNo::Shape) => Err(ReplyNo::Shape),
         Err(ShapeNo::NoMemory) => Err(ReplyNo::NoMemory),
@@ -101,19 +101,19 @@ fn read_value(alloc: Global, line: &[u8]) -> Result<Value, ReplyNo>
 }
 
 /// The reply, where the value has the shape of one to the call.
-fn read_shape(alloc: Global, call: PluginCall, value: &Value) -> Result<Reply, ShapeNo>
-    ensures { Reads (shaped_reply call (view value.now)) result }
+fn read_shape(alloc: Global, asked: Asked, value: &Value) -> Result<Reply, ShapeNo>
+    ensures { Reads (shaped_reply asked (view value.now)) result }
 {
-    match call {
-        PluginCall::Status => match read_status(alloc, value) {
+    match asked {
+        Asked::Status => match read_status(alloc, value) {
             Ok(status) => Ok(Reply::Status(status)),
             Err(why) => Err(why),
         },
-        PluginCall::Encrypt => match read_wrapped(alloc, value) {
+        Asked::Encrypt => match read_wrapped(alloc, value) {
             Ok(wrapped) => Ok(Reply::Encrypt(wrapped)),
             Err(why) => Err(why),
         },
-        PluginCall::Decrypt => match bytes_at(alloc, value, "plaintext") {
+        Asked::Decrypt => match bytes_at(alloc, value, "plaintext") {
             Ok(plain) => Ok(Reply::Decrypt(plain)),
             Err(why) => Err(why),
         },
