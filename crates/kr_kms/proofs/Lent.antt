@@ -2,7 +2,7 @@
 use Rattle.std.proofs.Common.{◌≡◌, ◌≢◌, ℕ, zero, suc, Some, None, Option, ◌+◌, ◌<◌, ◌==◌, List, [], ◌∷◌, ◌++◌, length, get_or, Bool, true, false, cond, zero-add, refl, sym, ◌∙◌, ap, subst, arith}
 use Rattle.std.specs.Prelude.{count_by, find, position, slice_get, nat_lt, ◌&&◌, IfSome, IsSome, is_some, option_map, option_and_then}
 use Rattle.std.specs.Bool.{Decides}
-use Rattle.std.specs.List.{remove, position_or_len, sum_by}
+use Rattle.std.specs.List.{remove, position_or_len}
 use Rattle.std.specs.Option.{option_map_or}
 use Rattle.std.specs.Str.{bytes_eq}
 use Rattle.std.proofs.lemmas.Bool.Decides.{Decides-eqb, nat_tests}

@@ -5,4 +5,5 @@ pub mod Lent
 pub mod Lines
 pub mod MadeTapes
 pub mod Masks
+pub mod ReadBack
 pub mod Shapes

@@ -1,5 +1,5 @@
 -- What a world in memory tells, and what its calls answer.
-use Rattle.std.specs.Prelude.{◌≡◌, ℕ, ◌<◌, ◌≤◌, ◌⊎◌, Bool, true, false, find, position, count_by, List, length, option_and_then, Option, None, Some, IsSome, Result, Ok, Err, ⊤, []}
+use Rattle.std.specs.Prelude.{◌≡◌, ℕ, ◌<◌, ◌≤◌, ◌⊎◌, Bool, true, false, find, position, count_by, List, length, option_and_then, Option, None, Some, IsSome, Result, Ok, Err, []}
 use Rattle.std.specs.List.{remove}
 use Rattle.std.specs.Option.{option_map, option_map_or}
 use Rattle.std.specs.Str.{bytes_eq}

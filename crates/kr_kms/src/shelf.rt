@@ -9,7 +9,7 @@ use std::marker::Model;
 
 /// The objects that are here, and the keys of those that are out. What is out finds its room again.
 #[derive(Debug, Drop)]
-pub(crate) struct Shelf<K, T> {
+pub struct Shelf<K, T> {
     items: Vec<T>,
     out: Vec<K>,
 }

@@ -1,6 +1,6 @@
 -- The random source is the first of its seat again.
-use Rattle.std.proofs.Common.{◌≡◌, ◌<◌, None, Some, option_map, refl, sym, ◌∙◌, ap, arith}
-use Rattle.std.specs.Prelude.{count_by, position}
+use Rattle.std.proofs.Common.{◌≡◌, None, Some, option_map, refl, sym, ◌∙◌, ap, arith}
+use Rattle.std.specs.Prelude.{position}
 use Rattle.kr_kms.specs.MemWorld.{seat_of}
 use Rattle.kr_kms.specs.Outside.{same_seat}
 use Rattle.kr_kms.proofs.Lent.{no_place, none_counted, returned, seats_decide}

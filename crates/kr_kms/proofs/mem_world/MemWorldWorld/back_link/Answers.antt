@@ -1,6 +1,6 @@
 -- The link is the first of its seat and plugin again.
-use Rattle.std.proofs.Common.{◌≡◌, ℕ, List, ◌<◌, None, Some, option_and_then, refl, sym, ◌∙◌, ap, arith}
-use Rattle.std.specs.Prelude.{count_by, position}
+use Rattle.std.proofs.Common.{◌≡◌, ℕ, List, None, Some, option_and_then, refl, sym, ◌∙◌, ap, arith}
+use Rattle.std.specs.Prelude.{position}
 use Rattle.kr_kms.specs.MemWorld.{link_key}
 use Rattle.kr_kms.specs.Outside.{same_link}
 use Rattle.kr_kms.proofs.Lent.{no_place, none_counted, returned, links_decide}

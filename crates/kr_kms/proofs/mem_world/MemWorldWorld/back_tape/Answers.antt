@@ -1,6 +1,6 @@
 -- The tape is the first of its name again.
-use Rattle.std.proofs.Common.{◌≡◌, ◌<◌, ◌∷◌, None, Some, option_map, refl, sym, ◌∙◌, ap, arith}
-use Rattle.std.specs.Prelude.{count_by, position}
+use Rattle.std.proofs.Common.{◌≡◌, ◌∷◌, None, Some, option_map, refl, sym, ◌∙◌, ap, arith}
+use Rattle.std.specs.Prelude.{position}
 use Rattle.std.specs.List.{remove}
 use Rattle.kr_base.specs.InMemory.{faults_of}
 use Rattle.kr_kms.specs.MemWorld.{TapeShelf, first_tape, name_of}

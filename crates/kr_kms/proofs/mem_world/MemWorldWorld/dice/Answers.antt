@@ -1,6 +1,6 @@
 -- The first random source of the seat goes out.
-use Rattle.std.proofs.Common.{◌≡◌, None, Some, option_map, refl, sym, ◌∙◌, ap, subst}
-use Rattle.kr_kms.specs.MemWorld.{first_dice, place_of, seat_of}
+use Rattle.std.proofs.Common.{◌≡◌, None, Some, option_map, refl, sym, ◌∙◌, ap}
+use Rattle.kr_kms.specs.MemWorld.{place_of, seat_of}
 use Rattle.kr_kms.specs.Outside.{same_seat}
 use Rattle.kr_kms.proofs.Lent.{first_there, found_at, lent, no_place, seats_decide}
 use Rattle.kr_kms.proofs.mem_world.MemWorldWorld.dice.Goals as goal
