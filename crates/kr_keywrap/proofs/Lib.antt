@@ -5,3 +5,4 @@ pub mod Halves
 pub mod Steps
 pub mod Bodies
 pub mod Blocks
+pub mod Truths

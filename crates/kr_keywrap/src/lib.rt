@@ -2,7 +2,12 @@
 //! and the loop that serves a plugin's lines.
 #![tactic(auto)]
 
+mod key_link;
 mod key_wrap;
+mod keys;
 pub mod laws;
+mod ring;
 
+pub use key_link::KeyLink;
 pub use key_wrap::{WrapNo, unwrap_key, wrap};
+pub use ring::{ExampleRing, Ring};
