@@ -51,8 +51,8 @@ Gives words rounds (Wrap plain) outcome =
 Gives words rounds (Unwrap body) outcome =
     TellsUnwrapped outcome (key_unwrap (inverse_cipher words rounds) body.bytes.items)
 
--- what a case comes to: under a key of AES what it gives, or the refusal of another key's length, and
--- the code or the keying material of any key
+-- what a case comes to: under a key of AES what it gives, or the refusal of another key's length,
+-- and the code or the keying material of any key
 abbrev pub ComesTo : Case → Outcome → Type 0
 ComesTo (Cipher key operation) outcome =
     (¬ IsKeyLength (length key.bytes.items) → outcome ≡ KeyLength)
