@@ -3,7 +3,7 @@ use Rattle.std.proofs.Common.{sym, subst}
 use Rattle.serde_json.specs.View.{members_view}
 use Rattle.kr_base.specs.Pairs.{IsSortedByKey}
 use Rattle.kr_kms.proofs.Lines.{member_more}
-use Rattle.kr_kms.proofs.requests.members_of.Goals as goal
+use Rattle.kr_kms.proofs.members.members_of.Goals as goal
 
 pub loop-key-preserved : goal.loop-key-preserved
 loop-key-preserved c =

@@ -1,8 +1,8 @@
 -- The pairs that are still to come go on from those that were found.
 use Rattle.std.proofs.Common.{◌≡◌, []}
 use Rattle.serde_json.specs.View.{members_view}
-use Rattle.kr_kms.specs.Replies.{pairs_with}
-use Rattle.kr_kms.proofs.replies.read_pairs.Given as goal
+use Rattle.kr_kms.specs.Members.{pairs_with}
+use Rattle.kr_kms.proofs.members.read_pairs.Given as goal
 
 abbrev pub invariant-loop-key : goal.invariant-loop-key
 invariant-loop-key l =
