@@ -19,3 +19,4 @@ pub mod Budgets
 pub mod Changing
 pub mod Reloading
 pub mod Growing
+pub mod Alone

@@ -3,6 +3,7 @@
 //! core's state is known.
 #![tactic(auto)]
 
+mod acts;
 mod answer;
 mod check;
 mod event;
@@ -15,9 +16,11 @@ mod membership;
 mod opening;
 mod opening_board;
 mod rollout;
+mod solo;
 mod start;
 mod writing;
 
+pub use acts::Acts;
 pub use answer::Answer;
 pub use event::Event;
 pub use generation::Generation;
@@ -26,3 +29,4 @@ pub use laws::{found_is_there, front_is_legal, holding_is_held, unfit_is_unfit};
 pub use line::{Did, Gave, Line};
 pub use opening::{Entry, Opening};
 pub use opening_board::{StartNo, board_of};
+pub use solo::Solo;
