@@ -23,3 +23,4 @@ pub mod Growing
 pub mod Judging
 pub mod Reloading
 pub mod Sound
+pub mod Alone
