@@ -122,6 +122,48 @@ current_numbers k m (Some p ∷ rs) zero n e = omega (arith, same_Some m n e)
 current_numbers k m (Some p ∷ rs) (suc place) n e =
     omega (arith, current_numbers (k + 1) (m + 1) rs place n e)
 
+-- the replica at a place took up the generation of its number
+record IsOwner (k m : ℕ) (rs : List (Option Publication)) (place n : ℕ) : Type 0 where
+  at : ℕ
+  number : n ≡ m + at
+  replica : option_map (λ (g : Generation). g.replica) (slice_get (generations_from k rs) at)
+      ≡ Some (k + place)
+
+further_on : (k place : ℕ) → ◌≡◌ {A = Option ℕ} (Some (k + 1 + place)) (Some (k + suc place))
+further_on k place = let e : k + 1 + place ≡ k + suc place = omega arith in ap Some e
+
+at_first : (k : ℕ) → ◌≡◌ {A = Option ℕ} (Some k) (Some (k + 0))
+at_first k = let e : k ≡ k + 0 = omega arith in ap Some e
+
+current_owner : (k m : ℕ) (rs : List (Option Publication)) (place n : ℕ)
+    → number_at (current_from m rs) place ≡ Some n → IsOwner k m rs place n
+current_owner k m [] place n e = absurd (none-some n e)
+current_owner k m (None ∷ rs) zero n e = absurd (none-some n e)
+current_owner k m (None ∷ rs) (suc place) n e =
+    let r = current_owner (k + 1) m rs place n e in
+    record { at = r.at; number = r.number; replica = r.replica ∙ further_on k place }
+current_owner k m (Some p ∷ rs) zero n e =
+    record { at = 0; number = omega (arith, same_Some m n e); replica = at_first k }
+current_owner k m (Some p ∷ rs) (suc place) n e =
+    let r = current_owner (k + 1) (m + 1) rs place n e in
+    record {
+      at = suc r.at;
+      number = omega (arith, r.number);
+      replica = r.replica ∙ further_on k place;
+    }
+
+at_start : (place : ℕ) → ◌≡◌ {A = Option ℕ} (Some (0 + place)) (Some place)
+at_start place = let e : 0 + place ≡ place = omega arith in ap Some e
+
+own_at : (rs : List (Option Publication)) (place n : ℕ)
+    → number_at (current_from 0 rs) place ≡ Some n
+    → option_map (λ (g : Generation). g.replica) (slice_get (generations_from 0 rs) n) ≡ Some place
+own_at rs place n e =
+    let r = current_owner 0 0 rs place n e in
+    let m : n ≡ r.at = omega (arith, r.number) in
+    ap (λ j. option_map (λ (g : Generation). g.replica) (slice_get (generations_from 0 rs) j)) m
+    ∙ r.replica ∙ at_start place
+
 none_there : (n place : ℕ) → number_at (replicate n None) place ≡ None
 none_there zero place = refl
 none_there (suc n) zero = refl
@@ -132,6 +174,7 @@ pub start_rollout : (o : Opening) → length o.reloads ≤ 64
 start_rollout o few = record {
   board_is = refl;
   current = λ place n e. omega (arith, current_numbers 0 0 o.replicas place n e);
+  own = own_at o.replicas;
   held = λ place n e. absurd (none-some n (sym (none_there (length o.reloads) place) ∙ e));
   replicas = current_long 0 o.replicas;
   seats = length-replicate (length o.reloads) None;
@@ -179,7 +222,7 @@ pub start_legal : (o : Opening) → AreRows o.format o.rows → IsFirstIn o.repl
     → All (λ replica. IfSome replica (IsAdmitted o.names)) o.replicas
     → MayStart o.rows (settings_of o.replicas) → IsLegal o []
 start_legal o rows first each m = record {
-  opens = record { rows = rows; first = first; admitted = each; readable = m.readable };
+  opens = record { rows = rows; first = first; admitted = each; readable = m.readable; secrets = m.secrets };
   fit = start_fits o m;
   runs = tt;
 }

@@ -57,6 +57,7 @@ rollout_takes o st kept seat replica number k l none is =
           st.generations (takes st.current st.held seat number in_held none)
           (omega arith) there));
       current = k.current;
+      own = k.own;
       held = numbers_set st.held st.generations seat (Some number) k.held in_held there;
       replicas = k.replicas;
       seats = length-set st.held seat (Some number) ∙ k.seats;
@@ -78,6 +79,7 @@ rollout_gives o st kept seat number k l is =
           st.generations (gives st.current st.held seat number in_held is)
           (omega arith) there));
       current = k.current;
+      own = k.own;
       held = numbers_set st.held st.generations seat None k.held in_held tt;
       replicas = k.replicas;
       seats = length-set st.held seat None ∙ k.seats;

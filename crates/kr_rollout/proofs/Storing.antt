@@ -221,6 +221,7 @@ module _ (store next : Kept) (kept later : BoardState) (generations : List Gener
             (state_with store kept generations current held)) { needs = n })
             (sym (ap (λ (b : BoardState). b.needs) later_is));
         current = k.current;
+        own = k.own;
         held = k.held;
         replicas = k.replicas;
         seats = k.seats;

@@ -16,7 +16,7 @@ use Rattle.kr_judge.specs.Boards.{GenerationState, BoardState, left_by, without_
 use Rattle.kr_judge.specs.Verdicts.{is_other}
 use Rattle.kr_judge.proofs.Parts.{take_at_more}
 use Rattle.kr_rollout.specs.declared.opening_board.StartNo.{StartNo}
-use Rattle.kr_rollout.specs.declared.opening_board.StartNo.TheVariants.{Stray, Unfit, NoMemory}
+use Rattle.kr_rollout.specs.declared.opening_board.StartNo.TheVariants.{Stray, OtherSecret, Unfit, NoMemory}
 use Rattle.kr_rollout.specs.Starts.{opening_generations, AllFit, IsUnfit}
 use Rattle.kr_rollout.specs.inner.OpeningBoards.{Admits, TakesUp, TakesAllUp}
 use Rattle.kr_rollout.proofs.Passing.{passed, AreReadable, own_writer, class_some}
@@ -228,6 +228,7 @@ stops_at : (replicas : List (Option Settings)) (old now next : BoardState) (i : 
     → Some s ≡ get_or replicas i (Some s) → Admits i (rows_of s.entries.0) now next (Err why)
     → TakesAllUp (rows_in replicas) old next (Err why)
 stops_at replicas old now next i s (Stray path) t l e w = absurd w
+stops_at replicas old now next i s (OtherSecret path) t l e w = absurd w
 stops_at replicas old now next i s NoMemory t l e w = tt
 stops_at replicas old now next i s (Unfit other verdict) t l e w =
     let rows = rows_of s.entries.0 in

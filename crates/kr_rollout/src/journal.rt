@@ -120,6 +120,7 @@ impl<T: Tape> Core<T> {
     pub fn close(self) -> (Store<T>, List<Line>)
         ensures rows { result.0.rows ≡ (state_of self.opening self.history).rows }
         ensures count { result.0.count ≡ (state_of self.opening self.history).count }
+        ensures format { result.0.format ≡ self.opening.format }
         ensures limit { result.0.limit ≡ self.opening.limit }
         ensures lines { result.1.0 ≡ map (λ entry. entry.line) self.history }
     {

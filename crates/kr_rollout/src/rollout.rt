@@ -89,6 +89,7 @@ impl<T: Tape> Rollout<T> {
     pub fn close(self) -> Store<T>
         ensures rows { result.rows ≡ self.state.rows }
         ensures count { result.count ≡ self.state.count }
+        ensures format { result.format ≡ self.opening.format }
         ensures limit { result.limit ≡ self.opening.limit }
     {
         self.store

@@ -10,41 +10,60 @@ use Rattle.kr_judge.specs.declared.verdict.Verdict.TheVariants.{Pass, DropsStore
 use Rattle.kr_judge.specs.Boards.{BoardState, set_need, without_current}
 use Rattle.kr_judge.specs.Verdicts.{verdict_of}
 use Rattle.kr_rollout.specs.declared.opening_board.StartNo.{StartNo}
-use Rattle.kr_rollout.specs.declared.opening_board.StartNo.TheVariants.{Stray, Unfit, NoMemory}
-use Rattle.kr_rollout.specs.Openings.{provider_of, needs_of, settings_of, start_of, HasNoStray}
-use Rattle.kr_rollout.specs.Starts.{opening_generations, IsLeastStray, AllFit, IsUnfit, IsNoStart, MayStart}
+use Rattle.kr_rollout.specs.declared.opening_board.StartNo.TheVariants.{Stray, OtherSecret, Unfit, NoMemory}
+use Rattle.kr_rollout.specs.Checks.{keeps_check}
+use Rattle.kr_rollout.specs.Openings.{provider_of, needs_of, settings_of, start_of, HasNoStray, HasNoOtherSecret}
+use Rattle.kr_rollout.specs.Starts.{opening_generations, IsLeastStray, IsLeastOther, AllFit, IsUnfit, IsNoStart, MayStart}
 use Rattle.kr_provider.specs.Publication.{Publication}
 use Rattle.kr_rollout.specs.declared.generation.Generation.{Generation}
 use Rattle.kr_rollout.specs.declared.opening.Opening.{Opening}
 use Rattle.kr_rollout.specs.Histories.{IsLegal}
 use Rattle.kr_rollout.specs.inner.Rollouts.{RolloutState}
 
--- the path, or there was no memory for it
+-- it is stray at the path, or there was no memory for that
 abbrev pub IsStrayOf : List ℕ → StartNo → Type 0
 IsStrayOf path (Stray own) = own ≡ path
+IsStrayOf path (OtherSecret own) = ⊥
 IsStrayOf path (Unfit replica verdict) = ⊥
 IsStrayOf path NoMemory = ⊤
 
--- what a row needs stands on the board, or it has no provider
+-- what a row needs stands on the board, and it is told whether the row has its provider's check; or
+-- the row has no provider
 abbrev pub Notes : (first : List Row) → stored_row.Row → BoardState → BoardState
-    → Result (Unit {0}) StartNo → Type 0
-Notes first row old new (Ok done) =
+    → Result Bool StartNo → Type 0
+Notes first row old new (Ok kept) =
     (who : Who) × (provider_of first row.resource row.stored ≡ Some who)
+    × (kept ≡ keeps_check row.check who)
     × (new ≡ record old {
       needs = set_need old.needs (record { path = row.path; resource = row.resource; who = who });
     })
 Notes first row old new (Err (Stray path)) =
     (path ≡ row.path) × (provider_of first row.resource row.stored ≡ None)
+Notes first row old new (Err (OtherSecret path)) = ⊥
 Notes first row old new (Err (Unfit replica verdict)) = ⊥
 Notes first row old new (Err NoMemory) = ⊤
 
 abbrev pub NotesAll : (first : List Row) → List LogRow → BoardState → BoardState
     → Result (Unit {0}) StartNo → Type 0
 NotesAll first rows old new (Ok done) =
-    HasNoStray first rows × (new ≡ record old { needs = needs_of first rows })
+    HasNoStray first rows × HasNoOtherSecret first rows
+    × (new ≡ record old { needs = needs_of first rows })
 NotesAll first rows old new (Err (Stray path)) = IsLeastStray first rows path
+NotesAll first rows old new (Err (OtherSecret path)) =
+    HasNoStray first rows × IsLeastOther first rows path
 NotesAll first rows old new (Err (Unfit replica verdict)) = ⊥
 NotesAll first rows old new (Err NoMemory) = ⊤
+
+-- the path of the first row with another secret: the one that was found, or else this one
+abbrev pub first_other : Option (List ℕ) → (kept : Bool) → (path : List ℕ) → Option (List ℕ)
+first_other (Some found) kept path = Some found
+first_other None true path = None
+first_other None false path = Some path
+
+-- what is answered after all rows
+abbrev pub no_other : Option (List ℕ) → Result (Unit {0}) StartNo
+no_other None = Ok tt
+no_other (Some path) = Err (OtherSecret path)
 
 abbrev pub is_refusal : Verdict → Bool
 is_refusal Pass = false
@@ -60,6 +79,7 @@ Admits replica rows old new (Ok done) = (verdict_of old.needs old.generations re
           ++ record { replica = replica; rows = rows; current = true; holders = 0 } ∷ [];
     })
 Admits replica rows old new (Err (Stray path)) = ⊥
+Admits replica rows old new (Err (OtherSecret path)) = ⊥
 Admits replica rows old new (Err (Unfit other verdict)) = (other ≡ replica)
     × (verdict ≡ verdict_of old.needs old.generations replica rows) × (verdict ≢ Pass)
 Admits replica rows old new (Err NoMemory) = ⊤
@@ -75,6 +95,7 @@ abbrev pub TakesAllUp : List (Option (List Row)) → BoardState → BoardState
 TakesAllUp replicas old new (Ok done) =
     AllFit replicas old.needs × (new ≡ record old { generations = opening_generations 0 replicas })
 TakesAllUp replicas old new (Err (Stray path)) = ⊥
+TakesAllUp replicas old new (Err (OtherSecret path)) = ⊥
 TakesAllUp replicas old new (Err (Unfit replica verdict)) =
     IsUnfit replicas old.needs replica verdict
 TakesAllUp replicas old new (Err NoMemory) = ⊤

@@ -1,5 +1,7 @@
 -- What the core keeps beside its journal, and how it serves an event.
 use Rattle.std.specs.Prelude.{◌≡◌, ℕ, ◌<◌, ◌≤◌, ◌+◌, ◌⊎◌, List, [], length, take, map, Option, None, Some, IsSome}
+use Rattle.std.specs.List.{slice_get}
+use Rattle.std.specs.Option.{option_map}
 use Rattle.kr_base.specs.Rules.{IsPath, IsResource}
 use Rattle.kr_store.specs.declared.rows.Row.{Row}
 use Rattle.kr_store.specs.Rows.{row_at}
@@ -56,10 +58,16 @@ abbrev pub AreNumbers : List (Option ℕ) → List Generation → Type 0
 AreNumbers numbers generations =
     (place number : ℕ) → number_at numbers place ≡ Some number → number < length generations
 
+-- a replica's current generation is one that it took up
+abbrev pub AreOwn : (current : List (Option ℕ)) → List Generation → Type 0
+AreOwn current generations = (replica number : ℕ) → number_at current replica ≡ Some number
+    → option_map (λ g. g.replica) (slice_get generations number) ≡ Some replica
+
 -- what holds of it: the board is that of the state, and the numbers are those of generations
 pub record IsRollout (o : Opening) (st : State) (kept : BoardState) : Type 0 where
   pub board_is : kept ≡ board o st
   pub current : AreNumbers st.current st.generations
+  pub own : AreOwn st.current st.generations
   pub held : AreNumbers st.held st.generations
   pub replicas : length st.current ≡ length o.replicas
   pub seats : length st.held ≡ length o.reloads
