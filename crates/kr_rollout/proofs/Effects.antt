@@ -131,7 +131,7 @@ unchanged st current held needs count =
       count = count;
     })
 
-given : (st : State) (replica number : ℕ) (p : Publication) (count : ℕ)
+pub given : (st : State) (replica number : ℕ) (p : Publication) (count : ℕ)
     → number ≡ length st.generations
     → ◌≡◌ {A = State} (record {
       generations = st.generations ++ record { replica = replica; published = p } ∷ [];

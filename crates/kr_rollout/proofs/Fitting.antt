@@ -119,20 +119,20 @@ number_set numbers at x place n e = elim (cases_eq place at) [
   | inr other ↦ inr (sym (get_or-set_other numbers at place x None other) ∙ e)
 ]
 
-new_or_old : {X : Type 0} (xs : List X) (y x : X) (n : ℕ) → slice_get (xs ++ y ∷ []) n ≡ Some x
+pub new_or_old : {X : Type 0} (xs : List X) (y x : X) (n : ℕ) → slice_get (xs ++ y ∷ []) n ≡ Some x
     → (slice_get xs n ≡ Some x) ⊎ (y ≡ x)
 new_or_old [] y x zero e = inr (same_Some y x e)
 new_or_old [] y x (suc n) e = absurd (none-some x e)
 new_or_old (z ∷ xs) y x zero e = inl e
 new_or_old (z ∷ xs) y x (suc n) e = new_or_old xs y x n e
 
-old_more : {X : Type 0} (xs ys : List X) (n : ℕ) (x : X) → slice_get xs n ≡ Some x
+pub old_more : {X : Type 0} (xs ys : List X) (n : ℕ) (x : X) → slice_get xs n ≡ Some x
     → slice_get (xs ++ ys) n ≡ Some x
 old_more [] ys n x e = absurd (none-some x e)
 old_more (z ∷ xs) ys zero x e = e
 old_more (z ∷ xs) ys (suc n) x e = old_more xs ys n x e
 
-new_there : {X : Type 0} (xs : List X) (x : X) → slice_get (xs ++ x ∷ []) (length xs) ≡ Some x
+pub new_there : {X : Type 0} (xs : List X) (x : X) → slice_get (xs ++ x ∷ []) (length xs) ≡ Some x
 new_there [] x = refl
 new_there (y ∷ xs) x = new_there xs x
 

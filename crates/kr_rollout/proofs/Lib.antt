@@ -19,3 +19,8 @@ pub mod Effects
 pub mod Sound
 pub mod Fitting
 pub mod Judging
+pub mod ContentSteps
+pub mod ContentReads
+pub mod FoundRows
+pub mod WithoutPlugin
+pub mod HonestSeats

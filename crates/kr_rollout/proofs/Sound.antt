@@ -269,7 +269,7 @@ pub record AreOther (st : State) (replica : ℕ) (rows : List Row) : Type 0 wher
   pub live : IsOtherNumber st replica number
   pub rows_are : generation.published.rows ≡ rows
 
-rows_of_number : (generations : List Generation) (n : ℕ) (rows : List Row)
+pub rows_of_number : (generations : List Generation) (n : ℕ) (rows : List Row)
     → option_map (λ (p : Publication). p.rows) (published_at generations (Some n)) ≡ Some rows
     → (g : Generation) × (slice_get generations n ≡ Some g) × (g.published.rows ≡ rows)
 rows_of_number generations n rows e = by (slice_get generations n) refl e

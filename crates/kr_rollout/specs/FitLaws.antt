@@ -9,17 +9,28 @@ use Rattle.kr_rollout.specs.declared.line.Did.TheVariants.{Reload}
 use Rattle.kr_rollout.specs.declared.line.Gave.TheVariants.{Refused}
 use Rattle.kr_rollout.specs.declared.opening.Entry.{Entry}
 use Rattle.kr_rollout.specs.declared.opening.Opening.{Opening}
-use Rattle.kr_rollout.specs.Entries.{published_at}
-use Rattle.kr_rollout.specs.States.{current_of, verdict_on}
-use Rattle.kr_rollout.specs.Openings.{settings_of, needs_of, first_of, start_of, HasNoStray}
+use Rattle.kr_rollout.specs.declared.opening_board.StartNo.{StartNo}
+use Rattle.kr_rollout.specs.declared.opening_board.StartNo.TheVariants.{NoMemory}
+use Rattle.kr_base.specs.Lines.{of_seat}
+use Rattle.kr_rollout.specs.Entries.{published_at, seat_of}
+use Rattle.kr_rollout.specs.States.{current_of, verdict_on, IsLive}
+use Rattle.kr_rollout.specs.Openings.{settings_of, needs_of, first_of, start_of, HasNoStray, HasNoOtherSecret}
 use Rattle.kr_rollout.specs.Fits.{IsFit}
 use Rattle.kr_rollout.specs.Histories.{state_of, IsLegal}
-use Rattle.kr_rollout.specs.Starts.{AllFit, IsStray}
-use Rattle.kr_rollout.specs.Judgements.{with_configuration, IsJudged, judged_state, AnswersFit}
+use Rattle.kr_rollout.specs.Callers.{holding}
+use Rattle.kr_rollout.specs.Starts.{AllFit, MayStart, IsNoStart}
+use Rattle.kr_rollout.specs.Judgements.{with_configuration, IsJudged, judged_state, IsDone, AnswersFit}
 
 -- in a legal history the state fits
 abbrev pub LegalFits : Type 0
 LegalFits = (o : Opening) (history : List Entry) → IsLegal o history → IsFit (state_of o history)
+
+-- what a seat holds by its own entries is live
+abbrev pub HoldingIsLive : Type 0
+HoldingIsLive = (o : Opening) (history : List Entry) (seat number : ℕ) (p : Publication)
+    → IsLegal o history → seat < length o.reloads
+    → holding (of_seat seat_of seat history) ≡ Some (number, p)
+    → IsLive (state_of o history) p.rows
 
 -- the verdict on a replica's new configuration passes exactly where the state with it fits
 abbrev pub VerdictIsExact : Type 0
@@ -33,6 +44,13 @@ abbrev pub JudgedByFit : Type 0
 JudgedByFit = (o : Opening) (history : List Entry) (e : Entry) → IsLegal o (history ++ e ∷ [])
     → IsJudged e.line.did (state_of o history)
     → AnswersFit e.line.gave (IsFit (judged_state e.line.did (state_of o history)))
+
+-- the state that was judged is the one that is left, but for the count of the tape's faults
+abbrev pub JudgedStateFollows : Type 0
+JudgedStateFollows = (o : Opening) (history : List Entry) (e : Entry)
+    → IsLegal o (history ++ e ∷ []) → IsDone e.line.gave
+    → state_of o (history ++ e ∷ [])
+    ≡ record (judged_state e.line.did (state_of o history)) { count = e.line.faults }
 
 -- a replica that is given its own settings anew, with other seeds or not, is never refused
 abbrev pub RefreshIsNotRefused : Type 0
@@ -48,7 +66,13 @@ abbrev pub OpeningFits : Type 0
 OpeningFits = (o : Opening) → AllFit (settings_of o.replicas) (needs_of (first_of o) o.rows)
     ↔ IsFit (start_of o)
 
--- a row that is named as stray has no provider
-abbrev pub StrayIsStray : Type 0
-StrayIsStray = (first : List Row) (rows : List LogRow) (path : List ℕ) → IsStray first rows path
-    → HasNoStray first rows → ⊥
+-- so a core may start exactly where each live row has a provider and its check, and the opening's
+-- state fits
+abbrev pub StartsWhereItFits : Type 0
+StartsWhereItFits = (o : Opening) → MayStart o.rows (settings_of o.replicas)
+    ↔ (HasNoStray (first_of o) o.rows × HasNoOtherSecret (first_of o) o.rows × IsFit (start_of o))
+
+-- and is refused for want of memory alone where it may
+abbrev pub RefusalIsExact : Type 0
+RefusalIsExact = (rows : List LogRow) (replicas : List (Option (List Row))) (why : StartNo)
+    → IsNoStart rows replicas why → MayStart rows replicas → why ≡ NoMemory
