@@ -13,7 +13,7 @@ use Rattle.kr_judge.specs.Laws.{HasMembers}
 both : (a b s t : List ℕ) (F : List ℕ → List ℕ → Who) → (bytes_eq a b && bytes_eq s t) ≡ true → F a s ≡ F b t
 both a b s t F h = ap (λ x. F x s) ((bytes_eq-Decides a b).0 (first_so _ _ h)) ∙ ap (λ x. F b x) ((bytes_eq-Decides s t).0 (second_so _ _ h))
 
-is_one : (own who : Who) → same_who own who ≡ true → own ≡ who
+pub is_one : (own who : Who) → same_who own who ≡ true → own ≡ who
 is_one Identity Identity h = refl
 is_one Identity (Aescbc b t) h = cc
 is_one Identity (Aesgcm b t) h = cc

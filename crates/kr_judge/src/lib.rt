@@ -4,12 +4,18 @@
 
 mod board;
 mod class_walk;
+mod first_dropped;
 mod generation;
+mod generation_list;
 mod holding;
 mod judging;
 mod laws;
 mod need;
-mod need_list;
+mod need_index;
+mod pair;
+mod path_map;
+mod path_set;
+mod proposal;
 mod provider_lists;
 mod verdict;
 mod verdict_text;

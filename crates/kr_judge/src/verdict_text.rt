@@ -5,7 +5,7 @@ ghost use Rattle.kr_base.specs.Faults.{IsCounted};
 ghost use Rattle.kr_base.specs.Streams.{AppendsFront};
 ghost use Rattle.kr_judge.specs.declared.verdict.Verdict.TheVariants.{DropsStored};
 ghost use Rattle.kr_judge.specs.Texts.{who_text, class_text, place_text, verdict_text};
-ghost use Rattle.kr_judge.specs.inner.Pieces.{joined};
+ghost use Rattle.kr_judge.specs.inner.Pieces.{whole_text};
 
 use crate::verdict::Verdict;
 use itoa::Buffer;
@@ -13,10 +13,11 @@ use kr_base::{Failed, Sink, Text, write_all};
 use kr_config::{Class, Who};
 
 impl Verdict {
-    /// Writes the verdict's text, as `drops-writer 1 secrets aescbc:key1`. After a fault the sink has taken a prefix
-    /// of it. It takes no memory.
+    /// Writes the verdict's text, as `drops-writer 1 secrets aescbc:key1`. After a fault the sink
+    /// has taken a prefix of it. It takes no memory.
     pub fn write<S: Sink>(&self, sink: &mut S) -> Result<(), Failed>
-        ensures ok { OnOk result (Appends (S.held sink.old) (S.held sink.new) (verdict_text self.now)) }
+        ensures ok { OnOk result
+            (Appends (S.held sink.old) (S.held sink.new) (verdict_text self.now)) }
         ensures err { OnErr result
             (AppendsFront (S.held sink.old) (S.held sink.new) (verdict_text self.now)) }
         ensures cause { IsCounted (S.count sink.old) (S.count sink.new) result }
@@ -102,8 +103,9 @@ fn who_words(who: &Who) -> (&str, &str)
 
 /// Writes the pieces, one behind another.
 fn write_each<S: Sink>(sink: &mut S, pieces: &[&str]) -> Result<(), Failed>
-    ensures ok { OnOk result (Appends (S.held sink.old) (S.held sink.new) (joined pieces.now)) }
-    ensures err { OnErr result (AppendsFront (S.held sink.old) (S.held sink.new) (joined pieces.now)) }
+    ensures ok { OnOk result (Appends (S.held sink.old) (S.held sink.new) (whole_text pieces.now)) }
+    ensures err { OnErr result
+        (AppendsFront (S.held sink.old) (S.held sink.new) (whole_text pieces.now)) }
     ensures cause { IsCounted (S.count sink.old) (S.count sink.new) result }
 {
     for piece in pieces {

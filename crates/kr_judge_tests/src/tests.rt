@@ -2,6 +2,8 @@
 mod boards;
 mod reasons;
 
+ghost use Rattle.std.specs.Prelude.{◌≡◌, None};
+
 use kr_base::{Bytes, List, MemSink, Shared};
 use kr_config::{Settings, read};
 use kr_judge::{Board, Verdict};
@@ -38,7 +40,9 @@ fn is_text(alloc: Global, verdict: &Verdict, want: &str) -> bool {
 }
 
 /// Whether this is the verdict on new settings of the replica, and its copy's.
-fn says(alloc: Global, board: &Board, replica: u32, new: &Settings, want: &str) -> bool {
+fn says(alloc: Global, board: &Board, replica: u32, new: &Settings, want: &str) -> bool
+    requires { board.now.proposal ≡ None }
+{
     let Ok(verdict) = board.judge(replica, new) else {
         return false;
     };

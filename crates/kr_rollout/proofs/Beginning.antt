@@ -206,7 +206,10 @@ start_fits o m = fit_less (IsLive (start_of o))
     (λ rows. Contains (settings_of o.replicas) (Some rows)) (start_of o).needs
     (λ rows l. is_replicas 0 o.replicas l.0 rows l.2) m.fit
 
--- ---- a core with no line
+-- --none_within : (n : ℕ) → 0 ≤ n
+none_within n = omega arith
+
+-- a core with no line
 
 pub admitted : (names : List (List ℕ)) (rs : List (Option Publication)) → AreAmong names rs
     → All (λ replica. IfSome replica IsPublished) rs
@@ -297,9 +300,17 @@ module _ (store : Kept) (rs : List (Option Publication)) (names : List (List ℕ
       start_legal (opening_by store rs names reloads) rows in_first
       (admitted names rs among published) boards.0
 
+none_within : (n : ℕ) → 0 ≤ n
+none_within n = omega arith
+
 -- a core with no line
 pub core_begin : (o : Opening) (c : RolloutState) (spare room : ℕ)
     → c ≡ record { opening = o; state = start_of o } → IsLegal o [] → room ≤ spare
     → IsCore c.opening c.state [] spare room
 core_begin o c spare room e l r = subst (λ (x : RolloutState). IsCore x.opening x.state [] spare room)
-    (sym e) (record { legal = l; leads = refl; room_in = omega arith })
+    (sym e) (record {
+      legal = l;
+      leads = refl;
+      budgets = λ seat. none_within _;
+      room_in = omega arith;
+    })

@@ -24,3 +24,6 @@ pub mod ContentReads
 pub mod FoundRows
 pub mod WithoutPlugin
 pub mod HonestSeats
+pub mod Budgets
+pub mod Changing
+pub mod Reloading

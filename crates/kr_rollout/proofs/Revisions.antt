@@ -9,12 +9,12 @@ use Rattle.kr_store.specs.declared.rows.LogRow.{LogRow}
 use Rattle.kr_store.specs.declared.rows.Row.{Row}
 use Rattle.kr_store.specs.declared.rows.Change.{Change}
 use Rattle.kr_store.specs.declared.rows.Change.TheVariants as change
-use Rattle.kr_store.specs.Rows.{latest_from, live, live_row, row_of, numbered, row_at}
+use Rattle.kr_store.specs.Rows.{latest_from, live, live_row, row_of, with_revision, put_at}
 use Rattle.kr_store.proofs.Places.{found_in, live_at_revision}
 use Rattle.kr_rollout.specs.declared.generation.Generation.{Generation}
 use Rattle.kr_rollout.specs.Entries.{published_at}
 
-get_front : {X : Type 0} (xs ys : List X) (k : ℕ) → k < length xs
+pub get_front : {X : Type 0} (xs ys : List X) (k : ℕ) → k < length xs
     → slice_get (xs ++ ys) k ≡ slice_get xs k
 get_front [] ys k l = absurd (omega arith)
 get_front (x ∷ xs) ys zero l = refl
@@ -51,19 +51,19 @@ revision_is n path (change.Put resource stored check) row e = let r =
 revision_is n path change.Delete row e = absurd (none-some row e)
 
 -- a row that there is stands at its revision
-pub at_within : (rows : List LogRow) (k : ℕ) (row : Row) → row_at rows k ≡ Some row
+pub at_within : (rows : List LogRow) (k : ℕ) (row : Row) → put_at rows k ≡ Some row
     → k ≤ length rows
 at_within rows zero row e = omega arith
 at_within rows (suc k) row e = by (slice_get rows k) refl e
   where
-    by : (o : Option LogRow) → slice_get rows k ≡ o → live_row (numbered (suc k) o) ≡ Some row
+    by : (o : Option LogRow) → slice_get rows k ≡ o → live_row (with_revision (suc k) o) ≡ Some row
         → suc k ≤ length rows
     by None is e = absurd (none-some row e)
     by (Some own) is e = omega (arith, slice_get_within rows k own is)
 
 -- a live row is that of its revision
 pub record IsAtRevision (rows : List LogRow) (path : List ℕ) (row : Row) : Type 0 where
-  pub row_is : row_at rows row.revision ≡ Some row
+  pub row_is : put_at rows row.revision ≡ Some row
   pub within : row.revision ≤ length rows
   pub path_is : row.path ≡ path
 

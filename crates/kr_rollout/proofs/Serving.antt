@@ -29,7 +29,7 @@ use Rattle.kr_rollout.proofs.Revisions.{live_at}
 use Rattle.kr_rollout.proofs.Keeping.{with_board}
 
 -- an answer that changes nothing
-abbrev IsStill : Gave → Type 0
+abbrev pub IsStill : Gave → Type 0
 IsStill (Adopted number) = ⊥
 IsStill (Found revision) = ⊤
 IsStill Absent = ⊤
@@ -38,9 +38,9 @@ IsStill (Changed last) = ⊥
 IsStill Released = ⊥
 IsStill (Reloaded number) = ⊥
 IsStill (Joined number) = ⊥
-IsStill (Refused verdict) = ⊥
-IsStill (Moved number) = ⊥
-IsStill (Present number) = ⊥
+IsStill (Refused verdict) = ⊤
+IsStill (Moved number) = ⊤
+IsStill (Present number) = ⊤
 IsStill (Departed number) = ⊥
 IsStill (Gone replica) = ⊤
 IsStill StoreFailed = ⊥
@@ -71,7 +71,7 @@ held_only st held =
     })
 
 -- the entry of a line in this state
-abbrev entry_now : State → ℕ → Did → Gave → Entry
+abbrev pub entry_now : State → ℕ → Did → Gave → Entry
 entry_now st seat did gave = entry_of st.rows st.generations (line_now st seat did gave)
 
 still : (st : State) (seat : ℕ) (did : Did) (gave : Gave) → IsStill gave
@@ -84,9 +84,9 @@ still st seat did (Changed last) s = absurd s
 still st seat did Released s = absurd s
 still st seat did (Reloaded number) s = absurd s
 still st seat did (Joined number) s = absurd s
-still st seat did (Refused verdict) s = absurd s
-still st seat did (Moved number) s = absurd s
-still st seat did (Present number) s = absurd s
+still st seat did (Refused verdict) s = held_only st st.held
+still st seat did (Moved number) s = held_only st st.held
+still st seat did (Present number) s = held_only st st.held
 still st seat did (Departed number) s = absurd s
 still st seat did (Gone replica) s = held_only st st.held
 still st seat did StoreFailed s = absurd s
@@ -103,9 +103,9 @@ writes_still o st (Changed last) e s = absurd s
 writes_still o st Released e s = absurd s
 writes_still o st (Reloaded number) e s = absurd s
 writes_still o st (Joined number) e s = absurd s
-writes_still o st (Refused verdict) e s = absurd s
-writes_still o st (Moved number) e s = absurd s
-writes_still o st (Present number) e s = absurd s
+writes_still o st (Refused verdict) e s = tt
+writes_still o st (Moved number) e s = tt
+writes_still o st (Present number) e s = tt
 writes_still o st (Departed number) e s = absurd s
 writes_still o st (Gone replica) e s = tt
 writes_still o st StoreFailed e s = absurd s
@@ -124,6 +124,12 @@ stores_still asked (answer.Changed last) e s = absurd s
 stores_still asked answer.StoreFailed e s = absurd s
 stores_still asked (answer.StoreFull needed) e s = absurd s
 stores_still asked answer.Released e s = absurd s
+stores_still asked (answer.Reloaded number) e s = absurd s
+stores_still asked (answer.Joined number) e s = absurd s
+stores_still asked (answer.Refused verdict) e s = tt
+stores_still asked (answer.Moved number) e s = tt
+stores_still asked (answer.Present number) e s = tt
+stores_still asked (answer.Departed number) e s = absurd s
 stores_still asked answer.NoMemory e s = tt
 
 -- a step to a state with the same rows and generations

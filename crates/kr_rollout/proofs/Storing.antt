@@ -8,7 +8,7 @@ use Rattle.kr_store.specs.declared.answers.PutNo.{PutNo}
 use Rattle.kr_store.specs.declared.answers.PutNo.TheVariants as no
 use Rattle.kr_store.specs.declared.rows.LogRow.{LogRow}
 use Rattle.kr_store.specs.declared.rows.Row.{Row}
-use Rattle.kr_store.specs.Rows.{put_of, delete_of, row_of, live_row, numbered, row_at}
+use Rattle.kr_store.specs.Rows.{put_of, delete_of, row_of, live_row, with_revision, put_at}
 use Rattle.kr_store.specs.Stores.{Kept, Puts, Deletes, IsLatestPut}
 use Rattle.kr_provider.specs.Publication.{Publication, list_at}
 use Rattle.kr_provider.specs.Readers.{writer_of}
@@ -142,11 +142,11 @@ get_end [] x = refl
 get_end (y ∷ ys) x = get_end ys x
 
 row_new : (rows next : List LogRow) (row : LogRow) (k : ℕ) → next ≡ rows ++ row ∷ []
-    → k ≡ length rows + 1 → row_at next k ≡ row_of k row.path row.change
+    → k ≡ length rows + 1 → put_at next k ≡ row_of k row.path row.change
 row_new rows next row k e n =
     let m : k ≡ suc (length rows) = omega (arith, n) in
-    ap (λ rs. row_at rs k) e ∙ ap (row_at (rows ++ row ∷ [])) m
-    ∙ ap (λ o. live_row (numbered (suc (length rows)) o)) (get_end rows row)
+    ap (λ rs. put_at rs k) e ∙ ap (put_at (rows ++ row ∷ [])) m
+    ∙ ap (λ o. live_row (with_revision (suc (length rows)) o)) (get_end rows row)
     ∙ ap (λ j. row_of j row.path row.change) (sym m)
 
 names_some : (generations : List Generation) (held : Option ℕ) (number : ℕ) (p : Publication)
@@ -162,7 +162,7 @@ names_bound generations held number gave e l =
     subst (λ h. IfSome (generation_named_by h gave) (λ n. n < length generations)) (sym e) l
 
 -- a seat that may hold something adopts nothing by a write
-names_any : (generations : List Generation) (held : Option ℕ) (gave : Gave) → generation_adopted_in gave ≡ None
+pub names_any : (generations : List Generation) (held : Option ℕ) (gave : Gave) → generation_adopted_in gave ≡ None
     → IfSome held (λ n. n < length generations)
     → IfSome (generation_named_by held gave) (λ n. n < length generations)
 names_any generations None gave e l = subst (λ h. IfSome h (λ n. n < length generations)) (sym e) tt
@@ -295,14 +295,14 @@ module _ (store next : Kept) (kept later : BoardState) (generations : List Gener
           soon
       put_serves (Ok revision) w b =
           let row = put_of path resource stored (written_check store.format p resource) in
-          let row_is : row_at next.rows revision ≡ row_of revision path row.change =
+          let row_is : put_at next.rows revision ≡ row_of revision path row.change =
           row_new store.rows next.rows row revision w.rows w.revision_is in
           let needs_are : later.needs ≡ put_need
           (published_at generations (generation_named_by (number_at held seat) (Written revision)))
-          (row_at next.rows revision) kept.needs =
+          (put_at next.rows revision) kept.needs =
           ap (λ (x : BoardState). x.needs) b ∙ sym
           (λ i. put_need (published_is (Written revision) i) (row_is i) kept.needs) in
-          let rows_are : next.rows ≡ store.rows ++ put_row (row_at next.rows revision) = w.rows
+          let rows_are : next.rows ≡ store.rows ++ put_row (put_at next.rows revision) = w.rows
           ∙ sym (ap (λ r. store.rows ++ put_row r) row_is) in
           let g = sym (append-nil generations) in
           stepped here soon seat (event.Put path resource plain stored) (answer.Written revision)
@@ -438,7 +438,7 @@ module _ (store next : Kept) (kept later : BoardState) (generations : List Gener
       delete_serves (Ok (Some revision)) d b =
           let w = d.1 in
           let row = delete_of path in
-          let row_is : row_at next.rows revision ≡ None =
+          let row_is : put_at next.rows revision ≡ None =
           row_new store.rows next.rows row revision w.rows w.revision_is in
           let g = sym (append-nil generations) in
           let needs_are : later.needs ≡ drop_need kept.needs path =
@@ -524,7 +524,7 @@ module _ (store next : Kept) (kept later : BoardState) (generations : List Gener
     module _ (number : ℕ) (path : List ℕ) (revision : ℕ) (stored : List ℕ) (p : Publication)
         (row : Row) (held_is : number_at held seat ≡ Some number)
         (there : published_at generations (Some number) ≡ Some p)
-        (path_rule : IsPath path) (row_is : row_at store.rows revision ≡ Some row)
+        (path_rule : IsPath path) (row_is : put_at store.rows revision ≡ Some row)
         (resealing : IsResealing p row path stored) where
       published_then : (gave : Gave) → published_at generations
           (generation_named_by (number_at held seat) gave) ≡ Some p
@@ -538,7 +538,7 @@ module _ (store next : Kept) (kept later : BoardState) (generations : List Gener
       -- the path's last put is the row that was found
       own_is : (own : Row) → IsLatestPut store.rows path revision own → own ≡ row
       own_is own latest = same_Some own row (sym (live_at store.rows path own latest.is).row_is
-          ∙ ap (row_at store.rows) latest.revision_is ∙ row_is)
+          ∙ ap (put_at store.rows) latest.revision_is ∙ row_is)
 
       anew : (own : Row) → IsLatestPut store.rows path revision own
           → IsSealedAnew store.format p path own (sealed_over store p own path stored)
@@ -563,14 +563,14 @@ module _ (store next : Kept) (kept later : BoardState) (generations : List Gener
           let own = r.0 in
           let w = r.2 in
           let new = sealed_over store p own path stored in
-          let new_is : row_at next.rows to ≡ row_of to path new.change =
+          let new_is : put_at next.rows to ≡ row_of to path new.change =
           row_new store.rows next.rows new to w.rows w.revision_is in
           let needs_are : later.needs ≡ put_need
           (published_at generations (generation_named_by (number_at held seat) (Written to)))
-          (row_at next.rows to) kept.needs =
+          (put_at next.rows to) kept.needs =
           ap (λ (x : BoardState). x.needs) r.3 ∙ sym
           (λ i. put_need (published_then (Written to) i) (new_is i) kept.needs) in
-          let rows_are : next.rows ≡ store.rows ++ put_row (row_at next.rows to) = w.rows
+          let rows_are : next.rows ≡ store.rows ++ put_row (put_at next.rows to) = w.rows
           ∙ sym (ap (λ x. store.rows ++ put_row x) new_is) in
           let g = sym (append-nil generations) in
           stepped here soon seat (event.Replace path revision stored) (answer.Written to)

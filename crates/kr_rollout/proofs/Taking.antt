@@ -274,6 +274,10 @@ taken_end replicas old now i t l =
           ∙ ap (λ rs. record old { generations = opening_generations 0 rs }) all,
     )
 
+pub taken_idle : (rs : List (Option (List Row))) (old now : BoardState) (i : ℕ)
+    → AreTaken rs old now i → old.proposal ≡ None → now.proposal ≡ None
+taken_idle rs old now i t e = ap (λ (b : BoardState). b.proposal) t.board_is ∙ e
+
 pub taken_room : (replicas : List (Option Settings)) (old now : BoardState) (i : ℕ)
     → AreTaken (rows_in replicas) old now i → i < length replicas → length replicas ≤ old.room
     → length now.generations < now.room

@@ -4,7 +4,7 @@ use Rattle.std.specs.Prelude.{ℕ, ◌<◌, ◌≤◌, List, length, Option, Non
 use Rattle.std.specs.List.{slice_get}
 use Rattle.std.specs.Option.{option_map}
 use Rattle.kr_store.specs.declared.rows.LogRow.{LogRow}
-use Rattle.kr_store.specs.Rows.{row_at}
+use Rattle.kr_store.specs.Rows.{put_at}
 use Rattle.kr_provider.specs.Publication.{Publication}
 use Rattle.kr_rollout.specs.declared.generation.Generation.{Generation}
 use Rattle.kr_rollout.specs.declared.line.Did.{Did}
@@ -47,8 +47,8 @@ abbrev pub entry_of : List LogRow → List Generation → Line → Entry
 entry_of rows generations line = record {
   line = line;
   published = published_at generations (generation_named_in line);
-  row = row_at rows (revision_in line.gave);
-  replaced = row_at rows (revision_replaced_in line.did);
+  row = put_at rows (revision_in line.gave);
+  replaced = put_at rows (revision_replaced_in line.did);
 }
 
 -- what the line names is there

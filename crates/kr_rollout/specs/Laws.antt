@@ -1,7 +1,7 @@
 -- What follows from the definitions of histories and of what seats know by their own entries.
 use Rattle.std.specs.Prelude.{◌≡◌, ℕ, ◌<◌, ◌++◌, List, length, Option, Some}
 use Rattle.kr_store.specs.declared.rows.Row as stored_row
-use Rattle.kr_store.specs.Rows.{row_at}
+use Rattle.kr_store.specs.Rows.{put_at}
 use Rattle.kr_config.specs.Kept.{Row}
 use Rattle.kr_judge.specs.declared.need.Need.{Need}
 use Rattle.kr_judge.specs.declared.verdict.Verdict.{Verdict}
@@ -35,4 +35,4 @@ abbrev pub FoundIsThere : Type 0
 FoundIsThere = (o : Opening) (history : List Entry) (seat : ℕ) (row : stored_row.Row)
     → IsLegal o history
     → found_in (of_seat seat_of seat history) ≡ Some row
-    → row_at (state_of o history).rows row.revision ≡ Some row
+    → put_at (state_of o history).rows row.revision ≡ Some row

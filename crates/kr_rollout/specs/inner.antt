@@ -2,3 +2,4 @@
 pub mod Rollouts
 pub mod OpeningBoards
 pub mod Writing
+pub mod Membership

@@ -162,9 +162,10 @@ fn stray(alloc: Global, path: &str) -> StartNo
 }
 
 /// Takes the replicas' settings up in order, each judged on those before it.
-#[tactic(auto, using(crate::proofs::Taking::taken_begin, crate::proofs::Taking::taken_step, crate::proofs::Taking::taking_stops, crate::proofs::Taking::taken_end, crate::proofs::Taking::taken_room))]
+#[tactic(auto, using(crate::proofs::Taking::taken_begin, crate::proofs::Taking::taken_step, crate::proofs::Taking::taking_stops, crate::proofs::Taking::taken_end, crate::proofs::Taking::taken_room, crate::proofs::Taking::taken_idle))]
 fn take_all_up(replicas: &[Option<Shared<Settings>>], board: &mut Board) -> Result<(), StartNo>
     requires none { board.old.generations ≡ [] }
+    requires idle { board.old.proposal ≡ None }
     requires room { length replicas.now ≤ board.old.room }
     requires few { length replicas.now ≤ 16 }
     ensures { TakesAllUp (rows_in replicas.now) board.old board.new result }
@@ -184,7 +185,8 @@ fn take_up(
     settings: &Option<Shared<Settings>>,
     board: &mut Board,
 ) -> Result<(), StartNo>
-    requires { length board.old.generations < board.old.room }
+    requires idle { board.old.proposal ≡ None }
+    requires room { length board.old.generations < board.old.room }
     ensures { TakesUp replica (settings_rows settings.now) board.old board.new result }
 {
     let Some(settings) = settings else {
@@ -208,7 +210,7 @@ fn take_up(
 }
 
 /// Whether there is a reason against the settings.
-fn is_refusal(verdict: &Verdict) -> bool
+pub(crate) fn is_refusal(verdict: &Verdict) -> bool
     ensures { result ≡ is_refusal verdict.now }
 {
     match verdict {

@@ -12,6 +12,7 @@ use kr_base::{List, NoMemory, Shared, Tape, Text};
 use kr_judge::Board;
 use kr_provider::Published;
 use kr_store::Store;
+use std::alloc::Global;
 use std::marker::Model;
 
 /// What the core keeps beside its journal.
@@ -19,7 +20,8 @@ use std::marker::Model;
 pub(crate) struct Rollout<T: Tape> {
     pub store: Store<T>,
     pub board: Board,
-    pub generations: Vec<Generation>,
+    /// There is room for each that seats may bring.
+    pub generations: List<Generation>,
     /// For each replica the number of its current generation.
     pub current: Vec<Option<u32>>,
     /// For each seat the number of the generation that it holds.
@@ -31,10 +33,11 @@ pub(crate) struct Rollout<T: Tape> {
     pub reloads: Vec<u32>,
     /// How often the store's tape had failed at the start.
     pub first_faults: u64,
+    pub alloc: Global,
 }
 
 impl<T: Tape> Model for Rollout<T> {
-    ghost use Rattle.std.specs.Prelude.{◌≤◌, length};
+    ghost use Rattle.std.specs.Prelude.{◌+◌, ◌≤◌, length, sum};
     ghost use Rattle.kr_rollout.specs.inner.Rollouts.{RolloutState, opening_of, state_with, IsRollout};
 
     ghost Value = { RolloutState };
@@ -42,13 +45,15 @@ impl<T: Tape> Model for Rollout<T> {
     ghost view = { λ r. record {
       opening = opening_of r.store r.first_rows r.replicas.0 r.names.0 r.reloads.items
           r.first_faults;
-      state = state_with r.store r.board r.generations.items r.current.items r.held.items;
+      state = state_with r.store r.board r.generations.0 r.current.items r.held.items;
     } };
 
     ghost invariant = { λ r. IsRollout
         (opening_of r.store r.first_rows r.replicas.0 r.names.0 r.reloads.items r.first_faults)
-        (state_with r.store r.board r.generations.items r.current.items r.held.items) r.board
-        × (r.first_rows ≤ length r.store.rows) };
+        (state_with r.store r.board r.generations.0 r.current.items r.held.items) r.board
+        × (r.first_rows ≤ length r.store.rows)
+        × (length r.replicas.0 + sum r.reloads.items
+            ≤ length r.generations.0 + r.generations.1) };
 }
 
 impl<T: Tape> Rollout<T> {
@@ -75,6 +80,13 @@ impl<T: Tape> Rollout<T> {
                 stored,
             } => self.replace(seat, path, revision, stored),
             Event::LetGo => self.let_go(seat),
+            Event::Reload {
+                replica,
+                published,
+                expect,
+            } => self.reload(seat, replica, published, expect),
+            Event::Join { replica, published } => self.join(seat, replica, published),
+            Event::Leave { replica } => self.leave(seat, replica),
         }
     }
 
@@ -121,7 +133,9 @@ impl<T: Tape> Rollout<T> {
             let line = self.line(seat, did, Gave::Gone { replica });
             return (Answer::Gone { replica }, line);
         };
-        match self.generations[generation as usize].published.share() {
+        match self.generations.as_slice()[generation as usize]
+            .published
+            .share() {
             Ok(published) => {
                 let line = self.line(seat, did, Gave::Adopted { generation });
                 self.board.hold(generation);

@@ -54,6 +54,7 @@ impl<T: Tape> Rollout<T> {
             names,
             reloads: made.reloads,
             first_faults,
+            alloc,
         })
     }
 }
@@ -62,7 +63,7 @@ impl<T: Tape> Rollout<T> {
 #[derive(Drop)]
 struct StartParts {
     settings: List<Option<Shared<Settings>>>,
-    generations: Vec<Generation>,
+    generations: List<Generation>,
     current: Vec<Option<u32>>,
     held: Vec<Option<u32>>,
     reloads: Vec<u32>,
@@ -82,7 +83,8 @@ fn make(
     ensures settings { IfOk result (λ made. rows_in made.settings.0 ≡ settings_of replicas.now) }
     ensures published { IsOk result → All (λ replica. IfSome replica IsPublished) replicas.now }
     ensures generations { IfOk result (λ made.
-        made.generations.items ≡ generations_from 0 replicas.now) }
+        made.generations.0 ≡ generations_from 0 replicas.now) }
+    ensures spare { IfOk result (λ made. made.room ≤ made.generations.1) }
     ensures current { IfOk result (λ made. made.current.items ≡ current_from 0 replicas.now) }
     ensures held { IfOk result (λ made. made.held.items ≡ replicate seats None) }
     ensures reloads { IfOk result (λ made. made.reloads.items ≡ reloads.now) }
@@ -135,21 +137,24 @@ fn settings_in(replica: &Option<Shared<Published>>) -> Result<Option<Shared<Sett
     }
 }
 
-/// The generations of the replicas that are in, with room for so many in all.
+/// The generations of the replicas that are in, with room for so many more.
 #[tactic(auto, using(crate::proofs::Sharing::made_begin, crate::proofs::Sharing::made_step, crate::proofs::Sharing::made_end))]
 fn share_generations(
     alloc: Global,
     replicas: &[Option<Shared<Published>>],
     room: u32,
-) -> Result<Vec<Generation>, NoMemory>
+) -> Result<List<Generation>, NoMemory>
     requires { length replicas.now ≤ 16 }
-    ensures { IfOk result (λ generations.
-        generations.items ≡ generations_from 0 replicas.now) }
+    ensures generations { IfOk result (λ generations.
+        generations.0 ≡ generations_from 0 replicas.now) }
+    ensures spare { IfOk result (λ generations. room ≤ generations.1) }
 {
-    let mut generations = Vec::with_capacity(alloc, room as usize)?;
+    let mut generations = Vec::new(alloc);
     for (replica, published) in replicas.iter().enumerate() {
         add_generation(&mut generations, replica as u32, published)?;
     }
+    let mut generations = List::from_vec(generations);
+    generations.reserve(room as usize)?;
     Ok(generations)
 }
 

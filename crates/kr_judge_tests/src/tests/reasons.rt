@@ -1,4 +1,6 @@
 //! Each reason against new settings, at each kind of class.
+ghost use Rattle.std.specs.Prelude.{◌≡◌, None, IfSome};
+
 use super::{KEY1, KEY2, OTHER1, says, settings};
 use kr_base::Shared;
 use kr_config::Settings;
@@ -7,7 +9,9 @@ use std::alloc::Global;
 use std::test::Fail;
 
 /// A board with one replica that has these settings.
-fn one(alloc: Global, own: &Shared<Settings>) -> Option<Board> {
+fn one(alloc: Global, own: &Shared<Settings>) -> Option<Board>
+    ensures { IfSome result (λ board. board.proposal ≡ None) }
+{
     let mut board = Board::new(alloc, 1).ok()?;
     let _number = board.add(0, own.share().ok()?);
     Some(board)

@@ -1,10 +1,10 @@
 -- What the core keeps beside its journal, and how it serves an event.
-use Rattle.std.specs.Prelude.{◌≡◌, ℕ, ◌<◌, ◌≤◌, ◌+◌, ◌⊎◌, List, [], length, take, map, Option, None, Some, IsSome}
+use Rattle.std.specs.Prelude.{◌≡◌, ℕ, ◌<◌, ◌≤◌, ◌+◌, ◌⊎◌, List, [], length, get_or, take, map, Option, None, Some, IsSome}
 use Rattle.std.specs.List.{slice_get}
 use Rattle.std.specs.Option.{option_map}
 use Rattle.kr_base.specs.Rules.{IsPath, IsResource}
 use Rattle.kr_store.specs.declared.rows.Row.{Row}
-use Rattle.kr_store.specs.Rows.{row_at}
+use Rattle.kr_store.specs.Rows.{put_at}
 use Rattle.kr_store.specs.Stores.{Kept}
 use Rattle.kr_provider.specs.Publication.{Publication}
 use Rattle.kr_provider.specs.Sealing.{IsSealing}
@@ -18,12 +18,13 @@ use Rattle.kr_rollout.specs.declared.line.Gave.{Gave}
 use Rattle.kr_rollout.specs.declared.line.Line.{Line}
 use Rattle.kr_rollout.specs.declared.opening.Entry.{Entry}
 use Rattle.kr_rollout.specs.declared.opening.Opening.{Opening}
-use Rattle.kr_rollout.specs.Entries.{entry_of, published_at}
+use Rattle.kr_base.specs.Lines.{of_seat}
+use Rattle.kr_rollout.specs.Entries.{entry_of, published_at, seat_of}
 use Rattle.kr_rollout.specs.States.{State, number_at, held_by}
-use Rattle.kr_rollout.specs.Openings.{board}
+use Rattle.kr_rollout.specs.Openings.{board, room_of, NamesAmong}
 use Rattle.kr_rollout.specs.Steps.{IsStep, after}
 use Rattle.kr_rollout.specs.Histories.{IsLegal, state_of}
-use Rattle.kr_rollout.specs.Callers.{IsResealing, Records}
+use Rattle.kr_rollout.specs.Callers.{IsResealing, Records, reloads_in}
 
 -- what a rollout began with, and its state
 pub record RolloutState : Type 0 where
@@ -73,6 +74,12 @@ pub record IsRollout (o : Opening) (st : State) (kept : BoardState) : Type 0 whe
   pub seats : length st.held ≡ length o.reloads
   pub few : length o.reloads ≤ 64
 
+-- the replica may be given the settings: they name no other plugins, and there is room for one
+-- more generation
+abbrev pub MayTake : RolloutState → (replica : ℕ) → Publication → Type 0
+MayTake c replica p = (replica < length c.opening.replicas) × NamesAmong c.opening.names p.rows
+    × (length c.state.generations < room_of c.opening)
+
 -- in this state the seat may ask this
 abbrev pub MayServe : RolloutState → ℕ → Event → Type 0
 MayServe c seat (event.Adopt replica) =
@@ -87,9 +94,12 @@ MayServe c seat (event.Delete path) = IsPath path
 MayServe c seat (event.Replace path revision stored) = IsPath path
     × (number : ℕ) × (p : Publication) × (row : Row) × (held_by c.state seat ≡ Some number)
     × (published_at c.state.generations (Some number) ≡ Some p)
-    × (row_at c.state.rows revision ≡ Some row)
+    × (put_at c.state.rows revision ≡ Some row)
     × IsResealing p row path stored
 MayServe c seat event.LetGo = IsSome (held_by c.state seat)
+MayServe c seat (event.Reload replica p expect) = MayTake c replica p
+MayServe c seat (event.Join replica p) = MayTake c replica p
+MayServe c seat (event.Leave replica) = replica < length c.opening.replicas
 
 -- the line of an event that is answered in this state
 abbrev pub line_now : State → ℕ → Did → Gave → Line
@@ -109,9 +119,15 @@ pub record Serves (old : RolloutState) (seat : ℕ) (event : Event) (answer : An
 abbrev pub entries_by : State → List Line → List Entry
 entries_by st lines = map (entry_of st.rows st.generations) lines
 
--- what holds of a core: its lines are a legal history that leads to the state, and there is room
--- for more
+-- no seat brought more configurations than it may
+abbrev pub KeepsBudgets : Opening → List Entry → Type 0
+KeepsBudgets o history =
+    (seat : ℕ) → reloads_in (of_seat seat_of seat history) ≤ get_or o.reloads seat 0
+
+-- what holds of a core: its lines are a legal history that leads to the state, within the seats'
+-- budgets, and there is room for more
 pub record IsCore (o : Opening) (st : State) (lines : List Line) (spare room : ℕ) : Type 0 where
   pub legal : IsLegal o (entries_by st lines)
   pub leads : st ≡ state_of o (entries_by st lines)
+  pub budgets : KeepsBudgets o (entries_by st lines)
   pub room_in : room ≤ length lines + spare

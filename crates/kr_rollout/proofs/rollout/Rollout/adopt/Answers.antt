@@ -39,10 +39,11 @@ invariant_of-self g c =
     let l = subst (λ (x : RolloutState). c.args.seat < length x.opening.reloads)
     (sym c.self.view_is) c.requires.seat_in in (
       rollout_taken _ c.self.inside.store c.self.inside.board c.hold.new.self
-          c.self.inside.generations.items c.self.inside.current.items c.self.inside.held.items
+          c.self.inside.generations.0 c.self.inside.current.items c.self.inside.held.items
           c.self.invariant.0
           c.args.seat c.args.replica c.in-Some.generation c.hold.ensures l may.1 is,
       c.self.invariant.1,
+      c.self.invariant.2,
     )
 
 pub returns-in-Ok : goal.returns-in-Ok
@@ -53,11 +54,11 @@ returns-in-Ok g c =
     read_number c.self.inside.current.items c.args.replica c.index.result.now
     (omega (arith, may.0, c.self.invariant.0.replicas)) c.index.ensures ∙ c.in-Some.is in
     adopted_at _ c.self.inside.store c.self.inside.board c.hold.new.self
-    c.self.inside.generations.items c.self.inside.current.items c.self.inside.held.items
+    c.self.inside.generations.0 c.self.inside.current.items c.self.inside.held.items
     c.args.self.now c.line-line-in-Ok.result
     c.args.seat c.args.replica c.in-Some.generation c.in-Ok.published c.self.invariant.0
     c.self.view_is c.hold.ensures c.requires.seat_in c.requires.may is
-    (read_published c.self.inside.generations.items c.in-Some.generation c.index-2.result.now
+    (read_published c.self.inside.generations.0 c.in-Some.generation c.index-2.result.now
     (c.self.invariant.0.current c.args.replica c.in-Some.generation is) c.index-2.ensures
     ∙ ap Some (sym c.in-Ok.ensures))
     c.line-line-in-Ok.ensures

@@ -21,8 +21,9 @@ invariant_of-self g c =
     read_number c.self.inside.held.items c.args.seat c.index.result.now
     (omega (arith, l, c.self.invariant.0.seats)) c.index.ensures ∙ c.in-Some.is in (
       rollout_given _ c.self.inside.store c.self.inside.board c.release.new.self
-          c.self.inside.generations.items c.self.inside.current.items c.self.inside.held.items
+          c.self.inside.generations.0 c.self.inside.current.items c.self.inside.held.items
           c.self.invariant.0
           c.args.seat c.in-Some.generation c.release.ensures l is,
       c.self.invariant.1,
+      c.self.invariant.2,
     )

@@ -1,7 +1,8 @@
-use Rattle.std.proofs.Common.{◌≡◌, ◌<◌, length, Some, sym, subst, ◌∙◌, arith}
+use Rattle.std.proofs.Common.{◌≡◌, ◌<◌, length, Some, sym, ap, subst, ◌∙◌, arith}
 use Rattle.kr_provider.specs.Publication.{Publication, IsPublished}
 use Rattle.kr_rollout.specs.declared.event.Event.TheVariants as event
 use Rattle.kr_rollout.specs.States.{number_at}
+use Rattle.kr_rollout.specs.Callers.{gave_of}
 use Rattle.kr_rollout.specs.inner.Rollouts.{RolloutState, MayServe}
 use Rattle.kr_rollout.specs.inner.Writing.{written_as, ReplacesBy}
 use Rattle.kr_rollout.proofs.Keeping.{read_number}
@@ -18,7 +19,7 @@ replace_live-result-requires-clause-stored g c =
     let held_is : number_at c.self.inside.held.items c.args.seat ≡ Some c.in-Some.number =
     read_number c.self.inside.held.items c.args.seat c.index.result.now
     (omega (arith, l, c.self.invariant.0.seats)) c.index.ensures ∙ c.in-Some.is in
-    let same = own_published c.self.inside.generations.items c.self.inside.held.items c.args.seat
+    let same = own_published c.self.inside.generations.0 c.self.inside.held.items c.args.seat
     c.in-Some.number may.1 may.2 c.get-published.result.now c.index-2.result.now held_is may.4
     may.5
     (c.self.invariant.0.held c.args.seat c.in-Some.number held_is) c.index-2.ensures
@@ -36,17 +37,17 @@ returns g c =
     let held_is : number_at c.self.inside.held.items c.args.seat ≡ Some c.in-Some.number =
     read_number c.self.inside.held.items c.args.seat c.index.result.now
     (omega (arith, l, c.self.invariant.0.seats)) c.index.ensures ∙ c.in-Some.is in
-    let same = own_published c.self.inside.generations.items c.self.inside.held.items c.args.seat
+    let same = own_published c.self.inside.generations.0 c.self.inside.held.items c.args.seat
     c.in-Some.number may.1 may.2 c.get-published.result.now c.index-2.result.now held_is may.4
     may.5
     (c.self.invariant.0.held c.args.seat c.in-Some.number held_is) c.index-2.ensures
     c.get-published.ensures in
     seen _ c.args.self.now _ c.args.seat (event.Replace c.args.path c.args.revision c.args.stored)
     (written_as c.replace_live-result.result) c.put_answer-answer.result
-    c.line_answer-gave.result c.line-line.result
-    c.self.view_is c.put_answer-answer.ensures c.line_answer-gave.ensures c.line-line.ensures
+    c.put_line-gave.result c.line-line.result
+    c.self.view_is c.put_answer-answer.ensures (c.put_line-gave.ensures ∙ ap gave_of (sym c.put_answer-answer.ensures)) c.line-line.ensures
     (replace_serves c.self.inside.store c.replace_live-result.new.store c.self.inside.board
-    c.replace_live-result.new.board c.self.inside.generations.items c.self.inside.current.items
+    c.replace_live-result.new.board c.self.inside.generations.0 c.self.inside.current.items
     c.self.inside.held.items c.self.inside.first_rows c.self.inside.replicas.0
     c.self.inside.names.0 c.self.inside.reloads.items c.self.inside.first_faults
     c.args.seat c.self.invariant.0 l c.self.invariant.1 may.1 c.args.path c.args.revision

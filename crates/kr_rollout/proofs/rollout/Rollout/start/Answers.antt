@@ -9,7 +9,7 @@ use Rattle.kr_rollout.proofs.rollout.Rollout.start.Goals as goal
 pub invariant_of-result : goal.invariant_of-result
 invariant_of-result g c = (
   opened_rollout c.args.store c.args.replicas.0 c.args.names.0 c.args.reloads.now
-      c.in-Ok-board_of.board c.in-Ok.made.generations.items c.in-Ok.made.current.items
+      c.in-Ok-board_of.board c.in-Ok.made.generations.0 c.in-Ok.made.current.items
       c.in-Ok.made.held.items
       c.in-Ok.made.reloads.items c.revision-first_rows.result c.faults-first_faults.result
       c.in-Ok.made.room c.revision-first_rows.ensures c.faults-first_faults.ensures
@@ -23,12 +23,13 @@ invariant_of-result g c = (
       (c.in-Ok.ensures.settings ∙ ap settings_of c.as_slice.ensures) c.in-Ok-board_of.ensures)
       (omega (arith, c.requires.seats.0, c.requires.seats.1)),
   omega (arith, c.revision-first_rows.ensures),
+  omega (arith, c.in-Ok.ensures.spare, c.in-Ok.ensures.room, c.in-Ok.ensures.reloads),
 )
 
 pub returns-clause-opens : goal.returns-clause-opens
 returns-clause-opens g c = (
   opened_legal c.args.store c.args.replicas.0 c.args.names.0 c.args.reloads.now
-      c.in-Ok-board_of.board c.in-Ok.made.generations.items c.in-Ok.made.current.items
+      c.in-Ok-board_of.board c.in-Ok.made.generations.0 c.in-Ok.made.current.items
       c.in-Ok.made.held.items
       c.in-Ok.made.reloads.items c.revision-first_rows.result c.faults-first_faults.result
       c.in-Ok.made.room c.revision-first_rows.ensures c.faults-first_faults.ensures
@@ -46,7 +47,7 @@ returns-clause-opens g c = (
   (subst (λ rs. Boards c.args.store.rows rs c.in-Ok.made.room (Ok c.in-Ok-board_of.board))
       (c.in-Ok.ensures.settings ∙ ap settings_of c.as_slice.ensures) c.in-Ok-board_of.ensures).0,
   opened c.args.store c.args.replicas.0 c.args.names.0 c.args.reloads.now c.in-Ok-board_of.board
-      c.in-Ok.made.generations.items c.in-Ok.made.current.items c.in-Ok.made.held.items
+      c.in-Ok.made.generations.0 c.in-Ok.made.current.items c.in-Ok.made.held.items
       c.in-Ok.made.reloads.items c.revision-first_rows.result c.faults-first_faults.result
       c.in-Ok.made.room c.revision-first_rows.ensures c.faults-first_faults.ensures
       (c.in-Ok.ensures.generations ∙ ap (generations_from 0) c.as_slice.ensures)
