@@ -60,7 +60,7 @@ list_keeps rows k resource =
     (λ i. some i && l.providers i && l.stand i)
 
 -- what a search finds is there and passes
-found : {X : Type 0} (test : X → Bool) (xs : List X) (x : X) → find test xs ≡ Some x
+pub found : {X : Type 0} (test : X → Bool) (xs : List X) (x : X) → find test xs ≡ Some x
     → (test x ≡ true) × Contains xs x
 found test [] x e = absurd (none-some x e)
 found test (y ∷ ys) x e = by (test y) refl e (found test ys x)
@@ -153,14 +153,14 @@ same_readers opens list others path bytes reading same r =
     subst (λ reader. (envelope : Envelope) × HasEnvelope opens reader bytes envelope
     × (reader_reading envelope reader path bytes ≡ reading)) same r
 
-same_needs : (needs : List Need) (path : List ℕ)
+pub same_needs : (needs : List Need) (path : List ℕ)
     → need_at needs path ≡ needing.need_at needs path
 same_needs [] path = refl
 same_needs (need ∷ needs) path =
     ap (λ rest. if bytes_eq need.path path then Some need else rest) (same_needs needs path)
 
 -- what a live row of the opening needs
-row_needed : (first : List Row) (rows : List LogRow) (path : List ℕ) (row : stored_row.Row)
+pub row_needed : (first : List Row) (rows : List LogRow) (path : List ℕ) (row : stored_row.Row)
     (who : Who) → live rows path ≡ Some row
     → provider_of first row.resource row.stored ≡ Some who
     → needing.needed first (needing.last_row rows path)
@@ -196,7 +196,7 @@ row_needed first rows path row who is provider = by (latest rows path) is
     by None e = absurd (none-some row e)
     by (Some at) e = of_change at.0 at.1.path at.1.change e
 
-some_who : (x : Option Who) → IsSome x → (who : Who) × (x ≡ Some who)
+pub some_who : (x : Option Who) → IsSome x → (who : Who) × (x ≡ Some who)
 some_who None s = absurd (none_is s)
   where
     none_is : IsSome {T = Who} None → ⊥
@@ -260,7 +260,7 @@ held_generation opens o st history seat p r h = by (slice_get st.generations h.n
           subst (SeedsOpen opens) same (r.opened h.number g is),
         )
 
-need_there : (needs : List Need) (path : List ℕ) (need : Need) → need_at needs path ≡ Some need
+pub need_there : (needs : List Need) (path : List ℕ) (need : Need) → need_at needs path ≡ Some need
     → Contains needs need
 need_there needs path need e = (found (λ (n : Need). bytes_eq n.path path) needs need e).1
 
@@ -380,7 +380,7 @@ module _ (opens : Opens) (o : Opening) (st : State) (history : List Entry)
           (drop_at_path st.needs own path r.sorted
           ∙ ap (λ b. if b then None else need_at st.needs path) other)
           (r.reads path row (sym (live_elsewhere st.rows (delete_of own) path other) ∙ row_is))
-  reads_after honest (replaces_value own stored old p check h was gave quiet is) path =
+  reads_after honest (replaces_value own stored old p check h was sealed gave quiet is) path =
       subst (λ (s : State). AllRead opens o s next_history path) (sym is)
       (by (bytes_eq own path) refl)
     where
@@ -414,7 +414,7 @@ module _ (opens : Opens) (o : Opening) (st : State) (history : List Entry)
       (sorted_set st.needs (need_by p own resource) r.sorted)
   sorted_after (deletes_row own was changes is) =
       subst (λ (s : State). AreByPath s.needs) (sym is) (sorted_drop st.needs own r.sorted)
-  sorted_after (replaces_value own stored old p check h was gave quiet is) =
+  sorted_after (replaces_value own stored old p check h was sealed gave quiet is) =
       subst (λ (s : State). AreByPath s.needs) (sym is)
       (sorted_set st.needs (need_by p own old.resource) r.sorted)
 
@@ -441,7 +441,7 @@ module _ (opens : Opens) (o : Opening) (st : State) (history : List Entry)
   opened_after honest (puts_value own resource plain stored p check h sealing changes is) =
       subst AllOpen (sym is) r.opened
   opened_after honest (deletes_row own was changes is) = subst AllOpen (sym is) r.opened
-  opened_after honest (replaces_value own stored old p check h was gave quiet is) =
+  opened_after honest (replaces_value own stored old p check h was sealed gave quiet is) =
       subst AllOpen (sym is) r.opened
 
   read_after : IsStep o st e → IsHonestEntry opens e → IsRead opens o (after st e) next_history

@@ -238,7 +238,7 @@ module _ (opens : Opens) (o : Opening) (st : State) (history : List Entry) (e : 
       by false other c = alike_kept opens o history e path st.rows next
           (c ∙ ap (λ b. if b then Some deletes else None) other)
           (live_elsewhere st.rows (delete_of own) path other) a
-  alike_after (replaces_value own stored old p check h was honest quiet is) =
+  alike_after (replaces_value own stored old p check h was sealed honest quiet is) =
       subst (λ (s : State). Next s.rows) (sym is) (by (bytes_eq own path) refl)
     where
       next : List LogRow

@@ -299,7 +299,7 @@ module _ (o : Opening) (st : State) (sound : IsSound o st) where
   sound_after e (deletes_row path live changes is) =
       subst (IsSound o) (sym is)
       (sound_deletes path (st.rows ++ delete_of path ∷ []) e.line.faults)
-  sound_after e (replaces_value path stored old p check h live honest leaves_it is) =
+  sound_after e (replaces_value path stored old p check h live sealed honest leaves_it is) =
       subst (IsSound o) (sym is)
       (sound_value e.line.seat e.line.faults p path old.resource stored check h)
 

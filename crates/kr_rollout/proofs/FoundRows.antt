@@ -2,7 +2,7 @@
 use Rattle.std.proofs.Common.{◌≡◌, ℕ, List, ◌++◌, Option, Some, refl, sym, ap, subst, ◌∙◌, append-nil}
 use Rattle.kr_store.specs.declared.rows.LogRow.{LogRow}
 use Rattle.kr_store.specs.declared.rows.Row as stored_row
-use Rattle.kr_store.specs.Rows.{live, row_of, row_at}
+use Rattle.kr_store.specs.Rows.{live, row_of, put_at}
 use Rattle.kr_store.proofs.Places.{live_at_revision, row_stays}
 use Rattle.std.proofs.lemmas.Option.{same_Some}
 use Rattle.kr_rollout.specs.declared.line.Did.{Did}
@@ -31,10 +31,10 @@ record IsFound (did : Did) (rows : List LogRow) (row : Option stored_row.Row) : 
   fits : IsRowFor did rows found
 
 module _ (st : State) (held : Option ℕ) (row : Option stored_row.Row) (revision : ℕ)
-    (row_is : row ≡ row_at st.rows revision) where
+    (row_is : row ≡ put_at st.rows revision) where
   at_revision : (path : List ℕ) (own : stored_row.Row) → live st.rows path ≡ Some own
       → own.revision ≡ revision → row ≡ Some own
-  at_revision path own is at = row_is ∙ ap (row_at st.rows) (sym at)
+  at_revision path own is at = row_is ∙ ap (put_at st.rows) (sym at)
       ∙ (live_at_revision st.rows path own is).0
 
   found_by : (did : Did) → IsAnswer did (Found revision) st held → IsFound did st.rows row
@@ -62,8 +62,8 @@ found_at : (o : Opening) (st : State) (e : Entry) (revision : ℕ) → IsStep o 
 found_at o st e revision s is =
     found_by st e.line.held e.row revision
     (ap (λ (x : Entry). x.row) s.payload
-    ∙ (λ i. row_at (st.rows ++ new_rows (is i) e.line.did e.row) (revision_in (is i)))
-    ∙ ap (λ rows. row_at rows revision) (append-nil st.rows))
+    ∙ (λ i. put_at (st.rows ++ new_rows (is i) e.line.did e.row) (revision_in (is i)))
+    ∙ ap (λ rows. put_at rows revision) (append-nil st.rows))
     e.line.did (subst (λ gave. IsAnswer e.line.did gave st e.line.held) is s.answer)
 
 pub found_is_live : FoundIsLive
@@ -129,7 +129,7 @@ module _ (o : Opening) (st : State) (seat : ℕ) (held : Option ℕ) (faults : �
         new = put_row_at revision path old.resource w.1.5.sealed.stored check;
         held = w.1.2;
         replaced = ap (λ (e : Entry). e.replaced) s.payload
-            ∙ ap (row_at (st.rows ++ put_row row)) (sym w.1.4)
+            ∙ ap (put_at (st.rows ++ put_row row)) (sym w.1.4)
             ∙ row_stays st.rows (put_row row) old.revision at.within ∙ at.row_is;
         written = w.3
             ∙ ap (λ (r : LogRow). row_of revision r.path r.change) w.1.5.sealed.row_is;

@@ -27,3 +27,4 @@ pub mod HonestSeats
 pub mod Budgets
 pub mod Changing
 pub mod Reloading
+pub mod NeedsLive

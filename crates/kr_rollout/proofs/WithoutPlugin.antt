@@ -8,7 +8,7 @@ use Rattle.std.proofs.lemmas.List.Elements.{All-nil, All-cons}
 use Rattle.std.proofs.lemmas.Option.{none-some, same_Some, slice_get_within, get_or_from_slice_get}
 use Rattle.kr_store.specs.declared.rows.LogRow.{LogRow}
 use Rattle.kr_store.specs.declared.rows.Row as stored_row
-use Rattle.kr_store.specs.Rows.{live, row_of, row_at}
+use Rattle.kr_store.specs.Rows.{live, row_of, put_at}
 use Rattle.kr_store.proofs.Places.{row_stays}
 use Rattle.kr_config.specs.declared.who.Who.{Who}
 use Rattle.kr_config.specs.Kept.{Row}
@@ -128,10 +128,10 @@ module _ (opens : Opens) (o : Opening) (st : State) (seat : ℕ) (held : Option 
 
   was_replaced : (more : List LogRow) (path : List ℕ) (from : ℕ) (old : stored_row.Row)
       → live st.rows path ≡ Some old → old.revision ≡ from
-      → replaced ≡ row_at (st.rows ++ more) from → replaced ≡ Some old
+      → replaced ≡ put_at (st.rows ++ more) from → replaced ≡ Some old
   was_replaced more path from old is at e =
       let l = live_at st.rows path old is in
-      e ∙ ap (row_at (st.rows ++ more)) (sym at) ∙ row_stays st.rows more old.revision l.within
+      e ∙ ap (put_at (st.rows ++ more)) (sym at) ∙ row_stays st.rows more old.revision l.within
       ∙ l.row_is
 
   honest_replace : (path : List ℕ) (from revision : ℕ)

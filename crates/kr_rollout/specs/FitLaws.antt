@@ -1,6 +1,13 @@
 -- Laws of states that fit, and of what is refused so that they do.
-use Rattle.std.specs.Prelude.{◌≡◌, ◌≢◌, ◌↔◌, ℕ, ◌<◌, List, [], ◌∷◌, ◌++◌, length, Option, Some}
+use Rattle.std.specs.Prelude.{◌≡◌, ◌≢◌, ◌↔◌, ℕ, ◌<◌, true, List, [], ◌∷◌, ◌++◌, length, Option, None, Some}
 use Rattle.kr_store.specs.declared.rows.LogRow.{LogRow}
+use Rattle.kr_store.specs.declared.rows.Row as stored_row
+use Rattle.kr_store.specs.Rows.{live}
+use Rattle.kr_config.specs.declared.who.Who.{Who}
+use Rattle.kr_config.specs.Lists.{list_of}
+use Rattle.kr_provider.specs.Readers.{is_reader, reader_in}
+use Rattle.kr_judge.specs.declared.need.Need.{Need}
+use Rattle.kr_judge.specs.Boards.{need_at}
 use Rattle.kr_config.specs.Kept.{Row}
 use Rattle.kr_provider.specs.Publication.{Publication, IsPublished}
 use Rattle.kr_judge.specs.declared.verdict.Verdict.{Verdict}
@@ -32,6 +39,30 @@ HoldingIsLive = (o : Opening) (history : List Entry) (seat number : ℕ) (p : Pu
     → holding (of_seat seat_of seat history) ≡ Some (number, p)
     → IsLive (state_of o history) p.rows
 
+-- what a path needs where this is its live row: a provider that reads the row's value, for its
+-- resource; nothing where it has none
+abbrev pub IsNeedOf : (path : List ℕ) → Option stored_row.Row → Option Need → Type 0
+IsNeedOf path None need = need ≡ None
+IsNeedOf path (Some row) need = (who : Who)
+    × (need ≡ Some (record { path = path; resource = row.resource; who = who }))
+    × (is_reader row.stored who ≡ true)
+
+-- in a legal history all that lives, and nothing else, is needed
+abbrev pub NeedsAreLive : Type 0
+NeedsAreLive = (o : Opening) (history : List Entry) (path : List ℕ) → IsLegal o history
+    → IsNeedOf path (live (state_of o history).rows path)
+    (need_at (state_of o history).needs path)
+
+-- so each live generation reads each live row by the provider that it needs
+abbrev pub LiveIsReadable : Type 0
+LiveIsReadable = (o : Opening) (history : List Entry) (path : List ℕ) (row : stored_row.Row)
+    (rows : List Row) → IsLegal o history → live (state_of o history).rows path ≡ Some row
+    → IsLive (state_of o history) rows
+    → (who : Who)
+    × (need_at (state_of o history).needs path
+    ≡ Some (record { path = path; resource = row.resource; who = who }))
+    × (reader_in (list_of rows row.resource) row.stored ≡ Some who)
+
 -- the verdict on a replica's new configuration passes exactly where the state with it fits
 abbrev pub VerdictIsExact : Type 0
 VerdictIsExact = (o : Opening) (history : List Entry) (replica : ℕ) (p : Publication)
@@ -39,7 +70,7 @@ VerdictIsExact = (o : Opening) (history : List Entry) (replica : ℕ) (p : Publi
     → (verdict_on (state_of o history) replica p.rows ≡ Pass)
     ↔ IsFit (with_configuration (state_of o history) replica p)
 
--- so of what is judged that is refused whose state doesn't fit, and nothing else
+-- so what is judged is refused exactly where the state that it would leave doesn't fit
 abbrev pub JudgedByFit : Type 0
 JudgedByFit = (o : Opening) (history : List Entry) (e : Entry) → IsLegal o (history ++ e ∷ [])
     → IsJudged e.line.did (state_of o history)

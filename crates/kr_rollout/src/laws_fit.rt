@@ -1,10 +1,20 @@
 //! Laws of states that fit, and of what is refused so that they do. The functions do nothing.
-ghost use Rattle.kr_rollout.specs.FitLaws.{LegalFits, HoldingIsLive, VerdictIsExact, JudgedByFit, JudgedStateFollows, RefreshIsNotRefused, OpeningFits, StartsWhereItFits, RefusalIsExact};
+ghost use Rattle.kr_rollout.specs.FitLaws.{LegalFits, NeedsAreLive, LiveIsReadable, HoldingIsLive, VerdictIsExact, JudgedByFit, JudgedStateFollows, RefreshIsNotRefused, OpeningFits, StartsWhereItFits, RefusalIsExact};
 
-/// In a legal history the state fits: all that is stored, and all that a live generation writes,
+/// In a legal history the state fits: all that is needed, and all that a live generation writes,
 /// is read by each live generation.
 pub fn legal_fits()
     ensures { LegalFits }
+{}
+
+/// In a legal history all that lives, and nothing else, is needed, by a provider that reads it.
+pub fn needs_are_live()
+    ensures { NeedsAreLive }
+{}
+
+/// In a legal history each live generation reads each live row by the provider that it needs.
+pub fn live_is_readable()
+    ensures { LiveIsReadable }
 {}
 
 /// What a seat holds by its own entries is live.

@@ -31,8 +31,9 @@ pub use laws_content::{
     replaced_is_live,
 };
 pub use laws_fit::{
-    holding_is_live, judged_by_fit, judged_state_follows, legal_fits, opening_fits,
-    refresh_is_not_refused, refusal_is_exact, starts_where_it_fits, verdict_is_exact,
+    holding_is_live, judged_by_fit, judged_state_follows, legal_fits, live_is_readable,
+    needs_are_live, opening_fits, refresh_is_not_refused, refusal_is_exact, starts_where_it_fits,
+    verdict_is_exact,
 };
 pub use line::{Did, Gave, Line};
 pub use opening::{Entry, Opening};
