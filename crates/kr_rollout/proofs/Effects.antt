@@ -186,17 +186,29 @@ some_is None s = absurd (none_is s)
     none_is e = cc
 some_is (Some n) s = (n, refl)
 
+-- a row that is replaced is still there behind more rows
+pub replaced_row : (rows more : List LogRow) (path : List ℕ) (from : ℕ) (old : Row)
+    → live rows path ≡ Some old → old.revision ≡ from → put_at (rows ++ more) from ≡ Some old
+replaced_row rows more path from old is at =
+    let l = live_at rows path old is in
+    ap (put_at (rows ++ more)) (sym at) ∙ row_stays rows more old.revision l.within ∙ l.row_is
+
 -- ---- the kinds
+
+-- an entry by its parts
+abbrev pub entry_with : (seat : ℕ) → (held : Option ℕ) → (faults : ℕ) → Option Publication
+    → (row replaced : Option Row) → Did → Gave → Entry
+entry_with seat held faults published row replaced did gave = record {
+  line = record { seat = seat; did = did; held = held; gave = gave; faults = faults };
+  published = published;
+  row = row;
+  replaced = replaced;
+}
 
 module _ (o : Opening) (st : State) (seat : ℕ) (held : Option ℕ) (faults : ℕ)
     (published : Option Publication) (row replaced : Option Row) where
   abbrev entry : Did → Gave → Entry
-  entry did gave = record {
-    line = record { seat = seat; did = did; held = held; gave = gave; faults = faults };
-    published = published;
-    row = row;
-    replaced = replaced;
-  }
+  entry did gave = entry_with seat held faults published row replaced did gave
 
   -- what was written, was so by what the seat holds
   holds : (did : Did) (revision : ℕ) (p : Publication) → IsStep o st (entry did (Written revision))
@@ -267,14 +279,6 @@ module _ (o : Opening) (st : State) (seat : ℕ) (held : Option ℕ) (faults : �
             (subst (λ v. IsSealing k.p k.old.resource path k.plain v) same_new k.sealing));
       }
 
-  replaced_is : (more : List LogRow) (path : List ℕ) (from : ℕ) (old : Row)
-      → live st.rows path ≡ Some old → old.revision ≡ from
-      → replaced ≡ put_at (st.rows ++ more) from → replaced ≡ Some old
-  replaced_is more path from old is at e =
-      let l = live_at st.rows path old is in
-      e ∙ ap (put_at (st.rows ++ more)) (sym at) ∙ row_stays st.rows more old.revision l.within
-      ∙ l.row_is
-
   put_effect : (path resource plain : List ℕ) (revision : ℕ)
       → IsStep o st (entry (Put path resource plain) (Written revision))
       → Effect o st (entry (Put path resource plain) (Written revision))
@@ -298,8 +302,8 @@ module _ (o : Opening) (st : State) (seat : ℕ) (held : Option ℕ) (faults : �
       let sealed = w.1.5.sealed in
       let check = written_check o.format p old.resource in
       let row_is = w.3 ∙ ap (λ (r : LogRow). row_of revision r.path r.change) sealed.row_is in
-      let old_is = replaced_is (put_row row) path from old w.1.3 w.1.4
-      (ap (λ (e : Entry). e.replaced) s.payload) in
+      let old_is = ap (λ (e : Entry). e.replaced) s.payload
+      ∙ replaced_row st.rows (put_row row) path from old w.1.3 w.1.4 in
       replaces_value path sealed.stored old p check
       (holds (Replace path from) revision p s s.answer.0 w.1.2) w.1.3
       (record { plain = w.1.5.plain; reads = w.1.5.reads; sealing = sealed.sealing })

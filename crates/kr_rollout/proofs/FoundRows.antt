@@ -3,7 +3,7 @@ use Rattle.std.proofs.Common.{◌≡◌, ℕ, List, ◌++◌, Option, Some, refl
 use Rattle.kr_store.specs.declared.rows.LogRow.{LogRow}
 use Rattle.kr_store.specs.declared.rows.Row as stored_row
 use Rattle.kr_store.specs.Rows.{live, row_of, put_at}
-use Rattle.kr_store.proofs.Places.{live_at_revision, row_stays}
+use Rattle.kr_store.proofs.Places.{live_at_revision}
 use Rattle.std.proofs.lemmas.Option.{same_Some}
 use Rattle.kr_rollout.specs.declared.line.Did.{Did}
 use Rattle.kr_rollout.specs.declared.line.Did.TheVariants.{Adopt, Fetch, After, Put, Delete, Replace, LetGo, Reload, Join, Leave}
@@ -20,8 +20,8 @@ use Rattle.kr_rollout.specs.Steps.{IsStep, new_rows, put_row}
 use Rattle.kr_rollout.specs.Histories.{state_of}
 use Rattle.kr_rollout.specs.ContentLaws.{IsRowFor, FoundIsLive, FoundReads, AbsentIsNothing, ShowsReplaced, ReplacedIsLive}
 use Rattle.kr_rollout.proofs.Judging.{next_step}
+use Rattle.kr_rollout.proofs.Effects.{entry_with, replaced_row}
 use Rattle.kr_rollout.proofs.ContentSteps.{nothing_is_absent, put_row_at}
-use Rattle.kr_rollout.proofs.Revisions.{live_at}
 use Rattle.kr_rollout.proofs.ContentReads.{live_reads}
 
 -- the row is the one that the event finds
@@ -108,12 +108,7 @@ absent_is_nothing opens o history e path l did_is gave_is =
 module _ (o : Opening) (st : State) (seat : ℕ) (held : Option ℕ) (faults : ℕ)
     (published : Option Publication) (row replaced : Option stored_row.Row) where
   abbrev entry : Did → Gave → Entry
-  entry did gave = record {
-    line = record { seat = seat; did = did; held = held; gave = gave; faults = faults };
-    published = published;
-    row = row;
-    replaced = replaced;
-  }
+  entry did gave = entry_with seat held faults published row replaced did gave
 
   replaced_shown : (path : List ℕ) (from revision : ℕ)
       → IsStep o st (entry (Replace path from) (Written revision))
@@ -121,7 +116,6 @@ module _ (o : Opening) (st : State) (seat : ℕ) (held : Option ℕ) (faults : �
   replaced_shown path from revision s =
       let w = s.writes in
       let old = w.1.1 in
-      let at = live_at st.rows path old w.1.3 in
       let check = written_check o.format w.1.0 old.resource in
       record {
         p = w.1.0;
@@ -129,8 +123,7 @@ module _ (o : Opening) (st : State) (seat : ℕ) (held : Option ℕ) (faults : �
         new = put_row_at revision path old.resource w.1.5.sealed.stored check;
         held = w.1.2;
         replaced = ap (λ (e : Entry). e.replaced) s.payload
-            ∙ ap (put_at (st.rows ++ put_row row)) (sym w.1.4)
-            ∙ row_stays st.rows (put_row row) old.revision at.within ∙ at.row_is;
+            ∙ replaced_row st.rows (put_row row) path from old w.1.3 w.1.4;
         written = w.3
             ∙ ap (λ (r : LogRow). row_of revision r.path r.change) w.1.5.sealed.row_is;
         was_live = w.1.3;

@@ -29,7 +29,7 @@ use Rattle.kr_rollout.specs.Judgements.{IsJudged, judged_state, IsDone, AnswersF
 use Rattle.kr_rollout.specs.FitLaws.{VerdictIsExact, JudgedByFit, JudgedStateFollows, RefreshIsNotRefused, OpeningFits, StartsWhereItFits, RefusalIsExact, HoldingIsLive}
 use Rattle.kr_rollout.proofs.Sound.{contains_at, IsSound, next_fits, next_passes, same_passes}
 use Rattle.kr_rollout.proofs.Fitting.{live_less, legal_sound, held_live}
-use Rattle.kr_rollout.proofs.Effects.{Holds, given}
+use Rattle.kr_rollout.proofs.Effects.{Holds, given, entry_with}
 use Rattle.kr_rollout.proofs.Appending.{state_more}
 use Rattle.kr_rollout.proofs.Holdings.{holding_of}
 
@@ -231,12 +231,7 @@ refusal_is_exact rows replicas NoMemory n m = refl
 module _ (o : Opening) (st : State) (seat : ℕ) (held : Option ℕ) (faults : ℕ)
     (published : Option Publication) (row replaced : Option stored_row.Row) where
   abbrev entry : Did → Gave → Entry
-  entry did gave = record {
-    line = record { seat = seat; did = did; held = held; gave = gave; faults = faults };
-    published = published;
-    row = row;
-    replaced = replaced;
-  }
+  entry did gave = entry_with seat held faults published row replaced did gave
 
   follows_by : (did : Did) (gave : Gave) → IsStep o st (entry did gave) → IsDone gave
       → after st (entry did gave) ≡ record (judged_state did st) { count = faults }

@@ -8,8 +8,7 @@ use Rattle.std.proofs.lemmas.List.Elements.{All-nil, All-cons}
 use Rattle.std.proofs.lemmas.Option.{none-some, same_Some, slice_get_within, get_or_from_slice_get}
 use Rattle.kr_store.specs.declared.rows.LogRow.{LogRow}
 use Rattle.kr_store.specs.declared.rows.Row as stored_row
-use Rattle.kr_store.specs.Rows.{live, row_of, put_at}
-use Rattle.kr_store.proofs.Places.{row_stays}
+use Rattle.kr_store.specs.Rows.{live, row_of}
 use Rattle.kr_config.specs.declared.who.Who.{Who}
 use Rattle.kr_config.specs.Kept.{Row}
 use Rattle.kr_config.specs.Lists.{list_of}
@@ -39,8 +38,8 @@ use Rattle.kr_rollout.specs.Histories.{state_from, state_of, IsRun}
 use Rattle.kr_rollout.specs.Contents.{ContentChange, puts, deletes, last_change, OpeningContent, ContentBy}
 use Rattle.kr_rollout.specs.Honesty.{SeedsOpen, KeepsData, IsHonestEntry}
 use Rattle.kr_rollout.specs.ContentLaws.{NamesNoPlugin, HonestWithoutPlugin, ContentWithoutPlugin}
-use Rattle.kr_rollout.proofs.Revisions.{live_at}
-use Rattle.kr_rollout.proofs.Fitting.{old_more, new_there}
+use Rattle.kr_rollout.proofs.Effects.{entry_with, replaced_row}
+use Rattle.kr_rollout.proofs.Sound.{get_new, old_more}
 use Rattle.kr_rollout.proofs.ContentSteps.{put_row_at}
 
 -- ---- configurations
@@ -112,27 +111,14 @@ generations_stay st (first ∷ history) number g e =
 module _ (opens : Opens) (o : Opening) (st : State) (seat : ℕ) (held : Option ℕ) (faults : ℕ)
     (published : Option Publication) (row replaced : Option stored_row.Row) where
   abbrev entry : Did → Gave → Entry
-  entry did gave = record {
-    line = record { seat = seat; did = did; held = held; gave = gave; faults = faults };
-    published = published;
-    row = row;
-    replaced = replaced;
-  }
+  entry did gave = entry_with seat held faults published row replaced did gave
 
   honest_given : (replica : ℕ) (p : Publication) → IsPublished p
       → AreWithout (st.generations ++ record { replica = replica; published = p } ∷ [])
       → SeedsOpen opens p
   honest_given replica p k n = no_seeds opens p k
       (n (length st.generations) (record { replica = replica; published = p })
-      (new_there st.generations (record { replica = replica; published = p })))
-
-  was_replaced : (more : List LogRow) (path : List ℕ) (from : ℕ) (old : stored_row.Row)
-      → live st.rows path ≡ Some old → old.revision ≡ from
-      → replaced ≡ put_at (st.rows ++ more) from → replaced ≡ Some old
-  was_replaced more path from old is at e =
-      let l = live_at st.rows path old is in
-      e ∙ ap (put_at (st.rows ++ more)) (sym at) ∙ row_stays st.rows more old.revision l.within
-      ∙ l.row_is
+      (get_new st.generations (record { replica = replica; published = p })))
 
   honest_replace : (path : List ℕ) (from revision : ℕ)
       → IsStep o st (entry (Replace path from) (Written revision))
@@ -153,8 +139,8 @@ module _ (opens : Opens) (o : Opening) (st : State) (seat : ℕ) (held : Option 
         new = put_row_at revision path old.resource anew.sealed.stored check;
         plain = anew.plain;
         held = w.1.2;
-        replaced = was_replaced (put_row row) path from old w.1.3 w.1.4
-            (ap (λ (e : Entry). e.replaced) s.payload);
+        replaced = ap (λ (e : Entry). e.replaced) s.payload
+            ∙ replaced_row st.rows (put_row row) path from old w.1.3 w.1.4;
         written = w.3
             ∙ ap (λ (r : LogRow). row_of revision r.path r.change) anew.sealed.row_is;
         reads = some_reads opens (list_at p old.resource) path old.stored (data_of anew.plain)
