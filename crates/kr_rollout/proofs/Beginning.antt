@@ -206,10 +206,7 @@ start_fits o m = fit_less (IsLive (start_of o))
     (λ rows. Contains (settings_of o.replicas) (Some rows)) (start_of o).needs
     (λ rows l. is_replicas 0 o.replicas l.0 rows l.2) m.fit
 
--- --none_within : (n : ℕ) → 0 ≤ n
-none_within n = omega arith
-
--- a core with no line
+-- ---- a core with no line
 
 pub admitted : (names : List (List ℕ)) (rs : List (Option Publication)) → AreAmong names rs
     → All (λ replica. IfSome replica IsPublished) rs
@@ -234,8 +231,9 @@ start_legal o rows first each m = record {
 
 module _ (store : Kept) (rs : List (Option Publication)) (names : List (List ℕ)) (reloads : List ℕ)
     (b : BoardState) (generations : List Generation) (current held : List (Option ℕ))
-    (kept : List ℕ) (first count room : ℕ) (first_is : first ≡ length store.rows)
-    (count_is : count ≡ store.count) (generations_is : generations ≡ generations_from 0 rs)
+    (kept : List ℕ) (first count : ℕ) (torn : Bool) (room : ℕ)
+    (first_is : first ≡ length store.rows)
+    (count_is : count ≡ store.count) (torn_is : torn ≡ store.torn) (generations_is : generations ≡ generations_from 0 rs)
     (current_is : current ≡ current_from 0 rs) (held_is : held ≡ replicate (length reloads) None)
     (kept_is : kept ≡ reloads) (room_is : room ≡ length rs + sum reloads)
     (boards : Boards store.rows (settings_of rs) room (Ok b)) where
@@ -251,7 +249,7 @@ module _ (store : Kept) (rs : List (Option Publication)) (names : List (List ℕ
       ∙ sym (start_board (opening_by store rs names reloads))
 
   pub opened : ◌≡◌ {A = RolloutState} (record {
-    opening = opening_of store first rs names kept count;
+    opening = opening_of store first rs names kept count torn;
     state = state_with store b generations current held;
   })
       (record {
@@ -274,6 +272,7 @@ module _ (store : Kept) (rs : List (Option Publication)) (names : List (List ℕ
           limit =
               store.limit;
           count = count_is i;
+          torn = torn_is i;
         };
         state = record {
           generations = generations_is i;
@@ -285,7 +284,7 @@ module _ (store : Kept) (rs : List (Option Publication)) (names : List (List ℕ
         };
       })
 
-  pub opened_rollout : length reloads ≤ 64 → IsRollout (opening_of store first rs names kept count)
+  pub opened_rollout : length reloads ≤ 64 → IsRollout (opening_of store first rs names kept count torn)
       (state_with store b generations current held) b
   opened_rollout few =
       subst (λ (c : RolloutState). IsRollout c.opening c.state b) (sym opened)

@@ -184,7 +184,10 @@ is_newest current held gs replica p l k =
     (ap (is_number m) (get_or-set_same current replica (Some m) None l) ∙ eq-eqb m m refl) in
     let free : count_by (is_number m) held ≡ 0 =
     none_counted m held (λ place e. omega (arith, k place m e)) in
-    sym (λ i. record { replica = replica; rows = p.rows; current = live i; holders = free i })
+    let judged : judged_generation (slice_set current replica (Some m)) held m
+    (record { replica = replica; published = p }) ≡ newest replica p =
+    (λ i. record { replica = replica; rows = p.rows; current = live i; holders = free i }) in
+    sym judged
 
 pub board_grown : (current held : List (Option ℕ)) (gs : List Generation) (replica : ℕ)
     (p : Publication) → replica < length current → AreOwn current gs → AreNumbers held gs

@@ -28,3 +28,4 @@ pub mod Budgets
 pub mod Changing
 pub mod Reloading
 pub mod NeedsLive
+pub mod Growing

@@ -97,8 +97,12 @@ module _ (old : RolloutState) (kept : BoardState) (seat replica : ℕ) (p : Publ
           → IfSome h (λ n. n < length (old.state.generations
           ++ record { replica = replica; published = p } ∷ []))
       by None m = tt
-      by (Some n) m = omega (arith, m, length-append old.state.generations
-          (record { replica = replica; published = p } ∷ []))
+      by (Some n) m = omega (
+        arith,
+        m,
+        length-append old.state.generations
+            (record { replica = replica; published = p } ∷ []),
+      )
 
   reload_serves : (expect : Option ℕ) → MayServe old seat (event.Reload replica p expect)
       → HasExpected old.state replica expect

@@ -180,6 +180,11 @@ made_step rs generations i None a l e = subst (λ g. AreMade rs g (i + 1))
     (sym (append-nil generations)) (made_gap rs generations i a l e)
 made_step rs generations i (Some p) a l e = made_more rs generations i p a l e
 
+pub made_all : (rs : List (Option Publication)) (generations kept later : List Generation) (i : ℕ)
+    → AreMade rs generations i → length rs ≤ i → kept ≡ generations → later ≡ kept
+    → later ≡ generations_from 0 rs
+made_all rs generations kept later i a l e f = f ∙ e ∙ a.is ∙ ap (generations_from 0) (take_all i rs l)
+
 pub made_end : (rs : List (Option Publication)) (generations : List Generation) (i : ℕ)
     → AreMade rs generations i → length rs ≤ i → generations ≡ generations_from 0 rs
 made_end rs generations i a l = a.is ∙ ap (generations_from 0) (take_all i rs l)

@@ -1,5 +1,5 @@
 -- Events that write to the store: that their lines' entries are steps.
-use Rattle.std.proofs.Common.{◌≡◌, ℕ, suc, ◌<◌, ◌≤◌, ◌+◌, List, [], ◌∷◌, ◌++◌, length, take, get_or, is_some, Option, None, Some, IfSome, Result, Ok, Err, refl, sym, ap, subst, ◌∙◌, arith, append-nil, length-append}
+use Rattle.std.proofs.Common.{◌≡◌, ℕ, suc, ◌<◌, ◌≤◌, ◌+◌, Bool, List, [], ◌∷◌, ◌++◌, length, take, get_or, is_some, Option, None, Some, IfSome, Result, Ok, Err, refl, sym, ap, subst, ◌∙◌, arith, append-nil, length-append}
 use Rattle.std.specs.List.{slice_get}
 use Rattle.std.specs.Option.{option_map}
 use Rattle.std.proofs.lemmas.List.{take-append-le}
@@ -37,7 +37,6 @@ use Rattle.kr_rollout.specs.inner.Rollouts.{RolloutState, opening_of, state_with
 use Rattle.kr_rollout.specs.inner.Writing.{written_as, deleted_as, needs_with, needs_without, sealed_over, ReplacesBy}
 use Rattle.std.proofs.lemmas.Option.{same_Some}
 use Rattle.kr_rollout.proofs.Revisions.{live_at, at_within}
-use Rattle.kr_rollout.proofs.Keeping.{read_published}
 use Rattle.kr_rollout.proofs.Serving.{held_in}
 
 -- ---- a step between two courses
@@ -100,13 +99,13 @@ seen here old next seat asked given ans gave line view ans_is gave_is line_is s 
 
 -- the configuration that a seat holds is the one that is read
 pub own_published : (generations : List Generation) (held : List (Option ℕ)) (seat number n : ℕ)
-    (p q : Publication) (g : Generation) → number_at held seat ≡ Some number
+    (p q own : Publication) → number_at held seat ≡ Some number
     → number_at held seat ≡ Some n → published_at generations (Some n) ≡ Some p
-    → number < length generations → g ≡ get_or generations number g → q ≡ g.published → p ≡ q
-own_published generations held seat number n p q g a b there l is e =
+    → published_at generations (Some number) ≡ Some own → q ≡ own → p ≡ q
+own_published generations held seat number n p q own a b there is e =
     let same : number ≡ n = same_Some number n (sym a ∙ b) in
     same_Some p q (sym there ∙ ap (λ k. published_at generations (Some k)) (sym same)
-    ∙ read_published generations number g l is ∙ ap (λ (x : Publication). Some x) (sym e))
+    ∙ is ∙ ap (λ (x : Publication). Some x) (sym e))
 
 -- a put leaves the rows, or one more
 pub puts_grow : (store next : Kept) (row : LogRow) (result : Result ℕ PutNo)
@@ -173,17 +172,17 @@ names_any generations (Some n) gave e l = l
 module _ (store next : Kept) (kept later : BoardState) (generations : List Generation)
     (current held : List (Option ℕ))
     (first : ℕ) (rs : List (Option Publication)) (names : List (List ℕ)) (reloads : List ℕ)
-    (count : ℕ) where
+    (count : ℕ) (torn : Bool) where
   abbrev here : RolloutState
   here = record {
-    opening = opening_of store first rs names reloads count;
+    opening = opening_of store first rs names reloads count torn;
     state =
         state_with store kept generations current held;
   }
 
   abbrev soon : RolloutState
   soon = record {
-    opening = opening_of next first rs names reloads count;
+    opening = opening_of next first rs names reloads count torn;
     state =
         state_with next later generations current held;
   }
@@ -191,7 +190,7 @@ module _ (store next : Kept) (kept later : BoardState) (generations : List Gener
   -- the opening stays
   pub same_opening : (more : List LogRow) → first ≤ length store.rows
       → next.rows ≡ store.rows ++ more → next.limit ≡ store.limit → next.format ≡ store.format
-      → opening_of next first rs names reloads count ≡ opening_of store first rs names reloads count
+      → opening_of next first rs names reloads count torn ≡ opening_of store first rs names reloads count torn
   same_opening more l e limit format =
       let r : take first next.rows ≡ take first store.rows = ap (take first) e
       ∙ take-append-le first store.rows more l in
@@ -203,21 +202,22 @@ module _ (store next : Kept) (kept later : BoardState) (generations : List Gener
         reloads = reloads;
         limit = limit i;
         count = count;
+        torn = torn;
       })
 
   -- what holds of the course stays
   pub same_rollout : (more : List LogRow) (needs : List Need) → first ≤ length store.rows
       → next.rows ≡ store.rows ++ more → next.limit ≡ store.limit → next.format ≡ store.format
       → later ≡ record kept { needs = needs }
-      → IsRollout (opening_of store first rs names reloads count)
+      → IsRollout (opening_of store first rs names reloads count torn)
       (state_with store kept generations current held) kept
-      → IsRollout (opening_of next first rs names reloads count)
+      → IsRollout (opening_of next first rs names reloads count torn)
       (state_with next later generations current held) later
   same_rollout more needs l e limit format later_is k =
       subst (λ o. IsRollout o (state_with next later generations current held) later)
       (sym (same_opening more l e limit format)) (record {
         board_is = later_is ∙ ap (λ (b : BoardState). record b { needs = needs }) k.board_is
-            ∙ ap (λ n. record (board (opening_of store first rs names reloads count)
+            ∙ ap (λ n. record (board (opening_of store first rs names reloads count torn)
             (state_with store kept generations current held)) { needs = n })
             (sym (ap (λ (b : BoardState). b.needs) later_is));
         current = k.current;
@@ -231,9 +231,9 @@ module _ (store next : Kept) (kept later : BoardState) (generations : List Gener
   pub grown_rollout : (needs : List Need) (row : LogRow) (result : Result ℕ PutNo)
       → first ≤ length store.rows → Puts store next row result
       → later ≡ record kept { needs = needs }
-      → IsRollout (opening_of store first rs names reloads count)
+      → IsRollout (opening_of store first rs names reloads count torn)
       (state_with store kept generations current held) kept
-      → IsRollout (opening_of next first rs names reloads count)
+      → IsRollout (opening_of next first rs names reloads count torn)
       (state_with next later generations current held) later × (first ≤ length next.rows)
   grown_rollout needs row result l p later_is k =
       let g = puts_grow store next row result p in (
@@ -265,7 +265,7 @@ module _ (store next : Kept) (kept later : BoardState) (generations : List Gener
         count = next.count;
       })
 
-  module _ (seat : ℕ) (k : IsRollout (opening_of store first rs names reloads count)
+  module _ (seat : ℕ) (k : IsRollout (opening_of store first rs names reloads count torn)
       (state_with store kept generations current held) kept) (l : seat < length reloads)
       (room : first ≤ length store.rows) where
     -- ---- a put

@@ -100,6 +100,7 @@ opening_by store replicas names reloads = record {
   reloads = reloads;
   limit = store.limit;
   count = store.count;
+  torn = store.torn;
 }
 
 -- how many generations there may be

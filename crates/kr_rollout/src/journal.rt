@@ -1,5 +1,6 @@
 //! The core: a rollout and its journal.
-ghost use Rattle.std.specs.Prelude.{◌≡◌, ◌<◌, ◌≤◌, length, map, sum, IfErr};
+ghost use Rattle.std.specs.Prelude.{◌≡◌, ◌<◌, ◌≤◌, ◌⊎◌, true, length, map, sum, IfErr};
+ghost use Rattle.kr_base.specs.Faults.{Rose};
 ghost use Rattle.kr_rollout.specs.Callers.{MayAsk};
 ghost use Rattle.kr_rollout.specs.Cores.{Applies};
 ghost use Rattle.kr_rollout.specs.Entries.{seat_of};
@@ -122,6 +123,8 @@ impl<T: Tape> Core<T> {
         ensures count { result.0.count ≡ (state_of self.opening self.history).count }
         ensures format { result.0.format ≡ self.opening.format }
         ensures limit { result.0.limit ≡ self.opening.limit }
+        ensures torn { result.0.torn ≡ true
+            → (self.opening.torn ≡ true) ⊎ Rose self.opening.count result.0.count }
         ensures lines { result.1.0 ≡ map (λ entry. entry.line) self.history }
     {
         let Core {

@@ -19,7 +19,10 @@ pub(crate) enum Judged {
         published: Shared<Published>,
     },
     /// It is refused for this reason: one for the answer, one for the line.
-    Refused { told: Verdict, kept: Verdict },
+    Refused {
+        told: Verdict,
+        kept: Verdict,
+    },
 }
 
 /// Judges the configuration for the replica.

@@ -68,10 +68,12 @@ impl<T: Tape> Rollout<T> {
             expect,
         };
         match judged {
-            Ok(Judged::Fits {
-                settings,
-                published,
-            }) => {
+            Ok(
+                Judged::Fits {
+                    settings,
+                    published,
+                },
+            ) => {
                 let generation = self.take_up(replica, settings, published);
                 let line = self.line(seat, did, Gave::Reloaded { generation });
                 return (Answer::Reloaded { generation }, line);
@@ -104,10 +106,12 @@ impl<T: Tape> Rollout<T> {
         let judged = judge(self.alloc, &self.board, replica, &published);
         let did = Did::Join { replica, published };
         match judged {
-            Ok(Judged::Fits {
-                settings,
-                published,
-            }) => {
+            Ok(
+                Judged::Fits {
+                    settings,
+                    published,
+                },
+            ) => {
                 let generation = self.take_up(replica, settings, published);
                 let line = self.line(seat, did, Gave::Joined { generation });
                 return (Answer::Joined { generation }, line);

@@ -43,6 +43,7 @@ impl<T: Tape> Rollout<T> {
         };
         let first_rows = store.revision();
         let first_faults = store.faults();
+        let first_torn = store.torn();
         Ok(Rollout {
             store,
             board,
@@ -54,6 +55,7 @@ impl<T: Tape> Rollout<T> {
             names,
             reloads: made.reloads,
             first_faults,
+            first_torn,
             alloc,
         })
     }
@@ -138,7 +140,7 @@ fn settings_in(replica: &Option<Shared<Published>>) -> Result<Option<Shared<Sett
 }
 
 /// The generations of the replicas that are in, with room for so many more.
-#[tactic(auto, using(crate::proofs::Sharing::made_begin, crate::proofs::Sharing::made_step, crate::proofs::Sharing::made_end))]
+#[tactic(auto, using(crate::proofs::Sharing::made_begin, crate::proofs::Sharing::made_step, crate::proofs::Sharing::made_end, crate::proofs::Sharing::made_all))]
 fn share_generations(
     alloc: Global,
     replicas: &[Option<Shared<Published>>],

@@ -14,6 +14,7 @@ ghost use Rattle.kr_rollout.specs.inner.Writing.{refused_as, written_as, deleted
 
 use crate::answer::Answer;
 use crate::check::store_check;
+use crate::generation::published_of;
 use crate::line::{Did, Gave, Line};
 use crate::rollout::Rollout;
 use kr_base::{Bytes, NoMemory, Tape, Text};
@@ -249,7 +250,7 @@ impl<T: Tape> Rollout<T> {
         let Some(number) = self.held[seat as usize] else {
             unreachable!()
         };
-        let published = self.generations.as_slice()[number as usize].published.get();
+        let published = published_of(self.generations.as_slice(), number).get();
         known(published);
         let who = writer_of(published, resource.as_str());
         let result = put_value(
@@ -295,7 +296,7 @@ impl<T: Tape> Rollout<T> {
         let Some(number) = self.held[seat as usize] else {
             unreachable!()
         };
-        let published = self.generations.as_slice()[number as usize].published.get();
+        let published = published_of(self.generations.as_slice(), number).get();
         known(published);
         let result = replace_live(
             &mut self.store,

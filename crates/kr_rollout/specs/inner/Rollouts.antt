@@ -1,5 +1,5 @@
 -- What the core keeps beside its journal, and how it serves an event.
-use Rattle.std.specs.Prelude.{◌≡◌, ℕ, ◌<◌, ◌≤◌, ◌+◌, ◌⊎◌, List, [], length, get_or, take, map, Option, None, Some, IsSome}
+use Rattle.std.specs.Prelude.{◌≡◌, ℕ, ◌<◌, ◌≤◌, ◌+◌, ◌⊎◌, Bool, true, List, [], length, get_or, take, map, Option, None, Some, IsSome}
 use Rattle.std.specs.List.{slice_get}
 use Rattle.std.specs.Option.{option_map}
 use Rattle.kr_base.specs.Rules.{IsPath, IsResource}
@@ -18,6 +18,7 @@ use Rattle.kr_rollout.specs.declared.line.Gave.{Gave}
 use Rattle.kr_rollout.specs.declared.line.Line.{Line}
 use Rattle.kr_rollout.specs.declared.opening.Entry.{Entry}
 use Rattle.kr_rollout.specs.declared.opening.Opening.{Opening}
+use Rattle.kr_base.specs.Faults.{Rose}
 use Rattle.kr_base.specs.Lines.{of_seat}
 use Rattle.kr_rollout.specs.Entries.{entry_of, published_at, seat_of}
 use Rattle.kr_rollout.specs.States.{State, number_at, held_by}
@@ -32,8 +33,9 @@ pub record RolloutState : Type 0 where
   pub state : State
 
 -- the opening's rows are the first ones of the store
-abbrev pub opening_of : Kept → ℕ → List (Option Publication) → List (List ℕ) → List ℕ → ℕ → Opening
-opening_of store first replicas names reloads count = record {
+abbrev pub opening_of : Kept → ℕ → List (Option Publication) → List (List ℕ) → List ℕ → ℕ → Bool
+    → Opening
+opening_of store first replicas names reloads count torn = record {
   format = store.format;
   rows = take first store.rows;
   replicas = replicas;
@@ -41,6 +43,7 @@ opening_of store first replicas names reloads count = record {
   reloads = reloads;
   limit = store.limit;
   count = count;
+  torn = torn;
 }
 
 abbrev pub state_with : Kept → BoardState → List Generation → (current held : List (Option ℕ))
@@ -73,6 +76,12 @@ pub record IsRollout (o : Opening) (st : State) (kept : BoardState) : Type 0 whe
   pub replicas : length st.current ≡ length o.replicas
   pub seats : length st.held ≡ length o.reloads
   pub few : length o.reloads ≤ 64
+
+-- the store's faults beside those at the start: their count never falls, and it rose since then
+-- where a write has failed since then
+pub record KeepsFaults (torn : Bool) (count : ℕ) (store : Kept) : Type 0 where
+  pub later : count ≤ store.count
+  pub torn_since : store.torn ≡ true → (torn ≡ true) ⊎ Rose count store.count
 
 -- the replica may be given the settings: they name no other plugins, and there is room for one
 -- more generation

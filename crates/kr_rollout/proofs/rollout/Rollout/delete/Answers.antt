@@ -5,7 +5,25 @@ use Rattle.kr_rollout.specs.Callers.{gave_of}
 use Rattle.kr_rollout.specs.inner.Rollouts.{RolloutState, MayServe}
 use Rattle.kr_rollout.specs.inner.Writing.{deleted_as, needs_without}
 use Rattle.kr_rollout.proofs.Storing.{seen, delete_serves}
+use Rattle.kr_rollout.proofs.Growing.{faults_delete, grown_delete}
 use Rattle.kr_rollout.proofs.rollout.Rollout.delete.Goals as goal
+
+pub invariant_of-self : goal.invariant_of-self
+invariant_of-self g c =
+    let grown = grown_delete c.self.inside.store c.delete_value-result.new.store
+    c.self.inside.board c.delete_value-result.new.board c.self.inside.generations.0
+    c.self.inside.current.items c.self.inside.held.items c.self.inside.first_rows
+    c.self.inside.replicas.0 c.self.inside.names.0 c.self.inside.reloads.items
+    c.self.inside.first_faults c.self.inside.first_torn c.self.invariant.1 c.self.invariant.0
+    c.as_str.result.now c.delete_value-result.result c.delete_value-result.ensures.store
+    c.delete_value-result.ensures.board in (
+      grown.0,
+      grown.1,
+      c.self.invariant.2,
+      faults_delete c.self.inside.first_torn c.self.inside.first_faults c.self.inside.store
+          c.delete_value-result.new.store c.as_str.result.now c.delete_value-result.result
+          c.delete_value-result.ensures.store c.self.invariant.3,
+    )
 
 pub returns : goal.returns
 returns g c =
@@ -21,6 +39,7 @@ returns g c =
     c.delete_value-result.new.board c.self.inside.generations.0 c.self.inside.current.items
     c.self.inside.held.items c.self.inside.first_rows c.self.inside.replicas.0
     c.self.inside.names.0 c.self.inside.reloads.items c.self.inside.first_faults
+    c.self.inside.first_torn
     c.args.seat c.self.invariant.0 l c.self.invariant.1 c.args.path may c.delete_value-result.result
     (subst (λ path. Deletes c.self.inside.store c.delete_value-result.new.store path
     c.delete_value-result.result) c.as_str.ensures c.delete_value-result.ensures.store)

@@ -3,7 +3,7 @@ use Rattle.std.specs.Prelude.{sum, true, slice_set}
 use Rattle.kr_judge.specs.Boards.{BoardState, without_current}
 use Rattle.kr_rollout.specs.declared.generation.Generation.{Generation}
 use Rattle.kr_rollout.specs.Openings.{room_of}
-use Rattle.kr_rollout.specs.inner.Rollouts.{RolloutState, IsRollout, state_with}
+use Rattle.kr_rollout.specs.inner.Rollouts.{RolloutState, IsRollout, opening_of, state_with}
 use Rattle.kr_rollout.proofs.Changing.{board_long, board_room, rollout_grown, taken_view}
 use Rattle.kr_rollout.proofs.rollout.Rollout.take_up.Goals as goal
 
@@ -46,14 +46,17 @@ invariant_of-self g c =
       generations = without_current c.args.replica c.self.inside.board.generations
           ++ record { replica = c.args.replica; rows = rows; current = true; holders = 0 } ∷ [];
     }) c.requires.same in
-    let base = rollout_grown _ c.self.inside.store c.self.inside.board c.add-number.new.self
+    let o = opening_of c.self.inside.store c.self.inside.first_rows c.self.inside.replicas.0
+    c.self.inside.names.0 c.self.inside.reloads.items c.self.inside.first_faults
+    c.self.inside.first_torn in
+    let base = rollout_grown o c.self.inside.store c.self.inside.board c.add-number.new.self
     c.self.inside.generations.0 c.self.inside.current.items c.self.inside.held.items
     c.self.invariant.0 c.args.replica c.args.published replica added in (
-      subst (λ (l : List Generation). IsRollout _ (state_with c.self.inside.store
+      subst (λ (l : List Generation). IsRollout o (state_with c.self.inside.store
           c.add-number.new.self l
           (slice_set c.self.inside.current.items c.args.replica (Some c.add-number.result))
           c.self.inside.held.items) c.add-number.new.self) (sym c.push_in_room.ensures.items)
-          (subst (λ n. IsRollout _ (state_with c.self.inside.store c.add-number.new.self
+          (subst (λ n. IsRollout o (state_with c.self.inside.store c.add-number.new.self
           (c.self.inside.generations.0
           ++ record { replica = c.args.replica; published = c.args.published } ∷ [])
           (slice_set c.self.inside.current.items c.args.replica (Some n))
@@ -67,6 +70,7 @@ invariant_of-self g c =
         length-append c.self.inside.generations.0
             (record { replica = c.args.replica; published = c.args.published } ∷ []),
       ),
+      c.self.invariant.3,
     )
 
 pub returns-clause-number : goal.returns-clause-number
