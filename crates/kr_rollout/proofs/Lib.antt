@@ -24,3 +24,9 @@ pub mod Judging
 pub mod Reloading
 pub mod Sound
 pub mod Alone
+pub mod ContentSteps
+pub mod ContentReads
+pub mod FoundRows
+pub mod WithoutPlugin
+pub mod HonestSeats
+pub mod NeedsLive

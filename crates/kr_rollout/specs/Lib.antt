@@ -17,3 +17,4 @@ pub mod Judgements
 pub mod Contents
 pub mod Honesty
 pub mod FitLaws
+pub mod ContentLaws
