@@ -164,7 +164,7 @@ impl Board {
         self.generations.live()
     }
 
-    /// The paths whose data need the provider in the list of the resource, in their order, which are
+    /// The paths whose data need the provider in the list of the resource, in their order. They are
     /// kept with their number; while there is a proposal of such a need, its path is among them.
     pub fn paths(&self, resource: &str, who: &Who) -> Option<&PathSet>
         ensures some { IfSome result (λ paths. paths.now

@@ -1,4 +1,4 @@
-//! Tests of boards and verdicts that the stored run of kr_boards doesn't hold.
+//! What the stored run of kr_boards doesn't show of verdicts.
 #![tactic(auto)]
 
 #[cfg(test)]

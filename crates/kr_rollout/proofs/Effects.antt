@@ -6,11 +6,11 @@ use Rattle.std.proofs.lemmas.Option.{same_Some}
 use Rattle.kr_store.specs.declared.format.Check.{Check}
 use Rattle.kr_store.specs.declared.rows.LogRow.{LogRow}
 use Rattle.kr_store.specs.declared.rows.Row.{Row}
-use Rattle.kr_store.specs.Rows.{live, put_of, delete_of, row_of, row_at}
+use Rattle.kr_store.specs.Rows.{live, put_of, delete_of, row_of, put_at}
 use Rattle.kr_store.proofs.Places.{row_stays}
 use Rattle.kr_kms.specs.Truth.{Opens}
 use Rattle.kr_provider.specs.Publication.{Publication, IsPublished, list_at, writer_at}
-use Rattle.kr_provider.specs.Reading.{data_of, HasReading}
+use Rattle.kr_provider.specs.Reading.{data_of, HasReading, HasSomeReading}
 use Rattle.kr_provider.specs.Sealing.{IsSealing}
 use Rattle.kr_judge.specs.declared.need.Need.{Need}
 use Rattle.kr_judge.specs.declared.verdict.Verdict.TheVariants.{Pass}
@@ -39,6 +39,13 @@ pub record SealsAnew (opens : Opens) (p : Publication) (path : List ℕ) (old : 
     (stored : List ℕ) : Type 0 where
   pub plain : List ℕ
   pub reads : HasReading opens (list_at p old.resource) path old.stored (data_of plain)
+  pub sealing : IsSealing p old.resource path plain stored
+
+-- it is one with some unwrapped source
+pub record SealsSomehow (p : Publication) (path : List ℕ) (old : Row) (stored : List ℕ)
+    : Type 0 where
+  pub plain : List ℕ
+  pub reads : HasSomeReading (list_at p old.resource) path old.stored (data_of plain)
   pub sealing : IsSealing p old.resource path plain stored
 
 -- the seat holds a generation of this configuration
@@ -96,7 +103,7 @@ pub data Effect (o : Opening) (st : State) (e : Entry) : Type 0 where
         count = e.line.faults;
       } → Effect o st e
   replaces_value : (path stored : List ℕ) (old : Row) (p : Publication) (check : Option Check)
-      → Holds st e.line.seat p → live st.rows path ≡ Some old
+      → Holds st e.line.seat p → live st.rows path ≡ Some old → SealsSomehow p path old stored
       → ((opens : Opens) → IsHonestEntry opens e → SealsAnew opens p path old stored)
       → LeavesContent e
       → after st e ≡ with_value st p path old.resource stored check e.line.faults → Effect o st e
@@ -131,7 +138,7 @@ unchanged st current held needs count =
       count = count;
     })
 
-given : (st : State) (replica number : ℕ) (p : Publication) (count : ℕ)
+pub given : (st : State) (replica number : ℕ) (p : Publication) (count : ℕ)
     → number ≡ length st.generations
     → ◌≡◌ {A = State} (record {
       generations = st.generations ++ record { replica = replica; published = p } ∷ [];
@@ -179,17 +186,29 @@ some_is None s = absurd (none_is s)
     none_is e = cc
 some_is (Some n) s = (n, refl)
 
+-- a row that is replaced is still there behind more rows
+pub replaced_row : (rows more : List LogRow) (path : List ℕ) (from : ℕ) (old : Row)
+    → live rows path ≡ Some old → old.revision ≡ from → put_at (rows ++ more) from ≡ Some old
+replaced_row rows more path from old is at =
+    let l = live_at rows path old is in
+    ap (put_at (rows ++ more)) (sym at) ∙ row_stays rows more old.revision l.within ∙ l.row_is
+
 -- ---- the kinds
+
+-- an entry by its parts
+abbrev pub entry_with : (seat : ℕ) → (held : Option ℕ) → (faults : ℕ) → Option Publication
+    → (row replaced : Option Row) → Did → Gave → Entry
+entry_with seat held faults published row replaced did gave = record {
+  line = record { seat = seat; did = did; held = held; gave = gave; faults = faults };
+  published = published;
+  row = row;
+  replaced = replaced;
+}
 
 module _ (o : Opening) (st : State) (seat : ℕ) (held : Option ℕ) (faults : ℕ)
     (published : Option Publication) (row replaced : Option Row) where
   abbrev entry : Did → Gave → Entry
-  entry did gave = record {
-    line = record { seat = seat; did = did; held = held; gave = gave; faults = faults };
-    published = published;
-    row = row;
-    replaced = replaced;
-  }
+  entry did gave = entry_with seat held faults published row replaced did gave
 
   -- what was written, was so by what the seat holds
   holds : (did : Did) (revision : ℕ) (p : Publication) → IsStep o st (entry did (Written revision))
@@ -260,14 +279,6 @@ module _ (o : Opening) (st : State) (seat : ℕ) (held : Option ℕ) (faults : �
             (subst (λ v. IsSealing k.p k.old.resource path k.plain v) same_new k.sealing));
       }
 
-  replaced_is : (more : List LogRow) (path : List ℕ) (from : ℕ) (old : Row)
-      → live st.rows path ≡ Some old → old.revision ≡ from
-      → replaced ≡ row_at (st.rows ++ more) from → replaced ≡ Some old
-  replaced_is more path from old is at e =
-      let l = live_at st.rows path old is in
-      e ∙ ap (row_at (st.rows ++ more)) (sym at) ∙ row_stays st.rows more old.revision l.within
-      ∙ l.row_is
-
   put_effect : (path resource plain : List ℕ) (revision : ℕ)
       → IsStep o st (entry (Put path resource plain) (Written revision))
       → Effect o st (entry (Put path resource plain) (Written revision))
@@ -291,10 +302,11 @@ module _ (o : Opening) (st : State) (seat : ℕ) (held : Option ℕ) (faults : �
       let sealed = w.1.5.sealed in
       let check = written_check o.format p old.resource in
       let row_is = w.3 ∙ ap (λ (r : LogRow). row_of revision r.path r.change) sealed.row_is in
-      let old_is = replaced_is (put_row row) path from old w.1.3 w.1.4
-      (ap (λ (e : Entry). e.replaced) s.payload) in
+      let old_is = ap (λ (e : Entry). e.replaced) s.payload
+      ∙ replaced_row st.rows (put_row row) path from old w.1.3 w.1.4 in
       replaces_value path sealed.stored old p check
       (holds (Replace path from) revision p s s.answer.0 w.1.2) w.1.3
+      (record { plain = w.1.5.plain; reads = w.1.5.reads; sealing = sealed.sealing })
       (λ opens h. anew opens p old (Replace path from) path old.resource sealed.stored check
       revision h w.1.2 row_is old_is)
       (λ own. refl)

@@ -9,7 +9,7 @@ use Rattle.std.specs.declared.cmp.Ordering.{Ordering}
 use Rattle.std.specs.declared.cmp.Ordering.TheVariants.{Less, Equal, Greater}
 use Rattle.std.proofs.lemmas.Bool.{cases_eq}
 use Rattle.std.proofs.lemmas.List.{length-set, get_or-set_same, get_or-set_other}
-use Rattle.std.proofs.lemmas.Option.{none-some, same_Some}
+use Rattle.std.proofs.lemmas.Option.{none-some, same_Some, slice_get_within}
 use Rattle.kr_store.specs.declared.format.Check.{Check}
 use Rattle.kr_store.specs.declared.rows.LogRow.{LogRow}
 use Rattle.kr_store.specs.Rows.{delete_of}
@@ -32,7 +32,7 @@ use Rattle.kr_rollout.specs.Histories.{state_from, state_of, IsRun, IsLegal}
 use Rattle.kr_rollout.specs.Judgements.{with_configuration}
 use Rattle.kr_rollout.specs.FitLaws.{LegalFits}
 use Rattle.kr_rollout.proofs.Effects.{Effect, stays, adopts, lets_go, leaves, gives, puts_value, deletes_row, replaces_value, Holds, need_by, with_value, effect_of}
-use Rattle.kr_rollout.proofs.Sound.{contains_at, set_there, there_at, IsOwn, IsSound, next_fits}
+use Rattle.kr_rollout.proofs.Sound.{contains_at, set_there, there_at, IsOwn, IsSound, next_fits, get_new, old_more}
 
 -- ---- what is live
 
@@ -119,22 +119,12 @@ number_set numbers at x place n e = elim (cases_eq place at) [
   | inr other ↦ inr (sym (get_or-set_other numbers at place x None other) ∙ e)
 ]
 
-new_or_old : {X : Type 0} (xs : List X) (y x : X) (n : ℕ) → slice_get (xs ++ y ∷ []) n ≡ Some x
+pub new_or_old : {X : Type 0} (xs : List X) (y x : X) (n : ℕ) → slice_get (xs ++ y ∷ []) n ≡ Some x
     → (slice_get xs n ≡ Some x) ⊎ (y ≡ x)
 new_or_old [] y x zero e = inr (same_Some y x e)
 new_or_old [] y x (suc n) e = absurd (none-some x e)
 new_or_old (z ∷ xs) y x zero e = inl e
 new_or_old (z ∷ xs) y x (suc n) e = new_or_old xs y x n e
-
-old_more : {X : Type 0} (xs ys : List X) (n : ℕ) (x : X) → slice_get xs n ≡ Some x
-    → slice_get (xs ++ ys) n ≡ Some x
-old_more [] ys n x e = absurd (none-some x e)
-old_more (z ∷ xs) ys zero x e = e
-old_more (z ∷ xs) ys (suc n) x e = old_more xs ys n x e
-
-new_there : {X : Type 0} (xs : List X) (x : X) → slice_get (xs ++ x ∷ []) (length xs) ≡ Some x
-new_there [] x = refl
-new_there (y ∷ xs) x = new_there xs x
 
 -- ---- one entry
 
@@ -150,7 +140,7 @@ module _ (o : Opening) (st : State) (sound : IsSound o st) where
           | inl same ↦
               (let g = sound.own replica number e in
               subst (λ m. m < length st.generations) (same_Some number n same)
-              (there_within st.generations number g.generation g.there))
+              (slice_get_within st.generations number g.generation g.there))
           | inr old ↦ sound.held n (old.0, old.2, old.3)
         ];
         kept = sound.kept;
@@ -158,12 +148,6 @@ module _ (o : Opening) (st : State) (sound : IsSound o st) where
             (λ rows l. (l.0, was l.0 l.1, l.2)) sound.fit;
       }
     where
-      there_within : (gs : List Generation) (n : ℕ) (g : Generation) → slice_get gs n ≡ Some g
-          → n < length gs
-      there_within [] n g e = absurd (none-some g e)
-      there_within (x ∷ gs) zero g e = omega arith
-      there_within (x ∷ gs) (suc n) g e = omega (arith, there_within gs n g e)
-
       was : (n : ℕ) → Contains st.current (Some n)
           ⊎ Contains (slice_set st.held seat (Some number)) (Some n) → IsLiveNumber st n
       was n (inl c) = inl c
@@ -233,7 +217,7 @@ module _ (o : Opening) (st : State) (sound : IsSound o st) where
               | inl same ↦ record {
                 generation = new;
                 there = ap (slice_get (st.generations ++ new ∷ []))
-                    (sym (same_Some (length st.generations) n same.1)) ∙ new_there st.generations new;
+                    (sym (same_Some (length st.generations) n same.1)) ∙ get_new st.generations new;
                 replica_is = sym same.0;
               }
               | inr old ↦
@@ -299,7 +283,7 @@ module _ (o : Opening) (st : State) (sound : IsSound o st) where
   sound_after e (deletes_row path live changes is) =
       subst (IsSound o) (sym is)
       (sound_deletes path (st.rows ++ delete_of path ∷ []) e.line.faults)
-  sound_after e (replaces_value path stored old p check h live honest leaves_it is) =
+  sound_after e (replaces_value path stored old p check h live sealed honest leaves_it is) =
       subst (IsSound o) (sym is)
       (sound_value e.line.seat e.line.faults p path old.resource stored check h)
 

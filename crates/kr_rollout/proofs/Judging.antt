@@ -1,5 +1,6 @@
--- What is judged is refused exactly where it doesn't fit; the opening's refusals.
-use Rattle.std.proofs.Common.{◌≡◌, ℕ, zero, suc, ◌+◌, List, [], ◌∷◌, ◌++◌, Contains, Option, None, Some, IsSome, sym, ap, subst, ◌∙◌, arith, inl}
+-- What is judged is refused exactly where it does not fit, a core starts exactly where its opening
+-- fits, and what a seat holds is live.
+use Rattle.std.proofs.Common.{◌≡◌, ℕ, zero, suc, ◌+◌, List, [], ◌∷◌, ◌++◌, Contains, Option, None, Some, IsSome, refl, sym, ap, subst, ◌∙◌, arith, inl}
 use Rattle.std.specs.Option.{option_map}
 use Rattle.std.proofs.lemmas.Option.{none-some, same_Some}
 use Rattle.kr_config.specs.declared.who.Who.{Who}
@@ -12,16 +13,25 @@ use Rattle.kr_rollout.specs.declared.line.Gave.TheVariants.{Adopted, Found, Abse
 use Rattle.kr_rollout.specs.declared.opening.Entry.{Entry}
 use Rattle.kr_rollout.specs.declared.opening.Opening.{Opening}
 use Rattle.kr_rollout.specs.Entries.{published_at}
-use Rattle.kr_rollout.specs.States.{State, IsLive}
-use Rattle.kr_rollout.specs.Openings.{generations_from, current_from, settings_of, needs_of, first_of, start_of}
+use Rattle.kr_rollout.specs.States.{State, held_by, IsLive}
+use Rattle.kr_rollout.specs.Callers.{with_published, number_with}
+use Rattle.kr_rollout.specs.Openings.{generations_from, current_from, settings_of, needs_of, first_of, first_rows, start_of, HasNoStray}
+use Rattle.kr_rollout.specs.Starts.{IsStray}
+use Rattle.kr_rollout.specs.declared.opening_board.StartNo.TheVariants.{Stray, OtherSecret, Unfit, NoMemory}
+use Rattle.kr_store.specs.declared.rows.LogRow.{LogRow}
+use Rattle.kr_store.specs.declared.rows.Row as stored_row
+use Rattle.kr_rollout.proofs.Refusing.{unfit_law}
 use Rattle.kr_rollout.specs.Fits.{IsFit}
 use Rattle.kr_rollout.specs.Answers.{IsAnswer, IsExpected}
 use Rattle.kr_rollout.specs.Steps.{IsStep, after, KeepsRules}
 use Rattle.kr_rollout.specs.Histories.{state_from, state_of, IsRun, IsLegal}
-use Rattle.kr_rollout.specs.Judgements.{IsJudged, judged_state, AnswersFit}
-use Rattle.kr_rollout.specs.FitLaws.{VerdictIsExact, JudgedByFit, RefreshIsNotRefused, OpeningFits, StrayIsStray}
+use Rattle.kr_rollout.specs.Judgements.{IsJudged, judged_state, IsDone, AnswersFit}
+use Rattle.kr_rollout.specs.FitLaws.{VerdictIsExact, JudgedByFit, JudgedStateFollows, RefreshIsNotRefused, OpeningFits, StartsWhereItFits, RefusalIsExact, HoldingIsLive}
 use Rattle.kr_rollout.proofs.Sound.{contains_at, IsSound, next_fits, next_passes, same_passes}
-use Rattle.kr_rollout.proofs.Fitting.{live_less, legal_sound}
+use Rattle.kr_rollout.proofs.Fitting.{live_less, legal_sound, held_live}
+use Rattle.kr_rollout.proofs.Effects.{Holds, given, entry_with}
+use Rattle.kr_rollout.proofs.Appending.{state_more}
+use Rattle.kr_rollout.proofs.Holdings.{holding_of}
 
 -- ---- the last entry
 
@@ -189,9 +199,104 @@ opening_fits o = (
           r.rows_are,
         )
 
-pub stray_is_stray : StrayIsStray
+pub starts_where_it_fits : StartsWhereItFits
+starts_where_it_fits o = (
+  (λ m. (m.readable, m.secrets, (opening_fits o).0 m.fit)),
+  (λ m. record {
+    readable = m.0;
+    secrets = m.1;
+    fit = (opening_fits o).1 m.2;
+  }),
+)
+
+-- a stray row has no provider
+stray_is_stray : (first : List Row) (rows : List LogRow) (path : List ℕ)
+    → IsStray first rows path → HasNoStray first rows → ⊥
 stray_is_stray first rows path (row, live_is, none) readable = none_is
     (subst (λ w. IsSome w) none (readable path row live_is))
   where
     none_is : IsSome {T = Who} None → ⊥
     none_is e = cc
+
+pub refusal_is_exact : RefusalIsExact
+refusal_is_exact rows replicas (Stray path) n m =
+    absurd (stray_is_stray (first_rows replicas) rows path n.stray m.readable)
+refusal_is_exact rows replicas (OtherSecret path) n m = absurd (m.secrets path n.1.other)
+refusal_is_exact rows replicas (Unfit replica verdict) n m =
+    absurd (unfit_law replicas (needs_of (first_rows replicas) rows) replica verdict n.2 m.fit)
+refusal_is_exact rows replicas NoMemory n m = refl
+
+-- ---- what is done
+
+module _ (o : Opening) (st : State) (seat : ℕ) (held : Option ℕ) (faults : ℕ)
+    (published : Option Publication) (row replaced : Option stored_row.Row) where
+  abbrev entry : Did → Gave → Entry
+  entry did gave = entry_with seat held faults published row replaced did gave
+
+  follows_by : (did : Did) (gave : Gave) → IsStep o st (entry did gave) → IsDone gave
+      → after st (entry did gave) ≡ record (judged_state did st) { count = faults }
+  follows_by (Adopt replica) (Reloaded number) s done = absurd s.answer
+  follows_by (Fetch path) (Reloaded number) s done = absurd s.answer
+  follows_by (After path) (Reloaded number) s done = absurd s.answer
+  follows_by (Put path resource plain) (Reloaded number) s done = absurd s.answer
+  follows_by (Delete path) (Reloaded number) s done = absurd s.answer
+  follows_by (Replace path from) (Reloaded number) s done = absurd s.answer
+  follows_by LetGo (Reloaded number) s done = absurd s.answer
+  follows_by (Reload replica p expect) (Reloaded number) s done = given st replica number p faults s.answer.1.1
+  follows_by (Join replica p) (Reloaded number) s done = absurd s.answer
+  follows_by (Leave replica) (Reloaded number) s done = absurd s.answer
+  follows_by (Adopt replica) (Joined number) s done = absurd s.answer
+  follows_by (Fetch path) (Joined number) s done = absurd s.answer
+  follows_by (After path) (Joined number) s done = absurd s.answer
+  follows_by (Put path resource plain) (Joined number) s done = absurd s.answer
+  follows_by (Delete path) (Joined number) s done = absurd s.answer
+  follows_by (Replace path from) (Joined number) s done = absurd s.answer
+  follows_by LetGo (Joined number) s done = absurd s.answer
+  follows_by (Reload replica p expect) (Joined number) s done = absurd s.answer
+  follows_by (Join replica p) (Joined number) s done = given st replica number p faults s.answer.1.1
+  follows_by (Leave replica) (Joined number) s done = absurd s.answer
+  follows_by did (Adopted number) s done = absurd done
+  follows_by did (Found revision) s done = absurd done
+  follows_by did Absent s done = absurd done
+  follows_by did (Written revision) s done = absurd done
+  follows_by did (Changed revision) s done = absurd done
+  follows_by did Released s done = absurd done
+  follows_by did (Refused verdict) s done = absurd done
+  follows_by did (Moved number) s done = absurd done
+  follows_by did (Present number) s done = absurd done
+  follows_by did (Departed number) s done = absurd done
+  follows_by did (Gone replica) s done = absurd done
+  follows_by did StoreFailed s done = absurd done
+  follows_by did (StoreFull needed) s done = absurd done
+  follows_by did Nothing s done = absurd done
+
+pub judged_state_follows : JudgedStateFollows
+judged_state_follows o history e l done =
+    let n = next_step o history e l in
+    state_more (start_of o) history e
+    ∙ follows_by o (state_of o history) e.line.seat e.line.held e.line.faults e.published e.row
+    e.replaced e.line.did e.line.gave n.step done
+
+-- ---- what a seat holds
+
+holds_by : (st : State) (seat number : ℕ) (p : Publication) (own : Option ℕ)
+    → held_by st seat ≡ own → number_with st.generations own ≡ Some (number, p)
+    → Holds st seat p
+holds_by st seat number p None is e = absurd (none-some (number, p) e)
+holds_by st seat number p (Some n) is e = by (published_at st.generations (Some n)) refl e
+  where
+    by : (q : Option Publication) → published_at st.generations (Some n) ≡ q
+        → with_published n q ≡ Some (number, p) → Holds st seat p
+    by None none e = absurd (none-some (number, p) e)
+    by (Some q) some e = record {
+      number = n;
+      held = is;
+      published = some
+          ∙ ap (λ (x : ℕ × Publication). Some x.1) (same_Some (n, q) (number, p) e);
+    }
+
+pub holding_is_live : HoldingIsLive
+holding_is_live o history seat number p l w e =
+    let st = state_of o history in
+    held_live st seat p (holds_by st seat number p (held_by st seat) refl
+    (sym (holding_of o history seat l w) ∙ e))

@@ -23,3 +23,10 @@ pub mod Growing
 pub mod Judging
 pub mod Reloading
 pub mod Sound
+pub mod Alone
+pub mod ContentSteps
+pub mod ContentReads
+pub mod FoundRows
+pub mod WithoutPlugin
+pub mod HonestSeats
+pub mod NeedsLive

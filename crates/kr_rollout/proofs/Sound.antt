@@ -62,15 +62,19 @@ set_there xs i x y c =
 
 -- ---- generations by their numbers
 
-get_old : {X : Type 0} (xs ys : List X) (k : ℕ) → k < length xs
+pub get_old : {X : Type 0} (xs ys : List X) (k : ℕ) → k < length xs
     → slice_get (xs ++ ys) k ≡ slice_get xs k
 get_old [] ys k l = absurd (omega arith)
 get_old (x ∷ xs) ys zero l = refl
 get_old (x ∷ xs) ys (suc k) l = get_old xs ys k (omega arith)
 
-get_new : {X : Type 0} (xs : List X) (x : X) → slice_get (xs ++ x ∷ []) (length xs) ≡ Some x
+pub get_new : {X : Type 0} (xs : List X) (x : X) → slice_get (xs ++ x ∷ []) (length xs) ≡ Some x
 get_new [] x = refl
 get_new (y ∷ xs) x = get_new xs x
+
+pub old_more : {X : Type 0} (xs ys : List X) (n : ℕ) (x : X) → slice_get xs n ≡ Some x
+    → slice_get (xs ++ ys) n ≡ Some x
+old_more xs ys n x e = get_old xs ys n (slice_get_within xs n x e) ∙ e
 
 -- the replica's number is that of a generation of its own
 pub record IsOwn (generations : List Generation) (replica number : ℕ) : Type 0 where
@@ -269,7 +273,7 @@ pub record AreOther (st : State) (replica : ℕ) (rows : List Row) : Type 0 wher
   pub live : IsOtherNumber st replica number
   pub rows_are : generation.published.rows ≡ rows
 
-rows_of_number : (generations : List Generation) (n : ℕ) (rows : List Row)
+pub rows_of_number : (generations : List Generation) (n : ℕ) (rows : List Row)
     → option_map (λ (p : Publication). p.rows) (published_at generations (Some n)) ≡ Some rows
     → (g : Generation) × (slice_get generations n ≡ Some g) × (g.published.rows ≡ rows)
 rows_of_number generations n rows e = by (slice_get generations n) refl e

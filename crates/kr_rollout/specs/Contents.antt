@@ -20,8 +20,8 @@ pub data ContentChange : Type 0 where
   puts : List ℕ → ContentChange
   deletes : ContentChange
 
--- a Put that is written makes it its data, a Delete nothing. All else leaves it: a Replace seals the
--- same data anew
+-- a Put that is written makes it its data, a Delete nothing; all else leaves it, and a Replace too,
+-- which seals the same data anew
 abbrev pub change_by : Did → (path : List ℕ) → Option ContentChange
 change_by (Put own resource plain) path = if bytes_eq own path then Some (puts plain) else None
 change_by (Delete own) path = if bytes_eq own path then Some deletes else None

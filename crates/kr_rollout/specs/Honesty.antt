@@ -1,5 +1,5 @@
 -- Honest histories: plugins unwrap what they wrapped, and what is sealed anew is what stood there.
-use Rattle.std.specs.Prelude.{◌≡◌, ℕ, List, All, Some, IfSome, ⊤}
+use Rattle.std.specs.Prelude.{◌≡◌, ℕ, List, [], ◌∷◌, ◌++◌, All, Some, IfSome, ⊤}
 use Rattle.kr_store.specs.declared.rows.Row.{Row}
 use Rattle.kr_kms.specs.Truth.{Opens, OpenAll}
 use Rattle.kr_provider.specs.Publication.{Publication, list_at}
@@ -44,3 +44,9 @@ IsHonestEntry opens e = HonestBy e.line.gave e.line.did opens e
 pub record IsHonest (opens : Opens) (o : Opening) (history : List Entry) : Type 0 where
   pub opening : All (λ replica. IfSome replica (SeedsOpen opens)) o.replicas
   pub entries : All (IsHonestEntry opens) history
+
+-- up to and with each entry of the seat the history is honest wherever it is so before the entry
+abbrev pub KeepsHonest : Opens → Opening → (seat : ℕ) → List Entry → Type 0
+KeepsHonest opens o seat history = (front : List Entry) (e : Entry) (rest : List Entry)
+    → history ≡ front ++ e ∷ rest → e.line.seat ≡ seat → IsHonest opens o front
+    → IsHonest opens o (front ++ e ∷ [])

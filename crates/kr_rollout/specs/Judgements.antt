@@ -29,6 +29,12 @@ judged_state (Reload replica p expect) st = with_configuration st replica p
 judged_state (Join replica p) st = with_configuration st replica p
 judged_state did st = st
 
+-- it was done
+abbrev pub IsDone : Gave → Type 0
+IsDone (Reloaded number) = ⊤
+IsDone (Joined number) = ⊤
+IsDone gave = ⊥
+
 -- the answer to what is judged: it is refused where that doesn't fit, and done where it fits
 abbrev pub AnswersFit : Gave → (Fits : Type 0) → Type 0
 AnswersFit (Refused verdict) Fits = ¬ Fits

@@ -9,6 +9,7 @@ pub mod Steps
 pub mod Histories
 pub mod Callers
 pub mod Cores
+pub mod Acting
 pub mod Starts
 pub mod inner
 pub mod Laws
@@ -16,3 +17,4 @@ pub mod Judgements
 pub mod Contents
 pub mod Honesty
 pub mod FitLaws
+pub mod ContentLaws
