@@ -6,3 +6,7 @@ pub mod Steps
 pub mod Bodies
 pub mod Blocks
 pub mod Truths
+pub mod Lines
+pub mod Loops
+pub mod Nexts
+pub mod Answering

@@ -179,7 +179,7 @@ impl<R: Ring> Kms for KeyLink<R> {
 }
 
 /// The status of a healthy plugin with this key id.
-fn status_with(alloc: Global, key_id: &str) -> Result<Status, NoMemory>
+pub(crate) fn status_with(alloc: Global, key_id: &str) -> Result<Status, NoMemory>
     ensures { IfOk result (λ status. status ≡ status_of key_id.now) }
 {
     Ok(Status {
