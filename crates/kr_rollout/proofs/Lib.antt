@@ -20,3 +20,4 @@ pub mod Changing
 pub mod Reloading
 pub mod Growing
 pub mod Alone
+pub mod Following

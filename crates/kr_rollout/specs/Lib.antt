@@ -13,3 +13,4 @@ pub mod Acting
 pub mod Starts
 pub mod inner
 pub mod Laws
+pub mod CallerLaws
