@@ -1,4 +1,4 @@
-//! Laws of what a caller knows by its own entries, for the proofs of calls. The functions do nothing.
+//! Laws of what a caller knows by its own entries. The functions do nothing.
 ghost use Rattle.kr_rollout.specs.CallerLaws.{AdoptedIsHeld, ReleasedIsNotHeld, HoldingStays, FetchedIsFound, NextIsFound};
 
 /// What a caller adopted it holds, what it let go it doesn't, and every other answer leaves that.
