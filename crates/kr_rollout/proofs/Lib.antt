@@ -30,3 +30,4 @@ pub mod FoundRows
 pub mod WithoutPlugin
 pub mod HonestSeats
 pub mod NeedsLive
+pub mod Following

@@ -18,3 +18,4 @@ pub mod Contents
 pub mod Honesty
 pub mod FitLaws
 pub mod ContentLaws
+pub mod CallerLaws

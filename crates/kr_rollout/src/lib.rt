@@ -11,6 +11,7 @@ mod generation;
 mod journal;
 mod judged;
 mod laws;
+mod laws_caller;
 mod laws_content;
 mod laws_fit;
 mod line;
@@ -28,6 +29,7 @@ pub use event::Event;
 pub use generation::Generation;
 pub use journal::Core;
 pub use laws::{found_is_there, front_is_legal, holding_is_held, unfit_is_unfit};
+pub use laws_caller::{found_follows, holding_follows};
 pub use laws_content::{
     absent_is_nothing, content_without_plugin, found_is_live, found_reads, honest_by_entries,
     honest_by_seats, honest_without_plugin, live_reads, nothing_is_absent, one_content,

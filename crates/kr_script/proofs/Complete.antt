@@ -1,13 +1,12 @@
 -- Rows that write a fleet are read as that fleet.
-use Rattle.std.proofs.Common.{◌≡◌, ℕ, ◌+◌, ◌<◌, Bool, true, false, List, [], ◌∷◌, ◌++◌, length, map}
-use Rattle.std.proofs.Common.{Option, None, Some, refl, sym, ap, ◌∙◌, subst, arith}
-use Rattle.std.specs.Prelude.{◌&&◌, not, nat_lt, is_some, option_and_then, ⊤}
+use Rattle.std.proofs.Common.{◌≡◌, ℕ, ◌<◌, true, false, List, [], ◌∷◌, ◌++◌, length, map}
+use Rattle.std.proofs.Common.{None, Some, refl, sym, ap, ◌∙◌, subst}
+use Rattle.std.specs.Prelude.{◌&&◌, not, nat_lt, option_and_then, ⊤}
 use Rattle.std.specs.List.{list_any, list_all, flat_map}
-use Rattle.std.specs.Option.{option_map, option_to_list}
+use Rattle.std.specs.Option.{option_to_list}
 use Rattle.std.specs.Str.{bytes_eq}
 use Rattle.std.proofs.lemmas.Bool.{and_parts, and_from, not-true, ltb-true}
 use Rattle.std.proofs.lemmas.List.{append_assoc, append-nil, map-append}
-use Rattle.std.proofs.lemmas.List.Folds.{list_all-append}
 use Rattle.kr_base.specs.Rules.{is_name}
 use Rattle.kr_script.specs.declared.script.ScriptLine.{ScriptLine}
 use Rattle.kr_script.specs.declared.statement.Statement.{Statement}
@@ -17,12 +16,12 @@ use Rattle.kr_script.specs.Rows.{Row}
 use Rattle.kr_script.specs.Statements.{Writes, WriteAll, replica_statement, worker_statements}
 use Rattle.kr_script.specs.Statements.{statements_of}
 use Rattle.kr_script.specs.Rules.{IsFleet, are_distinct, first_is_in, is_gap, is_line, is_worker}
-use Rattle.kr_script.specs.inner.Drafts.{Draft, start, fleet_in, workers_in, statement_of}
-use Rattle.kr_script.specs.inner.Drafts.{with_statement, with_line, new_worker, may_be_replica}
-use Rattle.kr_script.specs.inner.Drafts.{may_be_worker, knows_replica, knows_worker, is_empty}
+use Rattle.kr_script.specs.inner.Drafts.{Draft, start, fleet_in, workers_in}
+use Rattle.kr_script.specs.inner.Drafts.{with_statement, with_line, new_worker}
+use Rattle.kr_script.specs.inner.Drafts.{knows_replica, knows_worker, is_empty}
 use Rattle.kr_script.proofs.Lists.{all_at, distinct_at, any_parts, not_false}
 use Rattle.kr_script.proofs.Keys.{Replicas}
-use Rattle.kr_script.proofs.Nexts.{MayCome, IsNext, next_reads}
+use Rattle.kr_script.proofs.Nexts.{MayCome, next_reads}
 use Rattle.kr_script.proofs.Sound.{run}
 
 -- what statements make of a draft

@@ -1,5 +1,5 @@
 -- The words of a line, cut at a space, and the lines of a text, cut at an LF.
-use Rattle.std.proofs.Common.{◌≡◌, ℕ, suc, ◌+◌, ◌-◌, ◌<◌, ◌≤◌, Bool, true, false, List, [], ◌∷◌, ◌++◌}
+use Rattle.std.proofs.Common.{◌≡◌, ℕ, ◌+◌, ◌-◌, ◌<◌, ◌≤◌, Bool, true, false, List, [], ◌∷◌, ◌++◌}
 use Rattle.std.proofs.Common.{length, take, drop, refl, sym, ap, ◌∙◌, subst, arith, get_or, add-one}
 use Rattle.std.proofs.Common.{Contains, All, inl, inr}
 use Rattle.std.specs.Prelude.{◌==◌, not, if◌then◌else◌}

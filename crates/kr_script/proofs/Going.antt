@@ -12,7 +12,7 @@ use Rattle.kr_script.specs.declared.line_no.LineNo.TheVariants as line_no
 use Rattle.kr_script.specs.Fleets.{Fleet}
 use Rattle.kr_script.specs.Rows.{words_of}
 use Rattle.kr_script.specs.inner.Drafts.{Draft}
-use Rattle.kr_script.specs.inner.Reading.{at_line, row_step, line_step, goes_on, finished, answer}
+use Rattle.kr_script.specs.inner.Reading.{at_line, row_step, goes_on, finished, answer}
 use Rattle.kr_script.specs.inner.Reading.{Gives, Moves}
 
 -- the next line

@@ -9,3 +9,6 @@ pub mod Complete
 pub mod Going
 pub mod Meant
 pub mod OneAnswer
+pub mod Seats
+pub mod Spoken
+pub mod Apart

@@ -1,15 +1,15 @@
 -- The answer for a text is what it means.
-use Rattle.std.proofs.Common.{◌≡◌, ℕ, zero, suc, ◌+◌, ◌<◌, ◌≤◌, Bool, true, false, List, [], ◌∷◌}
+use Rattle.std.proofs.Common.{◌≡◌, ℕ, suc, ◌+◌, ◌<◌, ◌≤◌, Bool, true, false, List, [], ◌∷◌}
 use Rattle.std.proofs.Common.{◌++◌, length, map, take, Option, None, Some, Result, Ok, Err, refl, sym}
-use Rattle.std.proofs.Common.{ap, ◌∙◌, subst, arith, ◌⊎◌, inl, inr}
-use Rattle.std.specs.Prelude.{◌&&◌, ◌||◌, not, nat_lt, is_some, option_and_then, if◌then◌else◌}
+use Rattle.std.proofs.Common.{ap, ◌∙◌, subst, arith, inl, inr}
+use Rattle.std.specs.Prelude.{◌&&◌, ◌||◌, nat_lt, is_some, option_and_then, if◌then◌else◌}
 use Rattle.std.specs.List.{list_any, list_all, filter}
 use Rattle.std.specs.Option.{option_map, option_to_list}
 use Rattle.std.specs.Str.{is_utf8}
 use Rattle.std.specs.Str.Lines.{lines}
 use Rattle.std.proofs.lemmas.Bool.{and_parts, and_from, both_ways, ltb-true, ltb-false}
 use Rattle.std.proofs.lemmas.List.{append_assoc, append-nil, map-append, length-append}
-use Rattle.std.proofs.lemmas.List.{take-append-le, take_all}
+use Rattle.std.proofs.lemmas.List.{take_all}
 use Rattle.std.proofs.lemmas.List.Folds.{list_all-append, list_any-append}
 use Rattle.kr_script.specs.declared.script.Script.{Script}
 use Rattle.kr_script.specs.declared.script.ScriptNo.{ScriptNo}
@@ -23,20 +23,20 @@ use Rattle.kr_script.specs.declared.line_no.LineNo.TheVariants as line_no
 use Rattle.kr_script.specs.Fleets.{Fleet, Worker}
 use Rattle.kr_script.specs.Rows.{Row, words_of, rows_of, is_spoken}
 use Rattle.kr_script.specs.Statements.{WriteAll, statements_of}
-use Rattle.kr_script.specs.Rules.{IsFleet, IsWhole, IsWithin, has_long_line, is_long, replica_limit}
+use Rattle.kr_script.specs.Rules.{IsWhole, IsWithin, is_long, replica_limit}
 use Rattle.kr_script.specs.Rules.{worker_limit, is_worker, is_line}
-use Rattle.kr_script.specs.Meanings.{Say, SayNothing, IsBegun, IsNone, Breaks, Passes, HasReplicas}
+use Rattle.kr_script.specs.Meanings.{Say, IsBegun, IsNone, Passes, HasReplicas}
 use Rattle.kr_script.specs.Meanings.{HasWorkers, HasData, LinesMean, Means, ReadsScript}
 use Rattle.kr_script.specs.inner.Drafts.{Draft, start, fleet_in, workers_in, statement_of, step}
 use Rattle.kr_script.specs.inner.Drafts.{with_statement, with_line, new_worker, passes, taken}
 use Rattle.kr_script.specs.inner.Drafts.{step_by}
-use Rattle.kr_script.specs.inner.Reading.{row_step, line_step, goes_on, finished, answer, at_line, Gives}
+use Rattle.kr_script.specs.inner.Reading.{goes_on, finished, answer, at_line, Gives}
 use Rattle.kr_base.specs.Rules.{is_name}
 use Rattle.kr_script.proofs.Lists.{then_some, or_none, any_parts, any_one, none_some}
 use Rattle.kr_script.proofs.Nexts.{MayCome, reads_next}
 use Rattle.kr_script.proofs.Keys.{Replicas as Listed}
 use Rattle.kr_script.proofs.Sound.{run, Holds, Stands, sound_step, sound}
-use Rattle.kr_script.proofs.Complete.{Reaches, complete}
+use Rattle.kr_script.proofs.Complete.{complete}
 
 abbrev pub Text : Type 0
 Text = List (List ℕ)

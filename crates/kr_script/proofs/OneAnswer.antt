@@ -1,16 +1,15 @@
 -- What a text means is its answer, so it means one thing alone.
-use Rattle.std.proofs.Common.{◌≡◌, ℕ, zero, suc, ◌+◌, ◌<◌, ◌≤◌, Bool, true, false, List, [], ◌∷◌}
+use Rattle.std.proofs.Common.{◌≡◌, ℕ, zero, suc, ◌+◌, ◌<◌, Bool, true, false, List, [], ◌∷◌}
 use Rattle.std.proofs.Common.{◌++◌, length}
-use Rattle.std.proofs.Common.{map, take, drop, Option, None, Some, Result, Ok, Err, refl, sym, ap, ◌∙◌}
-use Rattle.std.proofs.Common.{subst, arith, ◌⊎◌, inl, inr, get_or}
-use Rattle.std.specs.Prelude.{◌&&◌, is_some, option_and_then, if◌then◌else◌}
-use Rattle.std.specs.List.{list_any, list_all}
+use Rattle.std.proofs.Common.{take, Option, None, Some, Result, Ok, Err, refl, sym, ap, ◌∙◌}
+use Rattle.std.proofs.Common.{subst, arith, inl, inr}
+use Rattle.std.specs.Prelude.{is_some, option_and_then, if◌then◌else◌}
+use Rattle.std.specs.List.{list_all}
 use Rattle.std.specs.Option.{option_map, option_to_list}
 use Rattle.std.specs.Str.{is_utf8}
 use Rattle.std.specs.Str.Lines.{lines}
-use Rattle.std.proofs.Math.Seq.{drop-cons}
 use Rattle.std.proofs.lemmas.Bool.{and_parts, both_ways}
-use Rattle.std.proofs.lemmas.List.{append-nil, length-append, take-append-drop, length-take-le}
+use Rattle.std.proofs.lemmas.List.{append-nil}
 use Rattle.std.proofs.lemmas.List.{take_all}
 use Rattle.kr_script.specs.declared.script.ScriptNo.{ScriptNo}
 use Rattle.kr_script.specs.declared.script.ScriptNo.TheVariants.{Breach, Replicas, Workers, TooLarge}
@@ -21,19 +20,19 @@ use Rattle.kr_script.specs.declared.statement.Statement.TheVariants as statement
 use Rattle.kr_script.specs.declared.line_no.LineNo.{LineNo}
 use Rattle.kr_script.specs.declared.line_no.LineNo.TheVariants as line_no
 use Rattle.kr_script.specs.Fleets.{Fleet, Worker}
-use Rattle.kr_script.specs.Rows.{Row, words_of, rows_of, is_spoken}
+use Rattle.kr_script.specs.Rows.{words_of, rows_of, is_spoken}
 use Rattle.kr_script.specs.Rules.{IsWhole, IsWithin, is_long}
-use Rattle.kr_script.specs.Meanings.{Say, SayNothing, IsBegun, IsNone, Breaks, Passes, HasReplicas}
-use Rattle.kr_script.specs.Meanings.{HasWorkers, HasData, LinesMean, Means}
+use Rattle.kr_script.specs.Meanings.{Say, IsBegun, IsNone, HasReplicas}
+use Rattle.kr_script.specs.Meanings.{HasWorkers, HasData, LinesMean}
 use Rattle.kr_script.specs.Laws.{OneMeaning, SomeMeaning}
 use Rattle.kr_script.specs.inner.Drafts.{Draft, start, fleet_in, workers_in, statement_of, step}
 use Rattle.kr_script.specs.inner.Drafts.{with_statement, with_line, new_worker, passes, taken}
 use Rattle.kr_script.specs.inner.Drafts.{step_by}
-use Rattle.kr_script.specs.inner.Reading.{row_step, line_step, goes_on, finished, answer, at_line}
+use Rattle.kr_script.specs.inner.Reading.{row_step, line_step, goes_on, answer, at_line}
 use Rattle.kr_script.proofs.Lists.{then_some, any_parts, none_some}
 use Rattle.kr_script.proofs.Keys.{Replicas as Listed}
 use Rattle.kr_script.proofs.Nexts.{MayCome, reads_next}
-use Rattle.kr_script.proofs.Sound.{run, Holds, Stands, sound}
+use Rattle.kr_script.proofs.Sound.{run, Stands, sound}
 use Rattle.kr_script.proofs.Complete.{Reaches, complete}
 use Rattle.kr_script.proofs.Meant.{Text, Left, Stood, left_by, within_start, long_parts, long_push}
 use Rattle.kr_script.proofs.Meant.{one_more, utf8_last, utf8_push, run_push, run_silent, ends_by}

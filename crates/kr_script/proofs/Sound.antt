@@ -1,8 +1,8 @@
 -- What was said so far, statement by statement, is a fleet in the making that the rows write.
-use Rattle.std.proofs.Common.{◌≡◌, ℕ, ◌+◌, ◌<◌, Bool, true, false, List, [], ◌∷◌, ◌++◌, length, map}
-use Rattle.std.proofs.Common.{Option, None, Some, refl, sym, ap, ◌∙◌, subst, arith, ◌⊎◌, inl, inr}
+use Rattle.std.proofs.Common.{◌≡◌, ℕ, ◌<◌, Bool, true, false, List, [], ◌∷◌, ◌++◌, length, map}
+use Rattle.std.proofs.Common.{Option, None, Some, refl, sym, ap, ◌∙◌, subst, ◌⊎◌, inl, inr}
 use Rattle.std.specs.Prelude.{◌&&◌, not, nat_lt, is_some, option_and_then}
-use Rattle.std.specs.List.{list_any, list_all, flat_map}
+use Rattle.std.specs.List.{list_all, flat_map}
 use Rattle.std.specs.Option.{option_map, option_to_list}
 use Rattle.std.specs.Str.{bytes_eq}
 use Rattle.std.proofs.lemmas.Bool.{and_parts, and_from, not-true, both_ways, lt-ltb}
@@ -13,7 +13,7 @@ use Rattle.kr_base.specs.Rules.{is_name}
 use Rattle.kr_script.specs.declared.script.ScriptLine.{ScriptLine}
 use Rattle.kr_script.specs.declared.statement.Statement.{Statement}
 use Rattle.kr_script.specs.declared.statement.Statement.TheVariants as statement
-use Rattle.kr_script.specs.Fleets.{Fleet, Worker}
+use Rattle.kr_script.specs.Fleets.{Worker}
 use Rattle.kr_script.specs.Rows.{Row}
 use Rattle.kr_script.specs.Statements.{Writes, WriteAll, replica_statement, worker_statements}
 use Rattle.kr_script.specs.Statements.{statements_of}
@@ -23,7 +23,7 @@ use Rattle.kr_script.specs.inner.Drafts.{with_statement, with_line, new_worker, 
 use Rattle.kr_script.specs.inner.Drafts.{may_be_worker, knows_replica, knows_worker, is_empty}
 use Rattle.kr_script.proofs.Lists.{then_some, all_push, all_push_map, distinct_push_map, any_both}
 use Rattle.kr_script.proofs.Keys.{Replicas}
-use Rattle.kr_script.proofs.Nexts.{MayCome, IsNext, reads_next}
+use Rattle.kr_script.proofs.Nexts.{IsNext, reads_next}
 
 -- rows one after the other
 abbrev pub run : Draft → List Row → Option Draft

@@ -4,5 +4,6 @@ pub mod Rows
 pub mod Statements
 pub mod Rules
 pub mod Meanings
+pub mod Output
 pub mod Laws
 pub mod inner

@@ -1,5 +1,5 @@
 -- The lines of a text, ended by LF or CR LF, and their words.
-use Rattle.std.specs.Prelude.{ℕ, ◌==◌, not, Bool, true, false, List, [], ◌∷◌, length, map}
+use Rattle.std.specs.Prelude.{ℕ, ◌==◌, not, Bool, false, List, [], ◌∷◌, length, map}
 use Rattle.std.specs.List.{filter, slice_split}
 
 -- the words of a line

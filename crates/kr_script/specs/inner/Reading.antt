@@ -3,13 +3,11 @@ use Rattle.std.specs.Prelude.{◌≡◌, ℕ, ◌+◌, ⊤, List, [], ◌∷◌,
 use Rattle.std.specs.Prelude.{if◌then◌else◌, is_some}
 use Rattle.std.specs.Str.{is_utf8}
 use Rattle.kr_script.specs.declared.script.Script.{Script}
-use Rattle.kr_script.specs.declared.script.ScriptLine.{ScriptLine}
 use Rattle.kr_script.specs.declared.script.ScriptNo.{ScriptNo}
 use Rattle.kr_script.specs.declared.script.ScriptNo.TheVariants.{Breach, Replicas, Workers, TooLarge}
 use Rattle.kr_script.specs.declared.script.ScriptNo.TheVariants.{NoMemory}
 use Rattle.kr_script.specs.declared.line_no.LineNo.{LineNo}
 use Rattle.kr_script.specs.declared.line_no.LineNo.TheVariants as line_no
-use Rattle.kr_script.specs.declared.statement.Statement.{Statement}
 use Rattle.kr_script.specs.Fleets.{Fleet, fleet_of}
 use Rattle.kr_script.specs.Rows.{Row, words_of, is_full, is_spoken}
 use Rattle.kr_script.specs.inner.Drafts.{Draft, step, fleet_in, workers_in}
