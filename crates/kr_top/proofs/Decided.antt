@@ -1,5 +1,5 @@
 -- The last step of a command over what is told decides its status.
-use Rattle.std.proofs.Common.{◌≡◌, ℕ, ◌<◌, ◌≤◌, List, Option, None, Some, Result, refl, sym, ◌∙◌, ap, subst, arith}
+use Rattle.std.proofs.Common.{◌≡◌, ℕ, ◌<◌, ◌≤◌, List, Option, None, Some, Result, sym, ◌∙◌, ap, subst, arith}
 use Rattle.std.specs.Prelude.{IfSome, IsSomeAnd, codes}
 use Rattle.kr_words.specs.Grammar.{replica_limit, replicas_of, IsWithinSize}
 use Rattle.kr_words.specs.Numerals.{IsDecimal}

@@ -1,5 +1,5 @@
 -- What readers take from the relation of a call, whose result decides the status.
-use Rattle.std.proofs.Common.{◌≡◌, ℕ, ◌+◌, ◌-◌, ◌^◌, ◌≤◌, ◌⊎◌, min, List, length, take_all, Option, Some, Result, Ok, Err, refl, sym, ◌∙◌, ap, subst, inl, inr, arith}
+use Rattle.std.proofs.Common.{◌≡◌, ℕ, ◌+◌, ◌-◌, ◌^◌, ◌≤◌, ◌⊎◌, min, List, length, take_all, Option, Result, Ok, Err, refl, sym, subst, inl, inr, arith}
 use Rattle.std.specs.Io.KnownBytes.{Appends}
 use Rattle.kr_base.specs.Faults.{Rose}
 use Rattle.kr_base.specs.Streams.{AppendsFront}
@@ -7,10 +7,10 @@ use Rattle.kr_kms.specs.Outside.{file_faults}
 use Rattle.kr_config.specs.declared.refusal.ConfigNo.{ConfigNo}
 use Rattle.kr_config.specs.declared.refusal.ConfigNo.TheVariants as config
 use Rattle.kr_top.specs.Around.{Around, left_of, IsHome, IsFault, faults_at, count_at, Reaches}
-use Rattle.kr_top.specs.Command.{Asks, AskBadly, AskReplicas, AskSize}
+use Rattle.kr_top.specs.Command.{Asks, AskBadly}
 use Rattle.kr_top.specs.Commands.{steps}
-use Rattle.kr_top.specs.Message.{status_of, status_of_done, status_of_configuration, status_of_refusal, line_of, refusal_line, fault_line, done_line}
-use Rattle.kr_top.specs.Steps.{Call, loading, reading, opening, drawing, object_of, Point, awaits, refuses, gives}
+use Rattle.kr_top.specs.Message.{status_of, status_of_done, status_of_configuration, status_of_refusal, line_of, fault_line}
+use Rattle.kr_top.specs.Steps.{Call, loading, reading, opening, drawing, object_of, Point, refuses, gives}
 use Rattle.kr_top.specs.Ran.{Receipt, IsIdle, Reports, IsUntouched, StopsAtOnce, Did, Comes, Writes, Answers, Tells, FailsAt, FailsToWrite, Readings}
 use Rattle.kr_top.specs.declared.command.Command.{Command}
 use Rattle.kr_top.specs.declared.refusal.BadWords.{BadWords}

@@ -1,6 +1,6 @@
 -- What each command's steps find is one thing, and what they draw decides nothing but the value.
 use Rattle.std.proofs.Common.{◌≡◌, ℕ, zero, suc, List, [], length, Bool, true, false, Option, None, Some, Ok, Err, refl, sym, ◌∙◌, ap, subst, inl, inr, arith}
-use Rattle.std.specs.Prelude.{◌++◌, codes, Result, IsSome, is_some, nat_lt, if◌then◌else◌}
+use Rattle.std.specs.Prelude.{codes, Result, IsSome, is_some, nat_lt, if◌then◌else◌}
 use Rattle.kr_base.specs.Limits.{data_limit}
 use Rattle.std.specs.Result.{result_map_both}
 use Rattle.kr_config.specs.Kept.{Row}

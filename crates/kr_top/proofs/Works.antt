@@ -3,7 +3,6 @@ use Rattle.std.proofs.Common.{◌≡◌, ◌≢◌, ℕ, zero, suc, ◌≤◌, L
 use Rattle.std.specs.Prelude.{IfSome, IsSome, nat_lt, ◌==◌, if◌then◌else◌}
 use Rattle.std.specs.Io.KnownBytes.{Consumes, Keeps}
 use Rattle.std.proofs.KnownBytes.{Keeps-refl, Keeps-trans}
-use Rattle.kr_base.specs.Faults.{Rose}
 use Rattle.kr_base.specs.Limits.{data_limit}
 use Rattle.kr_config.specs.Kept.{Row}
 use Rattle.kr_config.specs.declared.who.Who.{Who}
@@ -29,7 +28,7 @@ use Rattle.kr_top.specs.Around.{Around, with_lent_dice, Stays, Reaches, IsHome, 
 use Rattle.kr_top.specs.Commands.{silently, with_memory, value_steps, draw_some, sealing, freshness, reading_steps, unsealing, working_by, working, limit_of}
 use Rattle.kr_top.specs.declared.command.Direction.{Direction}
 use Rattle.kr_top.specs.declared.command.Direction.TheVariants.{Encrypt, Decrypt}
-use Rattle.kr_top.specs.Steps.{Steps, give, Goes, Left, with_dice, Point, awaits, amid, drawing, refuses, gives}
+use Rattle.kr_top.specs.Steps.{Steps, give, Goes, Left, with_dice, Point, awaits, drawing, refuses, gives}
 use Rattle.kr_top.specs.inner.Phases.{Does, seal_outcome, unseal_outcome}
 use Rattle.kr_top.specs.declared.refusal.Outcome.{Outcome}
 use Rattle.kr_top.specs.declared.refusal.Refusal.TheVariants.{Value}

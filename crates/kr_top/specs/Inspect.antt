@@ -1,5 +1,5 @@
 -- What a stored value says of itself.
-use Rattle.std.specs.Prelude.{◌≡◌, ◌⊎◌, ℕ, List, ◌++◌, length, codes, decimal, map, Option, None, Some, Result, Ok, Err}
+use Rattle.std.specs.Prelude.{◌≡◌, ℕ, List, ◌++◌, length, codes, map, Option, None, Some, Result, Ok, Err}
 use Rattle.std.specs.List.{concat}
 use Rattle.kr_envelope.specs.Prefixes.{IsSplit}
 use Rattle.kr_envelope.specs.Limits.{Reads, number_of}

@@ -1,4 +1,4 @@
-use Rattle.std.proofs.Common.{◌≡◌, Ok, Err, sym, subst}
+use Rattle.std.proofs.Common.{◌≡◌, Ok, sym, subst}
 use Rattle.kr_config.specs.Kept.{rows_of}
 use Rattle.kr_top.specs.Around.{with_world}
 use Rattle.kr_top.specs.Check.{listing}

@@ -1,4 +1,4 @@
-use Rattle.std.proofs.Common.{sym, ◌∙◌, ap, subst}
+use Rattle.std.proofs.Common.{sym, subst}
 use Rattle.kr_top.specs.Around.{with_told_input}
 use Rattle.kr_top.specs.Commands.{input_of, show}
 use Rattle.kr_top.specs.Inspect.{Inspects}

@@ -1,6 +1,6 @@
-use Rattle.std.specs.Prelude.{Bool, true, false, Ok, Err, if◌then◌else◌}
+use Rattle.std.specs.Prelude.{Bool, Ok, Err, if◌then◌else◌}
 use Rattle.std.proofs.Common.{sym, ◌∙◌, ap}
-use Rattle.kr_config.specs.Kept.{Row, rows_of}
+use Rattle.kr_config.specs.Kept.{rows_of}
 use Rattle.kr_config.specs.declared.settings.Settings.{Settings}
 use Rattle.kr_top.specs.Configuration.{Entries}
 use Rattle.kr_top.specs.declared.refusal.Refusal.TheVariants.{NotServed}
