@@ -29,3 +29,4 @@ pub mod Changing
 pub mod Reloading
 pub mod NeedsLive
 pub mod Growing
+pub mod Alone

@@ -1,10 +1,9 @@
 -- Events that change replicas' configurations: that their lines' entries are steps.
-use Rattle.std.proofs.Common.{◌≡◌, ◌≢◌, ℕ, ◌<◌, ◌≤◌, ◌+◌, List, [], ◌∷◌, ◌++◌, length, Option, None, Some, IfSome, refl, sym, ap, subst, ◌∙◌, arith, append-nil, length-append}
-use Rattle.std.specs.Prelude.{◌↔◌, ⊤, true, false, Bool, IsTrue, slice_set}
+use Rattle.std.proofs.Common.{◌≡◌, ℕ, ◌<◌, List, [], ◌∷◌, ◌++◌, length, Option, None, Some, IfSome, refl, sym, ap, subst, ◌∙◌, arith, append-nil, length-append}
+use Rattle.std.specs.Prelude.{◌↔◌, false, Bool, IsTrue, slice_set}
 use Rattle.std.proofs.lemmas.Bool.{both_ways}
 use Rattle.kr_store.specs.Stores.{Kept}
 use Rattle.kr_provider.specs.Publication.{Publication, IsPublished}
-use Rattle.kr_judge.specs.declared.verdict.Verdict.{Verdict}
 use Rattle.kr_judge.specs.declared.verdict.Verdict.TheVariants.{Pass}
 use Rattle.kr_judge.specs.Boards.{BoardState}
 use Rattle.kr_judge.specs.Verdicts.{verdict}
@@ -20,14 +19,13 @@ use Rattle.kr_rollout.specs.declared.opening.Entry.{Entry}
 use Rattle.kr_rollout.specs.declared.opening.Opening.{Opening}
 use Rattle.kr_rollout.specs.Entries.{generation_adopted_in, revision_in, revision_replaced_in}
 use Rattle.kr_rollout.specs.States.{State, number_at, current_of, held_by, verdict_on}
-use Rattle.kr_rollout.specs.Openings.{board}
 use Rattle.kr_rollout.specs.Answers.{IsAnswer, IsExpected, IsUnexpected, HasExpected}
 use Rattle.kr_rollout.specs.Steps.{KeepsRules}
 use Rattle.kr_rollout.specs.Callers.{did_of, gave_of, Shows}
 use Rattle.kr_rollout.specs.inner.Rollouts.{RolloutState, IsRollout, line_now, state_with, MayServe, Serves}
 use Rattle.kr_rollout.specs.inner.Membership.{with_generation}
 use Rattle.kr_rollout.proofs.Serving.{IsStill, entry_now, told, held_in}
-use Rattle.kr_rollout.proofs.Storing.{stepped, seen, names_any}
+use Rattle.kr_rollout.proofs.Storing.{stepped, names_any}
 
 -- ---- what is expected
 

@@ -9,6 +9,7 @@ pub mod Steps
 pub mod Histories
 pub mod Callers
 pub mod Cores
+pub mod Acting
 pub mod Starts
 pub mod inner
 pub mod Laws

@@ -1,5 +1,5 @@
 //! The core: a rollout and its journal.
-ghost use Rattle.std.specs.Prelude.{◌≡◌, ◌<◌, ◌≤◌, ◌⊎◌, true, length, map, sum, IfErr};
+ghost use Rattle.std.specs.Prelude.{◌≡◌, ◌<◌, ◌≤◌, ◌⊎◌, ◌↔◌, IsTrue, true, length, map, sum, IfErr};
 ghost use Rattle.kr_base.specs.Faults.{Rose};
 ghost use Rattle.kr_rollout.specs.Callers.{MayAsk};
 ghost use Rattle.kr_rollout.specs.Cores.{Applies};
@@ -100,6 +100,13 @@ impl<T: Tape> Core<T> {
         ensures { result.now ≡ map (λ entry. entry.line) self.now.history }
     {
         self.journal.as_slice()
+    }
+
+    /// Whether the journal is full, so that no event can be made any more.
+    pub fn is_full(&self) -> bool
+        ensures { IsTrue result ↔ (self.now.room ≤ length self.now.history) }
+    {
+        self.journal.as_slice().len() as u64 >= self.room
     }
 
     /// Lends the board on which new configurations are judged.

@@ -3,6 +3,7 @@
 //! core's state is known.
 #![tactic(auto)]
 
+mod acts;
 mod answer;
 mod check;
 mod event;
@@ -17,9 +18,11 @@ mod membership;
 mod opening;
 mod opening_board;
 mod rollout;
+mod solo;
 mod start;
 mod writing;
 
+pub use acts::Acts;
 pub use answer::Answer;
 pub use event::Event;
 pub use generation::Generation;
@@ -38,3 +41,4 @@ pub use laws_fit::{
 pub use line::{Did, Gave, Line};
 pub use opening::{Entry, Opening};
 pub use opening_board::{StartNo, board_of};
+pub use solo::Solo;

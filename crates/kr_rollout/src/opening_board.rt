@@ -3,7 +3,7 @@ ghost use Rattle.std.specs.Prelude.{◌≡◌, ◌<◌, ◌≤◌, [], length, N
 ghost use Rattle.kr_config.specs.Kept.{rows_of};
 ghost use Rattle.kr_rollout.specs.Openings.{IsFirstIn, first_rows, rows_in, settings_rows};
 ghost use Rattle.kr_rollout.specs.Starts.{Boards};
-ghost use Rattle.kr_rollout.specs.inner.OpeningBoards.{IsStrayOf, Notes, NotesAll, TakesUp, TakesAllUp, is_refusal, first_other, no_other};
+ghost use Rattle.kr_rollout.specs.inner.OpeningBoards.{IsStrayOf, Notes, NotesAll, TakesUp, TakesAllUp, is_refusal, first_other, no_other, path_of};
 
 use crate::check::keeps_check;
 use kr_base::{List, NoMemory, Shared, Tape, Text};
@@ -82,9 +82,9 @@ fn note_all<T: Tape>(
 {
     store.known();
     let mut other = None;
-    let mut after = Text::new(alloc);
+    let mut last = None;
     loop {
-        let row = match store.next_after(after.as_str()) {
+        let row = match store.next_after(path_of(&last)) {
             Ok(Some(row)) => row,
             Ok(None) => return no_other(other),
             Err(NoMemory) => return Err(StartNo::NoMemory),
@@ -97,10 +97,17 @@ fn note_all<T: Tape>(
             Ok(other) => other,
             Err(NoMemory) => return Err(StartNo::NoMemory),
         };
-        after = match Text::copy(alloc, row.get().path.as_str()) {
-            Ok(path) => path,
-            Err(NoMemory) => return Err(StartNo::NoMemory),
-        };
+        last = Some(row);
+    }
+}
+
+/// The path of the row where the walk is; the empty one at its begin.
+fn path_of(last: &Option<Shared<Row>>) -> &str
+    ensures { result.now ≡ path_of last.now }
+{
+    match last {
+        Some(row) => row.get().path.as_str(),
+        None => "",
     }
 }
 

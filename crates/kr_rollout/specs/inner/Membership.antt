@@ -1,11 +1,10 @@
 -- How replicas' current generations change, and what is made before that.
-use Rattle.std.specs.Prelude.{◌≡◌, ◌≢◌, ℕ, List, [], ◌∷◌, ◌++◌, length, slice_set, Option, None, Some}
+use Rattle.std.specs.Prelude.{◌≡◌, ◌≢◌, ℕ, [], ◌∷◌, ◌++◌, length, slice_set, Some}
 use Rattle.kr_config.specs.Kept.{rows_of}
 use Rattle.kr_provider.specs.Publication.{Publication}
 use Rattle.kr_judge.specs.declared.verdict.Verdict.TheVariants.{Pass}
 use Rattle.kr_judge.specs.Boards.{BoardState}
 use Rattle.kr_judge.specs.Verdicts.{verdict}
-use Rattle.kr_rollout.specs.declared.generation.Generation.{Generation}
 use Rattle.kr_rollout.specs.declared.judged.Judged.{Judged}
 use Rattle.kr_rollout.specs.declared.judged.Judged.TheVariants as judged
 use Rattle.kr_rollout.specs.inner.Rollouts.{RolloutState}

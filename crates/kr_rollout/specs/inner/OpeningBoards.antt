@@ -54,6 +54,11 @@ NotesAll first rows old new (Err (OtherSecret path)) =
 NotesAll first rows old new (Err (Unfit replica verdict)) = ⊥
 NotesAll first rows old new (Err NoMemory) = ⊤
 
+-- the path of the row where the walk is; the empty one at its begin
+abbrev pub path_of : Option stored_row.Row → List ℕ
+path_of None = []
+path_of (Some row) = row.path
+
 -- the path of the first row with another secret: the one that was found, or else this one
 abbrev pub first_other : Option (List ℕ) → (kept : Bool) → (path : List ℕ) → Option (List ℕ)
 first_other (Some found) kept path = Some found

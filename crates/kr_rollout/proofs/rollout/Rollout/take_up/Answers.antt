@@ -1,4 +1,4 @@
-use Rattle.std.proofs.Common.{◌≡◌, ◌<◌, ◌≤◌, ◌+◌, ◌++◌, ◌∷◌, [], List, length, Some, refl, sym, ap, subst, ◌∙◌, arith, length-append}
+use Rattle.std.proofs.Common.{◌≡◌, ◌<◌, ◌+◌, ◌++◌, ◌∷◌, [], List, length, Some, sym, ap, subst, ◌∙◌, arith, length-append}
 use Rattle.std.specs.Prelude.{sum, true, slice_set}
 use Rattle.kr_judge.specs.Boards.{BoardState, without_current}
 use Rattle.kr_rollout.specs.declared.generation.Generation.{Generation}
