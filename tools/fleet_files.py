@@ -4,6 +4,7 @@
   fleet_files.py write           writes crates/kr_fleets/stdin and stdout, the table of CASES
   fleet_files.py check           says whether those files are what `write` would write
   fleet_files.py compare N SEED  compares kr_fleets with this reader over N made files, and some large ones
+  fleet_files.py large           the same of files of 64 MiB, of comments and of one line, and says how long each took
 
 A file is UTF-8 in lines that LF or CR LF ends. Spaces around a line are dropped, a line with nothing or with a `#` first counts
 for nothing, and words are parted by spaces. The first line is `fleet 1`, then come replicas, and then workers, each with its
@@ -14,6 +15,7 @@ import random
 import re
 import subprocess
 import sys
+import time
 
 HERE = os.path.dirname(os.path.abspath(__file__))
 CRATE = os.path.join(HERE, "..", "crates", "kr_fleets")
@@ -288,6 +290,17 @@ def large_files():
     yield b" " * 4_000_000
 
 
+def huge_files():
+    """Files of 64 MiB, each by what it is."""
+    size = 64 * 1024 * 1024
+    yield "comments", b"# a comment\n" * (size // 12)
+    yield "comments behind a fleet", HEAD + b"# c\r\n" * (size // 5)
+    yield "one comment", b"#" * size
+    yield "one line of words", b"fleet " * (size // 6)
+    yield "one line of a single word", b"f" * size
+    yield "one line of data", HEAD + b"put secrets /p " + b"QUJD" * (size // 4)
+
+
 def program():
     """The built program, or rt's run of it where it isn't built or older than its sources."""
     built = os.path.join(CRATE, "out", "kr_fleets")
@@ -323,6 +336,20 @@ def compare(count, seed):
     return 0
 
 
+def large():
+    for name, file in huge_files():
+        line = case_line(file).encode() + b"\n"
+        began = time.monotonic()
+        ran = subprocess.run(program(), cwd=CRATE, input=line, stdout=subprocess.PIPE)
+        took = time.monotonic() - began
+        answer = ran.stdout.decode().rstrip("\n")
+        if ran.returncode != 0 or answer != read(file):
+            print("fleet_files: %s: status %d, %s, not %s" % (name, ran.returncode, answer[:200], read(file)[:200]))
+            return 1
+        print("fleet_files: %d bytes, %s: %s, %.1f seconds" % (len(file), name, answer[:60], took))
+    return 0
+
+
 def main(words):
     if words == ["write"]:
         for name, content in stored().items():
@@ -337,6 +364,8 @@ def main(words):
                     return 1
         print("fleet_files: %d stored files" % len(CASES))
         return 0
+    if words == ["large"]:
+        return large()
     if len(words) in (2, 3) and words[0] == "compare":
         seed = int(words[2]) if len(words) == 3 else int.from_bytes(os.urandom(4), "big")
         return compare(int(words[1]), seed)
