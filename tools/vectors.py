@@ -3,7 +3,7 @@
 
 Each answer comes from Python's `cryptography`, those of HMAC and HKDF from Python's own `hmac`, and what
 they leave to their caller is decided here by the rules of the standards: the padding of PKCS #7, the
-blocks of HKDF-Expand and which lengths are refused. The program itself is never asked. The seed is fixed,
+blocks of HKDF-Expand and which lengths are refused, those of the key wrap too. The program itself is never asked. The seed is fixed,
 so a run writes the same files again.
 """
 
@@ -18,6 +18,7 @@ from cryptography.hazmat.primitives.ciphers import Cipher, algorithms, modes
 from cryptography.hazmat.primitives.ciphers.aead import AESGCM
 from cryptography.hazmat.primitives.hashes import SHA256
 from cryptography.hazmat.primitives.kdf.hkdf import HKDFExpand
+from cryptography.hazmat.primitives.keywrap import InvalidUnwrap, aes_key_unwrap, aes_key_wrap
 
 BLOCK = 16
 TAG = 16
@@ -136,6 +137,24 @@ def hkdf(prk, info, size):
     return output
 
 
+def wrap(kek, plain):
+    if len(kek) not in KEY_SIZES:
+        return "KeyLength"
+    return aes_key_wrap(kek, plain)
+
+
+def unwrap(kek, body):
+    """What is wrapped has 16 to 1,016 bytes, a multiple of eight, and its wrap eight more."""
+    if len(kek) not in KEY_SIZES:
+        return "KeyLength"
+    if len(body) % 8 != 0 or not 24 <= len(body) <= 1024:
+        return "Length"
+    try:
+        return aes_key_unwrap(kek, body)
+    except InvalidUnwrap:
+        return "Check"
+
+
 ANSWERS = {
     "aes": aes,
     "unaes": unaes,
@@ -145,6 +164,8 @@ ANSWERS = {
     "ungcm": ungcm,
     "hmac": hmac,
     "hkdf": hkdf,
+    "wrap": wrap,
+    "unwrap": unwrap,
 }
 
 
@@ -338,6 +359,53 @@ def expansions():
             ask("hkdf", drawn(32 + turn), drawn(size), output_size.to_bytes(2, "big"))
 
 
+def wraps():
+    for turn, size in enumerate(range(16, 1017, 8)):
+        kek, plain = key_of(turn), drawn(size)
+        body = ask("wrap", kek, plain)
+        if size <= 256 or size >= 1000:
+            ask("unwrap", kek, body)
+    for turn in range(40):
+        # a bit of the body or of the key is another: in each byte of a short body, the last one too
+        kek, plain = key_of(turn), drawn(16 + turn % 3 * 8)
+        body = wrap(kek, plain)
+        ask("unwrap", kek, altered(body, turn % len(body), turn % 8))
+        ask("unwrap", altered(kek, turn % len(kek), turn % 8), body)
+        # two blocks change places, and one is missing
+        ask("unwrap", kek, body[:8] + body[16:24] + body[8:16] + body[24:])
+        ask("unwrap", kek, body[:-8])
+        ask("unwrap", kek, body + body[-8:])
+    for size in tuple(range(34)) + (1016, 1017, 1023, 1024, 1025, 1031, 1032, 4096):
+        ask("unwrap", key_of(size), drawn(size))
+    for size in OTHER_KEY_SIZES:
+        ask("wrap", drawn(size), drawn(16))
+        ask("unwrap", drawn(size), drawn(24))
+    for size in tuple(range(16)) + (17, 20, 23, 25, 1015, 1017, 1020, 1024, 4096):
+        cases.append((f"wrap {'00' * 16} {written(drawn(size))}", "line"))
+    for line in ("wrap", "wrap 00", f"wrap {'00' * 16} {'00' * 16} -", f"unwrap {'00' * 16}"):
+        cases.append((line, "line"))
+
+
+def printed_wraps():
+    """RFC 3394, section 4: each example, whose answer is the RFC's."""
+    plain = "00112233445566778899aabbccddeeff000102030405060708090a0b0c0d0e0f"
+    for key_size, size, printed in (
+        (16, 16, "1fa68b0a8112b447aef34bd8fb5a7b829d3e862371d2cfe5"),
+        (24, 16, "96778b25ae6ca435f92b5b97c050aed2468ab8a17ad84e5d"),
+        (32, 16, "64e8c3f9ce0f5ba263e9777905818a2a93c8191e7d6e8ae7"),
+        (24, 24, "031d33264e15d33268f24ec260743edce1c6c7ddee725a936ba814915c6762d2"),
+        (32, 24, "a8f9bc1612c68b3ff6e6f4fbe30e71e4769c8b80a32cb8958cd5d17d6b254da1"),
+        (32, 32, "28c9f404c4b810f4cbccb35cfb87f8263f5786e2d80ed326cbc7f0e71a99f43bfb988b9b7a02dd21"),
+    ):
+        kek, data = bytes(range(key_size)), bytes.fromhex(plain)[:size]
+        body = ask("wrap", kek, data)
+        assert body == bytes.fromhex(printed)
+        assert ask("unwrap", kek, body) == data
+        assert ask("unwrap", kek, body[:-1] + b"\0") == "Check"
+    # the lengths: 16 bytes are no wrap
+    ask("unwrap", bytes(range(16)), bytes(16))
+
+
 def no_cases():
     key, block, nonce = "00" * 16, "11" * 16, "22" * 12
     for line in (
@@ -419,6 +487,8 @@ def main():
         codes,
         expansions,
         no_cases,
+        wraps,
+        printed_wraps,
     ):
         part()
     folder = Path(__file__).resolve().parent.parent / "crates" / "kr_vectors"

@@ -197,13 +197,6 @@ func (f *forms) means(ours tree, theirs interface{}) bool {
 		return f.scalar(ours, theirs)
 	case []tree:
 		list, is := theirs.([]interface{})
-		// a last item of tabs alone the library drops with the comma before it
-		if is && len(ours) == len(list)+1 {
-			if last, text := ours[len(list)].(string); text && last != "" && strings.Trim(last, "\t") == "" {
-				f.tab = true
-				ours = ours[:len(list)]
-			}
-		}
 		if !is || len(list) != len(ours) {
 			return false
 		}

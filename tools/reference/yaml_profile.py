@@ -44,7 +44,7 @@ def quoted(text):
 
 
 def plain(text, barred=""):
-    if not text or text[0] in INDICATORS or text.startswith("- ") or ": " in text or text.endswith(":"):
+    if not text.strip(" \t") or text[0] in INDICATORS or text.startswith("- ") or ": " in text or text.endswith(":"):
         raise NoTokens
     if any(mark in text for mark in barred):
         raise NoTokens

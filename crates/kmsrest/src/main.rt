@@ -2,7 +2,7 @@
 #![tactic(auto)]
 
 use kr_base::write_all;
-use kr_edge::{RealWorld, StdSink, StdSource, SystemFiles};
+use kr_edge::{RealWorld, StdSink, StdSource, SystemFiles, hold_standard_streams};
 use kr_top::run;
 use std::io::ErrorKind;
 use std::process::ExitCode;
@@ -12,7 +12,12 @@ mod words;
 
 fn main(rt: HostRuntime) -> ExitCode {
     let alloc = rt.alloc();
+    let held = hold_standard_streams(&rt);
     let mut errors = StdSink::new(rt.stderr());
+    if held.is_err() {
+        let _told = write_all(&mut errors, b"kmsrest: fault files 1\n");
+        return ExitCode::from(4);
+    }
     let words = match words(&rt) {
         Ok(words) => words,
         // A word that isn't UTF-8 is no command's.
@@ -25,7 +30,7 @@ fn main(rt: HostRuntime) -> ExitCode {
         }
     };
     let files = SystemFiles::new(&rt);
-    let mut world = RealWorld::new(&files);
+    let mut world = RealWorld::new(alloc, &files);
     let mut input = StdSource::new(rt.stdin());
     let mut output = StdSink::new(rt.stdout());
     ExitCode::from(run(

@@ -95,7 +95,7 @@ fn world(alloc: Global, call: &Call<'_>) -> Result<MemWorld<TablePlugin>, NoMemo
             Err(_) => return Err(NoMemory),
         }
     }
-    Ok(MemWorld::new(alloc, files, all, List::new(alloc)))
+    Ok(MemWorld::new(alloc, files, List::new(alloc), all, List::new(alloc), 0))
 }
 
 fn left_by(alloc: Global, call: &Call<'_>) -> Result<Left, NoMemory> {

@@ -1,8 +1,9 @@
 -- InvMixColumns of a word by the tables.
+use Rattle.std.specs.Prelude.{get_or, []}
 use Rattle.std.proofs.Common.{◌≡◌, ℕ, ◌^◌, ◌<◌, [], ◌∷◌, bit_xor, slice_index, subst, sym, ◌∙◌, lit<}
 use Rattle.std.proofs.lemmas.Nat.{from_be_bytes-to_be_bytes_4, xor_of_32}
 use Rattle.std.specs.Int.{w32, from_be_bytes, to_be_bytes}
-use Rattle.kr_aes.specs.declared.tables.TheConstants.{INVERSE_0, INVERSE_1, INVERSE_2, INVERSE_3}
+use Rattle.kr_aes.specs.declared.tables.TheConstants.{INVERSE}
 use Rattle.kr_aes.specs.Cipher.{column_sum, sbox, word_byte}
 use Rattle.kr_aes.specs.EquivalentInverse.{inverse_mixed_word}
 use Rattle.kr_aes.proofs.Blocks.{sbox-lt, word_byte-lt}
@@ -12,7 +13,7 @@ use Rattle.kr_aes.proofs.TableCells.{inverse_sbox-sbox}
 -- the four words, at the S-boxes of the word's bytes
 abbrev by_tables : ℕ → ℕ
 by_tables word =
-    bit_xor (bit_xor (bit_xor (slice_index INVERSE_0 (sbox (word_byte word 0))) (slice_index INVERSE_1 (sbox (word_byte word 1)))) (slice_index INVERSE_2 (sbox (word_byte word 2)))) (slice_index INVERSE_3 (sbox (word_byte word 3)))
+    bit_xor (bit_xor (bit_xor (slice_index (get_or INVERSE 0 []) (sbox (word_byte word 0))) (slice_index (get_or INVERSE 1 []) (sbox (word_byte word 1)))) (slice_index (get_or INVERSE 2 []) (sbox (word_byte word 2)))) (slice_index (get_or INVERSE 3 []) (sbox (word_byte word 3)))
 
 by_tables-byte : (word row : ℕ) → row < 4 → word_byte (by_tables word) row ≡ column_sum (14 ∷ 11 ∷ 13 ∷ 9 ∷ []) (to_be_bytes w32 word) row 0
 by_tables-byte word row lt =
@@ -32,8 +33,8 @@ by_tables-mixed word fits =
 
 -- from the cells that were read
 pub mixed_from_tables : (word a b c d : ℕ) → a < 2 ^ 32 → b < 2 ^ 32 → c < 2 ^ 32 → d < 2 ^ 32
-    → a ≡ slice_index INVERSE_0 (sbox (word_byte word 0)) → b ≡ slice_index INVERSE_1 (sbox (word_byte word 1))
-    → c ≡ slice_index INVERSE_2 (sbox (word_byte word 2)) → d ≡ slice_index INVERSE_3 (sbox (word_byte word 3))
+    → a ≡ slice_index (get_or INVERSE 0 []) (sbox (word_byte word 0)) → b ≡ slice_index (get_or INVERSE 1 []) (sbox (word_byte word 1))
+    → c ≡ slice_index (get_or INVERSE 2 []) (sbox (word_byte word 2)) → d ≡ slice_index (get_or INVERSE 3 []) (sbox (word_byte word 3))
     → bit_xor (bit_xor (bit_xor a b) c) d ≡ inverse_mixed_word word
 mixed_from_tables word a b c d ha hb hc hd ea eb ec ed =
     let fits : bit_xor (bit_xor (bit_xor a b) c) d < 2 ^ 32 = xor_of_32 _ _ (xor_of_32 _ _ (xor_of_32 _ _ ha hb) hc) hd in

@@ -2,6 +2,8 @@
 use Rattle.std.proofs.Common.{◌≡◌, ℕ, suc, List, ◌+◌, ◌-◌, ◌≤◌, refl, ap, arith}
 use Rattle.kr_aes.specs.declared.Rounds.{Rounds}
 use Rattle.kr_aes.specs.declared.Rounds.TheVariants.{Ten, Twelve, Fourteen}
+use Rattle.kr_aes.specs.EquivalentInverse.{after_equivalent_rounds}
+use Rattle.kr_aes.specs.InverseCipher.{inverse_mix_columns, inverse_shift_rows, inverse_sub_bytes}
 use Rattle.kr_aes.specs.Cipher.{add_round_key, after_rounds, mix_columns, round_count, shift_rows, sub_bytes}
 
 pub some_rounds : (rounds : Rounds) → 1 ≤ round_count rounds
@@ -27,3 +29,11 @@ after_rounds_next words block n some =
     let e : n + 1 - 1 ≡ suc (n - 1) = omega arith in
     let at : suc (n - 1) ≡ n = omega arith in
     rw e (ap (λ i. add_round_key words i (mix_columns (shift_rows (sub_bytes (after_rounds words block (n - 1)))))) at)
+
+-- one more round of the equivalent inverse cipher
+pub next_after_equivalent : (inverse : List ℕ) (last : ℕ) (block : List ℕ) (done : ℕ)
+    → after_equivalent_rounds inverse last block (done + 1)
+    ≡ add_round_key inverse (last - (done + 1)) (inverse_mix_columns (inverse_shift_rows (inverse_sub_bytes (after_equivalent_rounds inverse last block done))))
+unfolding after_equivalent_rounds
+next_after_equivalent inverse last block done =
+    let e : done + 1 ≡ suc done = omega arith in rw e refl

@@ -1,7 +1,8 @@
 -- Each table is what the definition says, cell by cell.
+use Rattle.std.specs.Prelude.{get_or, []}
 use Rattle.std.proofs.Common.{◌≡◌, ℕ, ◌<◌, slice_index, refl, sym, ap, ◌∙◌, eq-eqb, unwrap_or, ◌==◌, arith}
 use Rattle.std.proofs.lemmas.Bool.Decides.{Decides-eqb}
-use Rattle.kr_aes.specs.declared.tables.TheConstants.{POWERS_OF_X, SBOX, INVERSE_SBOX, FORWARD_0, FORWARD_1, FORWARD_2, FORWARD_3, INVERSE_0, INVERSE_1, INVERSE_2, INVERSE_3}
+use Rattle.kr_aes.specs.declared.tables.TheConstants.{POWERS_OF_X, SBOX, INVERSE_SBOX, FORWARD, INVERSE}
 use Rattle.kr_aes.specs.Field.{inverse, polynomial_product, product, remainder}
 use Rattle.kr_aes.specs.Cipher.{affine, sbox, word_byte}
 use Rattle.kr_aes.specs.InverseCipher.{inverse_sbox}
@@ -57,130 +58,130 @@ inverse-inverse_affine b h =
 
 -- ---- the rows of a round's tables
 
-pub FORWARD_0-row_0 : (b : ℕ) → b < 256 → word_byte (slice_index FORWARD_0 b) 0 ≡ product 2 (sbox b)
+pub FORWARD_0-row_0 : (b : ℕ) → b < 256 → word_byte (slice_index (get_or FORWARD 0 []) b) 0 ≡ product 2 (sbox b)
 unfolding product polynomial_product remainder
-FORWARD_0-row_0 b h = same_below 256 (λ b. word_byte (slice_index FORWARD_0 b) 0) (λ b. product 2 (slice_index SBOX b)) refl b h ∙ ap (product 2) (SBOX-sbox b h)
+FORWARD_0-row_0 b h = same_below 256 (λ b. word_byte (slice_index (get_or FORWARD 0 []) b) 0) (λ b. product 2 (slice_index SBOX b)) refl b h ∙ ap (product 2) (SBOX-sbox b h)
 
-pub FORWARD_0-row_1 : (b : ℕ) → b < 256 → word_byte (slice_index FORWARD_0 b) 1 ≡ product 1 (sbox b)
+pub FORWARD_0-row_1 : (b : ℕ) → b < 256 → word_byte (slice_index (get_or FORWARD 0 []) b) 1 ≡ product 1 (sbox b)
 unfolding product polynomial_product remainder
-FORWARD_0-row_1 b h = same_below 256 (λ b. word_byte (slice_index FORWARD_0 b) 1) (λ b. product 1 (slice_index SBOX b)) refl b h ∙ ap (product 1) (SBOX-sbox b h)
+FORWARD_0-row_1 b h = same_below 256 (λ b. word_byte (slice_index (get_or FORWARD 0 []) b) 1) (λ b. product 1 (slice_index SBOX b)) refl b h ∙ ap (product 1) (SBOX-sbox b h)
 
-pub FORWARD_0-row_2 : (b : ℕ) → b < 256 → word_byte (slice_index FORWARD_0 b) 2 ≡ product 1 (sbox b)
+pub FORWARD_0-row_2 : (b : ℕ) → b < 256 → word_byte (slice_index (get_or FORWARD 0 []) b) 2 ≡ product 1 (sbox b)
 unfolding product polynomial_product remainder
-FORWARD_0-row_2 b h = same_below 256 (λ b. word_byte (slice_index FORWARD_0 b) 2) (λ b. product 1 (slice_index SBOX b)) refl b h ∙ ap (product 1) (SBOX-sbox b h)
+FORWARD_0-row_2 b h = same_below 256 (λ b. word_byte (slice_index (get_or FORWARD 0 []) b) 2) (λ b. product 1 (slice_index SBOX b)) refl b h ∙ ap (product 1) (SBOX-sbox b h)
 
-pub FORWARD_0-row_3 : (b : ℕ) → b < 256 → word_byte (slice_index FORWARD_0 b) 3 ≡ product 3 (sbox b)
+pub FORWARD_0-row_3 : (b : ℕ) → b < 256 → word_byte (slice_index (get_or FORWARD 0 []) b) 3 ≡ product 3 (sbox b)
 unfolding product polynomial_product remainder
-FORWARD_0-row_3 b h = same_below 256 (λ b. word_byte (slice_index FORWARD_0 b) 3) (λ b. product 3 (slice_index SBOX b)) refl b h ∙ ap (product 3) (SBOX-sbox b h)
+FORWARD_0-row_3 b h = same_below 256 (λ b. word_byte (slice_index (get_or FORWARD 0 []) b) 3) (λ b. product 3 (slice_index SBOX b)) refl b h ∙ ap (product 3) (SBOX-sbox b h)
 
-pub FORWARD_1-row_0 : (b : ℕ) → b < 256 → word_byte (slice_index FORWARD_1 b) 0 ≡ product 3 (sbox b)
+pub FORWARD_1-row_0 : (b : ℕ) → b < 256 → word_byte (slice_index (get_or FORWARD 1 []) b) 0 ≡ product 3 (sbox b)
 unfolding product polynomial_product remainder
-FORWARD_1-row_0 b h = same_below 256 (λ b. word_byte (slice_index FORWARD_1 b) 0) (λ b. product 3 (slice_index SBOX b)) refl b h ∙ ap (product 3) (SBOX-sbox b h)
+FORWARD_1-row_0 b h = same_below 256 (λ b. word_byte (slice_index (get_or FORWARD 1 []) b) 0) (λ b. product 3 (slice_index SBOX b)) refl b h ∙ ap (product 3) (SBOX-sbox b h)
 
-pub FORWARD_1-row_1 : (b : ℕ) → b < 256 → word_byte (slice_index FORWARD_1 b) 1 ≡ product 2 (sbox b)
+pub FORWARD_1-row_1 : (b : ℕ) → b < 256 → word_byte (slice_index (get_or FORWARD 1 []) b) 1 ≡ product 2 (sbox b)
 unfolding product polynomial_product remainder
-FORWARD_1-row_1 b h = same_below 256 (λ b. word_byte (slice_index FORWARD_1 b) 1) (λ b. product 2 (slice_index SBOX b)) refl b h ∙ ap (product 2) (SBOX-sbox b h)
+FORWARD_1-row_1 b h = same_below 256 (λ b. word_byte (slice_index (get_or FORWARD 1 []) b) 1) (λ b. product 2 (slice_index SBOX b)) refl b h ∙ ap (product 2) (SBOX-sbox b h)
 
-pub FORWARD_1-row_2 : (b : ℕ) → b < 256 → word_byte (slice_index FORWARD_1 b) 2 ≡ product 1 (sbox b)
+pub FORWARD_1-row_2 : (b : ℕ) → b < 256 → word_byte (slice_index (get_or FORWARD 1 []) b) 2 ≡ product 1 (sbox b)
 unfolding product polynomial_product remainder
-FORWARD_1-row_2 b h = same_below 256 (λ b. word_byte (slice_index FORWARD_1 b) 2) (λ b. product 1 (slice_index SBOX b)) refl b h ∙ ap (product 1) (SBOX-sbox b h)
+FORWARD_1-row_2 b h = same_below 256 (λ b. word_byte (slice_index (get_or FORWARD 1 []) b) 2) (λ b. product 1 (slice_index SBOX b)) refl b h ∙ ap (product 1) (SBOX-sbox b h)
 
-pub FORWARD_1-row_3 : (b : ℕ) → b < 256 → word_byte (slice_index FORWARD_1 b) 3 ≡ product 1 (sbox b)
+pub FORWARD_1-row_3 : (b : ℕ) → b < 256 → word_byte (slice_index (get_or FORWARD 1 []) b) 3 ≡ product 1 (sbox b)
 unfolding product polynomial_product remainder
-FORWARD_1-row_3 b h = same_below 256 (λ b. word_byte (slice_index FORWARD_1 b) 3) (λ b. product 1 (slice_index SBOX b)) refl b h ∙ ap (product 1) (SBOX-sbox b h)
+FORWARD_1-row_3 b h = same_below 256 (λ b. word_byte (slice_index (get_or FORWARD 1 []) b) 3) (λ b. product 1 (slice_index SBOX b)) refl b h ∙ ap (product 1) (SBOX-sbox b h)
 
-pub FORWARD_2-row_0 : (b : ℕ) → b < 256 → word_byte (slice_index FORWARD_2 b) 0 ≡ product 1 (sbox b)
+pub FORWARD_2-row_0 : (b : ℕ) → b < 256 → word_byte (slice_index (get_or FORWARD 2 []) b) 0 ≡ product 1 (sbox b)
 unfolding product polynomial_product remainder
-FORWARD_2-row_0 b h = same_below 256 (λ b. word_byte (slice_index FORWARD_2 b) 0) (λ b. product 1 (slice_index SBOX b)) refl b h ∙ ap (product 1) (SBOX-sbox b h)
+FORWARD_2-row_0 b h = same_below 256 (λ b. word_byte (slice_index (get_or FORWARD 2 []) b) 0) (λ b. product 1 (slice_index SBOX b)) refl b h ∙ ap (product 1) (SBOX-sbox b h)
 
-pub FORWARD_2-row_1 : (b : ℕ) → b < 256 → word_byte (slice_index FORWARD_2 b) 1 ≡ product 3 (sbox b)
+pub FORWARD_2-row_1 : (b : ℕ) → b < 256 → word_byte (slice_index (get_or FORWARD 2 []) b) 1 ≡ product 3 (sbox b)
 unfolding product polynomial_product remainder
-FORWARD_2-row_1 b h = same_below 256 (λ b. word_byte (slice_index FORWARD_2 b) 1) (λ b. product 3 (slice_index SBOX b)) refl b h ∙ ap (product 3) (SBOX-sbox b h)
+FORWARD_2-row_1 b h = same_below 256 (λ b. word_byte (slice_index (get_or FORWARD 2 []) b) 1) (λ b. product 3 (slice_index SBOX b)) refl b h ∙ ap (product 3) (SBOX-sbox b h)
 
-pub FORWARD_2-row_2 : (b : ℕ) → b < 256 → word_byte (slice_index FORWARD_2 b) 2 ≡ product 2 (sbox b)
+pub FORWARD_2-row_2 : (b : ℕ) → b < 256 → word_byte (slice_index (get_or FORWARD 2 []) b) 2 ≡ product 2 (sbox b)
 unfolding product polynomial_product remainder
-FORWARD_2-row_2 b h = same_below 256 (λ b. word_byte (slice_index FORWARD_2 b) 2) (λ b. product 2 (slice_index SBOX b)) refl b h ∙ ap (product 2) (SBOX-sbox b h)
+FORWARD_2-row_2 b h = same_below 256 (λ b. word_byte (slice_index (get_or FORWARD 2 []) b) 2) (λ b. product 2 (slice_index SBOX b)) refl b h ∙ ap (product 2) (SBOX-sbox b h)
 
-pub FORWARD_2-row_3 : (b : ℕ) → b < 256 → word_byte (slice_index FORWARD_2 b) 3 ≡ product 1 (sbox b)
+pub FORWARD_2-row_3 : (b : ℕ) → b < 256 → word_byte (slice_index (get_or FORWARD 2 []) b) 3 ≡ product 1 (sbox b)
 unfolding product polynomial_product remainder
-FORWARD_2-row_3 b h = same_below 256 (λ b. word_byte (slice_index FORWARD_2 b) 3) (λ b. product 1 (slice_index SBOX b)) refl b h ∙ ap (product 1) (SBOX-sbox b h)
+FORWARD_2-row_3 b h = same_below 256 (λ b. word_byte (slice_index (get_or FORWARD 2 []) b) 3) (λ b. product 1 (slice_index SBOX b)) refl b h ∙ ap (product 1) (SBOX-sbox b h)
 
-pub FORWARD_3-row_0 : (b : ℕ) → b < 256 → word_byte (slice_index FORWARD_3 b) 0 ≡ product 1 (sbox b)
+pub FORWARD_3-row_0 : (b : ℕ) → b < 256 → word_byte (slice_index (get_or FORWARD 3 []) b) 0 ≡ product 1 (sbox b)
 unfolding product polynomial_product remainder
-FORWARD_3-row_0 b h = same_below 256 (λ b. word_byte (slice_index FORWARD_3 b) 0) (λ b. product 1 (slice_index SBOX b)) refl b h ∙ ap (product 1) (SBOX-sbox b h)
+FORWARD_3-row_0 b h = same_below 256 (λ b. word_byte (slice_index (get_or FORWARD 3 []) b) 0) (λ b. product 1 (slice_index SBOX b)) refl b h ∙ ap (product 1) (SBOX-sbox b h)
 
-pub FORWARD_3-row_1 : (b : ℕ) → b < 256 → word_byte (slice_index FORWARD_3 b) 1 ≡ product 1 (sbox b)
+pub FORWARD_3-row_1 : (b : ℕ) → b < 256 → word_byte (slice_index (get_or FORWARD 3 []) b) 1 ≡ product 1 (sbox b)
 unfolding product polynomial_product remainder
-FORWARD_3-row_1 b h = same_below 256 (λ b. word_byte (slice_index FORWARD_3 b) 1) (λ b. product 1 (slice_index SBOX b)) refl b h ∙ ap (product 1) (SBOX-sbox b h)
+FORWARD_3-row_1 b h = same_below 256 (λ b. word_byte (slice_index (get_or FORWARD 3 []) b) 1) (λ b. product 1 (slice_index SBOX b)) refl b h ∙ ap (product 1) (SBOX-sbox b h)
 
-pub FORWARD_3-row_2 : (b : ℕ) → b < 256 → word_byte (slice_index FORWARD_3 b) 2 ≡ product 3 (sbox b)
+pub FORWARD_3-row_2 : (b : ℕ) → b < 256 → word_byte (slice_index (get_or FORWARD 3 []) b) 2 ≡ product 3 (sbox b)
 unfolding product polynomial_product remainder
-FORWARD_3-row_2 b h = same_below 256 (λ b. word_byte (slice_index FORWARD_3 b) 2) (λ b. product 3 (slice_index SBOX b)) refl b h ∙ ap (product 3) (SBOX-sbox b h)
+FORWARD_3-row_2 b h = same_below 256 (λ b. word_byte (slice_index (get_or FORWARD 3 []) b) 2) (λ b. product 3 (slice_index SBOX b)) refl b h ∙ ap (product 3) (SBOX-sbox b h)
 
-pub FORWARD_3-row_3 : (b : ℕ) → b < 256 → word_byte (slice_index FORWARD_3 b) 3 ≡ product 2 (sbox b)
+pub FORWARD_3-row_3 : (b : ℕ) → b < 256 → word_byte (slice_index (get_or FORWARD 3 []) b) 3 ≡ product 2 (sbox b)
 unfolding product polynomial_product remainder
-FORWARD_3-row_3 b h = same_below 256 (λ b. word_byte (slice_index FORWARD_3 b) 3) (λ b. product 2 (slice_index SBOX b)) refl b h ∙ ap (product 2) (SBOX-sbox b h)
+FORWARD_3-row_3 b h = same_below 256 (λ b. word_byte (slice_index (get_or FORWARD 3 []) b) 3) (λ b. product 2 (slice_index SBOX b)) refl b h ∙ ap (product 2) (SBOX-sbox b h)
 
-pub INVERSE_0-row_0 : (b : ℕ) → b < 256 → word_byte (slice_index INVERSE_0 b) 0 ≡ product 14 (inverse_sbox b)
+pub INVERSE_0-row_0 : (b : ℕ) → b < 256 → word_byte (slice_index (get_or INVERSE 0 []) b) 0 ≡ product 14 (inverse_sbox b)
 unfolding product polynomial_product remainder
-INVERSE_0-row_0 b h = same_below 256 (λ b. word_byte (slice_index INVERSE_0 b) 0) (λ b. product 14 (slice_index INVERSE_SBOX b)) refl b h ∙ ap (product 14) (INVERSE_SBOX-inverse_sbox b h)
+INVERSE_0-row_0 b h = same_below 256 (λ b. word_byte (slice_index (get_or INVERSE 0 []) b) 0) (λ b. product 14 (slice_index INVERSE_SBOX b)) refl b h ∙ ap (product 14) (INVERSE_SBOX-inverse_sbox b h)
 
-pub INVERSE_0-row_1 : (b : ℕ) → b < 256 → word_byte (slice_index INVERSE_0 b) 1 ≡ product 9 (inverse_sbox b)
+pub INVERSE_0-row_1 : (b : ℕ) → b < 256 → word_byte (slice_index (get_or INVERSE 0 []) b) 1 ≡ product 9 (inverse_sbox b)
 unfolding product polynomial_product remainder
-INVERSE_0-row_1 b h = same_below 256 (λ b. word_byte (slice_index INVERSE_0 b) 1) (λ b. product 9 (slice_index INVERSE_SBOX b)) refl b h ∙ ap (product 9) (INVERSE_SBOX-inverse_sbox b h)
+INVERSE_0-row_1 b h = same_below 256 (λ b. word_byte (slice_index (get_or INVERSE 0 []) b) 1) (λ b. product 9 (slice_index INVERSE_SBOX b)) refl b h ∙ ap (product 9) (INVERSE_SBOX-inverse_sbox b h)
 
-pub INVERSE_0-row_2 : (b : ℕ) → b < 256 → word_byte (slice_index INVERSE_0 b) 2 ≡ product 13 (inverse_sbox b)
+pub INVERSE_0-row_2 : (b : ℕ) → b < 256 → word_byte (slice_index (get_or INVERSE 0 []) b) 2 ≡ product 13 (inverse_sbox b)
 unfolding product polynomial_product remainder
-INVERSE_0-row_2 b h = same_below 256 (λ b. word_byte (slice_index INVERSE_0 b) 2) (λ b. product 13 (slice_index INVERSE_SBOX b)) refl b h ∙ ap (product 13) (INVERSE_SBOX-inverse_sbox b h)
+INVERSE_0-row_2 b h = same_below 256 (λ b. word_byte (slice_index (get_or INVERSE 0 []) b) 2) (λ b. product 13 (slice_index INVERSE_SBOX b)) refl b h ∙ ap (product 13) (INVERSE_SBOX-inverse_sbox b h)
 
-pub INVERSE_0-row_3 : (b : ℕ) → b < 256 → word_byte (slice_index INVERSE_0 b) 3 ≡ product 11 (inverse_sbox b)
+pub INVERSE_0-row_3 : (b : ℕ) → b < 256 → word_byte (slice_index (get_or INVERSE 0 []) b) 3 ≡ product 11 (inverse_sbox b)
 unfolding product polynomial_product remainder
-INVERSE_0-row_3 b h = same_below 256 (λ b. word_byte (slice_index INVERSE_0 b) 3) (λ b. product 11 (slice_index INVERSE_SBOX b)) refl b h ∙ ap (product 11) (INVERSE_SBOX-inverse_sbox b h)
+INVERSE_0-row_3 b h = same_below 256 (λ b. word_byte (slice_index (get_or INVERSE 0 []) b) 3) (λ b. product 11 (slice_index INVERSE_SBOX b)) refl b h ∙ ap (product 11) (INVERSE_SBOX-inverse_sbox b h)
 
-pub INVERSE_1-row_0 : (b : ℕ) → b < 256 → word_byte (slice_index INVERSE_1 b) 0 ≡ product 11 (inverse_sbox b)
+pub INVERSE_1-row_0 : (b : ℕ) → b < 256 → word_byte (slice_index (get_or INVERSE 1 []) b) 0 ≡ product 11 (inverse_sbox b)
 unfolding product polynomial_product remainder
-INVERSE_1-row_0 b h = same_below 256 (λ b. word_byte (slice_index INVERSE_1 b) 0) (λ b. product 11 (slice_index INVERSE_SBOX b)) refl b h ∙ ap (product 11) (INVERSE_SBOX-inverse_sbox b h)
+INVERSE_1-row_0 b h = same_below 256 (λ b. word_byte (slice_index (get_or INVERSE 1 []) b) 0) (λ b. product 11 (slice_index INVERSE_SBOX b)) refl b h ∙ ap (product 11) (INVERSE_SBOX-inverse_sbox b h)
 
-pub INVERSE_1-row_1 : (b : ℕ) → b < 256 → word_byte (slice_index INVERSE_1 b) 1 ≡ product 14 (inverse_sbox b)
+pub INVERSE_1-row_1 : (b : ℕ) → b < 256 → word_byte (slice_index (get_or INVERSE 1 []) b) 1 ≡ product 14 (inverse_sbox b)
 unfolding product polynomial_product remainder
-INVERSE_1-row_1 b h = same_below 256 (λ b. word_byte (slice_index INVERSE_1 b) 1) (λ b. product 14 (slice_index INVERSE_SBOX b)) refl b h ∙ ap (product 14) (INVERSE_SBOX-inverse_sbox b h)
+INVERSE_1-row_1 b h = same_below 256 (λ b. word_byte (slice_index (get_or INVERSE 1 []) b) 1) (λ b. product 14 (slice_index INVERSE_SBOX b)) refl b h ∙ ap (product 14) (INVERSE_SBOX-inverse_sbox b h)
 
-pub INVERSE_1-row_2 : (b : ℕ) → b < 256 → word_byte (slice_index INVERSE_1 b) 2 ≡ product 9 (inverse_sbox b)
+pub INVERSE_1-row_2 : (b : ℕ) → b < 256 → word_byte (slice_index (get_or INVERSE 1 []) b) 2 ≡ product 9 (inverse_sbox b)
 unfolding product polynomial_product remainder
-INVERSE_1-row_2 b h = same_below 256 (λ b. word_byte (slice_index INVERSE_1 b) 2) (λ b. product 9 (slice_index INVERSE_SBOX b)) refl b h ∙ ap (product 9) (INVERSE_SBOX-inverse_sbox b h)
+INVERSE_1-row_2 b h = same_below 256 (λ b. word_byte (slice_index (get_or INVERSE 1 []) b) 2) (λ b. product 9 (slice_index INVERSE_SBOX b)) refl b h ∙ ap (product 9) (INVERSE_SBOX-inverse_sbox b h)
 
-pub INVERSE_1-row_3 : (b : ℕ) → b < 256 → word_byte (slice_index INVERSE_1 b) 3 ≡ product 13 (inverse_sbox b)
+pub INVERSE_1-row_3 : (b : ℕ) → b < 256 → word_byte (slice_index (get_or INVERSE 1 []) b) 3 ≡ product 13 (inverse_sbox b)
 unfolding product polynomial_product remainder
-INVERSE_1-row_3 b h = same_below 256 (λ b. word_byte (slice_index INVERSE_1 b) 3) (λ b. product 13 (slice_index INVERSE_SBOX b)) refl b h ∙ ap (product 13) (INVERSE_SBOX-inverse_sbox b h)
+INVERSE_1-row_3 b h = same_below 256 (λ b. word_byte (slice_index (get_or INVERSE 1 []) b) 3) (λ b. product 13 (slice_index INVERSE_SBOX b)) refl b h ∙ ap (product 13) (INVERSE_SBOX-inverse_sbox b h)
 
-pub INVERSE_2-row_0 : (b : ℕ) → b < 256 → word_byte (slice_index INVERSE_2 b) 0 ≡ product 13 (inverse_sbox b)
+pub INVERSE_2-row_0 : (b : ℕ) → b < 256 → word_byte (slice_index (get_or INVERSE 2 []) b) 0 ≡ product 13 (inverse_sbox b)
 unfolding product polynomial_product remainder
-INVERSE_2-row_0 b h = same_below 256 (λ b. word_byte (slice_index INVERSE_2 b) 0) (λ b. product 13 (slice_index INVERSE_SBOX b)) refl b h ∙ ap (product 13) (INVERSE_SBOX-inverse_sbox b h)
+INVERSE_2-row_0 b h = same_below 256 (λ b. word_byte (slice_index (get_or INVERSE 2 []) b) 0) (λ b. product 13 (slice_index INVERSE_SBOX b)) refl b h ∙ ap (product 13) (INVERSE_SBOX-inverse_sbox b h)
 
-pub INVERSE_2-row_1 : (b : ℕ) → b < 256 → word_byte (slice_index INVERSE_2 b) 1 ≡ product 11 (inverse_sbox b)
+pub INVERSE_2-row_1 : (b : ℕ) → b < 256 → word_byte (slice_index (get_or INVERSE 2 []) b) 1 ≡ product 11 (inverse_sbox b)
 unfolding product polynomial_product remainder
-INVERSE_2-row_1 b h = same_below 256 (λ b. word_byte (slice_index INVERSE_2 b) 1) (λ b. product 11 (slice_index INVERSE_SBOX b)) refl b h ∙ ap (product 11) (INVERSE_SBOX-inverse_sbox b h)
+INVERSE_2-row_1 b h = same_below 256 (λ b. word_byte (slice_index (get_or INVERSE 2 []) b) 1) (λ b. product 11 (slice_index INVERSE_SBOX b)) refl b h ∙ ap (product 11) (INVERSE_SBOX-inverse_sbox b h)
 
-pub INVERSE_2-row_2 : (b : ℕ) → b < 256 → word_byte (slice_index INVERSE_2 b) 2 ≡ product 14 (inverse_sbox b)
+pub INVERSE_2-row_2 : (b : ℕ) → b < 256 → word_byte (slice_index (get_or INVERSE 2 []) b) 2 ≡ product 14 (inverse_sbox b)
 unfolding product polynomial_product remainder
-INVERSE_2-row_2 b h = same_below 256 (λ b. word_byte (slice_index INVERSE_2 b) 2) (λ b. product 14 (slice_index INVERSE_SBOX b)) refl b h ∙ ap (product 14) (INVERSE_SBOX-inverse_sbox b h)
+INVERSE_2-row_2 b h = same_below 256 (λ b. word_byte (slice_index (get_or INVERSE 2 []) b) 2) (λ b. product 14 (slice_index INVERSE_SBOX b)) refl b h ∙ ap (product 14) (INVERSE_SBOX-inverse_sbox b h)
 
-pub INVERSE_2-row_3 : (b : ℕ) → b < 256 → word_byte (slice_index INVERSE_2 b) 3 ≡ product 9 (inverse_sbox b)
+pub INVERSE_2-row_3 : (b : ℕ) → b < 256 → word_byte (slice_index (get_or INVERSE 2 []) b) 3 ≡ product 9 (inverse_sbox b)
 unfolding product polynomial_product remainder
-INVERSE_2-row_3 b h = same_below 256 (λ b. word_byte (slice_index INVERSE_2 b) 3) (λ b. product 9 (slice_index INVERSE_SBOX b)) refl b h ∙ ap (product 9) (INVERSE_SBOX-inverse_sbox b h)
+INVERSE_2-row_3 b h = same_below 256 (λ b. word_byte (slice_index (get_or INVERSE 2 []) b) 3) (λ b. product 9 (slice_index INVERSE_SBOX b)) refl b h ∙ ap (product 9) (INVERSE_SBOX-inverse_sbox b h)
 
-pub INVERSE_3-row_0 : (b : ℕ) → b < 256 → word_byte (slice_index INVERSE_3 b) 0 ≡ product 9 (inverse_sbox b)
+pub INVERSE_3-row_0 : (b : ℕ) → b < 256 → word_byte (slice_index (get_or INVERSE 3 []) b) 0 ≡ product 9 (inverse_sbox b)
 unfolding product polynomial_product remainder
-INVERSE_3-row_0 b h = same_below 256 (λ b. word_byte (slice_index INVERSE_3 b) 0) (λ b. product 9 (slice_index INVERSE_SBOX b)) refl b h ∙ ap (product 9) (INVERSE_SBOX-inverse_sbox b h)
+INVERSE_3-row_0 b h = same_below 256 (λ b. word_byte (slice_index (get_or INVERSE 3 []) b) 0) (λ b. product 9 (slice_index INVERSE_SBOX b)) refl b h ∙ ap (product 9) (INVERSE_SBOX-inverse_sbox b h)
 
-pub INVERSE_3-row_1 : (b : ℕ) → b < 256 → word_byte (slice_index INVERSE_3 b) 1 ≡ product 13 (inverse_sbox b)
+pub INVERSE_3-row_1 : (b : ℕ) → b < 256 → word_byte (slice_index (get_or INVERSE 3 []) b) 1 ≡ product 13 (inverse_sbox b)
 unfolding product polynomial_product remainder
-INVERSE_3-row_1 b h = same_below 256 (λ b. word_byte (slice_index INVERSE_3 b) 1) (λ b. product 13 (slice_index INVERSE_SBOX b)) refl b h ∙ ap (product 13) (INVERSE_SBOX-inverse_sbox b h)
+INVERSE_3-row_1 b h = same_below 256 (λ b. word_byte (slice_index (get_or INVERSE 3 []) b) 1) (λ b. product 13 (slice_index INVERSE_SBOX b)) refl b h ∙ ap (product 13) (INVERSE_SBOX-inverse_sbox b h)
 
-pub INVERSE_3-row_2 : (b : ℕ) → b < 256 → word_byte (slice_index INVERSE_3 b) 2 ≡ product 11 (inverse_sbox b)
+pub INVERSE_3-row_2 : (b : ℕ) → b < 256 → word_byte (slice_index (get_or INVERSE 3 []) b) 2 ≡ product 11 (inverse_sbox b)
 unfolding product polynomial_product remainder
-INVERSE_3-row_2 b h = same_below 256 (λ b. word_byte (slice_index INVERSE_3 b) 2) (λ b. product 11 (slice_index INVERSE_SBOX b)) refl b h ∙ ap (product 11) (INVERSE_SBOX-inverse_sbox b h)
+INVERSE_3-row_2 b h = same_below 256 (λ b. word_byte (slice_index (get_or INVERSE 3 []) b) 2) (λ b. product 11 (slice_index INVERSE_SBOX b)) refl b h ∙ ap (product 11) (INVERSE_SBOX-inverse_sbox b h)
 
-pub INVERSE_3-row_3 : (b : ℕ) → b < 256 → word_byte (slice_index INVERSE_3 b) 3 ≡ product 14 (inverse_sbox b)
+pub INVERSE_3-row_3 : (b : ℕ) → b < 256 → word_byte (slice_index (get_or INVERSE 3 []) b) 3 ≡ product 14 (inverse_sbox b)
 unfolding product polynomial_product remainder
-INVERSE_3-row_3 b h = same_below 256 (λ b. word_byte (slice_index INVERSE_3 b) 3) (λ b. product 14 (slice_index INVERSE_SBOX b)) refl b h ∙ ap (product 14) (INVERSE_SBOX-inverse_sbox b h)
+INVERSE_3-row_3 b h = same_below 256 (λ b. word_byte (slice_index (get_or INVERSE 3 []) b) 3) (λ b. product 14 (slice_index INVERSE_SBOX b)) refl b h ∙ ap (product 14) (INVERSE_SBOX-inverse_sbox b h)

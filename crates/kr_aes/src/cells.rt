@@ -1,13 +1,10 @@
 //! One cell of a table.
 
-ghost use Rattle.std.specs.Prelude.{◌≡◌, slice_index};
+ghost use Rattle.std.specs.Prelude.{◌≡◌, slice_index, get_or, []};
 ghost use Rattle.kr_aes.specs.Cipher.{sbox};
 ghost use Rattle.kr_aes.specs.InverseCipher.{inverse_sbox};
 
-use crate::tables::{
-    FORWARD_0, FORWARD_1, FORWARD_2, FORWARD_3, INVERSE_0, INVERSE_1, INVERSE_2, INVERSE_3,
-    INVERSE_SBOX, SBOX,
-};
+use crate::tables::{FORWARD, INVERSE, INVERSE_SBOX, SBOX};
 
 #[inline(always)]
 pub(crate) fn sbox(byte: u8) -> u8
@@ -25,56 +22,56 @@ pub(crate) fn inverse_sbox(byte: u8) -> u8
 
 #[inline(always)]
 pub(crate) fn forward_0(byte: u8) -> u32
-    ensures { result ≡ slice_index FORWARD_0 byte }
+    ensures { result ≡ slice_index (get_or FORWARD 0 []) byte }
 {
-    FORWARD_0[byte as usize]
+    FORWARD[0][byte as usize]
 }
 
 #[inline(always)]
 pub(crate) fn forward_1(byte: u8) -> u32
-    ensures { result ≡ slice_index FORWARD_1 byte }
+    ensures { result ≡ slice_index (get_or FORWARD 1 []) byte }
 {
-    FORWARD_1[byte as usize]
+    FORWARD[1][byte as usize]
 }
 
 #[inline(always)]
 pub(crate) fn forward_2(byte: u8) -> u32
-    ensures { result ≡ slice_index FORWARD_2 byte }
+    ensures { result ≡ slice_index (get_or FORWARD 2 []) byte }
 {
-    FORWARD_2[byte as usize]
+    FORWARD[2][byte as usize]
 }
 
 #[inline(always)]
 pub(crate) fn forward_3(byte: u8) -> u32
-    ensures { result ≡ slice_index FORWARD_3 byte }
+    ensures { result ≡ slice_index (get_or FORWARD 3 []) byte }
 {
-    FORWARD_3[byte as usize]
+    FORWARD[3][byte as usize]
 }
 
 #[inline(always)]
 pub(crate) fn inverse_0(byte: u8) -> u32
-    ensures { result ≡ slice_index INVERSE_0 byte }
+    ensures { result ≡ slice_index (get_or INVERSE 0 []) byte }
 {
-    INVERSE_0[byte as usize]
+    INVERSE[0][byte as usize]
 }
 
 #[inline(always)]
 pub(crate) fn inverse_1(byte: u8) -> u32
-    ensures { result ≡ slice_index INVERSE_1 byte }
+    ensures { result ≡ slice_index (get_or INVERSE 1 []) byte }
 {
-    INVERSE_1[byte as usize]
+    INVERSE[1][byte as usize]
 }
 
 #[inline(always)]
 pub(crate) fn inverse_2(byte: u8) -> u32
-    ensures { result ≡ slice_index INVERSE_2 byte }
+    ensures { result ≡ slice_index (get_or INVERSE 2 []) byte }
 {
-    INVERSE_2[byte as usize]
+    INVERSE[2][byte as usize]
 }
 
 #[inline(always)]
 pub(crate) fn inverse_3(byte: u8) -> u32
-    ensures { result ≡ slice_index INVERSE_3 byte }
+    ensures { result ≡ slice_index (get_or INVERSE 3 []) byte }
 {
-    INVERSE_3[byte as usize]
+    INVERSE[3][byte as usize]
 }

@@ -16,6 +16,7 @@ pub mod laws;
 pub mod plain;
 mod state;
 mod tables;
+mod unrolled;
 
 /// How many rounds a key has: ten for 16 bytes, twelve for 24 and fourteen for 32.
 #[derive(Clone, Copy, PartialEq, Eq, Debug)]
@@ -114,13 +115,22 @@ pub fn decrypt_block_by_inverse(inverse: &[u32; 60], rounds: Rounds, block: &mut
         → block.new ≡ inverse_cipher words rounds block.old }
 {
     let last = rounds.count();
-    let mut state = columns::first(inverse, last, block);
-    for round in (1..last).rev() {
-        let next = columns::inverse_round(inverse, round, state);
-        state = next;
-    }
-    let deciphered = columns::last_inverse_round(inverse, 0, state);
-    *block = columns::block_of(deciphered);
+    let state = columns::first(inverse, last, block);
+    let state = unrolled::three_inverse(inverse, last, 0, state);
+    let state = unrolled::three_inverse(inverse, last, 3, state);
+    let nine = unrolled::three_inverse(inverse, last, 6, state);
+    *block = match rounds {
+        Rounds::Ten => unrolled::last_inverse(inverse, nine),
+        Rounds::Twelve => {
+            let eleven = unrolled::two_inverse(inverse, last, 9, nine);
+            unrolled::last_inverse(inverse, eleven)
+        }
+        Rounds::Fourteen => {
+            let eleven = unrolled::two_inverse(inverse, last, 9, nine);
+            let thirteen = unrolled::two_inverse(inverse, last, 11, eleven);
+            unrolled::last_inverse(inverse, thirteen)
+        }
+    };
 }
 
 /// Puts the inverse cipher of a block in its place (FIPS 197 section 5.3). The words and the rounds

@@ -92,7 +92,7 @@ fn world_of(alloc: Global, case: &Case) -> Result<FailingWorld, NoMemory> {
     }
     Ok(FailingWorld::new(
         alloc,
-        MemWorld::new(alloc, files, all, List::new(alloc)),
+        MemWorld::new(alloc, files, List::new(alloc), all, List::new(alloc), 0),
         case.fails_of(alloc, Object::Files)?,
     ))
 }

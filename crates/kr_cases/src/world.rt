@@ -1,8 +1,8 @@
 //! The world in memory, of which calls fail by their numbers too.
 ghost use Rattle.std.specs.Prelude.{None, Some};
 
-use kr_base::{Bytes, FaultCount, List, MemDice, Text};
-use kr_kms::{Asked, FileNo, MemWorld, TablePlugin, World};
+use kr_base::{Bytes, List, MemDice, MemTape, Text};
+use kr_kms::{FileFaults, FileNo, MemWorld, TablePlugin, World, WorldCall};
 use std::alloc::Global;
 
 /// Which calls fail, by their numbers, the first being 1.
@@ -20,15 +20,14 @@ impl Numbering {
     }
 }
 
-/// A world in memory whose calls for a file or a random source fail by their numbers, which go on
-/// over both. It keeps what it was asked for.
+/// A world in memory whose calls fail by their numbers, which go on over all kinds of calls. It
+/// keeps what it was asked for.
 #[derive(Drop)]
 pub struct FailingWorld {
     inner: MemWorld<TablePlugin>,
     calls: Numbering,
-    asked: Vec<Asked>,
-    load_faults: FaultCount,
-    open_faults: FaultCount,
+    asked: Vec<WorldCall>,
+    faults: FileFaults,
 }
 
 impl FailingWorld {
@@ -38,8 +37,7 @@ impl FailingWorld {
             inner,
             calls: Numbering { fails, made: 0 },
             asked: Vec::new(alloc),
-            load_faults: FaultCount::new(),
-            open_faults: FaultCount::new(),
+            faults: FileFaults::new(),
         }
     }
 
@@ -50,6 +48,8 @@ impl FailingWorld {
 }
 
 impl World for FailingWorld {
+    type Tap = MemTape;
+
     type Rand = MemDice;
 
     type Link = TablePlugin;
@@ -58,28 +58,25 @@ impl World for FailingWorld {
     ghost told = { λ world. record {
       file = λ name. None;
       asked = Some world.asked.items;
-      load_faults = world.load_faults;
-      open_faults = world.open_faults;
-      dice = λ seat. (⟦<MemWorld<TablePlugin> as World>⟧.told world.inner).dice seat;
-      dice_faults = λ seat. (⟦<MemWorld<TablePlugin> as World>⟧.told world.inner).dice_faults seat;
-      out = λ seat. (⟦<MemWorld<TablePlugin> as World>⟧.told world.inner).out seat;
+      faults = world.faults;
+      dice = (⟦<MemWorld<TablePlugin> as World>⟧.told world.inner).dice;
+      tapes = (⟦<MemWorld<TablePlugin> as World>⟧.told world.inner).tapes;
+      links = (⟦<MemWorld<TablePlugin> as World>⟧.told world.inner).links;
     } };
 
     fn faults(&self) -> u64 {
-        self.load_faults
-            .count()
-            .saturating_add(self.open_faults.count())
+        self.faults.total()
     }
 
     fn load(&mut self, alloc: Global, name: &str, limit: u64) -> Result<Bytes, FileNo> {
         let Ok(copy) = Text::copy(alloc, name) else {
             return Err(FileNo::NoMemory);
         };
-        if self.asked.push(Asked::File(copy)).is_err() {
+        if self.asked.push(WorldCall::File(copy)).is_err() {
             return Err(FileNo::NoMemory);
         }
         if self.calls.next_fails() {
-            self.load_faults.rise();
+            self.faults.loads.rise();
             return Err(FileNo::Failed);
         }
         match self.inner.load(alloc, name, limit) {
@@ -88,31 +85,100 @@ impl World for FailingWorld {
             Err(FileNo::TooLong) => Err(FileNo::TooLong),
             Err(FileNo::NoMemory) => Err(FileNo::NoMemory),
             Err(FileNo::Failed) => {
-                self.load_faults.rise();
+                self.faults.loads.rise();
+                Err(FileNo::Failed)
+            }
+        }
+    }
+
+    fn tape(&mut self, alloc: Global, name: &str, make: bool) -> Result<MemTape, FileNo> {
+        let Ok(name_copy) = Text::copy(alloc, name) else {
+            return Err(FileNo::NoMemory);
+        };
+        let call = WorldCall::Tape {
+            name: name_copy,
+            make,
+        };
+        if self.asked.push(call).is_err() {
+            return Err(FileNo::NoMemory);
+        }
+        if self.calls.next_fails() {
+            self.faults.tapes.rise();
+            return Err(FileNo::Failed);
+        }
+        match self.inner.tape(alloc, name, make) {
+            Ok(tape) => Ok(tape),
+            Err(FileNo::Absent) => Err(FileNo::Absent),
+            Err(FileNo::NoMemory) => Err(FileNo::NoMemory),
+            Err(_) => {
+                self.faults.tapes.rise();
                 Err(FileNo::Failed)
             }
         }
     }
 
     fn dice(&mut self, alloc: Global, seat: u32) -> Result<MemDice, FileNo> {
-        if self.asked.push(Asked::RandomSource(seat)).is_err() {
+        if self.asked.push(WorldCall::RandomSource(seat)).is_err() {
             return Err(FileNo::NoMemory);
         }
         if self.calls.next_fails() {
-            self.open_faults.rise();
+            self.faults.dice.rise();
             return Err(FileNo::Failed);
         }
         match self.inner.dice(alloc, seat) {
             Ok(dice) => Ok(dice),
             Err(FileNo::NoMemory) => Err(FileNo::NoMemory),
             Err(_) => {
-                self.open_faults.rise();
+                self.faults.dice.rise();
                 Err(FileNo::Failed)
             }
         }
     }
 
+    fn link(
+        &mut self,
+        alloc: Global,
+        seat: u32,
+        plugin: &str,
+        program: &str,
+    ) -> Result<TablePlugin, FileNo> {
+        let Ok(plugin_copy) = Text::copy(alloc, plugin) else {
+            return Err(FileNo::NoMemory);
+        };
+        let Ok(program_copy) = Text::copy(alloc, program) else {
+            return Err(FileNo::NoMemory);
+        };
+        let call = WorldCall::Link {
+            seat,
+            plugin: plugin_copy,
+            program: program_copy,
+        };
+        if self.asked.push(call).is_err() {
+            return Err(FileNo::NoMemory);
+        }
+        if self.calls.next_fails() {
+            self.faults.links.rise();
+            return Err(FileNo::Failed);
+        }
+        match self.inner.link(alloc, seat, plugin, program) {
+            Ok(link) => Ok(link),
+            Err(FileNo::NoMemory) => Err(FileNo::NoMemory),
+            Err(_) => {
+                self.faults.links.rise();
+                Err(FileNo::Failed)
+            }
+        }
+    }
+
+    fn back_tape(&mut self, name: &str, tape: MemTape) {
+        self.inner.back_tape(name, tape);
+    }
+
     fn back_dice(&mut self, seat: u32, dice: MemDice) {
         self.inner.back_dice(seat, dice);
+    }
+
+    fn back_link(&mut self, seat: u32, link: TablePlugin) {
+        self.inner.back_link(seat, link);
     }
 }

@@ -7,7 +7,7 @@ use Rattle.kr_yaml.specs.Data.{Data}
 use Rattle.kr_yaml.specs.Lines.{Token}
 use Rattle.kr_yaml.specs.Texts.{text_tokens}
 use Rattle.kr_yaml.specs.Reads.{plain, HasTree, Refuses}
-use Rattle.kr_yaml.specs.Laws.{Answered}
+use Rattle.kr_yaml.specs.Laws.{AnswerOf}
 use Rattle.kr_yaml.specs.declared.yaml_no.YamlNo.{YamlNo}
 use Rattle.kr_yaml.specs.declared.yaml_no.YamlNo.TheVariants.{Outside, Indent, DuplicateKey, Deep}
 use Rattle.kr_yaml.specs.declared.yaml_no.YamlNo.TheVariants.{NoMemory}
@@ -92,7 +92,7 @@ some_restatement (DuplicateKey n) h = (Yaml yaml_rule.DuplicateKey n, refl)
 some_restatement (Deep n) h = (Yaml yaml_rule.Deep n, refl)
 some_restatement NoMemory h = absurd (h refl)
 
-some_tree : (text : List ℕ) → Answered (text_tokens text)
+some_tree : (text : List ℕ) → AnswerOf (text_tokens text)
     → (tree : Result Data ConfigNo) × TreeOf text tree
 some_tree text (inl h) = (Ok h.0, h.1)
 some_tree text (inr h) = let n = some_restatement h.0 h.2 in (Err n.0, (h.0, h.1, n.1))

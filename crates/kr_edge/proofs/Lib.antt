@@ -1,2 +1,3 @@
 -- The lemmas that the answers cite.
-pub mod Loaded
+mod Lent
+mod Loaded

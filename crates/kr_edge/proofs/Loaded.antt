@@ -1,6 +1,6 @@
 -- A file that holds more than a limit, where the files are told.
-use Rattle.std.proofs.Common.{◌≡◌, ℕ, ◌+◌, ◌<◌, ◌≤◌, List, [], ◌++◌, length, Option, None, Some, refl, sym, ◌∙◌, ap, append-nil, length-append, arith}
-use Rattle.std.specs.Io.KnownBytes.{Consumes, IsAtEnd}
+use Rattle.std.proofs.Common.{◌≡◌, ℕ, ◌+◌, ◌<◌, List, ◌++◌, length, Option, None, Some, refl, ap, length-append, arith}
+use Rattle.std.specs.Io.KnownBytes.{Consumes}
 use Rattle.kr_base.specs.Told.{Agrees}
 use Rattle.kr_base.specs.Streams.{TakesCount}
 use Rattle.kr_edge.specs.Opened.{Holds}

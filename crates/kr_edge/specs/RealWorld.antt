@@ -1,17 +1,36 @@
 -- What the world of the system tells.
 use Rattle.std.specs.Prelude.{ℕ, List, slice_index_or, Option, None}
-use Rattle.kr_kms.specs.Outside.{Outside}
+use Rattle.kr_kms.specs.MemWorld.{Shelved, objects_by}
+use Rattle.kr_kms.specs.Outside.{Outside, same_name, same_link}
+use Rattle.kr_kms.specs.declared.file_faults.FileFaults.{FileFaults}
+
+-- the counts of tapes that came back, by their names, and the names of those that are out
+abbrev pub TapeCounts : Type 0
+TapeCounts = Shelved (List ℕ) (List ℕ × ℕ)
+
+-- those of links, by seat and plugin
+abbrev pub LinkCounts : Type 0
+LinkCounts = Shelved (ℕ × List ℕ) ((ℕ × List ℕ) × ℕ)
+
+abbrev pub key_of : {K : Type 0} → K × ℕ → K
+key_of entry = entry.0
+
+abbrev pub count_of : {K : Type 0} → K × ℕ → ℕ
+count_of entry = entry.1
 
 -- its files, where they are told; its counts, those of a seat by its number. It doesn't tell what
--- it was asked for
-abbrev pub real_world : (file : List ℕ → Option (Option (List ℕ))) → (load_faults open_faults : ℕ)
-    → (dice_faults out : List ℕ) → Outside
-real_world file load_faults open_faults dice_faults out = record {
+-- it was asked for, nor what its tapes hold and its plugins say
+abbrev pub real_world : (file : List ℕ → Option (Option (List ℕ))) → (faults : FileFaults)
+    → (dice_faults dice_out : List ℕ) → (tapes : TapeCounts) → (links : LinkCounts) → Outside
+real_world file faults dice_faults dice_out tapes links = record {
   file = file;
   asked = None;
-  load_faults = load_faults;
-  open_faults = open_faults;
-  dice = λ seat. None;
-  dice_faults = λ seat. slice_index_or dice_faults seat 0;
-  out = λ seat. slice_index_or out seat 0;
+  faults = faults;
+  dice = record {
+    told = λ seat. None;
+    faults = λ seat. slice_index_or dice_faults seat 0;
+    out = λ seat. slice_index_or dice_out seat 0;
+  };
+  tapes = objects_by same_name key_of (λ first. None) count_of tapes;
+  links = objects_by same_link key_of (λ first. None) count_of links;
 }

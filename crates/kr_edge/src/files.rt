@@ -1,9 +1,12 @@
-//! Files that are opened by their names.
-ghost use Rattle.std.specs.Prelude.{ℕ, List, Option, None};
+//! What is opened by its name: files to be read, stores, and programs.
+ghost use Rattle.std.specs.Prelude.{◌≡◌, ℕ, true, List, Option, None, IfErr};
 ghost use Rattle.kr_edge.specs.Opened.{Opens};
 
-use std::fs::File;
+use std::alloc::Global;
+use std::fs::{File, OpenOptions};
 use std::io::{ErrorKind, Read};
+use std::os::unix::fs::OpenOptionsExt;
+use std::process::{Child, Command, Processes, Stdio, SystemProcess};
 use std::rt::Files;
 
 /// Why a file wasn't opened.
@@ -15,7 +18,16 @@ pub enum OpenNo {
     Failed,
 }
 
-/// What opens files to be read.
+/// Why a program wasn't started.
+#[derive(Clone, Copy, Debug, PartialEq, Eq)]
+pub enum StartNo {
+    /// It failed.
+    Failed,
+    /// There was no memory for it.
+    NoMemory,
+}
+
+/// What opens files, and starts programs.
 pub trait NamedFiles {
     /// A file that is open.
     type File: Read + Send + Drop;
@@ -26,22 +38,32 @@ pub trait NamedFiles {
     /// Opens the file of that name to be read, from its first byte.
     fn open(&self, name: &str) -> Result<Self::File, OpenNo>
         ensures { Opens Self.File.remaining (told self.now name.now) result };
+
+    /// Opens the file of that name to be read and written, and locks it. An absent one is made, of
+    /// mode 600, where `make` says so. It fails for what is no plain file, and for a file that is
+    /// locked already, here or in another process.
+    fn open_store(&self, name: &str, make: bool) -> Result<File, OpenNo>
+        ensures { make ≡ true → IfErr result (λ why. why ≡ OpenNo.Failed) };
+
+    /// Starts the program of that name with no arguments, with pipes as its input and output. Its
+    /// errors go nowhere, so that nobody has to read them.
+    fn start(&self, alloc: Global, program: &str) -> Result<Child<SystemProcess>, StartNo>;
 }
 
-/// The files of the system. It tells of none.
+/// The files and programs of the system. It tells of none.
 #[derive(Drop)]
 pub struct SystemFiles<'a, R> {
     rt: &'a R,
 }
 
 impl<'a, R> SystemFiles<'a, R> {
-    /// The files that this runtime reaches.
+    /// What this runtime reaches.
     pub fn new(rt: &'a R) -> SystemFiles<'a, R> {
         SystemFiles { rt }
     }
 }
 
-impl<R: Files<File = File>> NamedFiles for SystemFiles<'_, R> {
+impl<R: Files<File = File> + Processes<Started = SystemProcess>> NamedFiles for SystemFiles<'_, R> {
     type File = File;
 
     ghost told = { λ files. λ name. None };
@@ -56,6 +78,81 @@ impl<R: Files<File = File>> NamedFiles for SystemFiles<'_, R> {
                     Err(OpenNo::Failed)
                 }
             }
+        }
+    }
+
+    fn open_store(&self, name: &str, make: bool) -> Result<File, OpenNo> {
+        match self.plain_file(name, make) {
+            Ok(file) => match file.try_lock() {
+                Ok(()) => Ok(file),
+                Err(_) => Err(OpenNo::Failed),
+            },
+            Err(OpenNo::Absent) => {
+                if make {
+                    Err(OpenNo::Failed)
+                } else {
+                    Err(OpenNo::Absent)
+                }
+            }
+            Err(OpenNo::Failed) => Err(OpenNo::Failed),
+        }
+    }
+
+    fn start(&self, alloc: Global, program: &str) -> Result<Child<SystemProcess>, StartNo> {
+        let Ok(mut command) = Command::new(alloc, program) else {
+            return Err(StartNo::NoMemory);
+        };
+        command
+            .stdin(Stdio::piped())
+            .stdout(Stdio::piped())
+            .stderr(Stdio::null());
+        match command.spawn(self.rt) {
+            Ok(child) => Ok(child),
+            Err(error) => {
+                if error.kind() == ErrorKind::OutOfMemory {
+                    Err(StartNo::NoMemory)
+                } else {
+                    Err(StartNo::Failed)
+                }
+            }
+        }
+    }
+}
+
+impl<R: Files<File = File>> SystemFiles<'_, R> {
+    /// A plain file, to be read and written. What the name leads to is looked at before it is
+    /// opened, since to open a device may do something, and again behind that.
+    fn plain_file(&self, name: &str, make: bool) -> Result<File, OpenNo> {
+        let mut how = OpenOptions::new();
+        how.read(true).write(true);
+        match self.rt.metadata(name) {
+            Ok(found) => {
+                if !found.is_file() {
+                    return Err(OpenNo::Failed);
+                }
+            }
+            Err(error) => {
+                if error.kind() != ErrorKind::NotFound {
+                    return Err(OpenNo::Failed);
+                }
+                if !make {
+                    return Err(OpenNo::Absent);
+                }
+                how.create_new(true).mode(0o600);
+            }
+        }
+        let Ok(file) = self.rt.open_file(&how, name) else {
+            return Err(OpenNo::Failed);
+        };
+        match file.metadata() {
+            Ok(found) => {
+                if found.is_file() {
+                    Ok(file)
+                } else {
+                    Err(OpenNo::Failed)
+                }
+            }
+            Err(_) => Err(OpenNo::Failed),
         }
     }
 }

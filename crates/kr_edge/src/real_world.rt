@@ -1,17 +1,23 @@
-//! The world of the system: its files, and its random device for each seat.
-ghost use Rattle.std.specs.Prelude.{◌≡◌, ◌⊎◌, OnOk, OnErr, IfOk, IfErr, IsErrOf, MatchResult, None, codes};
+//! The world of the system: its files, its random device for each seat, and programs as plugins.
+ghost use Rattle.std.specs.Prelude.{◌≡◌, ◌<◌, ◌==◌, ◌&&◌, length, position, codes, None};
+ghost use Rattle.std.specs.Prelude.{OnOk, OnErr, IfOk, IfErr, IfSome, IsErrOf, MatchResult};
 ghost use Rattle.std.specs.Io.KnownBytes.{Consumes, Keeps};
 ghost use Rattle.kr_base.specs.Faults.{Rose, IsCounted};
-ghost use Rattle.kr_kms.specs.Outside.{Notes, KeepsFiles, KeepsDice, HandsOut};
-ghost use Rattle.kr_kms.specs.declared.world.Asked.{Asked};
+ghost use Rattle.std.specs.Str.{bytes_eq};
+ghost use Rattle.kr_kms.specs.Outside.{Notes, KeepsFiles, HandsOut, IsFaultOrMemory, same_seat};
+ghost use Rattle.kr_kms.specs.declared.world.WorldCall.{WorldCall};
 ghost use Rattle.kr_edge.specs.Opened.{Holds};
 ghost use Rattle.kr_edge.specs.RealWorld.{real_world};
 
-use crate::files::{NamedFiles, OpenNo};
+use crate::child_link::{ChildLink, take_ends};
+use crate::exchange::AnswerRoom;
+use crate::files::{NamedFiles, OpenNo, StartNo};
 use crate::streams::StdSource;
-use kr_base::{Bytes, Dice, Failed, FaultCount, ReadNo, read_all};
-use kr_kms::{FileNo, TablePlugin, World};
+use crate::tape::FileTape;
+use kr_base::{Bytes, Dice, Failed, FaultCount, List, ReadNo, Text, read_all};
+use kr_kms::{FileFaults, FileNo, Kms, Shelf, World};
 use std::alloc::Global;
+use std::fs::File;
 use std::io::Read;
 
 /// The device that random bytes are drawn from.
@@ -56,43 +62,43 @@ impl<R: Read> Dice for DeviceDice<R> {
     }
 }
 
-/// The files of the system, and its random device for each seat.
+/// The files of the system, its random device for each seat, and programs as plugins.
 #[derive(Drop)]
 pub struct RealWorld<'a, F> {
     files: &'a F,
-    load_faults: FaultCount,
-    open_faults: FaultCount,
+    faults: FileFaults,
     dice_faults: [u64; SEATS],
-    out: [u64; SEATS],
+    dice_out: [u64; SEATS],
+    tapes: Shelf<Text, (Text, u64)>,
+    links: Shelf<(u32, Text), ((u32, Text), u64)>,
 }
 
 impl<'a, F: NamedFiles> RealWorld<'a, F> {
     /// The world of these files, with no fault so far and nothing handed out.
-    pub fn new(files: &'a F) -> RealWorld<'a, F> {
+    pub fn new(alloc: Global, files: &'a F) -> RealWorld<'a, F> {
         RealWorld {
             files,
-            load_faults: FaultCount::new(),
-            open_faults: FaultCount::new(),
+            faults: FileFaults::new(),
             dice_faults: [0; SEATS],
-            out: [0; SEATS],
+            dice_out: [0; SEATS],
+            tapes: Shelf::new(alloc, List::new(alloc)),
+            links: Shelf::new(alloc, List::new(alloc)),
         }
     }
 }
 
 impl<'a, F: NamedFiles> World for RealWorld<'a, F> {
+    type Tap = FileTape<File>;
+
     type Rand = DeviceDice<F::File>;
 
-    // No call hands out a link.
-    type Link = TablePlugin;
+    type Link = ChildLink;
 
-    ghost told = { λ world.
-        real_world (F.told world.files.now) world.load_faults world.open_faults
-        world.dice_faults world.out };
+    ghost told = { λ world. real_world (F.told world.files.now) world.faults world.dice_faults
+        world.dice_out world.tapes world.links };
 
     fn faults(&self) -> u64 {
-        self.load_faults
-            .count()
-            .saturating_add(self.open_faults.count())
+        self.faults.total()
     }
 
     fn load(&mut self, alloc: Global, name: &str, limit: u64) -> Result<Bytes, FileNo> {
@@ -100,7 +106,7 @@ impl<'a, F: NamedFiles> World for RealWorld<'a, F> {
             Ok(file) => file,
             Err(OpenNo::Absent) => return Err(FileNo::Absent),
             Err(OpenNo::Failed) => {
-                self.load_faults.rise();
+                self.faults.loads.rise();
                 return Err(FileNo::Failed);
             }
         };
@@ -109,9 +115,37 @@ impl<'a, F: NamedFiles> World for RealWorld<'a, F> {
             Err(ReadNo::TooLong) => Err(FileNo::TooLong),
             Err(ReadNo::NoMemory) => Err(FileNo::NoMemory),
             Err(ReadNo::Failed) => {
-                self.load_faults.rise();
+                self.faults.loads.rise();
                 Err(FileNo::Failed)
             }
+        }
+    }
+
+    fn tape(&mut self, alloc: Global, name: &str, make: bool) -> Result<FileTape<File>, FileNo> {
+        if name_place(self.tapes.out(), name).is_some() {
+            self.faults.tapes.rise();
+            return Err(FileNo::Failed);
+        }
+        let Ok(key) = Text::copy(alloc, name) else {
+            return Err(FileNo::NoMemory);
+        };
+        let file = match self.files.open_store(name, make) {
+            Ok(file) => file,
+            Err(OpenNo::Absent) => return Err(FileNo::Absent),
+            Err(OpenNo::Failed) => {
+                self.faults.tapes.rise();
+                return Err(FileNo::Failed);
+            }
+        };
+        match tape_place(self.tapes.items(), name) {
+            Some(at) => match self.tapes.lend(at, key) {
+                Ok((_name, count)) => Ok(FileTape::new(file, count)),
+                Err(_) => Err(FileNo::NoMemory),
+            },
+            None => match self.tapes.add(key) {
+                Ok(()) => Ok(FileTape::first(file)),
+                Err(_) => Err(FileNo::NoMemory),
+            },
         }
     }
 
@@ -122,52 +156,114 @@ impl<'a, F: NamedFiles> World for RealWorld<'a, F> {
             (F.File.remaining dice.device)) }
 
         // As the trait says.
-        ensures ok { IfOk result (λ dice. HandsOut
-            (real_world (F.told self.old.files.now) self.old.load_faults self.old.open_faults
-            self.old.dice_faults self.old.out)
-            (real_world (F.told self.new.files.now) self.new.load_faults self.new.open_faults
-            self.new.dice_faults self.new.out)
-            seat None dice.faults) }
-        ensures err { OnErr result (KeepsDice
-            (real_world (F.told self.old.files.now) self.old.load_faults self.old.open_faults
-            self.old.dice_faults self.old.out)
-            (real_world (F.told self.new.files.now) self.new.load_faults self.new.open_faults
-            self.new.dice_faults self.new.out)) }
-        ensures refusals { IfErr result
-            (λ why. (why ≡ FileNo.Failed) ⊎ (why ≡ FileNo.NoMemory)) }
+        ensures ok { IfOk result (λ dice. HandsOut same_seat
+            (real_world (F.told self.old.files.now) self.old.faults self.old.dice_faults
+            self.old.dice_out self.old.tapes self.old.links).dice
+            (real_world (F.told self.new.files.now) self.new.faults self.new.dice_faults
+            self.new.dice_out self.new.tapes self.new.links).dice
+            seat dice.faults) }
+        ensures left { IfOk result (λ dice. None
+            ≡ (real_world (F.told self.old.files.now) self.old.faults self.old.dice_faults
+            self.old.dice_out self.old.tapes self.old.links).dice.told seat) }
+        ensures err { OnErr result (
+            (real_world (F.told self.new.files.now) self.new.faults self.new.dice_faults
+            self.new.dice_out self.new.tapes self.new.links).dice
+            ≡ (real_world (F.told self.old.files.now) self.old.faults self.old.dice_faults
+            self.old.dice_out self.old.tapes self.old.links).dice) }
+        ensures refusals { IfErr result IsFaultOrMemory }
         ensures failed { IsErrOf result FileNo.Failed
-            → Rose self.old.open_faults self.new.open_faults }
+            → Rose self.old.faults.dice self.new.faults.dice }
         ensures asked { Notes
-            (real_world (F.told self.old.files.now) self.old.load_faults self.old.open_faults
-            self.old.dice_faults self.old.out)
-            (real_world (F.told self.new.files.now) self.new.load_faults self.new.open_faults
-            self.new.dice_faults self.new.out)
-            (Asked.RandomSource seat) result }
+            (real_world (F.told self.old.files.now) self.old.faults self.old.dice_faults
+            self.old.dice_out self.old.tapes self.old.links)
+            (real_world (F.told self.new.files.now) self.new.faults self.new.dice_faults
+            self.new.dice_out self.new.tapes self.new.links)
+            (WorldCall.RandomSource seat) result }
+        ensures kind { self.new.faults
+            ≡ record self.old.faults { dice = self.new.faults.dice } }
         ensures files { KeepsFiles
-            (real_world (F.told self.old.files.now) self.old.load_faults self.old.open_faults
-            self.old.dice_faults self.old.out)
-            (real_world (F.told self.new.files.now) self.new.load_faults self.new.open_faults
-            self.new.dice_faults self.new.out) }
-        ensures loads { self.new.load_faults ≡ self.old.load_faults }
+            (real_world (F.told self.old.files.now) self.old.faults self.old.dice_faults
+            self.old.dice_out self.old.tapes self.old.links)
+            (real_world (F.told self.new.files.now) self.new.faults self.new.dice_faults
+            self.new.dice_out self.new.tapes self.new.links) }
+        ensures tapes { (real_world (F.told self.new.files.now) self.new.faults self.new.dice_faults
+            self.new.dice_out self.new.tapes self.new.links).tapes
+            ≡ (real_world (F.told self.old.files.now) self.old.faults self.old.dice_faults
+            self.old.dice_out self.old.tapes self.old.links).tapes }
+        ensures links { (real_world (F.told self.new.files.now) self.new.faults self.new.dice_faults
+            self.new.dice_out self.new.tapes self.new.links).links
+            ≡ (real_world (F.told self.old.files.now) self.old.faults self.old.dice_faults
+            self.old.dice_out self.old.tapes self.old.links).links }
     {
         let at = seat as usize;
-        if at >= SEATS || self.out[at] == u64::MAX {
-            self.open_faults.rise();
+        if at >= SEATS || self.dice_out[at] == u64::MAX {
+            self.faults.dice.rise();
             return Err(FileNo::Failed);
         }
         match self.files.open(RANDOM_DEVICE) {
             Ok(device) => {
-                self.out[at] += 1;
+                self.dice_out[at] += 1;
                 Ok(DeviceDice {
                     device,
                     faults: FaultCount::from_count(self.dice_faults[at]),
                 })
             }
             Err(_) => {
-                self.open_faults.rise();
+                self.faults.dice.rise();
                 Err(FileNo::Failed)
             }
         }
+    }
+
+    fn link(
+        &mut self,
+        alloc: Global,
+        seat: u32,
+        plugin: &str,
+        program: &str,
+    ) -> Result<ChildLink, FileNo> {
+        let (Ok(name), Ok(key), Ok(room)) = (
+            Text::copy(alloc, plugin),
+            Text::copy(alloc, plugin),
+            AnswerRoom::new(alloc),
+        ) else {
+            return Err(FileNo::NoMemory);
+        };
+        let child = match self.files.start(alloc, program) {
+            Ok(child) => child,
+            Err(StartNo::NoMemory) => return Err(FileNo::NoMemory),
+            Err(StartNo::Failed) => {
+                self.faults.links.rise();
+                return Err(FileNo::Failed);
+            }
+        };
+        let Some(ends) = take_ends(child) else {
+            self.faults.links.rise();
+            return Err(FileNo::Failed);
+        };
+        match link_place(self.links.items(), seat, plugin) {
+            Some(at) => match self.links.lend(at, (seat, key)) {
+                Ok((_key, count)) => Ok(ChildLink::new(name, ends, room, count)),
+                Err(_) => {
+                    ends.close();
+                    Err(FileNo::NoMemory)
+                }
+            },
+            None => match self.links.add((seat, key)) {
+                Ok(()) => Ok(ChildLink::first(name, ends, room)),
+                Err(_) => {
+                    ends.close();
+                    Err(FileNo::NoMemory)
+                }
+            },
+        }
+    }
+
+    fn back_tape(&mut self, name: &str, tape: FileTape<File>) {
+        let Some(at) = name_place(self.tapes.out(), name) else {
+            unreachable!();
+        };
+        self.tapes.put_back_by(at, tape.close());
     }
 
     fn back_dice(&mut self, seat: u32, dice: DeviceDice<F::File>) {
@@ -179,7 +275,51 @@ impl<'a, F: NamedFiles> World for RealWorld<'a, F> {
             device: _device,
             faults,
         } = dice;
-        self.out[at] -= 1;
+        self.dice_out[at] -= 1;
         self.dice_faults[at] = faults.count();
     }
+
+    fn back_link(&mut self, seat: u32, link: ChildLink) {
+        let Some(at) = plugin_place(self.links.out(), seat, link.name()) else {
+            unreachable!();
+        };
+        self.links.put_back_by(at, link.close());
+    }
+}
+
+/// Where the count of the tape of the name stands.
+fn tape_place(counts: &[(Text, u64)], name: &str) -> Option<usize>
+    ensures first { result ≡ position (λ entry. bytes_eq entry.0 name.now) counts.now }
+    ensures within { IfSome result (λ at. at < length counts.now) }
+{
+    counts.iter().position(|entry| entry.0.as_str() == name)
+}
+
+/// Where the count of the seat's link to the plugin stands.
+fn link_place(counts: &[((u32, Text), u64)], seat: u32, plugin: &str) -> Option<usize>
+    ensures first { result ≡ position
+        (λ entry. (entry.0.0 == seat) && bytes_eq entry.0.1 plugin.now) counts.now }
+    ensures within { IfSome result (λ at. at < length counts.now) }
+{
+    counts
+        .iter()
+        .position(|entry| entry.0.0 == seat && entry.0.1.as_str() == plugin)
+}
+
+/// Where the name stands.
+fn name_place(out: &[Text], name: &str) -> Option<usize>
+    ensures first { result ≡ position (λ other. bytes_eq other name.now) out.now }
+    ensures within { IfSome result (λ at. at < length out.now) }
+{
+    out.iter().position(|other| other.as_str() == name)
+}
+
+/// Where the seat stands with the plugin.
+fn plugin_place(out: &[(u32, Text)], seat: u32, plugin: &str) -> Option<usize>
+    ensures first { result ≡ position
+        (λ other. (other.0 == seat) && bytes_eq other.1 plugin.now) out.now }
+    ensures within { IfSome result (λ at. at < length out.now) }
+{
+    out.iter()
+        .position(|other| other.0 == seat && other.1.as_str() == plugin)
 }

@@ -1,6 +1,6 @@
 //! What a reader and a writer do, call by call, and what comes of it.
 use kr_base::{ReadNo, Sink, Source, read_all, write_all};
-use kr_edge::{StdSink, StdSource};
+use kr_edge::{AnswerRoom, Exchange, StdSink, StdSource};
 use std::alloc::Global;
 use std::io::{self, ErrorKind, Read, Write};
 use std::test::Fail;
@@ -151,4 +151,25 @@ fn a_write_that_breaks_off_or_takes_nothing_is_a_fault(rt: HostRuntime) -> Resul
         )
     );
     Ok(())
+}
+
+/// How long the answer of an exchange is whose answers come by these turns, if there is one.
+fn answered(alloc: Global, turns: &[Turn]) -> Option<Option<usize>> {
+    let mut input = Double::new(alloc, &[Turn::Moves(2), Turn::Stops, Turn::Moves(9)])?;
+    let mut output = Double::new(alloc, turns)?;
+    let room = AnswerRoom::new(alloc).ok()?;
+    let mut exchange = Exchange::new(&mut input, &mut output, room);
+    Some(exchange.ask(b"hello\n").ok())
+}
+
+// The eleventh byte of a double is LF.
+#[test]
+fn one_line_answers_one(rt: HostRuntime) {
+    let alloc = rt.alloc();
+    assert!(rt; answered(alloc, &[Turn::Moves(4), Turn::Stops, Turn::Moves(7)]) == Some(Some(10)));
+    // Bytes stand behind it, it has no end, the read breaks off, and there is none.
+    assert!(rt; answered(alloc, &[Turn::Moves(12)]) == Some(None));
+    assert!(rt; answered(alloc, &[Turn::Moves(4)]) == Some(None));
+    assert!(rt; answered(alloc, &[Turn::Moves(4), Turn::Breaks]) == Some(None));
+    assert!(rt; answered(alloc, &[]) == Some(None));
 }

@@ -1,5 +1,5 @@
 -- Going through the classes in their order.
-use Rattle.std.proofs.Common.{◌≡◌, ◌<◌, List, ◌∷◌, Option, None, Some, length, map, refl, sym, ap, ◌∙◌, arith}
+use Rattle.std.proofs.Common.{◌≡◌, ◌<◌, List, ◌∷◌, Option, None, Some, length, refl, sym, ap, ◌∙◌, arith}
 use Rattle.std.specs.List.{cons_option}
 use Rattle.std.specs.Option.{option_map}
 use Rattle.kr_config.specs.declared.class.Class.{Class}

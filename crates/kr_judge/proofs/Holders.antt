@@ -1,13 +1,12 @@
--- Changes of one generation, and of all that are a replica's.
-use Rattle.std.proofs.Common.{◌≡◌, ℕ, zero, suc, ◌<◌, ◌+◌, ◌^◌, ◌-◌, ◌≤◌, Bool, true, false, List, [], ◌∷◌, ◌++◌, length, get_or, set, take, drop, map, refl, sym, ap, subst, ◌∙◌, arith, append_assoc, append-nil}
-use Rattle.std.specs.Prelude.{◌==◌, ◌&&◌, not, IsTrue}
+-- Changes of one generation.
+use Rattle.std.proofs.Common.{◌≡◌, ℕ, zero, suc, ◌<◌, ◌+◌, ◌^◌, Bool, List, [], ◌∷◌, length, get_or, set, refl, sym, ap, subst, ◌∙◌, arith}
+use Rattle.std.specs.Prelude.{IsTrue}
 use Rattle.std.specs.List.{slice_get}
 use Rattle.std.specs.Option.{IsSomeAnd}
-use Rattle.std.proofs.lemmas.List.{take_more_set, drop-set-lt, take_all, map-append, length-set}
 use Rattle.kr_judge.specs.declared.generation.Generation.{Generation}
-use Rattle.kr_judge.specs.Boards.{GenerationState, left_by, without_current, changed_at, held_more, held_less, MayHold, IsHeld, is_live}
+use Rattle.kr_judge.specs.Boards.{GenerationState, changed_at, held_more, held_less, MayHold, IsHeld, is_live}
+use Rattle.kr_judge.specs.inner.Lives.{uncurrent}
 use Rattle.kr_judge.specs.inner.Views.{generation_of, generations_of}
-use Rattle.kr_judge.proofs.Parts.{drop_at, drop_end, take_at_more}
 
 changed : (change : GenerationState → GenerationState) (generations : List Generation) (i : ℕ) (g new : Generation) → i < length generations → g ≡ get_or generations i g → generation_of new ≡ change (generation_of g)
     → generations_of (set generations i new) ≡ changed_at change i (generations_of generations)
@@ -44,56 +43,27 @@ hold_set generations i g h is = changed held_more generations i g (record g { ho
 pub release_there : (generations : List Generation) (i : ℕ) → IsHeld i (generations_of generations) → i < length generations
 release_there generations i h = is_there HasHolders generations i h
 
-pub release_fits : (generations : List Generation) (i : ℕ) (g : Generation) → IsHeld i (generations_of generations) → g ≡ get_or generations i g → 1 ≤ g.holders
-release_fits generations i g h is = let some : 0 < g.holders = as_there HasHolders generations i g h is in omega arith
+pub release_some : (generations : List Generation) (i : ℕ) (g : Generation) → IsHeld i (generations_of generations) → g ≡ get_or generations i g → 0 < g.holders
+release_some generations i g h is = as_there HasHolders generations i g h is
 
-pub release_set : (generations : List Generation) (i : ℕ) (g : Generation) → IsHeld i (generations_of generations) → g ≡ get_or generations i g
-    → generations_of (set generations i (record g { holders = g.holders - 1 })) ≡ changed_at held_less i (generations_of generations)
-release_set generations i g h is = changed held_less generations i g (record g { holders = g.holders - 1 }) (release_there generations i h) is refl
+pub less_set : (generations : List Generation) (i : ℕ) (g new : Generation) → i < length generations → g ≡ get_or generations i g → generation_of new ≡ held_less (generation_of g)
+    → generations_of (set generations i new) ≡ changed_at held_less i (generations_of generations)
+less_set generations i g new h is e = changed held_less generations i g new h is e
 
--- the replica's generations before the place aren't current
-pub record AreLeft (replica : ℕ) (old now : List Generation) (i : ℕ) : Type 0 where
-  pub rest : without_current replica (generations_of old) ≡ generations_of (take i now) ++ map (left_by replica) (generations_of (drop i now))
-  pub same : length now ≡ length old
+pub uncurrent_set : (generations : List Generation) (i : ℕ) (g new : Generation) → i < length generations → g ≡ get_or generations i g → generation_of new ≡ uncurrent (generation_of g)
+    → generations_of (set generations i new) ≡ changed_at uncurrent i (generations_of generations)
+uncurrent_set generations i g new h is e = changed uncurrent generations i g new h is e
 
-pub left_begin : (replica : ℕ) (old : List Generation) → AreLeft replica old old 0
-left_begin replica old = record { rest = refl; same = refl }
+-- whether it is still live is told of the generation at its place
+still : (P : GenerationState → Type 0) (generations : List Generation) (i : ℕ) (g : Generation) → i < length generations → g ≡ get_or generations i g → P (generation_of g) → IsSomeAnd (slice_get (generations_of generations) i) P
+still P [] i g h is p = absurd (omega (arith, h))
+still P (k ∷ ks) zero g h is p = subst (λ x. P (generation_of x)) is p
+still P (k ∷ ks) (suc i) g h is p = still P ks i g (omega (arith, h)) is p
 
-one_left : (replica : ℕ) (old now : List Generation) (i : ℕ) (g : Generation) → AreLeft replica old now i → i < length now → g ≡ get_or now i g
-    → without_current replica (generations_of old) ≡ (generations_of (take i now) ++ left_by replica (generation_of g) ∷ []) ++ map (left_by replica) (generations_of (drop (i + 1) now))
-one_left replica old now i g before h is = before.rest
-    ∙ ap (λ l. generations_of (take i now) ++ map (left_by replica) (generations_of l)) (drop_at now i g h is)
-    ∙ sym (append_assoc (generations_of (take i now)) (left_by replica (generation_of g) ∷ []) (map (left_by replica) (generations_of (drop (i + 1) now))))
+pub still_held : (generations : List Generation) (i : ℕ) (g : Generation) (v : Bool) → i < length generations → g ≡ get_or generations i g → v ≡ is_live (held_less (generation_of g))
+    → IsSomeAnd (slice_get (generations_of generations) i) (λ x. v ≡ is_live (held_less x))
+still_held generations i g v h is e = still (λ x. v ≡ is_live (held_less x)) generations i g h is e
 
-and_false : (v : Bool) → (v && false) ≡ false
-and_false true = refl
-and_false false = refl
-
-and_true : (v : Bool) → (v && true) ≡ v
-and_true true = refl
-and_true false = refl
-
-pub left_here : (replica : ℕ) (old now : List Generation) (i : ℕ) (g : Generation) → AreLeft replica old now i → i < length now → g ≡ get_or now i g → (g.replica == replica) ≡ true
-    → AreLeft replica old (set now i (record g { current = false })) (i + 1)
-left_here replica old now i g before h is e =
-    let new : Generation = record g { current = false } in
-    let gone : left_by replica (generation_of g) ≡ generation_of new = ap (λ v. record (generation_of g) { current = v }) (ap (λ v. g.current && not v) e ∙ and_false g.current) in record {
-      rest = one_left replica old now i g before h is
-          ∙ ap (λ x. (generations_of (take i now) ++ x ∷ []) ++ map (left_by replica) (generations_of (drop (i + 1) now))) gone
-          ∙ ap (λ l. l ++ map (left_by replica) (generations_of (drop (i + 1) now))) (sym (map-append generation_of (take i now) (new ∷ [])) ∙ ap generations_of (sym (take_more_set now i new h)))
-          ∙ ap (λ l. generations_of (take (i + 1) (set now i new)) ++ map (left_by replica) (generations_of l)) (sym (drop-set-lt (i + 1) now i new (omega arith)));
-      same = length-set now i new ∙ before.same;
-    }
-
-pub left_other : (replica : ℕ) (old now : List Generation) (i : ℕ) (g : Generation) → AreLeft replica old now i → i < length now → g ≡ get_or now i g → (g.replica == replica) ≡ false → AreLeft replica old now (i + 1)
-left_other replica old now i g before h is e =
-    let kept : left_by replica (generation_of g) ≡ generation_of g = ap (λ v. record (generation_of g) { current = v }) (ap (λ v. g.current && not v) e ∙ and_true g.current) in record {
-      rest = one_left replica old now i g before h is
-          ∙ ap (λ x. (generations_of (take i now) ++ x ∷ []) ++ map (left_by replica) (generations_of (drop (i + 1) now))) kept
-          ∙ ap (λ l. l ++ map (left_by replica) (generations_of (drop (i + 1) now))) (sym (map-append generation_of (take i now) (g ∷ [])) ∙ ap generations_of (sym (take_at_more now i g h is)));
-      same = before.same;
-    }
-
-pub left_end : (replica : ℕ) (old now : List Generation) (i : ℕ) → AreLeft replica old now i → length now ≤ i → generations_of now ≡ without_current replica (generations_of old)
-left_end replica old now i before h = sym (before.rest ∙ ap (λ l. generations_of l ++ map (left_by replica) (generations_of (drop i now))) (take_all i now h)
-    ∙ ap (λ l. generations_of now ++ map (left_by replica) (generations_of l)) (drop_end now i h) ∙ append-nil (generations_of now))
+pub still_left : (generations : List Generation) (i : ℕ) (g : Generation) (v : Bool) → i < length generations → g ≡ get_or generations i g → v ≡ is_live (uncurrent (generation_of g))
+    → IsSomeAnd (slice_get (generations_of generations) i) (λ x. v ≡ is_live (uncurrent x))
+still_left generations i g v h is e = still (λ x. v ≡ is_live (uncurrent x)) generations i g h is e

@@ -1,5 +1,5 @@
 -- Members of lists, and lists of which nothing is left.
-use Rattle.std.proofs.Common.{◌≡◌, zero, suc, Bool, true, false, List, [], ◌∷◌, ◌++◌, Option, None, Some, Contains, map, refl, subst, ap, ◌∙◌, ◌⊎◌, inl, inr, arith}
+use Rattle.std.proofs.Common.{◌≡◌, zero, suc, Bool, true, false, List, [], ◌∷◌, ◌++◌, Option, None, Some, Contains, map, refl, sym, subst, ap, ◌∙◌, ◌⊎◌, inl, inr, arith}
 use Rattle.std.specs.Prelude.{cond}
 use Rattle.std.specs.List.{filter, filter_map, flat_map, cons_option}
 use Rattle.std.specs.Option.{option_map}
@@ -77,3 +77,8 @@ map_empty f (x ∷ xs) h = cc
 pub option_none : {X Y : Type 0} (f : X → Y) (v : Option X) → option_map f v ≡ None → v ≡ None
 option_none f None h = refl
 option_none f (Some x) h = cc
+
+pub one_truth : (u v : Bool) → (u ≡ true → v ≡ true) → (v ≡ true → u ≡ true) → u ≡ v
+one_truth true v h k = sym (h refl)
+one_truth false true h k = k refl
+one_truth false false h k = refl

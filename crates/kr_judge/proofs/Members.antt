@@ -13,7 +13,7 @@ use Rattle.kr_judge.specs.Laws.{HasMembers}
 both : (a b s t : List ℕ) (F : List ℕ → List ℕ → Who) → (bytes_eq a b && bytes_eq s t) ≡ true → F a s ≡ F b t
 both a b s t F h = ap (λ x. F x s) ((bytes_eq-Decides a b).0 (first_so _ _ h)) ∙ ap (λ x. F b x) ((bytes_eq-Decides s t).0 (second_so _ _ h))
 
-is_one : (own who : Who) → same_who own who ≡ true → own ≡ who
+pub is_one : (own who : Who) → same_who own who ≡ true → own ≡ who
 is_one Identity Identity h = refl
 is_one Identity (Aescbc b t) h = cc
 is_one Identity (Aesgcm b t) h = cc
@@ -31,14 +31,14 @@ is_one (Kms a) (Aescbc b t) h = cc
 is_one (Kms a) (Aesgcm b t) h = cc
 is_one (Kms a) (Kms b) h = ap Kms ((bytes_eq-Decides a b).0 h)
 
-its_own : (a : List ℕ) → bytes_eq a a ≡ true
+pub its_own : (a : List ℕ) → bytes_eq a a ≡ true
 its_own a = (bytes_eq-Decides a a).1 refl
 
-and_true : (u v : Bool) → u ≡ true → v ≡ true → (u && v) ≡ true
+pub and_true : (u v : Bool) → u ≡ true → v ≡ true → (u && v) ≡ true
 and_true true v h k = k
 and_true false v h k = cc
 
-itself : (who : Who) → same_who who who ≡ true
+pub itself : (who : Who) → same_who who who ≡ true
 itself Identity = refl
 itself (Aescbc a s) = and_true (bytes_eq a a) (bytes_eq s s) (its_own a) (its_own s)
 itself (Aesgcm a s) = and_true (bytes_eq a a) (bytes_eq s s) (its_own a) (its_own s)

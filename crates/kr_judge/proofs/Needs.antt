@@ -1,6 +1,6 @@
--- A path's place among needs, and that needs stay in the order of their paths.
-use Rattle.std.proofs.Common.{◌≡◌, ℕ, ◌<◌, ◌≤◌, ◌+◌, Bool, true, false, List, [], ◌∷◌, ◌++◌, None, Some, Ok, Err, length, get_or, take, drop, map, refl, sym, ap, subst, ◌∙◌, arith, append_assoc, append-nil, add-one}
-use Rattle.std.specs.Prelude.{slice_set, if◌then◌else◌, cond, Option}
+-- Needs stay in the order of their paths, and what is needed at a path.
+use Rattle.std.proofs.Common.{◌≡◌, ℕ, Bool, true, false, List, [], ◌∷◌, None, Some, map, refl, sym, ap, subst, ◌∙◌}
+use Rattle.std.specs.Prelude.{if◌then◌else◌, cond}
 use Rattle.std.specs.List.{AllByRecursion}
 use Rattle.std.specs.List.Sorted.{IsStrictlySortedBy}
 use Rattle.std.specs.Str.{bytes_eq}
@@ -10,88 +10,13 @@ use Rattle.std.proofs.lemmas.Slice.Eq.{bytes_eq-Decides}
 use Rattle.std.specs.declared.cmp.Ordering.{Ordering}
 use Rattle.std.specs.declared.cmp.Ordering.TheVariants.{Less, Equal, Greater}
 use Rattle.std.proofs.lemmas.Cmp.{nat_list_cmp_total, tied_itself}
-use Rattle.std.proofs.lemmas.List.{set_split, take_all}
 use Rattle.kr_config.specs.Nexts.{name_cmp}
 use Rattle.kr_judge.specs.declared.need.Need.{Need}
 use Rattle.kr_judge.specs.Boards.{AreByPath, need_at, set_need, drop_need}
-use Rattle.kr_judge.specs.inner.Places.{IsPlaceOf, IsFoundAt}
 use Rattle.kr_judge.specs.Laws.{StaySorted, SetAtPath, DropAtPath}
-use Rattle.kr_judge.proofs.Parts.{drop_at, drop_end, take_at_more}
-
--- the paths before the place are less: a need of the path is put into what is left
-pub record ArePassed (needs : List Need) (path : List ℕ) (i : ℕ) : Type 0 where
-  pub rest : (need : Need) → need.path ≡ path → set_need needs need ≡ take i needs ++ set_need (drop i needs) need
-
-step : (own : Need) (needs : List Need) (need : Need) (path : List ℕ) (r : Ordering) → need.path ≡ path → name_cmp path own.path ≡ r
-    → set_need (own ∷ needs) need ≡ match_ordering r (need ∷ own ∷ needs) (need ∷ needs) (own ∷ set_need needs need)
-step own needs need path r e h =
-    ap (λ o. match_ordering o (need ∷ own ∷ needs) (need ∷ needs) (own ∷ set_need needs need)) (ap (λ p. name_cmp p own.path) e ∙ h)
-
-split : (needs : List Need) (i : ℕ) (own need : Need) (path : List ℕ) (r : Ordering) → i < length needs → own ≡ get_or needs i own → need.path ≡ path → name_cmp path own.path ≡ r
-    → set_need (drop i needs) need ≡ match_ordering r (need ∷ own ∷ drop (i + 1) needs) (need ∷ drop (i + 1) needs) (own ∷ set_need (drop (i + 1) needs) need)
-split needs i own need path r h is e c = ap (λ l. set_need l need) (drop_at needs i own h is) ∙ step own (drop (i + 1) needs) need path r e c
-
-pub place_begin : (needs : List Need) (path : List ℕ) → ArePassed needs path 0
-place_begin needs path = record { rest = λ need e. refl }
-
-pub place_more : (needs : List Need) (path : List ℕ) (i : ℕ) (own : Need) → ArePassed needs path i → i < length needs → own ≡ get_or needs i own → name_cmp path own.path ≡ Greater → ArePassed needs path (i + 1)
-place_more needs path i own passed h is c = record {
-  rest = λ need e. passed.rest need e ∙ ap (λ l. take i needs ++ l) (split needs i own need path Greater h is e c)
-      ∙ sym (append_assoc (take i needs) (own ∷ []) (set_need (drop (i + 1) needs) need))
-      ∙ ap (λ l. l ++ set_need (drop (i + 1) needs) need) (sym (take_at_more needs i own h is));
-}
-
-set_parts : (needs : List Need) (i : ℕ) (need : Need) → i < length needs → slice_set needs i need ≡ take i needs ++ need ∷ drop (i + 1) needs
-set_parts needs i need h = set_split needs i need h ∙ ap (λ n. take i needs ++ need ∷ drop n needs) (sym (add-one i))
-
-pub place_here : (needs : List Need) (path : List ℕ) (i : ℕ) (own : Need) → ArePassed needs path i → i < length needs → own ≡ get_or needs i own → name_cmp path own.path ≡ Equal → IsPlaceOf needs path (Ok i)
-place_here needs path i own passed h is c = (h, λ need e. set_parts needs i need h ∙ sym (passed.rest need e ∙ ap (λ l. take i needs ++ l) (split needs i own need path Equal h is e c)))
-
-pub place_before : (needs : List Need) (path : List ℕ) (i : ℕ) (own : Need) → ArePassed needs path i → i < length needs → own ≡ get_or needs i own → name_cmp path own.path ≡ Less → IsPlaceOf needs path (Err i)
-place_before needs path i own passed h is c = (
-  omega arith,
-  λ need e.
-      ap (λ l. take i needs ++ need ∷ l) (drop_at needs i own h is) ∙ sym (passed.rest need e ∙ ap (λ l. take i needs ++ l) (split needs i own need path Less h is e c)),
-)
-
-pub place_end : (needs : List Need) (path : List ℕ) (i : ℕ) → ArePassed needs path i → i ≡ length needs → IsPlaceOf needs path (Err (length needs))
-place_end needs path i passed h = subst (λ n. IsPlaceOf needs path (Err n)) h (
-  omega arith,
-  λ need e.
-      ap (λ l. take i needs ++ need ∷ l) (drop_end needs i (omega arith)) ∙ sym (passed.rest need e ∙ ap (λ l. take i needs ++ set_need l need) (drop_end needs i (omega arith))),
-)
-
--- the needs before the place are of other paths
-pub record AreOthers (needs : List Need) (path : List ℕ) (i : ℕ) : Type 0 where
-  pub rest : drop_need needs path ≡ take i needs ++ drop_need (drop i needs) path
-
-drop_step : (needs : List Need) (path : List ℕ) (i : ℕ) (own : Need) (v : Bool) → i < length needs → own ≡ get_or needs i own → bytes_eq own.path path ≡ v
-    → drop_need (drop i needs) path ≡ (if v then drop (i + 1) needs else own ∷ drop_need (drop (i + 1) needs) path)
-drop_step needs path i own v h is e = ap (λ l. drop_need l path) (drop_at needs i own h is)
-    ∙ ap (λ t. if t then drop (i + 1) needs else own ∷ drop_need (drop (i + 1) needs) path) e
-
-pub others_begin : (needs : List Need) (path : List ℕ) → AreOthers needs path 0
-others_begin needs path = record { rest = refl }
-
-pub others_more : (needs : List Need) (path : List ℕ) (i : ℕ) (own : Need) → AreOthers needs path i → i < length needs → own ≡ get_or needs i own → bytes_eq own.path path ≡ false → AreOthers needs path (i + 1)
-others_more needs path i own others h is e = record {
-  rest = others.rest ∙ ap (λ l. take i needs ++ l) (drop_step needs path i own false h is e)
-      ∙ sym (append_assoc (take i needs) (own ∷ []) (drop_need (drop (i + 1) needs) path))
-      ∙ ap (λ l. l ++ drop_need (drop (i + 1) needs) path) (sym (take_at_more needs i own h is));
-}
-
-pub others_found : (needs : List Need) (path : List ℕ) (i : ℕ) (own : Need) → AreOthers needs path i → i < length needs → own ≡ get_or needs i own → bytes_eq own.path path ≡ true → IsFoundAt needs path (Some i)
-others_found needs path i own others h is e = (
-  h,
-  ap (λ n. take i needs ++ drop n needs) (sym (add-one i))
-      ∙ sym (others.rest ∙ ap (λ l. take i needs ++ l) (drop_step needs path i own true h is e)),
-)
-
-pub others_end : (needs : List Need) (path : List ℕ) (i : ℕ) → AreOthers needs path i → length needs ≤ i → IsFoundAt needs path None
-others_end needs path i others h = others.rest ∙ ap (λ l. take i needs ++ drop_need l path) (drop_end needs i h) ∙ append-nil (take i needs) ∙ take_all i needs h
 
 -- the order of paths
-equal_paths : (a b : List ℕ) → name_cmp a b ≡ Equal → a ≡ b
+pub equal_paths : (a b : List ℕ) → name_cmp a b ≡ Equal → a ≡ b
 equal_paths a b h = (bytes_eq-Decides a b).0 (sym (is_eq-slice_cmp a b) ∙ ap is_eq h)
 
 abbrev Above : List ℕ → List Need → Type 0

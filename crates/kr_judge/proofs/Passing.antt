@@ -1,5 +1,5 @@
 -- The verdict passes exactly where the new settings and the others read all that they must.
-use Rattle.std.proofs.Common.{◌≡◌, ◌≢◌, ℕ, Bool, true, false, List, [], ◌∷◌, ◌++◌, Option, None, Some, Contains, map, refl, sym, ap, subst, ◌∙◌}
+use Rattle.std.proofs.Common.{◌≡◌, ◌≢◌, ℕ, Bool, true, false, List, [], ◌∷◌, ◌++◌, Option, None, Some, Contains, map, refl, sym, ap, subst}
 use Rattle.std.specs.Prelude.{if◌then◌else◌, not}
 use Rattle.std.specs.List.{flat_map}
 use Rattle.std.specs.Option.{option_map}
@@ -12,8 +12,8 @@ use Rattle.kr_judge.specs.declared.verdict.Verdict.{Verdict}
 use Rattle.kr_judge.specs.declared.verdict.Verdict.TheVariants.{Pass, DropsStored, DropsWriter, Unread}
 use Rattle.kr_judge.specs.Boards.{GenerationState}
 use Rattle.kr_judge.specs.Providers.{has, unread_writer}
-use Rattle.kr_judge.specs.Verdicts.{others, judged_classes, unread_classes, dropped_needs, drops_writer, unread_by, lost_writers, unread_writers, first, first_or_pass, verdict_of}
-use Rattle.kr_judge.specs.Fits.{ReadsWriter, FitsBoard}
+use Rattle.kr_judge.specs.Verdicts.{others, judged_classes, unread_classes, dropped_needs, lost_writers, unread_writers, first, first_or_pass, verdict_of}
+use Rattle.kr_judge.specs.Fits.{ReadsWriter}
 use Rattle.kr_judge.specs.Laws.{PassesExactly}
 use Rattle.kr_judge.proofs.Lists.{filtered_none, none_filtered, flattened_none, none_flattened, mapped_none, none_mapped, map_empty, option_none}
 use Rattle.kr_judge.proofs.Members.{has_members}

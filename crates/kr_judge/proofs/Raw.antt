@@ -1,10 +1,9 @@
 -- What comes next among the classes of the new settings and of the live generations, one after another.
-use Rattle.std.proofs.Common.{◌≡◌, ◌≢◌, ℕ, ◌<◌, ◌≤◌, ◌+◌, Bool, true, false, List, [], ◌∷◌, ◌++◌, Option, None, Some, All, Contains, length, get_or, take, map, sym, ap, subst, ◌∙◌, inl, inr, arith, append-nil}
-use Rattle.std.specs.Prelude.{cond}
-use Rattle.std.specs.List.{filter, flat_map}
+use Rattle.std.proofs.Common.{◌≡◌, ◌≢◌, ℕ, ◌<◌, ◌≤◌, ◌+◌, true, false, List, [], ◌∷◌, ◌++◌, Option, None, Some, All, Contains, length, get_or, take, map, sym, ap, subst, ◌∙◌, inl, inr, arith, append-nil}
+use Rattle.std.specs.List.{filter, flat_map, slice_get}
 use Rattle.std.specs.declared.cmp.Ordering.TheVariants.{Less}
-use Rattle.std.proofs.lemmas.List.{take_all, map-append}
-use Rattle.std.proofs.lemmas.List.Elements.{filter-append, All-contains, All-contains_itself, All-weaker, Contains-append_left, Contains-append_right, Contains-append_cases}
+use Rattle.std.proofs.lemmas.List.{take_all, map-append, length-map}
+use Rattle.std.proofs.lemmas.List.Elements.{All-contains, All-contains_itself, All-weaker, Contains-append_left, Contains-append_right, Contains-append_cases}
 use Rattle.std.proofs.lemmas.Grind.{flat_map-append}
 use Rattle.kr_config.specs.declared.class.Class.{Class}
 use Rattle.kr_config.specs.declared.class.Class.TheVariants.{Rest}
@@ -14,59 +13,47 @@ use Rattle.kr_config.specs.Nexts.{earlier, comes_after, IsNextClass}
 use Rattle.kr_config.proofs.Nexts.{classes_joined}
 use Rattle.kr_config.proofs.Narrowing.{next_in_table}
 use Rattle.kr_judge.specs.declared.generation.Generation.{Generation}
+use Rattle.kr_config.specs.declared.settings.Settings.{Settings}
 use Rattle.kr_judge.specs.Boards.{GenerationState, is_live}
-use Rattle.kr_judge.specs.inner.Views.{generation_of, generations_of}
+use Rattle.kr_judge.specs.Scans.{live_from, live_numbers}
+use Rattle.kr_judge.specs.inner.Views.{generation_of}
 use Rattle.kr_judge.specs.Tables.{table_of}
 use Rattle.kr_judge.specs.Verdicts.{judged_classes}
-use Rattle.kr_judge.proofs.Parts.{take_at_more}
+use Rattle.kr_judge.proofs.Lives.{live_more, live_settings}
 use Rattle.kr_judge.proofs.Tables.{is_table}
 
 abbrev with_rest : List Row → List Class
 with_rest rows = Rest ∷ classes_in rows
 
-abbrev rows_in : List GenerationState → List (List Row)
-rows_in generations = map (λ generation. generation.rows) (filter is_live generations)
+abbrev rows_in : List (ℕ × GenerationState) → List (List Row)
+rows_in lives = map (λ n. n.1.rows) lives
 
-abbrev raw : List Row → List Generation → List Class
-raw rows generations = flat_map with_rest (rows ∷ rows_in (generations_of generations))
+abbrev raw : List Row → List (ℕ × GenerationState) → List Class
+raw rows lives = flat_map with_rest (rows ∷ rows_in lives)
 
--- the classes come next among those of the new settings and of the generations so far
-pub record IsRaw (rows : List Row) (generations : List Generation) (i : ℕ) (after next : Option Class) : Type 0 where
-  pub so_far : IsNextClass (raw rows (take i generations)) after next
+-- the classes come next among those of the new settings and of the live generations so far
+pub record IsRaw (rows : List Row) (generations : List GenerationState) (j : ℕ) (after next : Option Class) : Type 0 where
+  pub so_far : IsNextClass (raw rows (take j (live_from 0 generations))) after next
 
-pub raw_begin : (rows : List Row) (generations : List Generation) (after next : Option Class) → IsNextClass (Rest ∷ classes_in rows) after next → IsRaw rows generations 0 after next
+pub raw_begin : (rows : List Row) (generations : List GenerationState) (after next : Option Class) → IsNextClass (Rest ∷ classes_in rows) after next → IsRaw rows generations 0 after next
 raw_begin rows generations after next h = record { so_far = subst (λ l. IsNextClass l after next) (sym (append-nil (with_rest rows))) h }
 
-rows_more : (generations : List Generation) (i : ℕ) (g : Generation) → i < length generations → g ≡ get_or generations i g
-    → rows_in (generations_of (take (i + 1) generations)) ≡ rows_in (generations_of (take i generations)) ++ rows_in (generation_of g ∷ [])
-rows_more generations i g h is =
-    ap (λ l. rows_in (generations_of l)) (take_at_more generations i g h is)
-    ∙ ap rows_in (map-append generation_of (take i generations) (g ∷ []))
-    ∙ ap (map (λ generation. generation.rows)) (filter-append is_live (generations_of (take i generations)) (generation_of g ∷ []))
-    ∙ map-append (λ generation. generation.rows) (filter is_live (generations_of (take i generations))) (filter is_live (generation_of g ∷ []))
+raw_joined : (rows : List Row) (lives : List (ℕ × GenerationState)) (n : ℕ) (g : GenerationState) → raw rows (lives ++ (n, g) ∷ []) ≡ raw rows lives ++ with_rest g.rows
+raw_joined rows lives n g =
+    ap (λ l. flat_map with_rest (rows ∷ l)) (map-append (λ m. m.1.rows) lives ((n, g) ∷ []))
+    ∙ flat_map-append with_rest (rows ∷ rows_in lives) (g.rows ∷ []) ∙ ap (λ l. raw rows lives ++ l) (append-nil (with_rest g.rows))
 
-one_more : (g : Generation) (v : Bool) → is_live (generation_of g) ≡ v → rows_in (generation_of g ∷ []) ≡ map (λ generation. generation.rows) (cond v (generation_of g ∷ []) [])
-one_more g v e = ap (λ t. map (λ generation. generation.rows) (cond t (generation_of g ∷ []) [])) e
-
-raw_joined : (rows : List Row) (generations : List Generation) (i : ℕ) (g : Generation) (v : Bool) → i < length generations → g ≡ get_or generations i g → is_live (generation_of g) ≡ v
-    → raw rows (take (i + 1) generations) ≡ raw rows (take i generations) ++ flat_map with_rest (map (λ generation. generation.rows) (cond v (generation_of g ∷ []) []))
-raw_joined rows generations i g v h is e =
-    ap (λ l. flat_map with_rest (rows ∷ l)) (rows_more generations i g h is ∙ ap (λ l. rows_in (generations_of (take i generations)) ++ l) (one_more g v e))
-    ∙ flat_map-append with_rest (rows ∷ rows_in (generations_of (take i generations))) (map (λ generation. generation.rows) (cond v (generation_of g ∷ []) []))
-
-pub raw_more : (rows : List Row) (generations : List Generation) (i : ℕ) (g : Generation) (after old other new : Option Class) → IsRaw rows generations i after old → i < length generations → g ≡ get_or generations i g
-    → is_live (generation_of g) ≡ true → IsNextClass (Rest ∷ classes_in (rows_of g.settings.entries.0)) after other → new ≡ earlier class_cmp old other → IsRaw rows generations (i + 1) after new
-raw_more rows generations i g after old other new before h is live own e = record {
-  so_far = subst (λ l. IsNextClass l after new) (ap (λ l. raw rows (take i generations) ++ l) (sym (append-nil (with_rest (rows_of g.settings.entries.0)))) ∙ sym (raw_joined rows generations i g true h is live))
-      (subst (IsNextClass (raw rows (take i generations) ++ with_rest (rows_of g.settings.entries.0)) after) (sym e)
-      (classes_joined (raw rows (take i generations)) (with_rest (rows_of g.settings.entries.0)) after old other before.so_far own));
-}
-
-pub raw_skip : (rows : List Row) (generations : List Generation) (i : ℕ) (g : Generation) (after next : Option Class) → IsRaw rows generations i after next → i < length generations → g ≡ get_or generations i g
-    → is_live (generation_of g) ≡ false → IsRaw rows generations (i + 1) after next
-raw_skip rows generations i g after next before h is live = record {
-  so_far = subst (λ l. IsNextClass l after next) (sym (raw_joined rows generations i g false h is live ∙ append-nil (raw rows (take i generations)))) before.so_far;
-}
+pub raw_more : (rows : List Row) (generations : List GenerationState) (live : List ℕ) (j n : ℕ) (g : Generation) (own : Settings) (after old other new : Option Class) → IsRaw rows generations j after old
+    → live ≡ live_numbers generations → j < length live → n ≡ get_or live j 0 → Some (generation_of g) ≡ slice_get generations n → own ≡ g.settings
+    → IsNextClass (Rest ∷ classes_in (rows_of own.entries.0)) after other → new ≡ earlier class_cmp old other → IsRaw rows generations (j + 1) after new
+raw_more rows generations live j n g own after old other new before e h is shown settings next latest =
+    let step : take (j + 1) (live_from 0 generations) ≡ take j (live_from 0 generations) ++ (n, generation_of g) ∷ [] = live_more generations j n (generation_of g) (subst (λ l. j < length l) e h) (is ∙ ap (λ l. get_or l j 0) e) shown in
+    let joined : raw rows (take (j + 1) (live_from 0 generations)) ≡ raw rows (take j (live_from 0 generations)) ++ with_rest (rows_of own.entries.0) =
+    ap (raw rows) step ∙ raw_joined rows (take j (live_from 0 generations)) n (generation_of g) ∙ ap (λ (s : Settings). raw rows (take j (live_from 0 generations)) ++ with_rest (rows_of s.entries.0)) (sym settings) in record {
+      so_far = subst (λ l. IsNextClass l after new) (sym joined)
+          (subst (IsNextClass (raw rows (take j (live_from 0 generations)) ++ with_rest (rows_of own.entries.0)) after) (sym latest)
+          (classes_joined (raw rows (take j (live_from 0 generations))) (with_rest (rows_of own.entries.0)) after old other before.so_far next));
+    }
 
 -- the same members
 each : (added : List (List Row)) (c : Class) → Contains (flat_map with_rest added) c → Contains (Rest ∷ flat_map classes_in added) c
@@ -103,8 +90,10 @@ once rows added after (Some next) h = (
   all_same (λ c. comes_after after c ≡ true → class_cmp c next ≢ Less) (flat_map with_rest (rows ∷ added)) (Rest ∷ flat_map classes_in (rows ∷ added)) (back rows added) h.2,
 )
 
-pub raw_end : (rows : List Row) (generations : List Generation) (i : ℕ) (after next : Option Class) → IsRaw rows generations i after next → length generations ≤ i → IsNextClass (judged_classes rows (generations_of generations)) after next
-raw_end rows generations i after next all h =
-    let added : List (List Row) = rows ∷ rows_in (generations_of generations) in
+pub raw_end : (rows : List Row) (generations : List GenerationState) (live : List ℕ) (j : ℕ) (after next : Option Class) → IsRaw rows generations j after next → live ≡ live_numbers generations → length live ≤ j → IsNextClass (judged_classes rows generations) after next
+raw_end rows generations live j after next all e h =
+    let whole : take j (live_from 0 generations) ≡ live_from 0 generations = take_all j (live_from 0 generations) (omega (arith, h, ap length e, length-map (live_from 0 generations) (λ n. n.0))) in
+    let same : rows_in (take j (live_from 0 generations)) ≡ map (λ g. g.rows) (filter is_live generations) = ap rows_in whole ∙ live_settings 0 generations in
+    let added : List (List Row) = rows ∷ map (λ g. g.rows) (filter is_live generations) in
     next_in_table added (table_of added) after next (is_table added)
-    (once rows (rows_in (generations_of generations)) after next (subst (λ l. IsNextClass (raw rows l) after next) (take_all i generations h) all.so_far))
+    (once rows (map (λ g. g.rows) (filter is_live generations)) after next (subst (λ l. IsNextClass (flat_map with_rest (rows ∷ l)) after next) same all.so_far))

@@ -1,5 +1,5 @@
 -- The classes of some settings in their order are their table, and what comes next in it.
-use Rattle.std.proofs.Common.{◌≡◌, ◌≢◌, zero, suc, Bool, true, false, List, [], ◌∷◌, Option, None, Some, All, Contains, refl, sym, ap, subst, ◌∙◌, ◌⊎◌, inl, inr, arith}
+use Rattle.std.proofs.Common.{◌≡◌, ◌≢◌, Bool, true, false, List, [], ◌∷◌, Option, None, Some, All, Contains, refl, sym, ap, subst, ◌∙◌, ◌⊎◌, inl, inr, arith}
 use Rattle.std.specs.List.{AllByRecursion, filter, flat_map}
 use Rattle.std.specs.Prelude.{cond, IsTrue, ◌↔◌}
 use Rattle.std.specs.List.Sorted.{IsStrictlySortedBy}
@@ -21,7 +21,7 @@ use Rattle.kr_config.specs.Nexts.{comes_after, IsNextClass}
 use Rattle.kr_config.proofs.Orders.{class_total}
 use Rattle.kr_judge.specs.Tables.{in_order, table_of}
 use Rattle.kr_judge.specs.Laws.{TableComputes}
-use Rattle.kr_judge.proofs.Lists.{here, there, cases, head_is}
+use Rattle.kr_judge.proofs.Lists.{there, cases, head_is, one_truth}
 
 equal_class : (a b : Class) → class_cmp a b ≡ Equal → a ≡ b
 equal_class (Exact a) (Exact b) h = ap Exact ((bytes_eq-Decides a b).0 (sym (is_eq-slice_cmp a b) ∙ ap is_eq h))
@@ -107,11 +107,6 @@ is_table added = record {
 }
 
 -- two tables of the same settings have the same members in the same order
-one_truth : (u v : Bool) → (IsTrue u → IsTrue v) → (IsTrue v → IsTrue u) → u ≡ v
-one_truth true v h k = sym (h refl)
-one_truth false true h k = k refl
-one_truth false false h k = refl
-
 one_table : (added : List (List Row)) (one other : List Class) → IsTableOf added one → IsTableOf added other → one ≡ other
 one_table added one other a b =
     let s : BTreeSet Class = record { keys = one } in

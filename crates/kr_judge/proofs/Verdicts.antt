@@ -1,5 +1,6 @@
 -- The verdict from the first reason of each kind.
-use Rattle.std.proofs.Common.{◌≡◌, ◌≢◌, ℕ, List, [], ◌∷◌, ◌++◌, None, Some, Result, Ok, Err, IfOk, MatchResult, map, refl, sym, ap, ◌∙◌}
+use Rattle.std.proofs.Common.{◌≡◌, ◌≢◌, ℕ, List, [], ◌∷◌, ◌++◌, None, Some, Result, Ok, Err, IfOk, MatchResult, map, refl, sym, ap, subst, ◌∙◌}
+use Rattle.std.specs.Option.{option_map}
 use Rattle.kr_base.specs.declared.errors.NoMemory.{NoMemory}
 use Rattle.kr_config.specs.declared.class.Class.{Class}
 use Rattle.kr_config.specs.declared.who.Who.{Who}
@@ -8,6 +9,7 @@ use Rattle.kr_judge.specs.declared.need.Need.{Need}
 use Rattle.kr_judge.specs.declared.verdict.Verdict.{Verdict}
 use Rattle.kr_judge.specs.declared.verdict.Verdict.TheVariants.{Pass, DropsStored, DropsWriter, Unread}
 use Rattle.kr_judge.specs.Boards.{GenerationState}
+use Rattle.kr_judge.specs.inner.Earliest.{at_path, stored_by}
 use Rattle.kr_judge.specs.Verdicts.{dropped_needs, lost_writers, unread_writers, first, first_or_pass, verdict_of}
 
 found : {X : Type 0} (says : X → Verdict) (xs : List X) (more : List Verdict) (x : X) → Some x ≡ first xs → first_or_pass (map says xs ++ more) ≡ says x
@@ -68,3 +70,25 @@ unfolding verdict_of
 passes needs generations replica rows h k m =
     sym (none (λ own. DropsStored own.path own.who) (dropped_needs rows needs) (later_reasons replica rows generations) h ∙ none (λ lost. DropsWriter lost.0 lost.1 lost.2) (lost_writers replica rows generations) (unread_reasons replica rows generations) k
     ∙ last_none (λ lost. Unread lost.0 lost.1 lost.2) (unread_writers replica rows generations) m)
+
+-- the first need that is lost by its path and its provider
+none_need : (xs : List Need) → None ≡ option_map stored_by (first xs) → None ≡ first xs
+none_need [] h = refl
+none_need (x ∷ xs) h = cc
+
+pub passes_none : (needs : List Need) (generations : List GenerationState) (replica : ℕ) (rows : List Row) → None ≡ option_map stored_by (first (dropped_needs rows needs)) → None ≡ first (lost_writers replica rows generations)
+    → None ≡ first (unread_writers replica rows generations) → Pass ≡ verdict_of needs generations replica rows
+passes_none needs generations replica rows h k m = passes needs generations replica rows (none_need (dropped_needs rows needs) h) k m
+
+pub none_stored : (rows : List Row) (needs : List Need) → None ≡ option_map stored_by (first (dropped_needs rows needs)) → None ≡ first (dropped_needs rows needs)
+none_stored rows needs h = none_need (dropped_needs rows needs) h
+
+some_need : (xs : List Need) (path : List ℕ) (who : Who) → Some (at_path who path) ≡ option_map stored_by (first xs) → (need : Need) × (Some need ≡ first xs) × (path ≡ need.path) × (who ≡ need.who)
+some_need [] path who h = cc
+some_need (x ∷ xs) path who h = (let e : at_path who path ≡ stored_by x = cc in (x, refl, ap (λ (p : List ℕ × Who). p.0) e, ap (λ (p : List ℕ × Who). p.1) e))
+
+pub tells_lost : (needs : List Need) (generations : List GenerationState) (replica : ℕ) (rows : List Row) (path : List ℕ) (who : Who) (result : Result Verdict NoMemory)
+    → Some (at_path who path) ≡ option_map stored_by (first (dropped_needs rows needs)) → IfOk result (λ verdict. verdict ≡ DropsStored path who) → Tells (verdict_of needs generations replica rows) result
+tells_lost needs generations replica rows path who result h k =
+    let own = some_need (dropped_needs rows needs) path who h in
+    tells_stored needs generations replica rows own.0 result own.1 (subst (λ v. IfOk result (λ verdict. verdict ≡ v)) (ap (λ p. DropsStored p who) own.2 ∙ ap (DropsStored own.0.path) own.3) k)

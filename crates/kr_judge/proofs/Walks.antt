@@ -1,135 +1,82 @@
--- Going through needs and generations.
-use Rattle.std.proofs.Common.{◌≡◌, ℕ, ◌<◌, ◌≤◌, ◌+◌, Bool, true, false, List, ◌∷◌, None, Some, length, get_or, drop, map, refl, sym, ap, ◌∙◌}
-use Rattle.std.specs.Prelude.{cond, not}
-use Rattle.std.specs.List.{filter, flat_map}
+-- Going through the other live generations.
+use Rattle.std.proofs.Common.{◌≡◌, ℕ, ◌<◌, ◌≤◌, ◌+◌, Bool, true, false, List, ◌∷◌, None, Some, length, get_or, drop, map, refl, sym, ap, subst, ◌∙◌, arith}
+use Rattle.std.specs.Prelude.{cond}
+use Rattle.std.specs.List.{filter, flat_map, slice_get}
 use Rattle.std.specs.Option.{option_map}
+use Rattle.std.proofs.lemmas.List.{length-map}
 use Rattle.kr_config.specs.declared.class.Class.{Class}
 use Rattle.kr_config.specs.declared.who.Who.{Who}
-use Rattle.kr_config.specs.Kept.{Row}
-use Rattle.kr_config.specs.Lists.{list_of}
-use Rattle.kr_judge.specs.declared.need.Need.{Need}
+use Rattle.kr_config.specs.declared.settings.Settings.{Settings}
+use Rattle.kr_config.specs.Kept.{Row, rows_of}
 use Rattle.kr_judge.specs.declared.generation.Generation.{Generation}
+use Rattle.kr_judge.specs.declared.judging.Writer.{Writer}
+use Rattle.kr_judge.specs.declared.judging.Writer.TheVariants.{Other, New}
 use Rattle.kr_judge.specs.Boards.{GenerationState}
-use Rattle.kr_judge.specs.inner.Views.{generation_of, generations_of}
-use Rattle.kr_judge.specs.Providers.{has}
-use Rattle.kr_judge.specs.Verdicts.{with_numbers, is_other, others, judged_classes, unread_classes, dropped_needs, drops_writer, unread_by, lost_writers, unread_writers, first}
-use Rattle.kr_judge.proofs.Parts.{drop_at, drop_end, first_none, first_some, first_map}
-
--- what is left of the needs decides
-pub record AreRead (rows : List Row) (needs : List Need) (i : ℕ) : Type 0 where
-  pub first_is : first (dropped_needs rows needs) ≡ first (dropped_needs rows (drop i needs))
-
-pub needs_begin : (rows : List Row) (needs : List Need) → AreRead rows needs 0
-needs_begin rows needs = record { first_is = refl }
-
-need_step : (rows : List Row) (needs : List Need) (i : ℕ) (need : Need) (v : Bool) → i < length needs → need ≡ get_or needs i need → has (list_of rows need.resource) need.who ≡ v
-    → dropped_needs rows (drop i needs) ≡ cond (not v) (need ∷ dropped_needs rows (drop (i + 1) needs)) (dropped_needs rows (drop (i + 1) needs))
-need_step rows needs i need v h is e = ap (dropped_needs rows) (drop_at needs i need h is) ∙ ap (λ t. cond (not t) (need ∷ dropped_needs rows (drop (i + 1) needs)) (dropped_needs rows (drop (i + 1) needs))) e
-
-pub need_skips : (rows : List Row) (needs : List Need) (i : ℕ) (need : Need) → AreRead rows needs i → i < length needs → need ≡ get_or needs i need → has (list_of rows need.resource) need.who ≡ true → AreRead rows needs (i + 1)
-need_skips rows needs i need before h is e = record { first_is = before.first_is ∙ ap (first {X = Need}) (need_step rows needs i need true h is e) }
-
-pub need_found : (rows : List Row) (needs : List Need) (i : ℕ) (need : Need) → AreRead rows needs i → i < length needs → need ≡ get_or needs i need → has (list_of rows need.resource) need.who ≡ false → Some need ≡ first (dropped_needs rows needs)
-need_found rows needs i need before h is e = sym (before.first_is ∙ ap (first {X = Need}) (need_step rows needs i need false h is e))
-
-pub needs_end : (rows : List Row) (needs : List Need) (i : ℕ) → AreRead rows needs i → length needs ≤ i → None ≡ first (dropped_needs rows needs)
-needs_end rows needs i before h = sym (before.first_is ∙ ap (λ l. first (dropped_needs rows l)) (drop_end needs i h))
-
--- what is said of the others among the generations from a place on
-abbrev remaining : {Y : Type 0} → (ℕ × GenerationState → List Y) → ℕ → List Generation → ℕ → List Y
-remaining says replica generations i = flat_map says (filter (λ n. is_other replica n.1) (with_numbers i (generations_of (drop i generations))))
-
-other_step : {Y : Type 0} (says : ℕ × GenerationState → List Y) (replica : ℕ) (generations : List Generation) (i : ℕ) (g : Generation) (v : Bool) → i < length generations → g ≡ get_or generations i g → is_other replica (generation_of g) ≡ v
-    → remaining says replica generations i ≡ flat_map says (cond v ((i, generation_of g) ∷ filter (λ n. is_other replica n.1) (with_numbers (i + 1) (generations_of (drop (i + 1) generations)))) (filter (λ n. is_other replica n.1) (with_numbers (i + 1) (generations_of (drop (i + 1) generations)))))
-other_step says replica generations i g v h is e =
-    ap (λ l. flat_map says (filter (λ n. is_other replica n.1) (with_numbers i (generations_of l)))) (drop_at generations i g h is)
-    ∙ ap (λ t. flat_map says (cond t ((i, generation_of g) ∷ filter (λ n. is_other replica n.1) (with_numbers (i + 1) (generations_of (drop (i + 1) generations)))) (filter (λ n. is_other replica n.1) (with_numbers (i + 1) (generations_of (drop (i + 1) generations)))))) e
-
--- what is left of the generations decides
-pub record AreJudged {Y : Type 0} (says : ℕ × GenerationState → List Y) (replica : ℕ) (generations : List Generation) (i : ℕ) : Type 0 where
-  pub first_is : first (flat_map says (others replica (generations_of generations))) ≡ first (remaining says replica generations i)
-
-judged_begin : {Y : Type 0} (says : ℕ × GenerationState → List Y) (replica : ℕ) (generations : List Generation) → AreJudged says replica generations 0
-unfolding others
-judged_begin says replica generations = record { first_is = refl }
-
-judged_skip : {Y : Type 0} (says : ℕ × GenerationState → List Y) (replica : ℕ) (generations : List Generation) (i : ℕ) (g : Generation) → AreJudged says replica generations i → i < length generations → g ≡ get_or generations i g
-    → is_other replica (generation_of g) ≡ false → AreJudged says replica generations (i + 1)
-judged_skip {Y} says replica generations i g before h is e = record { first_is = before.first_is ∙ ap (first {X = Y}) (other_step says replica generations i g false h is e) }
-
-judged_none : {Y : Type 0} (says : ℕ × GenerationState → List Y) (replica : ℕ) (generations : List Generation) (i : ℕ) (g : Generation) → AreJudged says replica generations i → i < length generations → g ≡ get_or generations i g
-    → is_other replica (generation_of g) ≡ true → None ≡ first (says (i, generation_of g)) → AreJudged says replica generations (i + 1)
-judged_none {Y} says replica generations i g before h is e none = record {
-  first_is = before.first_is ∙ ap (first {X = Y}) (other_step says replica generations i g true h is e)
-      ∙ first_none (says (i, generation_of g)) (remaining says replica generations (i + 1)) none;
-}
-
-judged_found : {Y : Type 0} (says : ℕ × GenerationState → List Y) (replica : ℕ) (generations : List Generation) (i : ℕ) (g : Generation) (y : Y) → AreJudged says replica generations i → i < length generations → g ≡ get_or generations i g
-    → is_other replica (generation_of g) ≡ true → Some y ≡ first (says (i, generation_of g)) → Some y ≡ first (flat_map says (others replica (generations_of generations)))
-judged_found {Y} says replica generations i g y before h is e some = sym (before.first_is ∙ ap (first {X = Y}) (other_step says replica generations i g true h is e)
-    ∙ first_some (says (i, generation_of g)) (remaining says replica generations (i + 1)) y some)
-
-judged_end : {Y : Type 0} (says : ℕ × GenerationState → List Y) (replica : ℕ) (generations : List Generation) (i : ℕ) → AreJudged says replica generations i → length generations ≤ i → None ≡ first (flat_map says (others replica (generations_of generations)))
-judged_end says replica generations i before h = sym (before.first_is ∙ ap (λ l. first (flat_map says (filter (λ n. is_other replica n.1) (with_numbers i (generations_of l))))) (drop_end generations i h))
+use Rattle.kr_judge.specs.Verdicts.{is_other, others, lost_writers, unread_writers, first}
+use Rattle.kr_judge.specs.Scans.{live_from, live_numbers}
+use Rattle.kr_judge.specs.inner.Losses.{losses_at, losses}
+use Rattle.kr_judge.specs.inner.Views.{generation_of}
+use Rattle.kr_judge.proofs.Parts.{drop_end, first_none, first_some, first_map}
+use Rattle.kr_judge.proofs.Lives.{live_within, live_step, others_live}
 
 abbrev numbering : ℕ → Class × Who → ℕ × Class × Who
 numbering n lost = (n, lost.0, lost.1)
 
-numbered_loss : (n : ℕ) (losses : List (Class × Who)) → first {X = ℕ × Class × Who} (map (numbering n) losses) ≡ option_map (numbering n) (first losses)
-numbered_loss n losses = first_map (numbering n) losses
+abbrev said : Writer → List Row → List GenerationState → ℕ × GenerationState → List (ℕ × Class × Who)
+said writer rows generations other = map (numbering other.0) (losses_at writer generations other.1.rows rows)
 
--- writers that the new settings don't read
-pub record AreWriters (replica : ℕ) (rows : List Row) (generations : List Generation) (i : ℕ) : Type 0 where
-  pub judged : AreJudged (drops_writer (judged_classes rows (generations_of generations)) rows) replica generations i
+-- what is said of the others among the live generations from a place on
+abbrev remaining : Writer → ℕ → List Row → List GenerationState → ℕ → List (ℕ × Class × Who)
+remaining writer replica rows generations j = flat_map (said writer rows generations) (filter (λ n. is_other replica n.1) (drop j (live_from 0 generations)))
 
-pub writers_begin : (replica : ℕ) (rows : List Row) (generations : List Generation) → AreWriters replica rows generations 0
-writers_begin replica rows generations = record { judged = judged_begin (drops_writer (judged_classes rows (generations_of generations)) rows) replica generations }
+all_said : (writer : Writer) (replica : ℕ) (rows : List Row) (generations : List GenerationState) → losses writer replica rows generations ≡ flat_map (said writer rows generations) (others replica generations)
+unfolding lost_writers unread_writers
+all_said Other replica rows generations = refl
+all_said New replica rows generations = refl
 
-pub writers_skip : (replica : ℕ) (rows : List Row) (generations : List Generation) (i : ℕ) (g : Generation) → AreWriters replica rows generations i → i < length generations → g ≡ get_or generations i g
-    → is_other replica (generation_of g) ≡ false → AreWriters replica rows generations (i + 1)
-writers_skip replica rows generations i g before h is e = record { judged = judged_skip (drops_writer (judged_classes rows (generations_of generations)) rows) replica generations i g before.judged h is e }
+-- what is left of the live generations decides
+pub record AreLost (writer : Writer) (replica : ℕ) (rows : List Row) (generations : List GenerationState) (j : ℕ) : Type 0 where
+  pub first_is : first (losses writer replica rows generations) ≡ first (remaining writer replica rows generations j)
 
-pub writers_none : (replica : ℕ) (rows : List Row) (generations : List Generation) (i : ℕ) (g : Generation) → AreWriters replica rows generations i → i < length generations → g ≡ get_or generations i g
-    → is_other replica (generation_of g) ≡ true → None ≡ first (unread_classes (judged_classes rows (generations_of generations)) (generation_of g).rows rows) → AreWriters replica rows generations (i + 1)
-writers_none replica rows generations i g before h is e none = record {
-  judged = judged_none (drops_writer (judged_classes rows (generations_of generations)) rows) replica generations i g before.judged h is e
-      (ap (option_map (numbering i)) none ∙ sym (numbered_loss i (unread_classes (judged_classes rows (generations_of generations)) (generation_of g).rows rows)));
+pub loss_begin : (writer : Writer) (replica : ℕ) (rows : List Row) (generations : List GenerationState) → AreLost writer replica rows generations 0
+loss_begin writer replica rows generations = record { first_is = ap (first {X = ℕ × Class × Who}) (all_said writer replica rows generations ∙ ap (flat_map (said writer rows generations)) (others_live replica generations)) }
+
+pub loss_within : (generations : List GenerationState) (live : List ℕ) (j n : ℕ) → live ≡ live_numbers generations → j < length live → n ≡ get_or live j 0 → n < length generations
+loss_within generations live j n e h is = live_within generations j n (subst (λ l. j < length l) e h) (is ∙ ap (λ l. get_or l j 0) e)
+
+step : (writer : Writer) (replica : ℕ) (rows : List Row) (generations : List GenerationState) (live : List ℕ) (j n : ℕ) (g : Generation) (v : Bool) → live ≡ live_numbers generations → j < length live → n ≡ get_or live j 0
+    → Some (generation_of g) ≡ slice_get generations n → is_other replica (generation_of g) ≡ v
+    → remaining writer replica rows generations j ≡ flat_map (said writer rows generations) (cond v ((n, generation_of g) ∷ filter (λ m. is_other replica m.1) (drop (j + 1) (live_from 0 generations))) (filter (λ m. is_other replica m.1) (drop (j + 1) (live_from 0 generations))))
+step writer replica rows generations live j n g v e h is shown other =
+    ap (λ l. flat_map (said writer rows generations) (filter (λ m. is_other replica m.1) l)) (live_step generations j n (generation_of g) (subst (λ l. j < length l) e h) (is ∙ ap (λ l. get_or l j 0) e) shown)
+    ∙ ap (λ t. flat_map (said writer rows generations) (cond t ((n, generation_of g) ∷ filter (λ m. is_other replica m.1) (drop (j + 1) (live_from 0 generations))) (filter (λ m. is_other replica m.1) (drop (j + 1) (live_from 0 generations))))) other
+
+pub loss_skip : (writer : Writer) (replica : ℕ) (rows : List Row) (generations : List GenerationState) (live : List ℕ) (j n : ℕ) (g : Generation) → AreLost writer replica rows generations j → live ≡ live_numbers generations
+    → j < length live → n ≡ get_or live j 0 → Some (generation_of g) ≡ slice_get generations n → is_other replica (generation_of g) ≡ false → AreLost writer replica rows generations (j + 1)
+loss_skip writer replica rows generations live j n g before e h is shown other = record { first_is = before.first_is ∙ ap (first {X = ℕ × Class × Who}) (step writer replica rows generations live j n g false e h is shown other) }
+
+-- what is said of one of them
+own_said : (writer : Writer) (rows : List Row) (generations : List GenerationState) (n : ℕ) (g : Generation) (own : Settings) → own ≡ g.settings
+    → first (said writer rows generations (n, generation_of g)) ≡ option_map (numbering n) (first (losses_at writer generations (rows_of own.entries.0) rows))
+own_said writer rows generations n g own settings = first_map (numbering n) (losses_at writer generations (rows_of g.settings.entries.0) rows)
+    ∙ ap (λ (s : Settings). option_map (numbering n) (first (losses_at writer generations (rows_of s.entries.0) rows))) (sym settings)
+
+pub loss_none : (writer : Writer) (replica : ℕ) (rows : List Row) (generations : List GenerationState) (live : List ℕ) (j n : ℕ) (g : Generation) (own : Settings) → AreLost writer replica rows generations j → live ≡ live_numbers generations
+    → j < length live → n ≡ get_or live j 0 → Some (generation_of g) ≡ slice_get generations n → is_other replica (generation_of g) ≡ true → own ≡ g.settings
+    → None ≡ first (losses_at writer generations (rows_of own.entries.0) rows) → AreLost writer replica rows generations (j + 1)
+loss_none writer replica rows generations live j n g own before e h is shown other settings none = record {
+  first_is = before.first_is ∙ ap (first {X = ℕ × Class × Who}) (step writer replica rows generations live j n g true e h is shown other)
+      ∙ first_none (said writer rows generations (n, generation_of g)) (remaining writer replica rows generations (j + 1)) (ap (option_map (numbering n)) none ∙ sym (own_said writer rows generations n g own settings));
 }
 
-pub writers_found : (replica : ℕ) (rows : List Row) (generations : List Generation) (i : ℕ) (g : Generation) (class : Class) (who : Who) → AreWriters replica rows generations i → i < length generations → g ≡ get_or generations i g
-    → is_other replica (generation_of g) ≡ true → Some (class, who) ≡ first (unread_classes (judged_classes rows (generations_of generations)) (generation_of g).rows rows) → Some (i, class, who) ≡ first (lost_writers replica rows (generations_of generations))
-unfolding lost_writers
-writers_found replica rows generations i g class who before h is e some = judged_found (drops_writer (judged_classes rows (generations_of generations)) rows) replica generations i g (i, class, who) before.judged h is e
-    (ap (option_map (numbering i)) some ∙ sym (numbered_loss i (unread_classes (judged_classes rows (generations_of generations)) (generation_of g).rows rows)))
+pub loss_found : (writer : Writer) (replica : ℕ) (rows : List Row) (generations : List GenerationState) (live : List ℕ) (j n : ℕ) (g : Generation) (own : Settings) (class : Class) (who : Who) → AreLost writer replica rows generations j
+    → live ≡ live_numbers generations → j < length live → n ≡ get_or live j 0 → Some (generation_of g) ≡ slice_get generations n → is_other replica (generation_of g) ≡ true → own ≡ g.settings
+    → Some (class, who) ≡ first (losses_at writer generations (rows_of own.entries.0) rows) → Some (n, class, who) ≡ first (losses writer replica rows generations)
+loss_found writer replica rows generations live j n g own class who before e h is shown other settings some =
+    sym (before.first_is ∙ ap (first {X = ℕ × Class × Who}) (step writer replica rows generations live j n g true e h is shown other)
+    ∙ first_some (said writer rows generations (n, generation_of g)) (remaining writer replica rows generations (j + 1)) (n, class, who) (ap (option_map (numbering n)) some ∙ sym (own_said writer rows generations n g own settings)))
 
-pub writers_end : (replica : ℕ) (rows : List Row) (generations : List Generation) (i : ℕ) → AreWriters replica rows generations i → length generations ≤ i → None ≡ first (lost_writers replica rows (generations_of generations))
-unfolding lost_writers
-writers_end replica rows generations i before h = judged_end (drops_writer (judged_classes rows (generations_of generations)) rows) replica generations i before.judged h
-
--- the new settings' writers that a generation doesn't read
-pub record AreReaders (replica : ℕ) (rows : List Row) (generations : List Generation) (i : ℕ) : Type 0 where
-  pub judged : AreJudged (unread_by (judged_classes rows (generations_of generations)) rows) replica generations i
-
-pub readers_begin : (replica : ℕ) (rows : List Row) (generations : List Generation) → AreReaders replica rows generations 0
-readers_begin replica rows generations = record { judged = judged_begin (unread_by (judged_classes rows (generations_of generations)) rows) replica generations }
-
-pub readers_skip : (replica : ℕ) (rows : List Row) (generations : List Generation) (i : ℕ) (g : Generation) → AreReaders replica rows generations i → i < length generations → g ≡ get_or generations i g
-    → is_other replica (generation_of g) ≡ false → AreReaders replica rows generations (i + 1)
-readers_skip replica rows generations i g before h is e = record { judged = judged_skip (unread_by (judged_classes rows (generations_of generations)) rows) replica generations i g before.judged h is e }
-
-pub readers_none : (replica : ℕ) (rows : List Row) (generations : List Generation) (i : ℕ) (g : Generation) → AreReaders replica rows generations i → i < length generations → g ≡ get_or generations i g
-    → is_other replica (generation_of g) ≡ true → None ≡ first (unread_classes (judged_classes rows (generations_of generations)) rows (generation_of g).rows) → AreReaders replica rows generations (i + 1)
-readers_none replica rows generations i g before h is e none = record {
-  judged = judged_none (unread_by (judged_classes rows (generations_of generations)) rows) replica generations i g before.judged h is e
-      (ap (option_map (numbering i)) none ∙ sym (numbered_loss i (unread_classes (judged_classes rows (generations_of generations)) rows (generation_of g).rows)));
-}
-
-pub readers_found : (replica : ℕ) (rows : List Row) (generations : List Generation) (i : ℕ) (g : Generation) (class : Class) (who : Who) → AreReaders replica rows generations i → i < length generations → g ≡ get_or generations i g
-    → is_other replica (generation_of g) ≡ true → Some (class, who) ≡ first (unread_classes (judged_classes rows (generations_of generations)) rows (generation_of g).rows) → Some (i, class, who) ≡ first (unread_writers replica rows (generations_of generations))
-unfolding unread_writers
-readers_found replica rows generations i g class who before h is e some = judged_found (unread_by (judged_classes rows (generations_of generations)) rows) replica generations i g (i, class, who) before.judged h is e
-    (ap (option_map (numbering i)) some ∙ sym (numbered_loss i (unread_classes (judged_classes rows (generations_of generations)) rows (generation_of g).rows)))
-
-pub readers_end : (replica : ℕ) (rows : List Row) (generations : List Generation) (i : ℕ) → AreReaders replica rows generations i → length generations ≤ i → None ≡ first (unread_writers replica rows (generations_of generations))
-unfolding unread_writers
-readers_end replica rows generations i before h = judged_end (unread_by (judged_classes rows (generations_of generations)) rows) replica generations i before.judged h
+pub loss_end : (writer : Writer) (replica : ℕ) (rows : List Row) (generations : List GenerationState) (live : List ℕ) (j : ℕ) → AreLost writer replica rows generations j → live ≡ live_numbers generations → length live ≤ j
+    → None ≡ first (losses writer replica rows generations)
+loss_end writer replica rows generations live j before e h = sym (before.first_is ∙ ap (λ l. first (flat_map (said writer rows generations) (filter (λ n. is_other replica n.1) l)))
+    (drop_end (live_from 0 generations) j (omega (arith, h, ap length e, length-map (live_from 0 generations) (λ n. n.0)))))

@@ -9,7 +9,8 @@ use Rattle.kr_config.specs.Kept.{Row}
 use Rattle.kr_config.specs.Nexts.{name_cmp}
 use Rattle.kr_judge.specs.declared.need.Need.{Need}
 
--- settings that a replica took up, by their rows; whether they are its current ones; and how many hold them
+-- settings that a replica took up, by their rows; whether they are its current ones; and how many
+-- hold them
 pub record GenerationState : Type 0 where
   pub replica : ℕ
   pub rows : List Row
@@ -46,10 +47,12 @@ abbrev pub held_less : GenerationState → GenerationState
 held_less generation = record generation { holders = generation.holders - 1 }
 
 -- the generation of the number is changed
-abbrev pub changed_at : (GenerationState → GenerationState) → ℕ → List GenerationState → List GenerationState
+abbrev pub changed_at : (GenerationState → GenerationState) → ℕ → List GenerationState
+    → List GenerationState
 changed_at change number [] = []
 changed_at change zero (generation ∷ generations) = change generation ∷ generations
-changed_at change (suc number) (generation ∷ generations) = generation ∷ changed_at change number generations
+changed_at change (suc number) (generation ∷ generations) =
+    generation ∷ changed_at change number generations
 
 -- it is live, and has fewer holders than can be counted
 abbrev pub MayHold : ℕ → List GenerationState → Type 0

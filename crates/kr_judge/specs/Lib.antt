@@ -2,6 +2,7 @@ pub mod Boards
 pub mod Providers
 pub mod Tables
 pub mod Verdicts
+pub mod Scans
 pub mod Fits
 pub mod Laws
 pub mod Texts

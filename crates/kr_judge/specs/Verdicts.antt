@@ -15,7 +15,8 @@ use Rattle.kr_judge.specs.Tables.{table_of}
 
 abbrev pub with_numbers : ℕ → List GenerationState → List (ℕ × GenerationState)
 with_numbers number [] = []
-with_numbers number (generation ∷ generations) = (number, generation) ∷ with_numbers (number + 1) generations
+with_numbers number (generation ∷ generations) =
+    (number, generation) ∷ with_numbers (number + 1) generations
 
 -- it is live beside new settings of the replica: the replica's current one counts where something
 -- holds it

@@ -1,3 +1,6 @@
+pub mod Earliest
+pub mod Indexes
+pub mod Lives
+pub mod Losses
 pub mod Pieces
-pub mod Places
 pub mod Views

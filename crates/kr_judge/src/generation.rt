@@ -1,6 +1,7 @@
 //! Generations of settings.
-ghost use Rattle.std.specs.Prelude.{◌≡◌};
-ghost use Rattle.kr_judge.specs.Boards.{is_live};
+ghost use Rattle.std.specs.Prelude.{◌≡◌, ◌<◌};
+ghost use Rattle.kr_judge.specs.Boards.{is_live, is_current_of, held_less};
+ghost use Rattle.kr_judge.specs.inner.Lives.{uncurrent};
 ghost use Rattle.kr_judge.specs.inner.Views.{generation_of};
 ghost use Rattle.kr_judge.specs.Verdicts.{is_other};
 
@@ -31,5 +32,31 @@ impl Generation {
         ensures { result ≡ is_other replica (generation_of self.now) }
     {
         self.is_live() && !(self.replica == replica && self.current && self.holders == 0)
+    }
+
+    /// Whether it is the replica's current one.
+    pub fn is_current_of(&self, replica: u32) -> bool
+        ensures { result ≡ is_current_of replica (generation_of self.now) }
+    {
+        self.current && self.replica == replica
+    }
+
+    /// One fewer holds it. Tells whether it is still live.
+    pub fn release(&mut self) -> bool
+        requires { 0 < self.old.holders }
+        ensures released { generation_of self.new ≡ held_less (generation_of self.old) }
+        ensures live { result ≡ is_live (held_less (generation_of self.old)) }
+    {
+        self.holders -= 1;
+        self.is_live()
+    }
+
+    /// It is no longer current. Tells whether it is still live.
+    pub fn leave(&mut self) -> bool
+        ensures left { generation_of self.new ≡ uncurrent (generation_of self.old) }
+        ensures live { result ≡ is_live (uncurrent (generation_of self.old)) }
+    {
+        self.current = false;
+        self.is_live()
     }
 }

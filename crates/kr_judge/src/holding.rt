@@ -1,42 +1,43 @@
-//! Changes of kept generations.
-ghost use Rattle.std.specs.Prelude.{◌≡◌, ◌<◌, ◌+◌, ◌++◌, [], ◌∷◌, true, vec_len, vec_capacity};
+//! Changes of kept generations and of the numbers of those that are live.
+ghost use Rattle.std.specs.Prelude.{◌≡◌, ◌<◌, ◌≤◌, ◌+◌, ◌^◌, ◌++◌, ◌==◌, [], ◌∷◌, not, true, if◌then◌else◌, IfSome, IfNone, vec_len, vec_capacity};
+ghost use Rattle.std.specs.List.{filter, slice_get};
+ghost use Rattle.std.specs.Option.{IsSomeAnd};
 ghost use Rattle.kr_config.specs.Kept.{rows_of};
-ghost use Rattle.kr_judge.specs.Boards.{without_current, held_more, held_less, changed_at, MayHold, IsHeld};
+ghost use Rattle.kr_judge.specs.Boards.{HasOneCurrent, is_live, without_current, is_current_of, held_more, held_less, changed_at, MayHold, IsHeld};
+ghost use Rattle.kr_judge.specs.inner.Lives.{uncurrent};
+ghost use Rattle.kr_judge.specs.Scans.{live_numbers};
 ghost use Rattle.kr_judge.specs.inner.Views.{generations_of};
 
 use crate::generation::Generation;
 use kr_base::Shared;
 use kr_config::Settings;
 
-/// No generation of the replica is current any more.
-#[tactic(auto, using(crate::proofs::Holders::left_begin, crate::proofs::Holders::left_here, crate::proofs::Holders::left_other, crate::proofs::Holders::left_end))]
-pub fn leave(generations: &mut Vec<Generation>, replica: u32)
-    ensures left { generations_of generations.new.items ≡ without_current replica (generations_of generations.old.items) }
-    ensures length { vec_len generations.new ≡ vec_len generations.old }
-    ensures room { vec_capacity generations.new ≡ vec_capacity generations.old }
-{
-    for at in 0..generations.len() {
-        if generations[at].replica == replica {
-            generations[at].current = false;
-        }
-    }
-}
-
-/// Makes the next generation, the current one of its replica, in room that is there.
-pub fn add(generations: &mut Vec<Generation>, replica: u32, settings: Shared<Settings>)
-    requires { vec_len generations.old < vec_capacity generations.old }
-    ensures added { generations_of generations.new.items
-        ≡ without_current replica (generations_of generations.old.items)
+/// Makes the next generation, which is live, in room that is there.
+#[tactic(auto, using(crate::proofs::Lives::added_live))]
+pub fn add(
+    generations: &mut Vec<Generation>,
+    live: &mut Vec<u32>,
+    replica: u32,
+    settings: Shared<Settings>,
+)
+    requires live { live.old.items ≡ live_numbers (generations_of generations.old.items) }
+    requires short { vec_len generations.old < 2 ^ 32 }
+    requires room { vec_len generations.old < vec_capacity generations.old }
+    requires live_room { vec_len live.old < vec_capacity live.old }
+    ensures added { generations_of generations.new.items ≡ generations_of generations.old.items
         ++ record {
           replica = replica;
           rows = rows_of settings.entries.0;
           current = true;
           holders = 0;
         } ∷ [] }
+    ensures live { live.new.items ≡ live_numbers (generations_of generations.new.items) }
     ensures length { vec_len generations.new ≡ vec_len generations.old + 1 }
+    ensures live_length { vec_len live.new ≡ vec_len live.old + 1 }
     ensures room { vec_capacity generations.new ≡ vec_capacity generations.old }
+    ensures live_room { vec_capacity live.new ≡ vec_capacity live.old }
 {
-    leave(generations, replica);
+    live.push_reserved(generations.len() as u32);
     generations.push_reserved(Generation {
         replica,
         settings,
@@ -49,7 +50,8 @@ pub fn add(generations: &mut Vec<Generation>, replica: u32, settings: Shared<Set
 #[tactic(auto, using(crate::proofs::Holders::hold_there, crate::proofs::Holders::hold_fits, crate::proofs::Holders::hold_set))]
 pub fn hold(generations: &mut Vec<Generation>, at: usize)
     requires { MayHold at (generations_of generations.old.items) }
-    ensures held { generations_of generations.new.items ≡ changed_at held_more at (generations_of generations.old.items) }
+    ensures held { generations_of generations.new.items
+        ≡ changed_at held_more at (generations_of generations.old.items) }
     ensures length { vec_len generations.new ≡ vec_len generations.old }
     ensures room { vec_capacity generations.new ≡ vec_capacity generations.old }
 {
@@ -57,12 +59,106 @@ pub fn hold(generations: &mut Vec<Generation>, at: usize)
 }
 
 /// One fewer holds the generation.
-#[tactic(auto, using(crate::proofs::Holders::release_there, crate::proofs::Holders::release_fits, crate::proofs::Holders::release_set))]
-pub fn release(generations: &mut Vec<Generation>, at: usize)
+#[tactic(auto, using(crate::proofs::Lives::released_live))]
+pub fn release(generations: &mut Vec<Generation>, live: &mut Vec<u32>, number: u32)
+    requires held { IsHeld number (generations_of generations.old.items) }
+    requires live { live.old.items ≡ live_numbers (generations_of generations.old.items) }
+    ensures released { generations_of generations.new.items
+        ≡ changed_at held_less number (generations_of generations.old.items) }
+    ensures live { live.new.items ≡ live_numbers (generations_of generations.new.items) }
+    ensures length { vec_len generations.new ≡ vec_len generations.old }
+    ensures live_length { vec_len live.new ≤ vec_len live.old }
+    ensures room { vec_capacity generations.new ≡ vec_capacity generations.old }
+    ensures live_room { vec_capacity live.new ≡ vec_capacity live.old }
+{
+    let still = drop_holder(generations, number as usize);
+    take_unless(live, number, still);
+}
+
+/// No generation of the replica is current any more.
+#[tactic(auto, using(crate::proofs::Lives::left_live, crate::proofs::Lives::left_all, crate::proofs::Lives::left_nothing, crate::proofs::Searches::current_there))]
+pub fn leave(generations: &mut Vec<Generation>, live: &mut Vec<u32>, replica: u32)
+    requires one { HasOneCurrent (generations_of generations.old.items) }
+    requires live { live.old.items ≡ live_numbers (generations_of generations.old.items) }
+    ensures left { generations_of generations.new.items
+        ≡ without_current replica (generations_of generations.old.items) }
+    ensures live { live.new.items ≡ live_numbers (generations_of generations.new.items) }
+    ensures length { vec_len generations.new ≡ vec_len generations.old }
+    ensures live_length { vec_len live.new ≤ vec_len live.old }
+    ensures room { vec_capacity generations.new ≡ vec_capacity generations.old }
+    ensures live_room { vec_capacity live.new ≡ vec_capacity live.old }
+{
+    let Some(number) = current_of(generations.as_slice(), live.as_slice(), replica) else {
+        return;
+    };
+    let still = drop_current(generations, number as usize);
+    take_unless(live, number, still);
+}
+
+/// One fewer holds the generation. Tells whether it is still live.
+#[tactic(auto, using(crate::proofs::Holders::release_there, crate::proofs::Holders::release_some, crate::proofs::Holders::less_set, crate::proofs::Holders::still_held))]
+fn drop_holder(generations: &mut Vec<Generation>, at: usize) -> bool
     requires { IsHeld at (generations_of generations.old.items) }
-    ensures held { generations_of generations.new.items ≡ changed_at held_less at (generations_of generations.old.items) }
+    ensures dropped { generations_of generations.new.items
+        ≡ changed_at held_less at (generations_of generations.old.items) }
+    ensures still { IsSomeAnd (slice_get (generations_of generations.old.items) at)
+        (λ g. result ≡ is_live (held_less g)) }
     ensures length { vec_len generations.new ≡ vec_len generations.old }
     ensures room { vec_capacity generations.new ≡ vec_capacity generations.old }
 {
-    generations[at].holders -= 1;
+    generations[at].release()
+}
+
+/// The generation is no longer current. Tells whether it is still live.
+#[tactic(auto, using(crate::proofs::Holders::uncurrent_set, crate::proofs::Holders::still_left))]
+fn drop_current(generations: &mut Vec<Generation>, at: usize) -> bool
+    requires { at < vec_len generations.old }
+    ensures dropped { generations_of generations.new.items
+        ≡ changed_at uncurrent at (generations_of generations.old.items) }
+    ensures still { IsSomeAnd (slice_get (generations_of generations.old.items) at)
+        (λ g. result ≡ is_live (uncurrent g)) }
+    ensures length { vec_len generations.new ≡ vec_len generations.old }
+    ensures room { vec_capacity generations.new ≡ vec_capacity generations.old }
+{
+    generations[at].leave()
+}
+
+/// Takes the number out, unless its generation is still live.
+fn take_unless(live: &mut Vec<u32>, number: u32, still: bool)
+    ensures taken { live.new.items
+        ≡ (if still then live.old.items else filter (λ n. not (n == number)) live.old.items) }
+    ensures length { vec_len live.new ≤ vec_len live.old }
+    ensures room { vec_capacity live.new ≡ vec_capacity live.old }
+{
+    if still {
+        return;
+    }
+    take_number(live, number);
+}
+
+/// Takes the number out.
+fn take_number(live: &mut Vec<u32>, number: u32)
+    ensures taken { live.new.items ≡ filter (λ n. not (n == number)) live.old.items }
+    ensures length { vec_len live.new ≤ vec_len live.old }
+    ensures room { vec_capacity live.new ≡ vec_capacity live.old }
+{
+    live.retain(|own| *own != number);
+}
+
+/// The number of the replica's current generation.
+#[tactic(auto, using(crate::proofs::Searches::search_begin, crate::proofs::Searches::search_within, crate::proofs::Searches::search_more, crate::proofs::Searches::search_found, crate::proofs::Searches::search_end))]
+fn current_of(generations: &[Generation], live: &[u32], replica: u32) -> Option<u32>
+    requires { live.now ≡ live_numbers (generations_of generations.now) }
+    ensures found { IfSome result (λ number. IsSomeAnd
+        (slice_get (generations_of generations.now) number)
+        (λ g. is_current_of replica g ≡ true)) }
+    ensures none { IfNone result
+        (filter (is_current_of replica) (generations_of generations.now) ≡ []) }
+{
+    for number in live {
+        if generations[*number as usize].is_current_of(replica) {
+            return Some(*number);
+        }
+    }
+    None
 }

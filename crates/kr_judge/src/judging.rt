@@ -1,74 +1,66 @@
 //! The first reason of each kind against new settings.
-ghost use Rattle.std.specs.Prelude.{◌≡◌, ◌≢◌, ◌<◌, ◌^◌, length, MatchResult};
+ghost use Rattle.std.specs.Prelude.{◌≡◌, ◌≢◌, None, MatchResult};
 ghost use Rattle.std.specs.Option.{option_map};
 ghost use Rattle.kr_config.specs.Kept.{rows_of};
 ghost use Rattle.kr_config.specs.Nexts.{lent_class};
-ghost use Rattle.kr_judge.specs.inner.Views.{generations_of};
-ghost use Rattle.kr_judge.specs.Verdicts.{dropped_needs, lost_writers, unread_writers, first, verdict_of};
+ghost use Rattle.kr_judge.specs.Verdicts.{first, verdict_of};
 ghost use Rattle.kr_judge.specs.declared.verdict.Verdict.TheVariants.{Pass};
+ghost use Rattle.kr_judge.specs.inner.Losses.{losses_at, losses};
 
 use crate::class_walk::first_unread;
-use crate::generation::Generation;
-use crate::need::Need;
-use crate::provider_lists::has;
+use crate::generation_list::GenerationList;
+use crate::need_index::NeedIndex;
 use crate::verdict::Verdict;
 use kr_base::NoMemory;
 use kr_config::{BorrowedClass, Settings, Who};
 use std::alloc::Global;
 
-/// The first need that the new settings don't read.
-#[tactic(auto, using(crate::proofs::Walks::needs_begin, crate::proofs::Walks::need_skips, crate::proofs::Walks::need_found, crate::proofs::Walks::needs_end))]
-pub fn first_dropped<'a>(needs: &'a [Need], settings: &Settings) -> Option<&'a Need>
-    ensures { option_map (λ need. need.now) result ≡ first (dropped_needs (rows_of settings.now.entries.0) needs.now) }
-{
-    for need in needs {
-        if !has(settings.list_for(need.resource.as_str()), &need.who) {
-            return Some(need);
-        }
-    }
-    None
+/// Which of two settings write, where the other must read.
+#[derive(Clone, Copy)]
+pub enum Writer {
+    /// Those of a live generation.
+    Other,
+    /// The new ones.
+    New,
 }
 
-/// The first other generation and class that it writes by a provider that the new settings don't read.
-#[tactic(auto, using(crate::proofs::Walks::writers_begin, crate::proofs::Walks::writers_skip, crate::proofs::Walks::writers_none, crate::proofs::Walks::writers_found, crate::proofs::Walks::writers_end))]
-pub fn first_lost_writer<'a>(
-    generations: &'a [Generation],
+/// The first class that the one of a generation's settings and the new ones write by a provider
+/// that isn't in the list of the other.
+fn first_at<'a>(
+    generations: &'a GenerationList,
+    writer: Writer,
+    own: &'a Settings,
+    new: &'a Settings,
+) -> Option<(BorrowedClass<'a>, &'a Who)>
+    ensures { option_map (λ lost. (lent_class lost.0, lost.1.now)) result
+        ≡ first (losses_at writer generations.now.generations (rows_of own.now.entries.0)
+        (rows_of new.now.entries.0)) }
+{
+    match writer {
+        Writer::Other => first_unread(generations, new, own, new),
+        Writer::New => first_unread(generations, new, new, own),
+    }
+}
+
+/// The first of the other live generations, and of their classes the first, at which a writer isn't
+/// read.
+#[tactic(auto, using(crate::proofs::Walks::loss_begin, crate::proofs::Walks::loss_within, crate::proofs::Walks::loss_skip, crate::proofs::Walks::loss_none, crate::proofs::Walks::loss_found, crate::proofs::Walks::loss_end))]
+pub fn first_loss<'a>(
+    generations: &'a GenerationList,
+    writer: Writer,
     replica: u32,
     settings: &'a Settings,
 ) -> Option<(u32, BorrowedClass<'a>, &'a Who)>
-    requires { length generations.now < 2 ^ 32 }
     ensures { option_map (λ lost. (lost.0, lent_class lost.1, lost.2.now)) result
-        ≡ first (lost_writers replica (rows_of settings.now.entries.0) (generations_of generations.now)) }
+        ≡ first (losses writer replica (rows_of settings.now.entries.0)
+        generations.now.generations) }
 {
-    for (number, generation) in generations.iter().enumerate() {
+    for number in generations.live() {
+        let generation = generations.at(*number);
         if generation.is_other(replica) {
-            let writing = generation.settings.get();
-            match first_unread(generations, settings, writing, settings) {
-                Some((class, who)) => return Some((number as u32, class, who)),
-                None => {}
-            }
-        }
-    }
-    None
-}
-
-/// The first other generation and class that the new settings write by a provider that it doesn't read.
-#[tactic(auto, using(crate::proofs::Walks::readers_begin, crate::proofs::Walks::readers_skip, crate::proofs::Walks::readers_none, crate::proofs::Walks::readers_found, crate::proofs::Walks::readers_end))]
-pub fn first_unread_writer<'a>(
-    generations: &'a [Generation],
-    replica: u32,
-    settings: &'a Settings,
-) -> Option<(u32, BorrowedClass<'a>, &'a Who)>
-    requires { length generations.now < 2 ^ 32 }
-    ensures { option_map (λ lost. (lost.0, lent_class lost.1, lost.2.now)) result
-        ≡ first (unread_writers replica (rows_of settings.now.entries.0) (generations_of generations.now)) }
-{
-    for (number, generation) in generations.iter().enumerate() {
-        if generation.is_other(replica) {
-            let reading = generation.settings.get();
-            match first_unread(generations, settings, settings, reading) {
-                Some((class, who)) => return Some((number as u32, class, who)),
-                None => {}
+            let lost = first_at(generations, writer, generation.settings.get(), settings);
+            if let Some((class, who)) = lost {
+                return Some((*number, class, who));
             }
         }
     }
@@ -76,32 +68,31 @@ pub fn first_unread_writer<'a>(
 }
 
 /// The first reason of all.
-#[tactic(auto, using(crate::proofs::Verdicts::passes))]
+#[tactic(auto, using(crate::proofs::Verdicts::passes_none))]
 pub fn judge(
     alloc: Global,
-    generations: &[Generation],
-    needs: &[Need],
+    generations: &GenerationList,
+    needs: &NeedIndex,
     replica: u32,
     settings: &Settings,
 ) -> Result<Verdict, NoMemory>
-    requires { length generations.now < 2 ^ 32 }
+    requires { needs.now.proposal ≡ None }
     ensures { MatchResult result
-        (λ told. told ≡ verdict_of needs.now (generations_of generations.now) replica (rows_of settings.now.entries.0))
-        (λ _. verdict_of needs.now (generations_of generations.now) replica (rows_of settings.now.entries.0) ≢ Pass) }
+        (λ told. told ≡ verdict_of needs.now.needs generations.now.generations replica
+        (rows_of settings.now.entries.0))
+        (λ _. verdict_of needs.now.needs generations.now.generations replica
+        (rows_of settings.now.entries.0) ≢ Pass) }
 {
-    match first_dropped(needs, settings) {
-        Some(need) => return Verdict::drops_stored(alloc, &need.path, &need.who),
+    match needs.first_dropped(settings) {
+        Some((path, who)) => return Verdict::drops_stored(alloc, path, who),
         None => {}
     }
-    match first_lost_writer(generations, replica, settings) {
-        Some((generation, class, who)) => {
-            return Verdict::drops_writer(alloc, generation, class, who);
-        }
+    match first_loss(generations, Writer::Other, replica, settings) {
+        Some((number, class, who)) => return Verdict::drops_writer(alloc, number, class, who),
         None => {}
     }
-    match first_unread_writer(generations, replica, settings) {
-        Some((generation, class, who)) => return Verdict::unread(alloc, generation, class, who),
-        None => {}
+    match first_loss(generations, Writer::New, replica, settings) {
+        Some((number, class, who)) => Verdict::unread(alloc, number, class, who),
+        None => Ok(Verdict::Pass),
     }
-    Ok(Verdict::Pass)
 }

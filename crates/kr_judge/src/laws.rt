@@ -1,13 +1,14 @@
 //! Laws of the definitions, for a reader and for callers' proofs. The functions do nothing.
 ghost use Rattle.kr_judge.specs.Laws.{PassesExactly, TableComputes, HasMembers, StaySorted, SetAtPath, DropAtPath};
 
-/// The verdict is `Pass` exactly where the new settings read all that is stored and all that the other live
-/// generations write, and these read what the new settings write.
+/// The verdict is `Pass` exactly where the new settings read all that is stored and all that the
+/// other live generations write, and these read what the new settings write.
 pub fn passes_exactly()
     ensures { PassesExactly }
 {}
 
-/// The classes that a judgement goes through are the table of the same settings, and there is one such table.
+/// The classes that a judgement goes through are the table of the same settings, and there is one
+/// such table.
 pub fn judged_classes_are_the_table()
     ensures { TableComputes }
 {}

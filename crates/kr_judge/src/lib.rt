@@ -4,12 +4,18 @@
 
 mod board;
 mod class_walk;
+mod first_dropped;
 mod generation;
+mod generation_list;
 mod holding;
 mod judging;
 mod laws;
 mod need;
-mod need_list;
+mod need_index;
+mod pair;
+mod path_map;
+mod path_set;
+mod proposal;
 mod provider_lists;
 mod verdict;
 mod verdict_text;
@@ -20,4 +26,5 @@ pub use laws::{
     providers_are_told_apart,
 };
 pub use need::Need;
+pub use path_set::PathSet;
 pub use verdict::Verdict;

@@ -6,7 +6,7 @@ ghost use Rattle.kr_judge.specs.Providers.{same_who, has, unread_writer};
 use kr_config::Who;
 
 /// Whether the two are one provider.
-fn is_same(own: &Who, who: &Who) -> bool
+pub fn is_same(own: &Who, who: &Who) -> bool
     ensures { result ≡ same_who own.now who.now }
 {
     match (own, who) {

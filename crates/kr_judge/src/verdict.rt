@@ -33,11 +33,11 @@ pub enum Verdict {
 
 impl Verdict {
     /// `DropsStored` of copies of its parts.
-    pub(crate) fn drops_stored(alloc: Global, path: &Text, who: &Who) -> Result<Verdict, NoMemory>
+    pub(crate) fn drops_stored(alloc: Global, path: &str, who: &Who) -> Result<Verdict, NoMemory>
         ensures { IfOk result (λ verdict. verdict ≡ DropsStored path.now who.now) }
     {
         Ok(Verdict::DropsStored {
-            path: Text::copy(alloc, path.as_str())?,
+            path: Text::copy(alloc, path)?,
             who: who.copy(alloc)?,
         })
     }
@@ -82,7 +82,7 @@ impl Verdict {
     {
         match self {
             Verdict::Pass => Ok(Verdict::Pass),
-            Verdict::DropsStored { path, who } => Verdict::drops_stored(alloc, path, who),
+            Verdict::DropsStored { path, who } => Verdict::drops_stored(alloc, path.as_str(), who),
             Verdict::DropsWriter {
                 generation,
                 class,

@@ -1,11 +1,11 @@
 //! The text of a verdict, written to a sink without memory.
-ghost use Rattle.std.specs.Prelude.{◌≡◌, ◌++◌, OnOk, OnErr, codes};
+ghost use Rattle.std.specs.Prelude.{◌≡◌, ◌++◌, OnOk, OnErr, codes, decimal};
 ghost use Rattle.std.specs.Io.KnownBytes.{Appends};
 ghost use Rattle.kr_base.specs.Faults.{IsCounted};
 ghost use Rattle.kr_base.specs.Streams.{AppendsFront};
 ghost use Rattle.kr_judge.specs.declared.verdict.Verdict.TheVariants.{DropsStored};
 ghost use Rattle.kr_judge.specs.Texts.{who_text, class_text, place_text, verdict_text};
-ghost use Rattle.kr_judge.specs.inner.Pieces.{joined};
+ghost use Rattle.kr_judge.specs.inner.Pieces.{whole_text};
 
 use crate::verdict::Verdict;
 use itoa::Buffer;
@@ -13,10 +13,11 @@ use kr_base::{Failed, Sink, Text, write_all};
 use kr_config::{Class, Who};
 
 impl Verdict {
-    /// Writes the verdict's text, as `drops-writer 1 secrets aescbc:key1`. After a fault the sink has taken a prefix
-    /// of it. It takes no memory.
+    /// Writes the verdict's text, as `drops-writer 1 secrets aescbc:key1`. After a fault the sink
+    /// has taken a prefix of it. It takes no memory.
     pub fn write<S: Sink>(&self, sink: &mut S) -> Result<(), Failed>
-        ensures ok { OnOk result (Appends (S.held sink.old) (S.held sink.new) (verdict_text self.now)) }
+        ensures ok { OnOk result
+            (Appends (S.held sink.old) (S.held sink.new) (verdict_text self.now)) }
         ensures err { OnErr result
             (AppendsFront (S.held sink.old) (S.held sink.new) (verdict_text self.now)) }
         ensures cause { IsCounted (S.count sink.old) (S.count sink.new) result }
@@ -28,20 +29,12 @@ impl Verdict {
                 generation,
                 class,
                 who,
-            } => {
-                let mut buffer = Buffer::new();
-                let digits = buffer.format(*generation);
-                write_placed(sink, "drops-writer ", digits, class, who)
-            }
+            } => { write_numbered(sink, "drops-writer ", *generation, class, who) }
             Verdict::Unread {
                 generation,
                 class,
                 who,
-            } => {
-                let mut buffer = Buffer::new();
-                let digits = buffer.format(*generation);
-                write_placed(sink, "unread ", digits, class, who)
-            }
+            } => { write_numbered(sink, "unread ", *generation, class, who) }
         }
     }
 }
@@ -58,7 +51,26 @@ fn write_stored<'a, S: Sink>(sink: &mut S, path: &'a Text, who: &'a Who) -> Resu
     write_each(sink, &["drops-stored ", path.as_str(), " ", kind, name])
 }
 
-/// Writes a reason's name, and behind it a generation's digits, a class and a provider.
+/// Writes a reason's name, and behind it a generation's number, a class and a provider.
+fn write_numbered<S: Sink>(
+    sink: &mut S,
+    name: &str,
+    generation: u32,
+    class: &Class,
+    who: &Who,
+) -> Result<(), Failed>
+    ensures ok { OnOk result (Appends (S.held sink.old) (S.held sink.new)
+        (name.now ++ place_text (decimal generation) class.now who.now)) }
+    ensures err { OnErr result (AppendsFront (S.held sink.old) (S.held sink.new)
+        (name.now ++ place_text (decimal generation) class.now who.now)) }
+    ensures cause { IsCounted (S.count sink.old) (S.count sink.new) result }
+{
+    let mut buffer = Buffer::new();
+    let digits = buffer.format(generation);
+    write_placed(sink, name, digits, class, who)
+}
+
+/// The same, of the number's digits.
 fn write_placed<'a, S: Sink>(
     sink: &mut S,
     name: &'a str,
@@ -102,8 +114,9 @@ fn who_words(who: &Who) -> (&str, &str)
 
 /// Writes the pieces, one behind another.
 fn write_each<S: Sink>(sink: &mut S, pieces: &[&str]) -> Result<(), Failed>
-    ensures ok { OnOk result (Appends (S.held sink.old) (S.held sink.new) (joined pieces.now)) }
-    ensures err { OnErr result (AppendsFront (S.held sink.old) (S.held sink.new) (joined pieces.now)) }
+    ensures ok { OnOk result (Appends (S.held sink.old) (S.held sink.new) (whole_text pieces.now)) }
+    ensures err { OnErr result
+        (AppendsFront (S.held sink.old) (S.held sink.new) (whole_text pieces.now)) }
     ensures cause { IsCounted (S.count sink.old) (S.count sink.new) result }
 {
     for piece in pieces {

@@ -1,5 +1,4 @@
-//! Tests of a board and its verdicts as callers use them, with ample memory: each public call, and each
-//! reason against new settings.
+//! What the stored run of kr_boards doesn't show of verdicts.
 #![tactic(auto)]
 
 #[cfg(test)]

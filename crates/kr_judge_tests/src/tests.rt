@@ -1,49 +1,29 @@
-//! Configurations, and what a board says to them.
-mod boards;
-mod reasons;
-
-use kr_base::{Bytes, List, MemSink, Shared};
-use kr_config::{Settings, read};
-use kr_judge::{Board, Verdict};
+//! A sink that fails while a verdict is written.
+use kr_base::{Bytes, List, MemSink};
+use kr_config::{Class, Who};
+use kr_judge::Verdict;
 use std::alloc::Global;
 
-/// The first key, another key of its name, and a second key.
-const KEY1: &str = r#"{"aescbc":{"keys":[{"name":"key1","secret":"AAECAwQFBgcICQoLDA0ODw=="}]}}"#;
-
-const OTHER1: &str = r#"{"aescbc":{"keys":[{"name":"key1","secret":"dGhpcyBpcyBwYXNzd29yZA=="}]}}"#;
-
-const KEY2: &str = r#"{"aescbc":{"keys":[{"name":"key2","secret":"c2VjcmV0IGlzIHNlY3VyZQ=="}]}}"#;
-
-/// Settings of one entry: a pattern with these keys, and identity behind them.
-fn settings(alloc: Global, pattern: &str, keys: &[&str]) -> Option<Shared<Settings>> {
-    let mut providers = String::new(alloc);
-    for key in keys {
-        providers.push_str(key).ok()?;
-        providers.push_str(",").ok()?;
-    }
-    let listed = providers.as_str();
-    let text = format!(in alloc;
-        "{{\"apiVersion\":\"apiserver.config.k8s.io/v1\",\"kind\":\"EncryptionConfiguration\",\"resources\":[{{\"resources\":[\"{pattern}\"],\"providers\":[{listed}{{\"identity\":{{}}}}]}}]}}"
-    ).ok()?;
-    let settings = read(alloc, text.as_str().as_bytes()).ok()?;
-    Shared::new(alloc, settings).ok()
+/// The sink fails at the third piece, and keeps those before.
+fn keeps_a_front(sink: &mut MemSink) -> bool {
+    let verdict = Verdict::Unread {
+        generation: 7,
+        class: Class::Rest,
+        who: Who::Identity,
+    };
+    let failed = verdict.write(sink).is_err();
+    failed && sink.bytes() == b"unread 7".as_slice()
 }
 
-/// Whether the verdict's text is this.
-fn is_text(alloc: Global, verdict: &Verdict, want: &str) -> bool {
-    let Ok(mut sink) = MemSink::new(Bytes::new(alloc), 200, List::new(alloc)) else {
-        return false;
-    };
-    verdict.write(&mut sink).is_ok() && sink.bytes() == want.as_bytes()
+fn failing_sink(alloc: Global) -> Option<MemSink> {
+    let fails = List::from_vec(vec![in alloc; 3u64].ok()?);
+    MemSink::new(Bytes::new(alloc), 100, fails).ok()
 }
 
-/// Whether this is the verdict on new settings of the replica, and its copy's.
-fn says(alloc: Global, board: &Board, replica: u32, new: &Settings, want: &str) -> bool {
-    let Ok(verdict) = board.judge(replica, new) else {
-        return false;
+#[test]
+fn a_failing_sink_has_taken_a_front(rt: HostRuntime) {
+    let Some(mut sink) = failing_sink(rt.alloc()) else {
+        panic!(rt; "no memory");
     };
-    let Ok(copy) = verdict.copy(alloc) else {
-        return false;
-    };
-    is_text(alloc, &verdict, want) && is_text(alloc, &copy, want)
+    assert!(rt; keeps_a_front(&mut sink));
 }

@@ -9,7 +9,7 @@ use Rattle.kr_kms.specs.declared.plugin.KmsNo.{KmsNo}
 use Rattle.kr_kms.specs.declared.plugin.KmsNo.TheVariants.{Failed, NoMemory}
 use Rattle.kr_kms.specs.declared.seeds.SeedKey.{SeedKey}
 
--- the seeds with what names them, the most recently used first, and how many there may be
+-- the seeds with what names them, and how many there may be
 pub record CacheState : Type 0 where
   pub rows : List (SeedKey × List ℕ)
   pub size : ℕ

@@ -4,6 +4,7 @@ pub mod Calls
 pub mod Health
 pub mod Limits
 pub mod MemWorld
+pub mod Members
 pub mod Outside
 pub mod Replies
 pub mod Requests

@@ -1,53 +1,63 @@
--- What a world tells of its files and of the random sources of its seats, and what it has handed
--- out.
-use Rattle.std.specs.Prelude.{◌≡◌, ◌≢◌, ℕ, ◌+◌, ◌-◌, ◌^◌, ◌<◌, ◌≤◌, ◌⊎◌, ◌==◌, min, List, [], ◌∷◌, ◌++◌, length, Option, None, Some, Result, Ok, Err, ⊤, if◌then◌else◌}
+-- What a world tells, in parts, and how each goes on over a call: its files, what it was asked for,
+-- its counts of faults, and the random sources, tapes and links that it lends.
+use Rattle.std.specs.Prelude.{◌≡◌, ◌≢◌, ℕ, ◌+◌, ◌^◌, ◌-◌, ◌<◌, ◌≤◌, ◌⊎◌, ◌==◌, ◌&&◌, min, Bool, true, false, List, [], ◌∷◌, ◌++◌, length, Option, Some, None, Result, Ok, Err, ⊤, if◌then◌else◌}
 use Rattle.std.specs.Option.{option_map}
+use Rattle.std.specs.Str.{bytes_eq}
 use Rattle.kr_base.specs.Faults.{Rose}
 use Rattle.kr_base.specs.Told.{Agrees}
-use Rattle.kr_kms.specs.declared.world.Asked.{Asked}
+use Rattle.kr_kms.specs.Calls.{Link}
+use Rattle.kr_kms.specs.declared.file_faults.FileFaults.{FileFaults}
+use Rattle.kr_kms.specs.declared.plugin.Status.{Status}
+use Rattle.kr_kms.specs.declared.world.WorldCall.{WorldCall}
 use Rattle.kr_kms.specs.declared.world.FileNo.{FileNo}
 use Rattle.kr_kms.specs.declared.world.FileNo.TheVariants.{Absent, TooLong, Failed, NoMemory}
+
+-- objects that are lent by a key: what is told of each, its count of faults, and how many with the
+-- key are handed out. What is told of an object that is out is told by it alone
+pub record Objects (K V : Type 0) : Type 0 where
+  pub told : K → V
+  pub faults : K → ℕ
+  pub out : K → ℕ
 
 pub record Outside : Type 0 where
   -- a file by its name: none where the world doesn't tell; else absent, or its bytes
   pub file : List ℕ → Option (Option (List ℕ))
   -- what it was asked for so far, one call behind another, where it tells that
-  pub asked : Option (List Asked)
-  -- a count of faults for each kind of call: loads of files, and askings for a random source
-  pub load_faults : ℕ
-  pub open_faults : ℕ
-  -- by the number of a seat: what its random source will give, where that is told, and its count of
-  -- faults
-  pub dice : ℕ → Option (List ℕ)
-  pub dice_faults : ℕ → ℕ
-  -- how many random sources of a seat are handed out
-  pub out : ℕ → ℕ
+  pub asked : Option (List WorldCall)
+  -- how often its files failed, a count for each kind of call
+  pub faults : FileFaults
+  -- a random source by the number of its seat: what it will give, where that is told
+  pub dice : Objects ℕ (Option (List ℕ))
+  -- a tape by its name: none where the world doesn't tell; else absent, or its bytes
+  pub tapes : Objects (List ℕ) (Option (Option (List ℕ)))
+  -- a link by the number of its seat and the name of its plugin: the status that it tells
+  pub links : Objects (ℕ × List ℕ) (Option Status)
+
+-- ---- files and their counts
 
 -- the faults of all its files, up to the greatest number
 abbrev pub file_faults : Outside → ℕ
-file_faults world = min (world.load_faults + world.open_faults) (2 ^ 64 - 1)
+file_faults world =
+    min (world.faults.loads + world.faults.tapes + world.faults.dice + world.faults.links)
+    (2 ^ 64 - 1)
+
+-- no count fell
+pub record IsLater (old new : FileFaults) : Type 0 where
+  pub loads : old.loads ≤ new.loads
+  pub tapes : old.tapes ≤ new.tapes
+  pub dice : old.dice ≤ new.dice
+  pub links : old.links ≤ new.links
+
+-- no file changed, and no count fell
+pub record KeepsFiles (old new : Outside) : Type 0 where
+  pub file : new.file ≡ old.file
+  pub later : IsLater old.faults new.faults
 
 -- nothing is handed out or given back
-pub record KeepsDice (old new : Outside) : Type 0 where
-  pub dice : (seat : ℕ) → new.dice seat ≡ old.dice seat
-  pub faults : (seat : ℕ) → new.dice_faults seat ≡ old.dice_faults seat
-  pub out : (seat : ℕ) → new.out seat ≡ old.out seat
-
--- the files are as they were, and no count of theirs fell
-pub record KeepsFiles (old new : Outside) : Type 0 where
-  pub file : (name : List ℕ) → new.file name ≡ old.file name
-  pub loads : old.load_faults ≤ new.load_faults
-  pub opens : old.open_faults ≤ new.open_faults
-
--- one more call was made
-abbrev pub noted : Asked → Option (List Asked) → Option (List Asked)
-noted call asked = option_map (λ calls. calls ++ call ∷ []) asked
-
--- the call was made, and no other; where there was no memory, perhaps not even this
-abbrev pub Notes : {T : Type 0} → Outside → Outside → Asked → Result T FileNo → Type 0
-Notes old new call (Err NoMemory) =
-    (new.asked ≡ old.asked) ⊎ (new.asked ≡ noted call old.asked)
-Notes old new call result = new.asked ≡ noted call old.asked
+pub record KeepsObjects (old new : Outside) : Type 0 where
+  pub dice : new.dice ≡ old.dice
+  pub tapes : new.tapes ≡ old.tapes
+  pub links : new.links ≡ old.links
 
 -- a file within the limit was given, or why not
 abbrev pub Loads : Outside → Outside → List ℕ → ℕ → Result (List ℕ) FileNo → Type 0
@@ -56,27 +66,74 @@ Loads old new name limit (Ok bytes) =
 Loads old new name limit (Err Absent) = Agrees (old.file name) None
 Loads old new name limit (Err TooLong) =
     (bytes : List ℕ) × (limit < length bytes) × Agrees (old.file name) (Some bytes)
-Loads old new name limit (Err Failed) = Rose old.load_faults new.load_faults
+Loads old new name limit (Err Failed) = Rose old.faults.loads new.faults.loads
 Loads old new name limit (Err NoMemory) = ⊤
 
--- n at the seat, 0 at each other
-abbrev pub at_seat : ℕ → ℕ → ℕ → ℕ
-at_seat seat n other = if seat == other then n else 0
+-- ---- what it was asked for
 
--- the random source of the seat was handed out; those of other seats stay
-pub record HandsOut (old new : Outside) (seat : ℕ) (left : Option (List ℕ)) (count : ℕ)
-    : Type 0 where
-  pub left_is : left ≡ old.dice seat
-  pub count_is : count ≡ old.dice_faults seat
-  pub out : (other : ℕ) → new.out other ≡ old.out other + at_seat seat 1 other
-  pub dice : (other : ℕ) → other ≢ seat → new.dice other ≡ old.dice other
-  pub faults : (other : ℕ) → other ≢ seat → new.dice_faults other ≡ old.dice_faults other
+-- one more call was made
+abbrev pub noted : WorldCall → Option (List WorldCall) → Option (List WorldCall)
+noted call asked = option_map (λ calls. calls ++ call ∷ []) asked
 
--- the random source of the seat came back; those of other seats stay
-pub record TakesBack (old new : Outside) (seat : ℕ) (left : Option (List ℕ)) (count : ℕ)
-    : Type 0 where
-  pub left_is : new.dice seat ≡ left
-  pub count_is : new.dice_faults seat ≡ count
-  pub out : (other : ℕ) → new.out other + at_seat seat 1 other ≡ old.out other
-  pub dice : (other : ℕ) → other ≢ seat → new.dice other ≡ old.dice other
-  pub faults : (other : ℕ) → other ≢ seat → new.dice_faults other ≡ old.dice_faults other
+-- the call was made, and no other; where there was no memory, perhaps not even this
+abbrev pub Notes : {T : Type 0} → Outside → Outside → WorldCall → Result T FileNo → Type 0
+Notes old new call (Err NoMemory) =
+    (new.asked ≡ old.asked) ⊎ (new.asked ≡ noted call old.asked)
+Notes old new call result = new.asked ≡ noted call old.asked
+
+-- ---- objects that are lent
+
+-- n at the key, 0 at each other
+abbrev pub at_key : {K : Type 0} → (same : K → K → Bool) → K → ℕ → K → ℕ
+at_key same key n other = if same key other then n else 0
+
+-- an object with the key and this count was handed out; all others stay
+pub record HandsOut {K V : Type 0} (same : K → K → Bool) (old new : Objects K V) (key : K)
+    (count : ℕ) : Type 0 where
+  pub count_is : count ≡ old.faults key
+  pub out : (other : K) → new.out other ≡ old.out other + at_key same key 1 other
+  pub told : (other : K) → other ≢ key → new.told other ≡ old.told other
+  pub faults : (other : K) → other ≢ key → new.faults other ≡ old.faults other
+
+-- an object with the key and this count came back; all others stay
+pub record TakesBack {K V : Type 0} (same : K → K → Bool) (old new : Objects K V) (key : K)
+    (count : ℕ) : Type 0 where
+  pub count_is : new.faults key ≡ count
+  pub out : (other : K) → new.out other + at_key same key 1 other ≡ old.out other
+  pub told : (other : K) → other ≢ key → new.told other ≡ old.told other
+  pub faults : (other : K) → other ≢ key → new.faults other ≡ old.faults other
+
+abbrev pub same_seat : ℕ → ℕ → Bool
+same_seat seat other = seat == other
+
+abbrev pub same_name : List ℕ → List ℕ → Bool
+same_name name other = bytes_eq name other
+
+-- the same seat and the same plugin
+abbrev pub same_link : ℕ × List ℕ → ℕ × List ℕ → Bool
+same_link link other = (link.0 == other.0) && bytes_eq link.1 other.1
+
+-- a random source or a link is refused for a fault or for want of memory
+abbrev pub IsFaultOrMemory : FileNo → Type 0
+IsFaultOrMemory why = (why ≡ Failed) ⊎ (why ≡ NoMemory)
+
+-- the tape has what is told under its name; one that was absent may be made, and is empty then
+abbrev pub IsTape : Option (Option (List ℕ)) → (make : Bool) → Option (List ℕ) → Type 0
+IsTape None make held = held ≡ None
+IsTape (Some None) make held = (make ≡ true) × (held ≡ Some [])
+IsTape (Some (Some bytes)) make held = held ≡ Some bytes
+
+-- why there is no tape: one that may be made is never absent
+abbrev pub RefusesTape : Option (Option (List ℕ)) → (make : Bool) → FileNo → Type 0
+RefusesTape tape make Absent = (make ≡ false) × Agrees tape None
+RefusesTape tape make TooLong = ⊥
+RefusesTape tape make Failed = ⊤
+RefusesTape tape make NoMemory = ⊤
+
+-- the link to the plugin: no fault of it is forgotten, and it tells the told status
+abbrev pub link_at : Objects (ℕ × List ℕ) (Option Status) → (seat : ℕ) (plugin : List ℕ) → Link
+link_at links seat plugin = record {
+  name = plugin;
+  count = links.faults (seat, plugin);
+  status = links.told (seat, plugin);
+}

@@ -3,3 +3,4 @@ pub mod Keeping
 pub mod Shapes
 pub mod Statuses
 pub mod Wrapping
+pub mod Written

@@ -12,8 +12,8 @@ use std::alloc::Global;
 use std::marker::Model;
 use std::num::NonZeroUsize;
 
-/// Unwrapped seeds, the most recently used; at most as many as it was made for. It is for links of
-/// one type: what its seeds say of the truth is what the links say that it was used with.
+/// Unwrapped seeds, at most as many as it was made for. It is for links of one type: what its seeds
+/// say of the truth is what the links say that it was used with.
 #[derive(Drop)]
 pub struct SeedCache {
     inner: LruCache<SeedKey, Bytes>,
@@ -72,7 +72,7 @@ impl SeedCache {
         Ok(seed)
     }
 
-    /// A copy of the seed that is kept under the key, which becomes the most recently used.
+    /// A copy of the seed that is kept under the key.
     fn copy_of(&mut self, alloc: Global, key: &SeedKey) -> Option<Result<Bytes, KmsNo>>
         ensures found { IsCopyAt self.old.rows key.now result }
         ensures none { IfNone result (self.new ≡ self.old) }

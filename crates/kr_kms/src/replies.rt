@@ -1,23 +1,24 @@
-//! Replies of a plugin, read from their lines.
-ghost use Rattle.std.specs.Prelude.{◌≡◌, ◌⊎◌, [], OnOk};
-ghost use Rattle.std.specs.Option.{option_map};
+//! Replies of a plugin, as lines: a plugin writes them, and a link reads them.
+ghost use Rattle.std.specs.Prelude.{◌≡◌, ◌⊎◌, IfOk};
 ghost use Rattle.serde_json.specs.View.{view, members_view};
-ghost use Rattle.kr_base.specs.Pairs.{with_pair};
-ghost use Rattle.kr_kms.specs.Replies.{text_at, bytes_in, bytes_at, pairs_with, annotations_in};
-ghost use Rattle.kr_kms.specs.Replies.{status_in, wrapped_in, shaped_reply, IsReply};
-ghost use Rattle.kr_kms.specs.inner.Shapes.{Reads, ReadsValue};
+ghost use Rattle.kr_kms.specs.Replies.{annotations_in, status_in, wrapped_in, shaped_reply};
+ghost use Rattle.kr_kms.specs.Replies.{IsReply, kind_of, reply_members, answer_members};
+ghost use Rattle.kr_kms.specs.Replies.{answer_text, IsReadBack};
+ghost use Rattle.kr_kms.specs.inner.Shapes.{Reads};
+ghost use Rattle.kr_kms.specs.inner.Written.{IsAnswerOfBytes};
 
+use crate::members::{
+    ShapeNo, ValueNo, bytes_at, line_of, members_of, own_text_at, pairs_in, put_bytes, put_text,
+    read_value, tell_pairs, text_at,
+};
 use crate::plugin::{Status, Wrapped};
-use base64::DecodeAllocError;
-use base64::engine::general_purpose::STANDARD;
 use kr_base::{Annotations, Bytes, NoMemory, Text};
-use serde_json::error::Category;
-use serde_json::{Map, Value};
+use serde_json::{Map, Value, put};
 use std::alloc::Global;
 
-/// Which kind of request a reply answers.
+/// What a plugin was asked for, so the kind of a reply to it.
 #[derive(Clone, Copy, Debug, PartialEq, Eq)]
-pub enum PluginCall {
+pub enum Asked {
     /// For the status.
     Status,
     /// To wrap.
@@ -37,6 +38,15 @@ pub enum Reply {
     Decrypt(Bytes),
 }
 
+/// What a plugin's loop answers.
+#[derive(Debug, Drop)]
+pub enum Answered {
+    /// A reply.
+    Reply(Reply),
+    /// A refusal, with its text.
+    Error(Text),
+}
+
 /// Why a line is no reply.
 #[derive(Debug, Drop)]
 pub enum ReplyNo {
@@ -50,27 +60,20 @@ pub enum ReplyNo {
     NoMemory,
 }
 
-/// Why a part of a reply wasn't read.
-#[derive(Clone, Copy, Debug)]
-enum ShapeNo {
-    /// It hasn't its shape.
-    Shape,
-    /// There was no memory for it.
-    NoMemory,
-}
-
 /// Reads a line, with or without its LF, as the reply to a call of this kind.
-pub fn read_reply(alloc: Global, call: PluginCall, line: &[u8]) -> Result<Reply, ReplyNo>
-    ensures { IsReply call line.now result }
+pub fn read_reply(alloc: Global, asked: Asked, line: &[u8]) -> Result<Reply, ReplyNo>
+    ensures reply { IsReply asked line.now result }
+    ensures kind { IfOk result (λ reply. kind_of reply ≡ asked) }
 {
     let value = match read_value(alloc, line) {
         Ok(value) => value,
-        Err(why) => return Err(why),
+        Err(ValueNo::NotJson) => return Err(ReplyNo::NotJson),
+        Err(ValueNo::NoMemory) => return Err(ReplyNo::NoMemory),
     };
     if let Some(text) = text_at(&value, "error") {
         return Err(refusal(alloc, text));
     }
-    match read_shape(alloc, call, &value) {
+    match read_shape(alloc, asked, &value) {
         Ok(reply) => Ok(reply),
         Err(ShapeNo::Shape) => Err(ReplyNo::Shape),
         Err(ShapeNo::NoMemory) => Err(ReplyNo::NoMemory),
@@ -87,33 +90,20 @@ fn refusal(alloc: Global, text: &str) -> ReplyNo
     }
 }
 
-/// The JSON value of a line.
-fn read_value(alloc: Global, line: &[u8]) -> Result<Value, ReplyNo>
-    ensures { ReadsValue line.now result }
-{
-    match Value::from_slice(alloc, line) {
-        Ok(value) => Ok(value),
-        Err(error) => match error.classify() {
-            Category::Memory => Err(ReplyNo::NoMemory),
-            _ => Err(ReplyNo::NotJson),
-        },
-    }
-}
-
 /// The reply, where the value has the shape of one to the call.
-fn read_shape(alloc: Global, call: PluginCall, value: &Value) -> Result<Reply, ShapeNo>
-    ensures { Reads (shaped_reply call (view value.now)) result }
+fn read_shape(alloc: Global, asked: Asked, value: &Value) -> Result<Reply, ShapeNo>
+    ensures { Reads (shaped_reply asked (view value.now)) result }
 {
-    match call {
-        PluginCall::Status => match read_status(alloc, value) {
+    match asked {
+        Asked::Status => match read_status(alloc, value) {
             Ok(status) => Ok(Reply::Status(status)),
             Err(why) => Err(why),
         },
-        PluginCall::Encrypt => match read_wrapped(alloc, value) {
+        Asked::Encrypt => match read_wrapped(alloc, value) {
             Ok(wrapped) => Ok(Reply::Encrypt(wrapped)),
             Err(why) => Err(why),
         },
-        PluginCall::Decrypt => match bytes_at(alloc, value, "plaintext") {
+        Asked::Decrypt => match bytes_at(alloc, value, "plaintext") {
             Ok(plain) => Ok(Reply::Decrypt(plain)),
             Err(why) => Err(why),
         },
@@ -171,79 +161,83 @@ fn read_annotations(alloc: Global, value: &Value) -> Result<Annotations, ShapeNo
     let Some(given) = value.get("annotations") else {
         return Ok(Annotations::new(alloc));
     };
-    let Some(members) = given.as_object() else {
-        return Err(ShapeNo::Shape);
-    };
-    read_pairs(alloc, members)
+    pairs_in(alloc, given)
 }
 
-/// A pair for each member.
-fn read_pairs(alloc: Global, members: &Map<String, Value>) -> Result<Annotations, ShapeNo>
-    ensures { Reads (pairs_with [] (members_view members.now.entries)) result }
+/// The line that answers it, with its LF. The annotations of a wrap are always there.
+pub fn reply_line(alloc: Global, answered: &Answered) -> Result<Bytes, NoMemory>
+    ensures text { IfOk result (λ line. line ≡ answer_text answered.now) }
+    ensures read { IfOk result (λ line. IsReadBack line answered.now) }
 {
-    let mut found = Annotations::new(alloc);
-    for (key, value) in members.iter() {
-        let bytes = match bytes_in(alloc, value) {
-            Ok(bytes) => bytes,
-            Err(why) => return Err(why),
-        };
-        match add_pair(alloc, &mut found, key.as_str(), bytes) {
-            Ok(()) => {}
-            Err(_) => return Err(ShapeNo::NoMemory),
+    tell_bytes(answered);
+    let members = members_by(alloc, answered)?;
+    line_of(alloc, members)
+}
+
+/// Tells what its types keep.
+fn tell_bytes(answered: &Answered)
+    ensures { IsAnswerOfBytes answered.now }
+{
+    match answered {
+        Answered::Reply(Reply::Status(_)) => {}
+        Answered::Reply(Reply::Encrypt(wrapped)) => {
+            wrapped.cipher.known();
+            tell_pairs(&wrapped.annotations);
         }
-    }
-    Ok(found)
-}
-
-fn add_pair(alloc: Global, found: &mut Annotations, key: &str, bytes: Bytes) -> Result<(), NoMemory>
-    ensures { OnOk result (found.new ≡ with_pair found.old key.now bytes) }
-{
-    let key = Text::copy(alloc, key)?;
-    found.insert(key, bytes)
-}
-
-/// The text at a member.
-fn text_at<'a>(value: &'a Value, key: &str) -> Option<&'a str>
-    ensures { option_map (λ text. text.now) result ≡ text_at key.now (view value.now) }
-{
-    match value.get(key) {
-        Some(value) => value.as_str(),
-        None => None,
+        Answered::Reply(Reply::Decrypt(plain)) => plain.known(),
+        Answered::Error(_) => {}
     }
 }
 
-fn own_text_at(alloc: Global, value: &Value, key: &str) -> Result<Text, ShapeNo>
-    ensures { Reads (text_at key.now (view value.now)) result }
+fn members_by(alloc: Global, answered: &Answered) -> Result<Map<String, Value>, NoMemory>
+    ensures { IfOk result (λ members. members_view members.entries
+        ≡ answer_members answered.now) }
 {
-    let Some(text) = text_at(value, key) else {
-        return Err(ShapeNo::Shape);
-    };
-    match Text::copy(alloc, text) {
-        Ok(text) => Ok(text),
-        Err(_) => Err(ShapeNo::NoMemory),
+    match answered {
+        Answered::Reply(Reply::Status(status)) => status_members(alloc, status),
+        Answered::Reply(Reply::Encrypt(wrapped)) => wrapped_members(alloc, wrapped),
+        Answered::Reply(Reply::Decrypt(plain)) => plain_members(alloc, plain),
+        Answered::Error(text) => error_members(alloc, text),
     }
 }
 
-/// The bytes at a member.
-fn bytes_at(alloc: Global, value: &Value, key: &str) -> Result<Bytes, ShapeNo>
-    ensures { Reads (bytes_at key.now (view value.now)) result }
+fn status_members(alloc: Global, status: &Status) -> Result<Map<String, Value>, NoMemory>
+    ensures { IfOk result (λ members. members_view members.entries
+        ≡ reply_members (Reply.Status status.now)) }
 {
-    match value.get(key) {
-        Some(value) => bytes_in(alloc, value),
-        None => Err(ShapeNo::Shape),
-    }
+    let mut members = Map::new(alloc);
+    put_text(&mut members, alloc, "healthz", status.healthz.as_str())?;
+    put_text(&mut members, alloc, "key_id", status.key_id.as_str())?;
+    put_text(&mut members, alloc, "version", status.version.as_str())?;
+    Ok(members)
 }
 
-/// The bytes that a text has.
-fn bytes_in(alloc: Global, value: &Value) -> Result<Bytes, ShapeNo>
-    ensures { Reads (bytes_in (view value.now)) result }
+fn wrapped_members(alloc: Global, wrapped: &Wrapped) -> Result<Map<String, Value>, NoMemory>
+    ensures { IfOk result (λ members. members_view members.entries
+        ≡ reply_members (Reply.Encrypt wrapped.now)) }
 {
-    let Some(text) = value.as_str() else {
-        return Err(ShapeNo::Shape);
-    };
-    match STANDARD.decode(alloc, text.as_bytes()) {
-        Ok(bytes) => Ok(Bytes::from_vec(bytes)),
-        Err(DecodeAllocError::OutOfMemory) => Err(ShapeNo::NoMemory),
-        Err(_) => Err(ShapeNo::Shape),
-    }
+    let pairs = members_of(alloc, &wrapped.annotations)?;
+    let mut members = Map::new(alloc);
+    put(&mut members, alloc, "annotations", Value::Object(pairs))?;
+    put_bytes(&mut members, alloc, "ciphertext", wrapped.cipher.as_slice())?;
+    put_text(&mut members, alloc, "key_id", wrapped.key_id.as_str())?;
+    Ok(members)
+}
+
+fn plain_members(alloc: Global, plain: &Bytes) -> Result<Map<String, Value>, NoMemory>
+    ensures { IfOk result (λ members. members_view members.entries
+        ≡ reply_members (Reply.Decrypt plain.now)) }
+{
+    let mut members = Map::new(alloc);
+    put_bytes(&mut members, alloc, "plaintext", plain.as_slice())?;
+    Ok(members)
+}
+
+fn error_members(alloc: Global, text: &Text) -> Result<Map<String, Value>, NoMemory>
+    ensures { IfOk result (λ members. members_view members.entries
+        ≡ answer_members (Answered.Error text.now)) }
+{
+    let mut members = Map::new(alloc);
+    put_text(&mut members, alloc, "error", text.as_str())?;
+    Ok(members)
 }

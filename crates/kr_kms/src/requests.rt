@@ -1,12 +1,15 @@
-//! Requests to a plugin, as lines.
-ghost use Rattle.std.specs.Prelude.{◌≡◌, ℕ, List, codes, decimal, IfOk, OnOk};
-ghost use Rattle.serde_json.specs.Data.{Data, put, string, object};
+//! Requests to a plugin, as lines: a link writes them, and a plugin reads them.
+ghost use Rattle.std.specs.Prelude.{◌≡◌, ◌++◌, ◌∷◌, [], Ok, IfOk};
 ghost use Rattle.serde_json.specs.View.{view, members_view};
-ghost use Rattle.kr_kms.specs.Requests.{text_of_bytes, pair_members, request_members};
-ghost use Rattle.kr_kms.specs.Requests.{request_data, request_text};
+ghost use Rattle.kr_kms.specs.Requests.{request_members, request_text, request_of, IsRequest};
+ghost use Rattle.kr_kms.specs.Requests.{request_in, encrypt_in, decrypt_in};
+ghost use Rattle.kr_kms.specs.inner.Shapes.{Reads};
+ghost use Rattle.kr_kms.specs.inner.Written.{IsRequestOfBytes};
 
-use base64::engine::general_purpose::STANDARD;
-use itoa::Buffer;
+use crate::members::{
+    ShapeNo, ValueNo, bytes_at, line_of, members_of, number_at, own_text_at, pairs_at, put_bytes,
+    put_number, put_text, read_value, tell_pairs, text_at,
+};
 use kr_base::{Annotations, Bytes, NoMemory, Text};
 use serde_json::{Map, Value, put};
 use std::alloc::Global;
@@ -30,31 +33,65 @@ pub enum Request {
     },
 }
 
+/// Why a line is no request.
+#[derive(Clone, Copy, Debug, PartialEq, Eq)]
+pub enum RequestNo {
+    /// It isn't JSON in UTF-8.
+    NotJson,
+    /// It hasn't the shape of a request.
+    Shape,
+    /// There was no memory for it.
+    NoMemory,
+}
+
 /// The line that asks it, with its LF. A link numbers its requests to wrap and to unwrap from 1, by
 /// the uid.
 pub fn request_line(alloc: Global, request: &Request) -> Result<Bytes, NoMemory>
-    ensures { IfOk result (λ line. line ≡ request_text request.now) }
+    ensures text { IfOk result (λ line. line ≡ request_text request.now) }
+    ensures read { IfOk result (λ line. request_of line ≡ Ok request.now) }
 {
-    let value = value_of(alloc, request)?;
-    let mut line = value.to_vec(alloc)?;
-    line.push(b'\n')?;
-    Ok(Bytes::from_vec(line))
+    tell_bytes(request);
+    let members = members_by(alloc, request)?;
+    line_of(alloc, members)
 }
 
-fn value_of(alloc: Global, request: &Request) -> Result<Value, NoMemory>
-    ensures { IfOk result (λ value. view value ≡ request_data request.now) }
+/// Tells what its types keep.
+fn tell_bytes(request: &Request)
+    ensures { IsRequestOfBytes request.now }
 {
-    let members = match request {
-        Request::Status => status_members(alloc)?,
-        Request::Encrypt { plain, uid } => encrypt_members(alloc, plain, *uid)?,
+    match request {
+        Request::Status => {}
+        Request::Encrypt { plain, uid } => {
+            plain.known();
+            let _uid = *uid;
+        }
+        Request::Decrypt {
+            source,
+            key_id: _,
+            annotations,
+            uid,
+        } => {
+            source.known();
+            tell_pairs(annotations);
+            let _uid = *uid;
+        }
+    }
+}
+
+fn members_by(alloc: Global, request: &Request) -> Result<Map<String, Value>, NoMemory>
+    ensures { IfOk result (λ members. members_view members.entries
+        ≡ request_members request.now) }
+{
+    match request {
+        Request::Status => status_members(alloc),
+        Request::Encrypt { plain, uid } => encrypt_members(alloc, plain, *uid),
         Request::Decrypt {
             source,
             key_id,
             annotations,
             uid,
-        } => decrypt_members(alloc, source, key_id, annotations, *uid)?,
-    };
-    Ok(Value::Object(members))
+        } => decrypt_members(alloc, source, key_id, annotations, *uid),
+    }
 }
 
 fn status_members(alloc: Global) -> Result<Map<String, Value>, NoMemory>
@@ -97,57 +134,72 @@ fn decrypt_members(
     Ok(members)
 }
 
-/// A member for each pair.
-fn members_of(alloc: Global, annotations: &Annotations) -> Result<Map<String, Value>, NoMemory>
-    ensures { IfOk result (λ members. members_view members.entries
-        ≡ pair_members annotations.now) }
+/// Reads a line, with or without its LF, as a request.
+pub fn read_request(alloc: Global, line: &[u8]) -> Result<Request, RequestNo>
+    ensures { IsRequest line.now result }
 {
-    let mut members = Map::new(alloc);
-    for (key, value) in annotations.pairs() {
-        put_bytes(&mut members, alloc, key.as_str(), value.as_slice())?;
+    let value = match read_value(alloc, line) {
+        Ok(value) => value,
+        Err(ValueNo::NotJson) => return Err(RequestNo::NotJson),
+        Err(ValueNo::NoMemory) => return Err(RequestNo::NoMemory),
+    };
+    match read_call(alloc, &value) {
+        Ok(request) => Ok(request),
+        Err(ShapeNo::Shape) => Err(RequestNo::Shape),
+        Err(ShapeNo::NoMemory) => Err(RequestNo::NoMemory),
     }
-    Ok(members)
 }
 
-/// Puts a text at a member.
-fn put_text(
-    members: &mut Map<String, Value>,
-    alloc: Global,
-    key: &str,
-    text: &str,
-) -> Result<(), NoMemory>
-    ensures { OnOk result (members_view members.new.entries
-        ≡ put key.now (string text.now) (members_view members.old.entries)) }
+/// The request, where the value has the shape of one.
+fn read_call(alloc: Global, value: &Value) -> Result<Request, ShapeNo>
+    ensures { Reads (request_in (view value.now)) result }
 {
-    let value = Value::try_from_str(alloc, text)?;
-    put(members, alloc, key, value)?;
-    Ok(())
+    let Some(call) = text_at(value, "call") else {
+        return Err(ShapeNo::Shape);
+    };
+    match call {
+        "status" => Ok(Request::Status),
+        "encrypt" => read_encrypt(alloc, value),
+        "decrypt" => read_decrypt(alloc, value),
+        _ => Err(ShapeNo::Shape),
+    }
 }
 
-/// Puts bytes at a member.
-fn put_bytes(
-    members: &mut Map<String, Value>,
-    alloc: Global,
-    key: &str,
-    bytes: &[u8],
-) -> Result<(), NoMemory>
-    ensures { OnOk result (members_view members.new.entries
-        ≡ put key.now (text_of_bytes bytes.now) (members_view members.old.entries)) }
+fn read_encrypt(alloc: Global, value: &Value) -> Result<Request, ShapeNo>
+    ensures { Reads (encrypt_in (view value.now)) result }
 {
-    let text = STANDARD.encode(alloc, bytes)?;
-    put_text(members, alloc, key, text.as_str())
+    let plain = match bytes_at(alloc, value, "plaintext") {
+        Ok(plain) => plain,
+        Err(why) => return Err(why),
+    };
+    match number_at(value, "uid") {
+        Some(uid) => Ok(Request::Encrypt { plain, uid }),
+        None => Err(ShapeNo::Shape),
+    }
 }
 
-/// Puts a number at a member.
-fn put_number(
-    members: &mut Map<String, Value>,
-    alloc: Global,
-    key: &str,
-    number: u64,
-) -> Result<(), NoMemory>
-    ensures { OnOk result (members_view members.new.entries
-        ≡ put key.now (string (decimal number)) (members_view members.old.entries)) }
+fn read_decrypt(alloc: Global, value: &Value) -> Result<Request, ShapeNo>
+    ensures { Reads (decrypt_in (view value.now)) result }
 {
-    let mut buffer = Buffer::new();
-    put_text(members, alloc, key, buffer.format(number))
+    let source = match bytes_at(alloc, value, "ciphertext") {
+        Ok(source) => source,
+        Err(why) => return Err(why),
+    };
+    let key_id = match own_text_at(alloc, value, "key_id") {
+        Ok(key_id) => key_id,
+        Err(why) => return Err(why),
+    };
+    let annotations = match pairs_at(alloc, value, "annotations") {
+        Ok(annotations) => annotations,
+        Err(why) => return Err(why),
+    };
+    match number_at(value, "uid") {
+        Some(uid) => Ok(Request::Decrypt {
+            source,
+            key_id,
+            annotations,
+            uid,
+        }),
+        None => Err(ShapeNo::Shape),
+    }
 }

@@ -1,11 +1,13 @@
-//! The world that a command runs in: its files, and the random source of each seat.
-ghost use Rattle.std.specs.Prelude.{◌≡◌, ◌<◌, ◌⊎◌, IfOk, IfErr, OnErr, IsErrOf};
+//! The world that a command runs in: its files, the tapes that it writes, the random source of each
+//! seat, and the links of each seat to plugins.
+ghost use Rattle.std.specs.Prelude.{◌≡◌, ◌<◌, IfOk, IfErr, OnErr, IsErrOf, Some, option_map};
 ghost use Rattle.kr_base.specs.Faults.{Rose};
-ghost use Rattle.kr_kms.specs.Outside.{Outside, file_faults, Loads, Notes, KeepsFiles, KeepsDice};
-ghost use Rattle.kr_kms.specs.Outside.{HandsOut, TakesBack};
+ghost use Rattle.kr_kms.specs.Outside.{Outside, file_faults, Loads, Notes, KeepsFiles, KeepsObjects};
+ghost use Rattle.kr_kms.specs.Outside.{HandsOut, TakesBack, same_seat, same_name, same_link};
+ghost use Rattle.kr_kms.specs.Outside.{IsFaultOrMemory, IsTape, RefusesTape, link_at};
 
 use crate::plugin::Kms;
-use kr_base::{Bytes, Dice, Text};
+use kr_base::{Bytes, Dice, Tape, Text};
 use std::alloc::Global;
 
 /// Why a world gave no file or no object.
@@ -21,18 +23,36 @@ pub enum FileNo {
     NoMemory,
 }
 
-/// What a world is asked for.
+/// A call that asks a world for something.
 #[derive(Debug, Drop)]
-pub enum Asked {
-    /// The file of a name.
+pub enum WorldCall {
+    /// For the file of a name.
     File(Text),
-    /// The random source of a seat.
+    /// For the tape of a name, which is made where it is absent, if `make` says so.
+    Tape {
+        name: Text,
+        make: bool,
+    },
+    /// For the random source of a seat.
     RandomSource(u32),
+    /// For a link of a seat to a plugin, which this program is.
+    Link {
+        seat: u32,
+        plugin: Text,
+        program: Text,
+    },
 }
 
-/// Files by their names, and random sources by the numbers of seats. What is handed out can't be
-/// dropped: it comes back, also after a refusal.
+/// Files and tapes by their names, random sources by the numbers of seats, and links by seat and
+/// plugin. What is handed out can't be dropped: it comes back, also after a refusal, and that needs
+/// no memory.
+///
+/// Each call says what it leaves of each part of the world. A call that asks for something raises
+/// the count of faults of its own kind alone.
 pub trait World {
+    /// A file that is read and written at any place. It can move to a thread.
+    type Tap: Tape + Send;
+
     /// The random source of a seat. It can move to a thread.
     type Rand: Dice + Send;
 
@@ -48,31 +68,111 @@ pub trait World {
     /// A whole file of at most `limit` bytes.
     fn load(&mut self, alloc: Global, name: &str, limit: u64) -> Result<Bytes, FileNo>
         ensures file { Loads (told self.old) (told self.new) name.now limit result }
-        ensures asked { Notes (told self.old) (told self.new) (Asked.File name.now) result }
+        ensures asked { Notes (told self.old) (told self.new) (WorldCall.File name.now) result }
+        ensures kind { (told self.new).faults
+            ≡ record (told self.old).faults { loads = (told self.new).faults.loads } }
         ensures files { KeepsFiles (told self.old) (told self.new) }
-        ensures opens { (told self.new).open_faults ≡ (told self.old).open_faults }
-        ensures dice { KeepsDice (told self.old) (told self.new) };
+        ensures objects { KeepsObjects (told self.old) (told self.new) };
+
+    /// The file of a name, to be read and written at any place. An absent one is made, and empty
+    /// then, where `make` says so. It never answers `TooLong`. A tape that is out, here or in
+    /// another process, isn't handed out a second time: that fails.
+    fn tape(&mut self, alloc: Global, name: &str, make: bool) -> Result<Self::Tap, FileNo>
+        ensures ok { IfOk result (λ tape. HandsOut same_name (told self.old).tapes
+            (told self.new).tapes name.now (Self.Tap.count tape)) }
+        ensures tape { IfOk result (λ tape. IsTape ((told self.old).tapes.told name.now) make
+            (Self.Tap.told tape)) }
+        ensures alone { IfOk result (λ tape. (told self.old).tapes.out name.now ≡ 0) }
+        ensures err { OnErr result ((told self.new).tapes ≡ (told self.old).tapes) }
+        ensures refusals { IfErr result
+            (λ why. RefusesTape ((told self.old).tapes.told name.now) make why) }
+        ensures failed { IsErrOf result FileNo.Failed
+            → Rose (told self.old).faults.tapes (told self.new).faults.tapes }
+        ensures asked { Notes (told self.old) (told self.new)
+            (WorldCall.Tape name.now make) result }
+        ensures kind { (told self.new).faults
+            ≡ record (told self.old).faults { tapes = (told self.new).faults.tapes } }
+        ensures files { KeepsFiles (told self.old) (told self.new) }
+        ensures dice { (told self.new).dice ≡ (told self.old).dice }
+        ensures links { (told self.new).links ≡ (told self.old).links };
 
     /// The random source of a seat. It never answers `Absent` or `TooLong`.
     fn dice(&mut self, alloc: Global, seat: u32) -> Result<Self::Rand, FileNo>
-        ensures ok { IfOk result (λ dice. HandsOut (told self.old) (told self.new) seat
-            (Self.Rand.left dice) (Self.Rand.count dice)) }
-        ensures err { OnErr result (KeepsDice (told self.old) (told self.new)) }
-        ensures refusals { IfErr result
-            (λ why. (why ≡ FileNo.Failed) ⊎ (why ≡ FileNo.NoMemory)) }
+        ensures ok { IfOk result (λ dice. HandsOut same_seat (told self.old).dice
+            (told self.new).dice seat (Self.Rand.count dice)) }
+        ensures left { IfOk result
+            (λ dice. Self.Rand.left dice ≡ (told self.old).dice.told seat) }
+        ensures err { OnErr result ((told self.new).dice ≡ (told self.old).dice) }
+        ensures refusals { IfErr result IsFaultOrMemory }
         ensures failed { IsErrOf result FileNo.Failed
-            → Rose (told self.old).open_faults (told self.new).open_faults }
-        ensures asked { Notes (told self.old) (told self.new) (Asked.RandomSource seat) result }
+            → Rose (told self.old).faults.dice (told self.new).faults.dice }
+        ensures asked { Notes (told self.old) (told self.new) (WorldCall.RandomSource seat) result }
+        ensures kind { (told self.new).faults
+            ≡ record (told self.old).faults { dice = (told self.new).faults.dice } }
         ensures files { KeepsFiles (told self.old) (told self.new) }
-        ensures loads { (told self.new).load_faults ≡ (told self.old).load_faults };
+        ensures tapes { (told self.new).tapes ≡ (told self.old).tapes }
+        ensures links { (told self.new).links ≡ (told self.old).links };
 
-    /// Takes a random source of the seat back. It needs no memory.
-    fn back_dice(&mut self, seat: u32, dice: Self::Rand)
-        requires { 0 < (told self.old).out seat }
-        ensures back { TakesBack (told self.old) (told self.new) seat (Self.Rand.left dice)
-            (Self.Rand.count dice) }
-        ensures asked { (told self.new).asked ≡ (told self.old).asked }
+    /// A link of a seat to the plugin, which the program of this name is. It never answers `Absent`
+    /// or `TooLong`.
+    fn link(
+        &mut self,
+        alloc: Global,
+        seat: u32,
+        plugin: &str,
+        program: &str,
+    ) -> Result<Self::Link, FileNo>
+        ensures ok { IfOk result (λ link. HandsOut same_link (told self.old).links
+            (told self.new).links (seat, plugin.now) (Self.Link.link link).count) }
+        ensures link { IfOk result
+            (λ link. Self.Link.link link ≡ link_at (told self.old).links seat plugin.now) }
+        ensures err { OnErr result ((told self.new).links ≡ (told self.old).links) }
+        ensures refusals { IfErr result IsFaultOrMemory }
+        ensures failed { IsErrOf result FileNo.Failed
+            → Rose (told self.old).faults.links (told self.new).faults.links }
+        ensures asked { Notes (told self.old) (told self.new)
+            (WorldCall.Link seat plugin.now program.now) result }
+        ensures kind { (told self.new).faults
+            ≡ record (told self.old).faults { links = (told self.new).faults.links } }
         ensures files { KeepsFiles (told self.old) (told self.new) }
-        ensures loads { (told self.new).load_faults ≡ (told self.old).load_faults }
-        ensures opens { (told self.new).open_faults ≡ (told self.old).open_faults };
+        ensures tapes { (told self.new).tapes ≡ (told self.old).tapes }
+        ensures dice { (told self.new).dice ≡ (told self.old).dice };
+
+    /// Takes the tape of the name back.
+    fn back_tape(&mut self, name: &str, tape: Self::Tap)
+        requires { 0 < (told self.old).tapes.out name.now }
+        ensures back { TakesBack same_name (told self.old).tapes (told self.new).tapes name.now
+            (Self.Tap.count tape) }
+        ensures tape { (told self.new).tapes.told name.now
+            ≡ option_map Some (Self.Tap.told tape) }
+        ensures asked { (told self.new).asked ≡ (told self.old).asked }
+        ensures file { (told self.new).file ≡ (told self.old).file }
+        ensures faults { (told self.new).faults ≡ (told self.old).faults }
+        ensures dice { (told self.new).dice ≡ (told self.old).dice }
+        ensures links { (told self.new).links ≡ (told self.old).links };
+
+    /// Takes a random source of the seat back.
+    fn back_dice(&mut self, seat: u32, dice: Self::Rand)
+        requires { 0 < (told self.old).dice.out seat }
+        ensures back { TakesBack same_seat (told self.old).dice (told self.new).dice seat
+            (Self.Rand.count dice) }
+        ensures left { (told self.new).dice.told seat ≡ Self.Rand.left dice }
+        ensures asked { (told self.new).asked ≡ (told self.old).asked }
+        ensures file { (told self.new).file ≡ (told self.old).file }
+        ensures faults { (told self.new).faults ≡ (told self.old).faults }
+        ensures tapes { (told self.new).tapes ≡ (told self.old).tapes }
+        ensures links { (told self.new).links ≡ (told self.old).links };
+
+    /// Takes a link of the seat to its plugin back.
+    fn back_link(&mut self, seat: u32, link: Self::Link)
+        requires { 0 < (told self.old).links.out (seat, (Self.Link.link link).name) }
+        ensures back { TakesBack same_link (told self.old).links (told self.new).links
+            (seat, (Self.Link.link link).name) (Self.Link.link link).count }
+        ensures status { (told self.new).links.told (seat, (Self.Link.link link).name)
+            ≡ (Self.Link.link link).status }
+        ensures asked { (told self.new).asked ≡ (told self.old).asked }
+        ensures file { (told self.new).file ≡ (told self.old).file }
+        ensures faults { (told self.new).faults ≡ (told self.old).faults }
+        ensures tapes { (told self.new).tapes ≡ (told self.old).tapes }
+        ensures dice { (told self.new).dice ≡ (told self.old).dice };
 }

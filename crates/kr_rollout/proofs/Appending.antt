@@ -10,15 +10,19 @@ use Rattle.kr_rollout.specs.declared.generation.Generation.{Generation}
 use Rattle.kr_rollout.specs.declared.line.Line.{Line}
 use Rattle.kr_rollout.specs.declared.opening.Entry.{Entry}
 use Rattle.kr_rollout.specs.declared.opening.Opening.{Opening}
-use Rattle.kr_rollout.specs.Entries.{entry_of, named_in, revision_in, replaced_in, Reaches}
+use Rattle.kr_rollout.specs.Entries.{entry_of, generation_named_in, revision_in, revision_replaced_in, Reaches, seat_of}
 use Rattle.kr_rollout.specs.States.{State}
 use Rattle.kr_rollout.specs.Openings.{start_of}
 use Rattle.kr_rollout.specs.Steps.{after, new_generations, new_rows, IsStep}
 use Rattle.kr_rollout.specs.Histories.{state_from, state_of, IsRun, IsLegal}
 use Rattle.kr_rollout.specs.Cores.{CoreState, Applies}
 use Rattle.kr_rollout.specs.Laws.{FrontIsLegal}
-use Rattle.kr_rollout.specs.inner.Rollouts.{Course, Serves, entries_by, IsCore}
-use Rattle.kr_rollout.proofs.Revisions.{row_front, published_front}
+use Rattle.kr_base.specs.Lines.{of_seat}
+use Rattle.kr_rollout.specs.Callers.{MayAsk}
+use Rattle.kr_rollout.specs.inner.Rollouts.{RolloutState, Serves, entries_by, KeepsBudgets, IsCore}
+use Rattle.kr_store.proofs.Places.{row_stays}
+use Rattle.kr_rollout.proofs.Revisions.{published_front}
+use Rattle.kr_rollout.proofs.Budgets.{budgets_more}
 
 -- ---- rows and generations only grow
 
@@ -47,7 +51,7 @@ reaches_more : (rows next : List LogRow) (generations later : List Generation) (
 reaches_more rows next generations later line l m r = record {
   row = omega (arith, r.row);
   replaced = omega (arith, r.replaced);
-  generation = below_more (named_in line) (length generations) (length later) m r.generation;
+  generation = below_more (generation_named_in line) (length generations) (length later) m r.generation;
 }
 
 -- all that the lines name is there
@@ -76,9 +80,9 @@ entry_stays : (rows more : List LogRow) (generations others : List Generation) (
     → Reaches rows generations line
     → entry_of (rows ++ more) (generations ++ others) line ≡ entry_of rows generations line
 entry_stays rows more generations others line r =
-    let p = published_front generations others (named_in line) r.generation in
-    let a = row_front rows more (revision_in line.gave) r.row in
-    let b = row_front rows more (replaced_in line.did) r.replaced in
+    let p = published_front generations others (generation_named_in line) r.generation in
+    let a = row_stays rows more (revision_in line.gave) r.row in
+    let b = row_stays rows more (revision_replaced_in line.did) r.replaced in
     (λ i. record { line = line; published = p i; row = a i; replaced = b i })
 
 pub entries_stay : (rows more : List LogRow) (generations others : List Generation)
@@ -139,9 +143,10 @@ entries_more o st next lines line spare room c is =
 pub core_more : (o : Opening) (st next : State) (lines : List Line) (line : Line)
     (spare left room : ℕ) → IsCore o st lines spare room
     → next ≡ after st (entry_of next.rows next.generations line)
-    → IsStep o st (entry_of next.rows next.generations line) → left + 1 ≡ spare
-    → IsCore o next (lines ++ line ∷ []) left room
-core_more o st next lines line spare left room c is step l =
+    → IsStep o st (entry_of next.rows next.generations line)
+    → KeepsBudgets o (entries_by st lines ++ entry_of next.rows next.generations line ∷ [])
+    → left + 1 ≡ spare → IsCore o next (lines ++ line ∷ []) left room
+core_more o st next lines line spare left room c is step budgets l =
     let e = entry_of next.rows next.generations line in
     let h = entries_by st lines in
     let same = entries_more o st next lines line spare room c is in
@@ -150,6 +155,7 @@ core_more o st next lines line spare left room c is step l =
       legal = subst (IsLegal o) (sym same) (legal_more o h e c.legal here);
       leads = is ∙ ap (λ (s : State). after s e) c.leads ∙ sym (state_more (start_of o) h e)
           ∙ ap (state_of o) (sym same);
+      budgets = subst (KeepsBudgets o) (sym same) budgets;
       room_in = omega (arith, c.room_in, length-append lines (line ∷ []));
     }
 
@@ -169,7 +175,7 @@ front_law o front more l = record {
 
 -- ---- the core
 
-module _ (old : CoreState) (before now : Course) (lines more : List Line) (line : Line)
+module _ (old : CoreState) (before now : RolloutState) (lines more : List Line) (line : Line)
     (spare left room seat : ℕ) (event : Event) (answer : Answer)
     (view : record {
       opening = before.opening;
@@ -179,12 +185,17 @@ module _ (old : CoreState) (before now : Course) (lines more : List Line) (line 
     (core : IsCore before.opening before.state lines spare room)
     (serves : Serves before seat event answer line now)
     (pushed : more ≡ lines ++ line ∷ []) where
-  pub core_after : left + 1 ≡ spare → IsCore now.opening now.state more left room
-  core_after l =
+  pub core_after : MayAsk before.opening seat
+      (of_seat seat_of seat (entries_by before.state lines)) event
+      → left + 1 ≡ spare → IsCore now.opening now.state more left room
+  core_after may l =
       subst (λ ls. IsCore now.opening now.state ls left room) (sym pushed)
       (subst (λ o. IsCore o now.state (lines ++ line ∷ []) left room) (sym serves.opening)
       (core_more before.opening before.state now.state lines line spare left room core serves.state
-      serves.step l))
+      serves.step
+      (budgets_more before.opening (entries_by before.state lines)
+      (entry_of now.state.rows now.state.generations line) seat event core.budgets may
+      serves.records.seat_is serves.records.did_is) l))
 
   pub applied : Applies old seat event answer
       (record { opening = now.opening; history = entries_by now.state more; room = room })

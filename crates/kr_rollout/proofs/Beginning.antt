@@ -15,12 +15,12 @@ use Rattle.kr_judge.specs.declared.need.Need.{Need}
 use Rattle.kr_judge.specs.Boards.{BoardState}
 use Rattle.kr_rollout.specs.declared.generation.Generation.{Generation}
 use Rattle.kr_rollout.specs.declared.opening.Opening.{Opening}
-use Rattle.kr_rollout.specs.States.{number_at, is_number, taken_from, board_generations, IsLive}
+use Rattle.kr_rollout.specs.States.{number_at, is_number, judged_generations, board_generations, IsLive}
 use Rattle.kr_rollout.specs.Openings.{first_rows, needs_of, generations_from, current_from, settings_of, start_of, room_of, board, opening_by, NamesAmong, AreAmong, IsAdmitted, IsFirstIn}
 use Rattle.kr_rollout.specs.Fits.{AreFit, IsFit}
 use Rattle.kr_rollout.specs.Histories.{IsLegal}
 use Rattle.kr_rollout.specs.Starts.{opening_generations, MayStart, Boards}
-use Rattle.kr_rollout.specs.inner.Rollouts.{Course, opening_of, state_with, IsCourse, IsCore}
+use Rattle.kr_rollout.specs.inner.Rollouts.{RolloutState, opening_of, state_with, IsRollout, IsCore}
 
 -- ---- numbers
 
@@ -72,7 +72,7 @@ same_taken : (current held : List (Option ℕ)) (k m : ℕ) (rs : List (Option P
     → ((j : ℕ) → m ≤ j → j < m + length (generations_from k rs)
     → list_any (is_number j) current ≡ true)
     → ((j : ℕ) → count_by (is_number j) held ≡ 0)
-    → taken_from current held m (generations_from k rs) ≡ opening_generations k (settings_of rs)
+    → judged_generations current held m (generations_from k rs) ≡ opening_generations k (settings_of rs)
 same_taken current held k m [] c h = refl
 same_taken current held k m (None ∷ rs) c h = same_taken current held (k + 1) m rs c h
 same_taken current held k m (Some p ∷ rs) c h =
@@ -122,16 +122,59 @@ current_numbers k m (Some p ∷ rs) zero n e = omega (arith, same_Some m n e)
 current_numbers k m (Some p ∷ rs) (suc place) n e =
     omega (arith, current_numbers (k + 1) (m + 1) rs place n e)
 
+-- the replica at a place took up the generation of its number
+record IsOwner (k m : ℕ) (rs : List (Option Publication)) (place n : ℕ) : Type 0 where
+  at : ℕ
+  number : n ≡ m + at
+  replica : option_map (λ (g : Generation). g.replica) (slice_get (generations_from k rs) at)
+      ≡ Some (k + place)
+
+further_on : (k place : ℕ) → ◌≡◌ {A = Option ℕ} (Some (k + 1 + place)) (Some (k + suc place))
+further_on k place = let e : k + 1 + place ≡ k + suc place = omega arith in ap Some e
+
+at_first : (k : ℕ) → ◌≡◌ {A = Option ℕ} (Some k) (Some (k + 0))
+at_first k = let e : k ≡ k + 0 = omega arith in ap Some e
+
+current_owner : (k m : ℕ) (rs : List (Option Publication)) (place n : ℕ)
+    → number_at (current_from m rs) place ≡ Some n → IsOwner k m rs place n
+current_owner k m [] place n e = absurd (none-some n e)
+current_owner k m (None ∷ rs) zero n e = absurd (none-some n e)
+current_owner k m (None ∷ rs) (suc place) n e =
+    let r = current_owner (k + 1) m rs place n e in
+    record { at = r.at; number = r.number; replica = r.replica ∙ further_on k place }
+current_owner k m (Some p ∷ rs) zero n e =
+    record { at = 0; number = omega (arith, same_Some m n e); replica = at_first k }
+current_owner k m (Some p ∷ rs) (suc place) n e =
+    let r = current_owner (k + 1) (m + 1) rs place n e in
+    record {
+      at = suc r.at;
+      number = omega (arith, r.number);
+      replica = r.replica ∙ further_on k place;
+    }
+
+at_start : (place : ℕ) → ◌≡◌ {A = Option ℕ} (Some (0 + place)) (Some place)
+at_start place = let e : 0 + place ≡ place = omega arith in ap Some e
+
+own_at : (rs : List (Option Publication)) (place n : ℕ)
+    → number_at (current_from 0 rs) place ≡ Some n
+    → option_map (λ (g : Generation). g.replica) (slice_get (generations_from 0 rs) n) ≡ Some place
+own_at rs place n e =
+    let r = current_owner 0 0 rs place n e in
+    let m : n ≡ r.at = omega (arith, r.number) in
+    ap (λ j. option_map (λ (g : Generation). g.replica) (slice_get (generations_from 0 rs) j)) m
+    ∙ r.replica ∙ at_start place
+
 none_there : (n place : ℕ) → number_at (replicate n None) place ≡ None
 none_there zero place = refl
 none_there (suc n) zero = refl
 none_there (suc n) (suc place) = none_there n place
 
-pub start_course : (o : Opening) → length o.reloads ≤ 64
-    → IsCourse o (start_of o) (board o (start_of o))
-start_course o few = record {
+pub start_rollout : (o : Opening) → length o.reloads ≤ 64
+    → IsRollout o (start_of o) (board o (start_of o))
+start_rollout o few = record {
   board_is = refl;
   current = λ place n e. omega (arith, current_numbers 0 0 o.replicas place n e);
+  own = own_at o.replicas;
   held = λ place n e. absurd (none-some n (sym (none_there (length o.reloads) place) ∙ e));
   replicas = current_long 0 o.replicas;
   seats = length-replicate (length o.reloads) None;
@@ -179,7 +222,7 @@ pub start_legal : (o : Opening) → AreRows o.format o.rows → IsFirstIn o.repl
     → All (λ replica. IfSome replica (IsAdmitted o.names)) o.replicas
     → MayStart o.rows (settings_of o.replicas) → IsLegal o []
 start_legal o rows first each m = record {
-  opens = record { rows = rows; first = first; admitted = each; readable = m.readable };
+  opens = record { rows = rows; first = first; admitted = each; readable = m.readable; secrets = m.secrets };
   fit = start_fits o m;
   runs = tt;
 }
@@ -188,8 +231,9 @@ start_legal o rows first each m = record {
 
 module _ (store : Kept) (rs : List (Option Publication)) (names : List (List ℕ)) (reloads : List ℕ)
     (b : BoardState) (generations : List Generation) (current held : List (Option ℕ))
-    (kept : List ℕ) (first count room : ℕ) (first_is : first ≡ length store.rows)
-    (count_is : count ≡ store.count) (generations_is : generations ≡ generations_from 0 rs)
+    (kept : List ℕ) (first count : ℕ) (torn : Bool) (room : ℕ)
+    (first_is : first ≡ length store.rows)
+    (count_is : count ≡ store.count) (torn_is : torn ≡ store.torn) (generations_is : generations ≡ generations_from 0 rs)
     (current_is : current ≡ current_from 0 rs) (held_is : held ≡ replicate (length reloads) None)
     (kept_is : kept ≡ reloads) (room_is : room ≡ length rs + sum reloads)
     (boards : Boards store.rows (settings_of rs) room (Ok b)) where
@@ -204,8 +248,8 @@ module _ (store : Kept) (rs : List (Option Publication)) (names : List (List ℕ
       room_is
       ∙ sym (start_board (opening_by store rs names reloads))
 
-  pub opened : ◌≡◌ {A = Course} (record {
-    opening = opening_of store first rs names kept count;
+  pub opened : ◌≡◌ {A = RolloutState} (record {
+    opening = opening_of store first rs names kept count torn;
     state = state_with store b generations current held;
   })
       (record {
@@ -228,6 +272,7 @@ module _ (store : Kept) (rs : List (Option Publication)) (names : List (List ℕ
           limit =
               store.limit;
           count = count_is i;
+          torn = torn_is i;
         };
         state = record {
           generations = generations_is i;
@@ -239,13 +284,13 @@ module _ (store : Kept) (rs : List (Option Publication)) (names : List (List ℕ
         };
       })
 
-  pub opened_course : length reloads ≤ 64 → IsCourse (opening_of store first rs names kept count)
+  pub opened_rollout : length reloads ≤ 64 → IsRollout (opening_of store first rs names kept count torn)
       (state_with store b generations current held) b
-  opened_course few =
-      subst (λ (c : Course). IsCourse c.opening c.state b) (sym opened)
-      (subst (λ x. IsCourse (opening_by store rs names reloads)
+  opened_rollout few =
+      subst (λ (c : RolloutState). IsRollout c.opening c.state b) (sym opened)
+      (subst (λ x. IsRollout (opening_by store rs names reloads)
       (start_of (opening_by store rs names reloads)) x) (sym board_is)
-      (start_course (opening_by store rs names reloads) few))
+      (start_rollout (opening_by store rs names reloads) few))
 
   pub opened_legal : AreRows store.format store.rows → IsFirstIn rs → AreAmong names rs
       → All (λ replica. IfSome replica IsPublished) rs
@@ -254,9 +299,17 @@ module _ (store : Kept) (rs : List (Option Publication)) (names : List (List ℕ
       start_legal (opening_by store rs names reloads) rows in_first
       (admitted names rs among published) boards.0
 
+none_within : (n : ℕ) → 0 ≤ n
+none_within n = omega arith
+
 -- a core with no line
-pub core_begin : (o : Opening) (c : Course) (spare room : ℕ)
+pub core_begin : (o : Opening) (c : RolloutState) (spare room : ℕ)
     → c ≡ record { opening = o; state = start_of o } → IsLegal o [] → room ≤ spare
     → IsCore c.opening c.state [] spare room
-core_begin o c spare room e l r = subst (λ (x : Course). IsCore x.opening x.state [] spare room)
-    (sym e) (record { legal = l; leads = refl; room_in = omega arith })
+core_begin o c spare room e l r = subst (λ (x : RolloutState). IsCore x.opening x.state [] spare room)
+    (sym e) (record {
+      legal = l;
+      leads = refl;
+      budgets = λ seat. none_within _;
+      room_in = omega arith;
+    })

@@ -5,6 +5,8 @@ use Rattle.std.proofs.lemmas.Bool.{cases_eq, eq-eqb, ne_eqb}
 use Rattle.std.proofs.lemmas.Option.{none-some, slice_get_within}
 use Rattle.kr_store.specs.declared.rows.LogRow.{LogRow}
 use Rattle.kr_store.specs.declared.rows.Row.{Row}
+use Rattle.kr_store.specs.Rows.{live_row, with_revision, put_at}
+use Rattle.kr_store.proofs.Places.{row_stays}
 use Rattle.kr_rollout.specs.declared.line.Did.{Did}
 use Rattle.kr_rollout.specs.declared.line.Did.TheVariants.{Adopt, Fetch, After, Put, Delete, Replace, LetGo, Reload, Join, Leave}
 use Rattle.kr_rollout.specs.declared.line.Gave.{Gave}
@@ -12,24 +14,24 @@ use Rattle.kr_rollout.specs.declared.line.Gave.TheVariants.{Adopted, Found, Abse
 use Rattle.kr_rollout.specs.declared.opening.Entry.{Entry}
 use Rattle.kr_rollout.specs.declared.opening.Opening.{Opening}
 use Rattle.kr_base.specs.Lines.{of_seat}
-use Rattle.kr_rollout.specs.Entries.{row_here, row_at, revision_in, seat_of}
+use Rattle.kr_rollout.specs.Entries.{revision_in, seat_of}
 use Rattle.kr_rollout.specs.States.{State}
 use Rattle.kr_rollout.specs.Openings.{start_of}
 use Rattle.kr_rollout.specs.Steps.{after, new_rows}
 use Rattle.kr_rollout.specs.Histories.{state_from, state_of, IsRun, IsLegal}
 use Rattle.kr_rollout.specs.Callers.{found_by, found_then, found_from, found_in}
-use Rattle.kr_rollout.proofs.Revisions.{row_front, revision_is}
+use Rattle.kr_rollout.proofs.Revisions.{revision_is}
 
 -- the row is there, at its revision
 pub record IsIn (rows : List LogRow) (row : Row) : Type 0 where
   pub within : row.revision ≤ length rows
-  pub is : row_at rows row.revision ≡ Some row
+  pub is : put_at rows row.revision ≡ Some row
 
 stays : (rows more : List LogRow) (row : Row) → IsIn rows row → IsIn (rows ++ more) row
 stays rows more row i = record {
   within = omega (arith, i.within, length-append rows more);
   is =
-      row_front rows more row.revision i.within ∙ i.is;
+      row_stays rows more row.revision i.within ∙ i.is;
 }
 
 all_stay : (rows more : List LogRow) (row : Option Row) → IfSome row (IsIn rows)
@@ -38,35 +40,25 @@ all_stay rows more None i = tt
 all_stay rows more (Some row) i = stays rows more row i
 
 -- what is found by a revision is there
-row_in : (rows : List LogRow) (k : ℕ) (row : Row) → row_at rows k ≡ Some row → IsIn rows row
+row_in : (rows : List LogRow) (k : ℕ) (row : Row) → put_at rows k ≡ Some row → IsIn rows row
 row_in rows zero row e = absurd (none-some row e)
 row_in rows (suc k) row e = by (slice_get rows k) refl e
   where
-    by : (o : Option LogRow) → slice_get rows k ≡ o → row_here (suc k) o ≡ Some row → IsIn rows row
+    by : (o : Option LogRow) → slice_get rows k ≡ o → live_row (with_revision (suc k) o) ≡ Some row → IsIn rows row
     by None is e = absurd (none-some row e)
     by (Some own) is e =
         let r : row.revision ≡ suc k = (revision_is (suc k) own.path own.change row e).0 in
         record {
           within = omega (arith, r, slice_get_within rows k own is);
-          is = ap (row_at rows) r ∙ ap (row_here (suc k)) is ∙ e;
+          is = ap (put_at rows) r ∙ ap (λ o. live_row (with_revision (suc k) o)) is ∙ e;
         }
 
-pub at_within : (rows : List LogRow) (k : ℕ) (row : Row) → row_at rows k ≡ Some row
-    → k ≤ length rows
-at_within rows zero row e = omega arith
-at_within rows (suc k) row e = by (slice_get rows k) refl e
-  where
-    by : (o : Option LogRow) → slice_get rows k ≡ o → row_here (suc k) o ≡ Some row
-        → suc k ≤ length rows
-    by None is e = absurd (none-some row e)
-    by (Some own) is e = omega (arith, slice_get_within rows k own is)
-
 found_in_rows : (rows : List LogRow) (gave : Gave) (row : Option Row)
-    → row ≡ row_at rows (revision_in gave) → IfSome (found_by gave row) (IsIn rows)
+    → row ≡ put_at rows (revision_in gave) → IfSome (found_by gave row) (IsIn rows)
 found_in_rows rows (Adopted n) row e = tt
 found_in_rows rows (Found revision) row e = by row e
   where
-    by : (row : Option Row) → row ≡ row_at rows revision → IfSome row (IsIn rows)
+    by : (row : Option Row) → row ≡ put_at rows revision → IfSome row (IsIn rows)
     by None e = tt
     by (Some r) e = row_in rows revision r (sym e)
 found_in_rows rows Absent row e = tt
@@ -85,7 +77,7 @@ found_in_rows rows (StoreFull needed) row e = tt
 found_in_rows rows Nothing row e = tt
 
 then_in : (rows more : List LogRow) (did : Did) (gave : Gave) (row now : Option Row)
-    → row ≡ row_at (rows ++ more) (revision_in gave) → IfSome now (IsIn rows)
+    → row ≡ put_at (rows ++ more) (revision_in gave) → IfSome now (IsIn rows)
     → IfSome (found_then did gave row now) (IsIn (rows ++ more))
 then_in rows more (Adopt replica) gave row now e i = tt
 then_in rows more (Fetch path) gave row now e i = found_in_rows (rows ++ more) gave row e
@@ -108,7 +100,7 @@ run_finds o st (e ∷ history) seat now r i =
     more : List LogRow
     more = new_rows e.line.gave e.line.did e.row
 
-    row_is : e.row ≡ row_at (st.rows ++ more) (revision_in e.line.gave)
+    row_is : e.row ≡ put_at (st.rows ++ more) (revision_in e.line.gave)
     row_is = ap (λ (x : Entry). x.row) r.0.payload
 
     by : (e.line.seat ≡ seat) ⊎ (e.line.seat ≡ seat → ⊥)

@@ -8,18 +8,18 @@ use Rattle.std.proofs.lemmas.List.Folds.{list_any_at}
 use Rattle.std.proofs.lemmas.Bool.{eq-eqb, ne_eqb}
 use Rattle.kr_judge.specs.Boards.{GenerationState, changed_at, held_more, held_less, MayHold, IsHeld, is_live}
 use Rattle.kr_rollout.specs.declared.generation.Generation.{Generation}
-use Rattle.kr_rollout.specs.States.{number_at, is_number, taken_of, taken_from}
+use Rattle.kr_rollout.specs.States.{number_at, is_number, judged_generation, judged_generations}
 
 -- how a change of the seats shows at one generation, and at no other
 pub record Moves (current held now : List (Option ℕ)) (number : ℕ) (change : GenerationState
     → GenerationState) : Type 0 where
   pub others : (n : ℕ) → n ≢ number → count_by (is_number n) held ≡ count_by (is_number n) now
-  pub here : (g : Generation) → change (taken_of current held number g)
-      ≡ taken_of current now number g
+  pub here : (g : Generation) → change (judged_generation current held number g)
+      ≡ judged_generation current now number g
 
 others_same : (current held now : List (Option ℕ)) (number : ℕ) (change : GenerationState
     → GenerationState) (n : ℕ) (g : Generation) → Moves current held now number change
-    → n ≢ number → taken_of current held n g ≡ taken_of current now n g
+    → n ≢ number → judged_generation current held n g ≡ judged_generation current now n g
 others_same current held now number change n g m d =
     ap (λ h. record {
       replica = g.replica;
@@ -31,7 +31,7 @@ others_same current held now number change n g m d =
 
 beyond : (current held now : List (Option ℕ)) (number : ℕ) (change : GenerationState
     → GenerationState) (k : ℕ) (gs : List Generation) → Moves current held now number change
-    → number < k → taken_from current held k gs ≡ taken_from current now k gs
+    → number < k → judged_generations current held k gs ≡ judged_generations current now k gs
 beyond current held now number change k [] m l = refl
 beyond current held now number change k (g ∷ gs) m l =
     let head = others_same current held now number change k g m (λ e. omega (arith, e)) in
@@ -40,12 +40,12 @@ beyond current held now number change k (g ∷ gs) m l =
 
 pub moved : (current held now : List (Option ℕ)) (number : ℕ) (change : GenerationState
     → GenerationState) (k i : ℕ) (gs : List Generation) → Moves current held now number change
-    → k + i ≡ number → i < length gs → changed_at change i (taken_from current held k gs)
-    ≡ taken_from current now k gs
+    → k + i ≡ number → i < length gs → changed_at change i (judged_generations current held k gs)
+    ≡ judged_generations current now k gs
 moved current held now number change k i [] m e l = absurd (omega arith)
 moved current held now number change k zero (g ∷ gs) m e l =
     let here : k ≡ number = omega (arith, e) in
-    let head = subst (λ n. change (taken_of current held n g) ≡ taken_of current now n g) (sym here)
+    let head = subst (λ n. change (judged_generation current held n g) ≡ judged_generation current now n g) (sym here)
     (m.here g) in
     let tail = beyond current held now number change (k + 1) gs m (omega (arith, here)) in
     (λ i. head i ∷ tail i)
@@ -124,27 +124,27 @@ there (x ∷ xs) zero l = (x, refl)
 there (x ∷ xs) (suc i) l = there xs i (omega arith)
 
 got : (current held : List (Option ℕ)) (k i : ℕ) (gs : List Generation)
-    → slice_get (taken_from current held k gs) i
-    ≡ option_map (taken_of current held (k + i)) (slice_get gs i)
+    → slice_get (judged_generations current held k gs) i
+    ≡ option_map (judged_generation current held (k + i)) (slice_get gs i)
 got current held k i [] = refl
-got current held k zero (g ∷ gs) = ap (λ n. Some (taken_of current held n g)) (omega arith)
+got current held k zero (g ∷ gs) = ap (λ n. Some (judged_generation current held n g)) (omega arith)
 got current held k (suc i) (g ∷ gs) = got current held (k + 1) i gs
-    ∙ ap (λ n. option_map (taken_of current held n) (slice_get gs i)) (omega arith)
+    ∙ ap (λ n. option_map (judged_generation current held n) (slice_get gs i)) (omega arith)
 
 got_one : (current held : List (Option ℕ)) (number : ℕ) (gs : List Generation) → number < length gs
-    → (g : Generation) × (slice_get (taken_from current held 0 gs) number
-    ≡ Some (taken_of current held number g))
+    → (g : Generation) × (slice_get (judged_generations current held 0 gs) number
+    ≡ Some (judged_generation current held number g))
 got_one current held number gs l =
     let t = there gs number l in (
       t.0,
-      got current held 0 number gs ∙ ap (option_map (taken_of current held (0 + number))) t.1
-          ∙ ap (λ n. Some (taken_of current held n t.0)) (omega arith),
+      got current held 0 number gs ∙ ap (option_map (judged_generation current held (0 + number))) t.1
+          ∙ ap (λ n. Some (judged_generation current held n t.0)) (omega arith),
     )
 
 pub may_hold : (current held : List (Option ℕ)) (replica number : ℕ) (gs : List Generation)
     → number < length gs → replica < length current
     → number_at current replica ≡ Some number → length held ≤ 64
-    → MayHold number (taken_from current held 0 gs)
+    → MayHold number (judged_generations current held 0 gs)
 may_hold current held replica number gs l r e few =
     let g = got_one current held number gs l in
     let live : list_any (is_number number) current ≡ true =
@@ -158,7 +158,7 @@ may_hold current held replica number gs l r e few =
 
 pub may_release : (current held : List (Option ℕ)) (seat number : ℕ) (gs : List Generation)
     → number < length gs → seat < length held
-    → number_at held seat ≡ Some number → IsHeld number (taken_from current held 0 gs)
+    → number_at held seat ≡ Some number → IsHeld number (judged_generations current held 0 gs)
 may_release current held seat number gs l s e =
     let g = got_one current held number gs l in
     let c = counted number held seat (Some number) None s e in let f =

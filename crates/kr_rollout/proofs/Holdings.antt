@@ -1,5 +1,5 @@
 -- What a seat's own entries say that it holds is what the state says.
-use Rattle.std.proofs.Common.{◌≡◌, ℕ, zero, suc, ◌<◌, ◌⊎◌, cond, List, [], ◌∷◌, ◌++◌, length, replicate, Option, None, Some, IsSome, IfSome, refl, sym, ap, subst, ◌∙◌, arith, inl, inr, length-append}
+use Rattle.std.proofs.Common.{◌≡◌, ℕ, zero, suc, ◌<◌, ◌⊎◌, cond, List, [], ◌∷◌, ◌++◌, length, get_or, replicate, Option, None, Some, IsSome, IfSome, refl, sym, ap, subst, ◌∙◌, arith, inl, inr, length-append}
 use Rattle.std.specs.List.{slice_get}
 use Rattle.std.specs.Option.{option_map}
 use Rattle.std.proofs.lemmas.Bool.{cases_eq, eq-eqb, ne_eqb}
@@ -16,18 +16,20 @@ use Rattle.kr_rollout.specs.declared.line.Gave.TheVariants.{Adopted, Found, Abse
 use Rattle.kr_rollout.specs.declared.opening.Entry.{Entry}
 use Rattle.kr_rollout.specs.declared.opening.Opening.{Opening}
 use Rattle.kr_base.specs.Lines.{of_seat}
-use Rattle.kr_rollout.specs.Entries.{published_at, named_by, row_at, seat_of}
+use Rattle.kr_store.specs.Rows.{put_at}
+use Rattle.kr_rollout.specs.Entries.{published_at, generation_named_by, seat_of}
 use Rattle.kr_rollout.specs.States.{State, number_at, held_by}
-use Rattle.kr_rollout.specs.Openings.{start_of}
+use Rattle.kr_rollout.specs.Openings.{start_of, room_of}
 use Rattle.kr_rollout.specs.Answers.{IsAnswer}
 use Rattle.kr_rollout.specs.Steps.{after, new_generations, held_after, IsStep}
 use Rattle.kr_rollout.specs.Histories.{state_from, state_of, IsRun, IsLegal}
-use Rattle.kr_rollout.specs.Callers.{with_published, number_with, holding_then, holding_from, holding, Allows, MayAsk}
+use Rattle.kr_rollout.specs.Callers.{with_published, number_with, holding_then, holding_from, holding, reloads_in, Allows, MayAsk}
 use Rattle.kr_rollout.specs.Laws.{HoldingIsHeld, FoundIsThere}
-use Rattle.kr_rollout.specs.inner.Rollouts.{AreNumbers, MayServe}
+use Rattle.kr_rollout.specs.inner.Rollouts.{AreNumbers, KeepsBudgets, MayServe}
 use Rattle.kr_rollout.proofs.Findings.{IsIn, found_there}
 use Rattle.kr_rollout.proofs.Revisions.{published_front}
 use Rattle.kr_rollout.proofs.Keeping.{numbers_set}
+use Rattle.kr_rollout.proofs.Budgets.{room_for}
 
 pair_front : (generations more : List Generation) (number : Option ℕ)
     → IfSome number (λ n. n < length generations)
@@ -161,11 +163,11 @@ adopts_from_none (Join replica p) n st held a = absurd a
 adopts_from_none (Leave replica) n st held a = absurd a
 
 names_adopted : (o : Opening) (st : State) (e : Entry) (n : ℕ) → IsStep o st e
-    → e.line.gave ≡ Adopted n → named_by e.line.held e.line.gave ≡ Some n
+    → e.line.gave ≡ Adopted n → generation_named_by e.line.held e.line.gave ≡ Some n
 names_adopted o st e n s g =
     let none = adopts_from_none e.line.did n st e.line.held
     (subst (λ gave. IsAnswer e.line.did gave st e.line.held) g s.answer) in
-    (λ i. named_by (none i) (g i))
+    (λ i. generation_named_by (none i) (g i))
 
 adopted_published : (o : Opening) (st : State) (e : Entry) → IsStep o st e → (n : ℕ)
     → e.line.gave ≡ Adopted n
@@ -312,10 +314,10 @@ something_held generations None s = s
 something_held generations (Some n) s = refl
 
 pub may_serve : (o : Opening) (st : State) (history : List Entry) (seat : ℕ) (asked : Event)
-    → IsLegal o history → st ≡ state_of o history
+    → IsLegal o history → KeepsBudgets o history → st ≡ state_of o history
     → MayAsk o seat (of_seat seat_of seat history) asked
     → MayServe (record { opening = o; state = st }) seat asked
-may_serve o st history seat asked l is may = by asked may.allowed
+may_serve o st history seat asked l budgets is may = by asked may.allowed
   where
     k : AreNumbers st.held st.generations
     k = subst (λ (s : State). AreNumbers s.held s.generations) (sym is) (numbers_of o history l)
@@ -327,7 +329,12 @@ may_serve o st history seat asked l is may = by asked may.allowed
     some : IsSome (holding (of_seat seat_of seat history)) → IsSome (held_by st seat)
     some s = something_held st.generations (held_by st seat) (subst (λ h. IsSome h) same s)
 
-    by : (asked : Event) → Allows o (of_seat seat_of seat history) asked
+    room : reloads_in (of_seat seat_of seat history) < get_or o.reloads seat 0
+        → length st.generations < room_of o
+    room m = subst (λ (s : State). length s.generations < room_of o) (sym is)
+        (room_for o history seat l budgets may.seat_in m)
+
+    by : (asked : Event) → Allows o seat (of_seat seat_of seat history) asked
         → MayServe (record { opening = o; state = st }) seat asked
     by (event.Put path resource plain stored) a =
         let q = pair_parts st.generations (held_by st seat) a.2 (sym same ∙ a.3) in
@@ -338,7 +345,7 @@ may_serve o st history seat asked l is may = by asked may.allowed
         let found = subst (λ (s : State). IsIn s.rows a.3) (sym is)
         (subst (λ r. IfSome r (IsIn (state_of o history).rows)) a.4
         (found_there o history seat l)) in
-        (a.0, a.1.0, a.1.1, a.3, q.0, q.1, ap (row_at st.rows) (sym a.6) ∙ found.is, a.7)
+        (a.0, a.1.0, a.1.1, a.3, q.0, q.1, ap (put_at st.rows) (sym a.6) ∙ found.is, a.7)
     by (event.Adopt replica) a = (
       a.0,
       nothing_held st.generations (held_by st seat)
@@ -347,6 +354,9 @@ may_serve o st history seat asked l is may = by asked may.allowed
     by (event.Fetch path) a = (a.0, some a.1)
     by (event.After path) a = (a.0, some a.1)
     by event.LetGo a = some a
+    by (event.Reload replica p expect) a = (a.0, a.1, room a.2)
+    by (event.Join replica p) a = (a.0, a.1, room a.2)
+    by (event.Leave replica) a = a
 
 pub holding_law : HoldingIsHeld
 holding_law o history seat l w = holding_of o history seat l w

@@ -11,7 +11,7 @@ use Rattle.kr_rollout.specs.declared.opening.Opening.{Opening}
 use Rattle.kr_rollout.specs.Entries.{published_at}
 use Rattle.kr_rollout.specs.States.{State, number_at, current_of, held_by}
 use Rattle.kr_rollout.specs.Openings.{board}
-use Rattle.kr_rollout.specs.inner.Rollouts.{IsCourse, AreNumbers, state_with}
+use Rattle.kr_rollout.specs.inner.Rollouts.{IsRollout, AreNumbers, state_with}
 use Rattle.kr_rollout.proofs.Holders.{takes, gives, moved, may_hold, may_release}
 
 -- another number at a place
@@ -42,11 +42,11 @@ with_board kept change number = record kept {
       changed_at change number kept.generations;
 }
 
-pub course_takes : (o : Opening) (st : State) (kept : BoardState) (seat replica number : ℕ)
-    → IsCourse o st kept → seat < length o.reloads
+pub rollout_takes : (o : Opening) (st : State) (kept : BoardState) (seat replica number : ℕ)
+    → IsRollout o st kept → seat < length o.reloads
     → held_by st seat ≡ None → current_of st replica ≡ Some number
-    → IsCourse o (with_seat st seat (Some number)) (with_board kept held_more number)
-course_takes o st kept seat replica number k l none is =
+    → IsRollout o (with_seat st seat (Some number)) (with_board kept held_more number)
+rollout_takes o st kept seat replica number k l none is =
     let in_held : seat < length st.held = omega (arith, k.seats) in
     let there = k.current replica number is in
     record {
@@ -57,17 +57,18 @@ course_takes o st kept seat replica number k l none is =
           st.generations (takes st.current st.held seat number in_held none)
           (omega arith) there));
       current = k.current;
+      own = k.own;
       held = numbers_set st.held st.generations seat (Some number) k.held in_held there;
       replicas = k.replicas;
       seats = length-set st.held seat (Some number) ∙ k.seats;
       few = k.few;
     }
 
-pub course_gives : (o : Opening) (st : State) (kept : BoardState) (seat number : ℕ)
-    → IsCourse o st kept → seat < length o.reloads
-    → held_by st seat ≡ Some number → IsCourse o (with_seat st seat None)
+pub rollout_gives : (o : Opening) (st : State) (kept : BoardState) (seat number : ℕ)
+    → IsRollout o st kept → seat < length o.reloads
+    → held_by st seat ≡ Some number → IsRollout o (with_seat st seat None)
     (with_board kept held_less number)
-course_gives o st kept seat number k l is =
+rollout_gives o st kept seat number k l is =
     let in_held : seat < length st.held = omega (arith, k.seats) in
     let there = k.held seat number is in
     record {
@@ -78,6 +79,7 @@ course_gives o st kept seat number k l is =
           st.generations (gives st.current st.held seat number in_held is)
           (omega arith) there));
       current = k.current;
+      own = k.own;
       held = numbers_set st.held st.generations seat None k.held in_held tt;
       replicas = k.replicas;
       seats = length-set st.held seat None ∙ k.seats;
@@ -85,7 +87,7 @@ course_gives o st kept seat number k l is =
     }
 
 pub board_holds : (o : Opening) (st : State) (kept : BoardState) (seat replica number : ℕ)
-    → IsCourse o st kept → replica < length o.replicas
+    → IsRollout o st kept → replica < length o.replicas
     → current_of st replica ≡ Some number → MayHold number kept.generations
 board_holds o st kept seat replica number k l is =
     subst (λ (b : BoardState). MayHold number b.generations) (sym k.board_is)
@@ -93,7 +95,7 @@ board_holds o st kept seat replica number k l is =
     (omega (arith, k.replicas)) is (omega (arith, k.seats, k.few)))
 
 pub board_releases : (o : Opening) (st : State) (kept : BoardState) (seat number : ℕ)
-    → IsCourse o st kept → seat < length o.reloads
+    → IsRollout o st kept → seat < length o.reloads
     → held_by st seat ≡ Some number → IsHeld number kept.generations
 board_releases o st kept seat number k l is =
     subst (λ (b : BoardState). IsHeld number b.generations) (sym k.board_is)
@@ -117,23 +119,23 @@ read_published (y ∷ ys) zero g l e = ap (λ (x : Generation). Some x.published
 read_published (y ∷ ys) (suc number) g l e = read_published ys number g (omega arith) e
 
 module _ (o : Opening) (store : Kept) (kept next : BoardState) (generations : List Generation)
-    (current held : List (Option ℕ)) (k : IsCourse o
+    (current held : List (Option ℕ)) (k : IsRollout o
     (state_with store kept generations current held) kept) where
-  pub course_taken : (seat replica number : ℕ) → next ≡ with_board kept held_more number
+  pub rollout_taken : (seat replica number : ℕ) → next ≡ with_board kept held_more number
       → seat < length o.reloads → number_at held seat ≡ None
       → number_at current replica ≡ Some number
-      → IsCourse o (state_with store next generations current (slice_set held seat (Some number)))
+      → IsRollout o (state_with store next generations current (slice_set held seat (Some number)))
       next
-  course_taken seat replica number e l none is =
-      subst (λ (b : BoardState). IsCourse o (state_with store b generations current
+  rollout_taken seat replica number e l none is =
+      subst (λ (b : BoardState). IsRollout o (state_with store b generations current
       (slice_set held seat (Some number))) b) (sym e)
-      (course_takes o (state_with store kept generations current held) kept seat replica number k l
+      (rollout_takes o (state_with store kept generations current held) kept seat replica number k l
       none is)
 
-  pub course_given : (seat number : ℕ) → next ≡ with_board kept held_less number
+  pub rollout_given : (seat number : ℕ) → next ≡ with_board kept held_less number
       → seat < length o.reloads → number_at held seat ≡ Some number
-      → IsCourse o (state_with store next generations current (slice_set held seat None)) next
-  course_given seat number e l is =
-      subst (λ (b : BoardState). IsCourse o (state_with store b generations current
+      → IsRollout o (state_with store next generations current (slice_set held seat None)) next
+  rollout_given seat number e l is =
+      subst (λ (b : BoardState). IsRollout o (state_with store b generations current
       (slice_set held seat None)) b) (sym e)
-      (course_gives o (state_with store kept generations current held) kept seat number k l is)
+      (rollout_gives o (state_with store kept generations current held) kept seat number k l is)

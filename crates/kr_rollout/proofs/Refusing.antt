@@ -1,7 +1,6 @@
 -- Settings that fit with those that are live aren't refused.
-use Rattle.std.proofs.Common.{◌≡◌, ℕ, zero, suc, ◌+◌, Bool, true, false, cond, List, [], ◌∷◌, ◌++◌, take, drop, map, Contains, Option, None, Some, refl, ap, subst, ◌∙◌, arith}
-use Rattle.std.specs.Prelude.{not, if◌then◌else◌}
-use Rattle.std.specs.List.{filter, flat_map, slice_get}
+use Rattle.std.proofs.Common.{◌≡◌, ℕ, zero, suc, ◌+◌, Bool, true, false, cond, List, [], ◌∷◌, take, drop, Contains, Option, None, Some, ap, subst, ◌∙◌, arith}
+use Rattle.std.specs.List.{filter, slice_get}
 use Rattle.std.proofs.lemmas.List.{take-append-drop}
 use Rattle.std.proofs.lemmas.List.Elements.{Contains-append_left}
 use Rattle.std.proofs.lemmas.Option.{none-some, same_Some}

@@ -7,7 +7,7 @@ use Rattle.kr_store.specs.declared.format.Check.{Check}
 use Rattle.kr_store.specs.declared.rows.LogRow.{LogRow}
 use Rattle.kr_store.specs.declared.rows.Row.{Row}
 use Rattle.kr_store.specs.Rows.{live}
-use Rattle.kr_store.specs.Stores.{Kept, IsLatestPut, Wrote, Fails, Refused, Replaces, put_over}
+use Rattle.kr_store.specs.Stores.{Kept, IsLatestPut, Wrote, Fails, Refusal, Replaces, put_over}
 use Rattle.kr_config.specs.declared.who.Who.{Who}
 use Rattle.kr_provider.specs.Publication.{Publication, list_at}
 use Rattle.kr_provider.specs.Readers.{writer_of}
@@ -66,6 +66,6 @@ module _ (p : Publication) (old new : Kept) (path : List ℕ) (revision : ℕ) (
   replaced_by resource before after (Err no.Failed) resource_is r b =
       ((r.0, r.1, subst (λ row. Fails old new row) (over_is r.0 r.1) r.2), b)
   replaced_by resource before after (Err (no.Full needed)) resource_is r b =
-      ((r.0, r.1, subst (λ row. Refused old new row (no.Full needed)) (over_is r.0 r.1) r.2), b)
+      ((r.0, r.1, subst (λ row. Refusal old new row (no.Full needed)) (over_is r.0 r.1) r.2), b)
   replaced_by resource before after (Err (no.Changed to)) resource_is r b = (r, b)
   replaced_by resource before after (Err no.NoMemory) resource_is r b = (r, b)

@@ -18,18 +18,18 @@ use Rattle.kr_rollout.specs.declared.line.Gave.TheVariants.{Adopted, Found, Abse
 use Rattle.kr_rollout.specs.declared.line.Line.{Line}
 use Rattle.kr_rollout.specs.declared.opening.Entry.{Entry}
 use Rattle.kr_rollout.specs.declared.opening.Opening.{Opening}
-use Rattle.kr_rollout.specs.Entries.{entry_of, published_at, named_by, Reaches}
+use Rattle.kr_rollout.specs.Entries.{entry_of, published_at, generation_named_by, Reaches}
 use Rattle.kr_rollout.specs.States.{State, number_at, current_of, held_by}
 use Rattle.kr_rollout.specs.Answers.{IsAnswer}
 use Rattle.kr_rollout.specs.Writes.{Writes}
 use Rattle.kr_rollout.specs.Steps.{after, IsStep, KeepsRules}
 use Rattle.kr_rollout.specs.Callers.{did_of, gave_of, Shows, StoresIt}
-use Rattle.kr_rollout.specs.inner.Rollouts.{Course, IsCourse, AreNumbers, line_now, state_with, MayServe, Serves}
+use Rattle.kr_rollout.specs.inner.Rollouts.{RolloutState, IsRollout, AreNumbers, line_now, state_with, MayServe, Serves}
 use Rattle.kr_rollout.proofs.Revisions.{live_at}
 use Rattle.kr_rollout.proofs.Keeping.{with_board}
 
 -- an answer that changes nothing
-abbrev IsStill : Gave → Type 0
+abbrev pub IsStill : Gave → Type 0
 IsStill (Adopted number) = ⊥
 IsStill (Found revision) = ⊤
 IsStill Absent = ⊤
@@ -38,9 +38,9 @@ IsStill (Changed last) = ⊥
 IsStill Released = ⊥
 IsStill (Reloaded number) = ⊥
 IsStill (Joined number) = ⊥
-IsStill (Refused verdict) = ⊥
-IsStill (Moved number) = ⊥
-IsStill (Present number) = ⊥
+IsStill (Refused verdict) = ⊤
+IsStill (Moved number) = ⊤
+IsStill (Present number) = ⊤
 IsStill (Departed number) = ⊥
 IsStill (Gone replica) = ⊤
 IsStill StoreFailed = ⊥
@@ -71,7 +71,7 @@ held_only st held =
     })
 
 -- the entry of a line in this state
-abbrev entry_now : State → ℕ → Did → Gave → Entry
+abbrev pub entry_now : State → ℕ → Did → Gave → Entry
 entry_now st seat did gave = entry_of st.rows st.generations (line_now st seat did gave)
 
 still : (st : State) (seat : ℕ) (did : Did) (gave : Gave) → IsStill gave
@@ -84,9 +84,9 @@ still st seat did (Changed last) s = absurd s
 still st seat did Released s = absurd s
 still st seat did (Reloaded number) s = absurd s
 still st seat did (Joined number) s = absurd s
-still st seat did (Refused verdict) s = absurd s
-still st seat did (Moved number) s = absurd s
-still st seat did (Present number) s = absurd s
+still st seat did (Refused verdict) s = held_only st st.held
+still st seat did (Moved number) s = held_only st st.held
+still st seat did (Present number) s = held_only st st.held
 still st seat did (Departed number) s = absurd s
 still st seat did (Gone replica) s = held_only st st.held
 still st seat did StoreFailed s = absurd s
@@ -103,9 +103,9 @@ writes_still o st (Changed last) e s = absurd s
 writes_still o st Released e s = absurd s
 writes_still o st (Reloaded number) e s = absurd s
 writes_still o st (Joined number) e s = absurd s
-writes_still o st (Refused verdict) e s = absurd s
-writes_still o st (Moved number) e s = absurd s
-writes_still o st (Present number) e s = absurd s
+writes_still o st (Refused verdict) e s = tt
+writes_still o st (Moved number) e s = tt
+writes_still o st (Present number) e s = tt
 writes_still o st (Departed number) e s = absurd s
 writes_still o st (Gone replica) e s = tt
 writes_still o st StoreFailed e s = absurd s
@@ -124,6 +124,12 @@ stores_still asked (answer.Changed last) e s = absurd s
 stores_still asked answer.StoreFailed e s = absurd s
 stores_still asked (answer.StoreFull needed) e s = absurd s
 stores_still asked answer.Released e s = absurd s
+stores_still asked (answer.Reloaded number) e s = absurd s
+stores_still asked (answer.Joined number) e s = absurd s
+stores_still asked (answer.Refused verdict) e s = tt
+stores_still asked (answer.Moved number) e s = tt
+stores_still asked (answer.Present number) e s = tt
+stores_still asked (answer.Departed number) e s = absurd s
 stores_still asked answer.NoMemory e s = tt
 
 -- a step to a state with the same rows and generations
@@ -153,7 +159,7 @@ step_to o st next seat did gave l rules answer writes is rows generations reach 
     }
 
 -- nothing but the journal changes
-pub told : (c : Course) (seat : ℕ) (event : Event) (answer : Answer) → IsStill (gave_of answer)
+pub told : (c : RolloutState) (seat : ℕ) (event : Event) (answer : Answer) → IsStill (gave_of answer)
     → seat < length c.opening.reloads
     → KeepsRules (did_of event) c.opening → IsAnswer (did_of event) (gave_of answer) c.state
     (held_by c.state seat)
@@ -189,7 +195,7 @@ held_in st seat k = by (held_by st seat) refl
 
 -- what a line that finds no row names, for a seat that holds something or adopts nothing
 names_held : (generations : ℕ) (held : Option ℕ) (gave : Gave) → IsSome held
-    → IfSome held (λ n. n < generations) → IfSome (named_by held gave) (λ n. n < generations)
+    → IfSome held (λ n. n < generations) → IfSome (generation_named_by held gave) (λ n. n < generations)
 names_held generations None gave s l = absurd (none_is s)
   where
     none_is : (is_some_none : IsSome {T = ℕ} None) → ⊥
@@ -198,8 +204,8 @@ names_held generations (Some n) gave s l = l
 
 -- ---- the events
 
-pub found : (c : Course) (kept : BoardState) (seat : ℕ) (path : List ℕ) (row : Row)
-    → IsCourse c.opening c.state kept → seat < length c.opening.reloads
+pub found : (c : RolloutState) (kept : BoardState) (seat : ℕ) (path : List ℕ) (row : Row)
+    → IsRollout c.opening c.state kept → seat < length c.opening.reloads
     → MayServe c seat (event.Fetch path) → live c.state.rows path ≡ Some row
     → Serves c seat (event.Fetch path) (answer.Found row)
     (line_now c.state seat (Fetch path) (Found row.revision)) c
@@ -215,8 +221,8 @@ found c kept seat path row k l may is =
     })
     at.row_is
 
-pub not_found : (c : Course) (kept : BoardState) (seat : ℕ) (path : List ℕ)
-    → IsCourse c.opening c.state kept → seat < length c.opening.reloads
+pub not_found : (c : RolloutState) (kept : BoardState) (seat : ℕ) (path : List ℕ)
+    → IsRollout c.opening c.state kept → seat < length c.opening.reloads
     → MayServe c seat (event.Fetch path) → live c.state.rows path ≡ None
     → Serves c seat (event.Fetch path) answer.Absent (line_now c.state seat (Fetch path) Absent) c
 not_found c kept seat path k l may is =
@@ -229,8 +235,8 @@ not_found c kept seat path k l may is =
           (held_in c.state seat k.held);
     }) tt
 
-pub no_memory_fetch : (c : Course) (kept : BoardState) (seat : ℕ) (path : List ℕ)
-    → IsCourse c.opening c.state kept → seat < length c.opening.reloads
+pub no_memory_fetch : (c : RolloutState) (kept : BoardState) (seat : ℕ) (path : List ℕ)
+    → IsRollout c.opening c.state kept → seat < length c.opening.reloads
     → MayServe c seat (event.Fetch path) → Serves c seat (event.Fetch path) answer.NoMemory
     (line_now c.state seat (Fetch path) Nothing) c
 no_memory_fetch c kept seat path k l may =
@@ -243,8 +249,8 @@ no_memory_fetch c kept seat path k l may =
           (held_in c.state seat k.held);
     }) tt
 
-pub found_next : (c : Course) (kept : BoardState) (seat : ℕ) (path : List ℕ) (row : Row)
-    → IsCourse c.opening c.state kept → seat < length c.opening.reloads
+pub found_next : (c : RolloutState) (kept : BoardState) (seat : ℕ) (path : List ℕ) (row : Row)
+    → IsRollout c.opening c.state kept → seat < length c.opening.reloads
     → MayServe c seat (event.After path) → IsNext c.state.rows path (Some row)
     → Serves c seat (event.After path) (answer.Found row)
     (line_now c.state seat (After path) (Found row.revision)) c
@@ -260,8 +266,8 @@ found_next c kept seat path row k l may is =
     })
     at.row_is
 
-pub none_next : (c : Course) (kept : BoardState) (seat : ℕ) (path : List ℕ)
-    → IsCourse c.opening c.state kept → seat < length c.opening.reloads
+pub none_next : (c : RolloutState) (kept : BoardState) (seat : ℕ) (path : List ℕ)
+    → IsRollout c.opening c.state kept → seat < length c.opening.reloads
     → MayServe c seat (event.After path) → IsNext c.state.rows path None
     → Serves c seat (event.After path) answer.Absent (line_now c.state seat (After path) Absent) c
 none_next c kept seat path k l may is =
@@ -274,8 +280,8 @@ none_next c kept seat path k l may is =
           (held_in c.state seat k.held);
     }) tt
 
-pub no_memory_after : (c : Course) (kept : BoardState) (seat : ℕ) (path : List ℕ)
-    → IsCourse c.opening c.state kept → seat < length c.opening.reloads
+pub no_memory_after : (c : RolloutState) (kept : BoardState) (seat : ℕ) (path : List ℕ)
+    → IsRollout c.opening c.state kept → seat < length c.opening.reloads
     → MayServe c seat (event.After path) → Serves c seat (event.After path) answer.NoMemory
     (line_now c.state seat (After path) Nothing) c
 no_memory_after c kept seat path k l may =
@@ -290,12 +296,12 @@ no_memory_after c kept seat path k l may =
 
 -- a seat that holds nothing names nothing
 names_none : (generations : ℕ) (held : Option ℕ) (gave : Gave) → held ≡ None
-    → IfSome (named_by None gave) (λ n. n < generations)
-    → IfSome (named_by held gave) (λ n. n < generations)
-names_none generations held gave e l = subst (λ h. IfSome (named_by h gave) (λ n. n < generations))
+    → IfSome (generation_named_by None gave) (λ n. n < generations)
+    → IfSome (generation_named_by held gave) (λ n. n < generations)
+names_none generations held gave e l = subst (λ h. IfSome (generation_named_by h gave) (λ n. n < generations))
     (sym e) l
 
-pub gone : (c : Course) (seat replica : ℕ) → seat < length c.opening.reloads
+pub gone : (c : RolloutState) (seat replica : ℕ) → seat < length c.opening.reloads
     → MayServe c seat (event.Adopt replica) → current_of c.state replica ≡ None
     → Serves c seat (event.Adopt replica) (answer.Gone replica)
     (line_now c.state seat (Adopt replica) (Gone replica)) c
@@ -311,7 +317,7 @@ gone c seat replica l may is =
 some_is : (o : Option ℕ) (n : ℕ) → o ≡ Some n → IsSome o
 some_is o n e = subst (λ x. IsSome x) (sym e) refl
 
-pub no_memory_adopt : (c : Course) (seat replica number : ℕ) → seat < length c.opening.reloads
+pub no_memory_adopt : (c : RolloutState) (seat replica number : ℕ) → seat < length c.opening.reloads
     → MayServe c seat (event.Adopt replica) → current_of c.state replica ≡ Some number
     → Serves c seat (event.Adopt replica) answer.NoMemory
     (line_now c.state seat (Adopt replica) Nothing) c
@@ -326,15 +332,15 @@ no_memory_adopt c seat replica number l may is =
     }) tt
 
 -- the seat holds something else
-abbrev pub holds_now : Course → ℕ → Option ℕ → Course
+abbrev pub holds_now : RolloutState → ℕ → Option ℕ → RolloutState
 holds_now c seat number = record {
   opening = c.opening;
   state =
       record c.state { held = slice_set c.state.held seat number };
 }
 
-pub adopted : (c : Course) (kept : BoardState) (seat replica number : ℕ) (p : Publication)
-    → IsCourse c.opening c.state kept → seat < length c.opening.reloads
+pub adopted : (c : RolloutState) (kept : BoardState) (seat replica number : ℕ) (p : Publication)
+    → IsRollout c.opening c.state kept → seat < length c.opening.reloads
     → MayServe c seat (event.Adopt replica) → current_of c.state replica ≡ Some number
     → published_at c.state.generations (Some number) ≡ Some p
     → Serves c seat (event.Adopt replica) (answer.Adopted number p)
@@ -356,13 +362,13 @@ adopted c kept seat replica number p k l may is there =
         seat_is = refl;
         did_is = refl;
         gave_is = refl;
-        shows = ap (λ h. published_at c.state.generations (named_by h (Adopted number))) may.1
+        shows = ap (λ h. published_at c.state.generations (generation_named_by h (Adopted number))) may.1
             ∙ there;
         stores = tt;
       };
     }
 
-pub let_go : (c : Course) (kept : BoardState) (seat : ℕ) → IsCourse c.opening c.state kept
+pub let_go : (c : RolloutState) (kept : BoardState) (seat : ℕ) → IsRollout c.opening c.state kept
     → seat < length c.opening.reloads → MayServe c seat event.LetGo
     → Serves c seat event.LetGo answer.Released (line_now c.state seat LetGo Released)
     (holds_now c seat None)
@@ -383,40 +389,40 @@ let_go c kept seat k l may =
     }
 
 -- the same for the course that the caller sees
-module _ (here old : Course) (kept : BoardState) (seat revision : ℕ) (path asked : List ℕ)
-    (row : Row) (line : Line) (k : IsCourse here.opening here.state kept) (view : here ≡ old)
+module _ (here old : RolloutState) (kept : BoardState) (seat revision : ℕ) (path asked : List ℕ)
+    (row : Row) (line : Line) (k : IsRollout here.opening here.state kept) (view : here ≡ old)
     (l : seat < length old.opening.reloads) (same : asked ≡ path)
     (rev : revision ≡ row.revision) where
-  seen_course : IsCourse old.opening old.state kept
-  seen_course = subst (λ (c : Course). IsCourse c.opening c.state kept) view k
+  seen_rollout : IsRollout old.opening old.state kept
+  seen_rollout = subst (λ (c : RolloutState). IsRollout c.opening c.state kept) view k
 
   pub found_at : MayServe old seat (event.Fetch path) → live here.state.rows asked ≡ Some row
       → line ≡ line_now old.state seat (Fetch path) (Found revision)
       → Serves old seat (event.Fetch path) (answer.Found row) line old
   found_at may is line_is =
       let there : live old.state.rows path ≡ Some row =
-      ap (λ (c : Course). live c.state.rows path) (sym view)
+      ap (λ (c : RolloutState). live c.state.rows path) (sym view)
       ∙ ap (live here.state.rows) (sym same) ∙ is in
       subst (λ x. Serves old seat (event.Fetch path) (answer.Found row) x old)
       (sym (line_is ∙ ap (λ r. line_now old.state seat (Fetch path) (Found r)) rev))
-      (found old kept seat path row seen_course l may there)
+      (found old kept seat path row seen_rollout l may there)
 
   pub next_at : MayServe old seat (event.After path) → IsNext here.state.rows asked (Some row)
       → line ≡ line_now old.state seat (After path) (Found revision)
       → Serves old seat (event.After path) (answer.Found row) line old
   next_at may is line_is =
       let there : IsNext old.state.rows path (Some row) =
-      subst (λ (c : Course). IsNext c.state.rows path (Some row)) view
+      subst (λ (c : RolloutState). IsNext c.state.rows path (Some row)) view
       (subst (λ p. IsNext here.state.rows p (Some row)) same is) in
       subst (λ x. Serves old seat (event.After path) (answer.Found row) x old)
       (sym (line_is ∙ ap (λ r. line_now old.state seat (After path) (Found r)) rev))
-      (found_next old kept seat path row seen_course l may there)
+      (found_next old kept seat path row seen_rollout l may there)
 
 -- the same over the fields, for the course that the caller sees
 pub adopted_at : (o : Opening) (store : Kept) (kept next : BoardState)
-    (generations : List Generation) (current held : List (Option ℕ)) (old : Course) (line : Line)
+    (generations : List Generation) (current held : List (Option ℕ)) (old : RolloutState) (line : Line)
     (seat replica number : ℕ) (p : Publication)
-    → IsCourse o (state_with store kept generations current held) kept
+    → IsRollout o (state_with store kept generations current held) kept
     → record { opening = o; state = state_with store kept generations current held } ≡ old
     → next ≡ with_board kept held_more number → seat < length old.opening.reloads
     → MayServe old seat (event.Adopt replica)
@@ -430,13 +436,13 @@ pub adopted_at : (o : Opening) (store : Kept) (kept next : BoardState)
     })
 adopted_at o store kept next generations current held old line seat replica number p k view e l may
     is there line_is =
-    let here : Course = record {
+    let here : RolloutState = record {
       opening = o;
       state =
           state_with store kept generations current held;
     } in
-    let l2 = subst (λ (c : Course). seat < length c.opening.reloads) (sym view) l in
-    let may2 = subst (λ (c : Course). MayServe c seat (event.Adopt replica)) (sym view) may in
+    let l2 = subst (λ (c : RolloutState). seat < length c.opening.reloads) (sym view) l in
+    let may2 = subst (λ (c : RolloutState). MayServe c seat (event.Adopt replica)) (sym view) may in
     let base = adopted here kept seat replica number p k l2 may2 is there in
     let now : record {
       opening = o;
@@ -450,8 +456,8 @@ adopted_at o store kept next generations current held old line seat replica numb
           state_with store b generations current (slice_set held seat (Some number));
     }) e in
     let lines : line ≡ line_now here.state seat (Adopt replica) (Adopted number) = line_is
-    ∙ ap (λ (c : Course). line_now c.state seat (Adopt replica) (Adopted number)) (sym view) in
-    subst (λ (c : Course). Serves c seat (event.Adopt replica) (answer.Adopted number p) line
+    ∙ ap (λ (c : RolloutState). line_now c.state seat (Adopt replica) (Adopted number)) (sym view) in
+    subst (λ (c : RolloutState). Serves c seat (event.Adopt replica) (answer.Adopted number p) line
     (record {
       opening = o;
       state = state_with store next generations current

@@ -9,7 +9,7 @@ use Rattle.kr_provider.specs.Publication.{Publication, IsPublished}
 use Rattle.kr_judge.proofs.Parts.{take_at_more}
 use Rattle.kr_rollout.specs.declared.generation.Generation.{Generation}
 use Rattle.kr_rollout.specs.Openings.{generations_from, current_from, settings_of, rows_in, settings_rows}
-use Rattle.kr_rollout.specs.inner.Opens.{generation_at, number_if_in, number_after}
+use Rattle.kr_rollout.specs.inner.OpeningBoards.{generation_at, number_if_in, number_after}
 
 -- ---- numbers
 
@@ -179,6 +179,11 @@ pub made_step : (rs : List (Option Publication)) (generations : List Generation)
 made_step rs generations i None a l e = subst (λ g. AreMade rs g (i + 1))
     (sym (append-nil generations)) (made_gap rs generations i a l e)
 made_step rs generations i (Some p) a l e = made_more rs generations i p a l e
+
+pub made_all : (rs : List (Option Publication)) (generations kept later : List Generation) (i : ℕ)
+    → AreMade rs generations i → length rs ≤ i → kept ≡ generations → later ≡ kept
+    → later ≡ generations_from 0 rs
+made_all rs generations kept later i a l e f = f ∙ e ∙ a.is ∙ ap (generations_from 0) (take_all i rs l)
 
 pub made_end : (rs : List (Option Publication)) (generations : List Generation) (i : ℕ)
     → AreMade rs generations i → length rs ≤ i → generations ≡ generations_from 0 rs

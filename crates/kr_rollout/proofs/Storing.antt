@@ -1,5 +1,5 @@
 -- Events that write to the store: that their lines' entries are steps.
-use Rattle.std.proofs.Common.{◌≡◌, ℕ, suc, ◌<◌, ◌≤◌, ◌+◌, List, [], ◌∷◌, ◌++◌, length, take, get_or, is_some, Option, None, Some, IfSome, Result, Ok, Err, refl, sym, ap, subst, ◌∙◌, arith, append-nil, length-append}
+use Rattle.std.proofs.Common.{◌≡◌, ℕ, suc, ◌<◌, ◌≤◌, ◌+◌, Bool, List, [], ◌∷◌, ◌++◌, length, take, is_some, Option, None, Some, IfSome, Result, Ok, Err, refl, sym, ap, subst, ◌∙◌, arith, append-nil, length-append}
 use Rattle.std.specs.List.{slice_get}
 use Rattle.std.specs.Option.{option_map}
 use Rattle.std.proofs.lemmas.List.{take-append-le}
@@ -8,7 +8,7 @@ use Rattle.kr_store.specs.declared.answers.PutNo.{PutNo}
 use Rattle.kr_store.specs.declared.answers.PutNo.TheVariants as no
 use Rattle.kr_store.specs.declared.rows.LogRow.{LogRow}
 use Rattle.kr_store.specs.declared.rows.Row.{Row}
-use Rattle.kr_store.specs.Rows.{put_of, delete_of, row_of}
+use Rattle.kr_store.specs.Rows.{put_of, delete_of, row_of, live_row, with_revision, put_at}
 use Rattle.kr_store.specs.Stores.{Kept, Puts, Deletes, IsLatestPut}
 use Rattle.kr_provider.specs.Publication.{Publication, list_at}
 use Rattle.kr_provider.specs.Readers.{writer_of}
@@ -25,7 +25,7 @@ use Rattle.kr_rollout.specs.declared.line.Gave.{Gave}
 use Rattle.kr_rollout.specs.declared.line.Gave.TheVariants.{Absent, Written, Changed, StoreFailed, StoreFull, Nothing}
 use Rattle.kr_rollout.specs.declared.line.Line.{Line}
 use Rattle.kr_rollout.specs.declared.opening.Entry.{Entry}
-use Rattle.kr_rollout.specs.Entries.{entry_of, published_at, named_by, adopted_in, row_here, row_at, Reaches}
+use Rattle.kr_rollout.specs.Entries.{entry_of, published_at, generation_named_by, generation_adopted_in, Reaches}
 use Rattle.kr_rollout.specs.States.{State, number_at, held_by}
 use Rattle.kr_rollout.specs.Openings.{board}
 use Rattle.kr_rollout.specs.Answers.{IsAnswer}
@@ -33,22 +33,20 @@ use Rattle.kr_rollout.specs.Checks.{written_check}
 use Rattle.kr_rollout.specs.Writes.{Writes, IsSealedAnew}
 use Rattle.kr_rollout.specs.Steps.{after, put_need, put_row, KeepsRules}
 use Rattle.kr_rollout.specs.Callers.{did_of, gave_of, IsResealing, Shows, StoresIt}
-use Rattle.kr_rollout.specs.inner.Rollouts.{Course, opening_of, state_with, IsCourse, line_now, Serves}
+use Rattle.kr_rollout.specs.inner.Rollouts.{RolloutState, opening_of, state_with, IsRollout, line_now, Serves}
 use Rattle.kr_rollout.specs.inner.Writing.{written_as, deleted_as, needs_with, needs_without, sealed_over, ReplacesBy}
 use Rattle.std.proofs.lemmas.Option.{same_Some}
-use Rattle.kr_rollout.proofs.Findings.{at_within}
-use Rattle.kr_rollout.proofs.Keeping.{read_published}
-use Rattle.kr_rollout.proofs.Revisions.{live_at}
+use Rattle.kr_rollout.proofs.Revisions.{live_at, at_within}
 use Rattle.kr_rollout.proofs.Serving.{held_in}
 
 -- ---- a step between two courses
 
 -- the entry of an event that was answered on the way from one course to the next
-abbrev entry_then : Course → ℕ → Event → Answer → Entry
+abbrev entry_then : RolloutState → ℕ → Event → Answer → Entry
 entry_then next seat asked given = entry_of next.state.rows next.state.generations
     (line_now next.state seat (did_of asked) (gave_of given))
 
-pub stepped : (c next : Course) (seat : ℕ) (asked : Event) (given : Answer)
+pub stepped : (c next : RolloutState) (seat : ℕ) (asked : Event) (given : Answer)
     → next.opening ≡ c.opening → next.state ≡ after c.state (entry_then next seat asked given)
     → seat < length c.opening.reloads → held_by next.state seat ≡ held_by c.state seat
     → KeepsRules (did_of asked) c.opening
@@ -86,14 +84,14 @@ stepped c next seat asked given opening state l held rules is writes counted rea
     }
 
 -- the same for the course, the answer and the line that the caller sees
-pub seen : (here old next : Course) (seat : ℕ) (asked : Event) (given ans : Answer) (gave : Gave)
+pub seen : (here old next : RolloutState) (seat : ℕ) (asked : Event) (given ans : Answer) (gave : Gave)
     (line : Line) → here ≡ old → ans ≡ given → gave ≡ gave_of ans
     → line ≡ line_now next.state seat (did_of asked) gave
     → Serves here seat asked given (line_now next.state seat (did_of asked) (gave_of given))
     next
     → Serves old seat asked ans line next
 seen here old next seat asked given ans gave line view ans_is gave_is line_is s =
-    subst (λ (c : Course). Serves c seat asked ans line next) view
+    subst (λ (c : RolloutState). Serves c seat asked ans line next) view
     (subst (λ a. Serves here seat asked a line next) (sym ans_is)
     (subst (λ x. Serves here seat asked given x next)
     (sym (line_is ∙ ap (line_now next.state seat (did_of asked)) (gave_is ∙ ap gave_of ans_is)))
@@ -101,13 +99,13 @@ seen here old next seat asked given ans gave line view ans_is gave_is line_is s 
 
 -- the configuration that a seat holds is the one that is read
 pub own_published : (generations : List Generation) (held : List (Option ℕ)) (seat number n : ℕ)
-    (p q : Publication) (g : Generation) → number_at held seat ≡ Some number
+    (p q own : Publication) → number_at held seat ≡ Some number
     → number_at held seat ≡ Some n → published_at generations (Some n) ≡ Some p
-    → number < length generations → g ≡ get_or generations number g → q ≡ g.published → p ≡ q
-own_published generations held seat number n p q g a b there l is e =
+    → published_at generations (Some number) ≡ Some own → q ≡ own → p ≡ q
+own_published generations held seat number n p q own a b there is e =
     let same : number ≡ n = same_Some number n (sym a ∙ b) in
     same_Some p q (sym there ∙ ap (λ k. published_at generations (Some k)) (sym same)
-    ∙ read_published generations number g l is ∙ ap (λ (x : Publication). Some x) (sym e))
+    ∙ is ∙ ap (λ (x : Publication). Some x) (sym e))
 
 -- a put leaves the rows, or one more
 pub puts_grow : (store next : Kept) (row : LogRow) (result : Result ℕ PutNo)
@@ -143,29 +141,29 @@ get_end [] x = refl
 get_end (y ∷ ys) x = get_end ys x
 
 row_new : (rows next : List LogRow) (row : LogRow) (k : ℕ) → next ≡ rows ++ row ∷ []
-    → k ≡ length rows + 1 → row_at next k ≡ row_of k row.path row.change
+    → k ≡ length rows + 1 → put_at next k ≡ row_of k row.path row.change
 row_new rows next row k e n =
     let m : k ≡ suc (length rows) = omega (arith, n) in
-    ap (λ rs. row_at rs k) e ∙ ap (row_at (rows ++ row ∷ [])) m
-    ∙ ap (row_here (suc (length rows))) (get_end rows row)
+    ap (λ rs. put_at rs k) e ∙ ap (put_at (rows ++ row ∷ [])) m
+    ∙ ap (λ o. live_row (with_revision (suc (length rows)) o)) (get_end rows row)
     ∙ ap (λ j. row_of j row.path row.change) (sym m)
 
 names_some : (generations : List Generation) (held : Option ℕ) (number : ℕ) (p : Publication)
     (gave : Gave) → held ≡ Some number → published_at generations (Some number) ≡ Some p
-    → published_at generations (named_by held gave) ≡ Some p
+    → published_at generations (generation_named_by held gave) ≡ Some p
 names_some generations held number p gave e there =
-    ap (λ h. published_at generations (named_by h gave)) e ∙ there
+    ap (λ h. published_at generations (generation_named_by h gave)) e ∙ there
 
 names_bound : (generations : List Generation) (held : Option ℕ) (number : ℕ) (gave : Gave)
     → held ≡ Some number → number < length generations
-    → IfSome (named_by held gave) (λ n. n < length generations)
+    → IfSome (generation_named_by held gave) (λ n. n < length generations)
 names_bound generations held number gave e l =
-    subst (λ h. IfSome (named_by h gave) (λ n. n < length generations)) (sym e) l
+    subst (λ h. IfSome (generation_named_by h gave) (λ n. n < length generations)) (sym e) l
 
 -- a seat that may hold something adopts nothing by a write
-names_any : (generations : List Generation) (held : Option ℕ) (gave : Gave) → adopted_in gave ≡ None
+pub names_any : (generations : List Generation) (held : Option ℕ) (gave : Gave) → generation_adopted_in gave ≡ None
     → IfSome held (λ n. n < length generations)
-    → IfSome (named_by held gave) (λ n. n < length generations)
+    → IfSome (generation_named_by held gave) (λ n. n < length generations)
 names_any generations None gave e l = subst (λ h. IfSome h (λ n. n < length generations)) (sym e) tt
 names_any generations (Some n) gave e l = l
 
@@ -174,17 +172,17 @@ names_any generations (Some n) gave e l = l
 module _ (store next : Kept) (kept later : BoardState) (generations : List Generation)
     (current held : List (Option ℕ))
     (first : ℕ) (rs : List (Option Publication)) (names : List (List ℕ)) (reloads : List ℕ)
-    (count : ℕ) where
-  abbrev here : Course
+    (count : ℕ) (torn : Bool) where
+  abbrev here : RolloutState
   here = record {
-    opening = opening_of store first rs names reloads count;
+    opening = opening_of store first rs names reloads count torn;
     state =
         state_with store kept generations current held;
   }
 
-  abbrev soon : Course
+  abbrev soon : RolloutState
   soon = record {
-    opening = opening_of next first rs names reloads count;
+    opening = opening_of next first rs names reloads count torn;
     state =
         state_with next later generations current held;
   }
@@ -192,7 +190,7 @@ module _ (store next : Kept) (kept later : BoardState) (generations : List Gener
   -- the opening stays
   pub same_opening : (more : List LogRow) → first ≤ length store.rows
       → next.rows ≡ store.rows ++ more → next.limit ≡ store.limit → next.format ≡ store.format
-      → opening_of next first rs names reloads count ≡ opening_of store first rs names reloads count
+      → opening_of next first rs names reloads count torn ≡ opening_of store first rs names reloads count torn
   same_opening more l e limit format =
       let r : take first next.rows ≡ take first store.rows = ap (take first) e
       ∙ take-append-le first store.rows more l in
@@ -204,40 +202,42 @@ module _ (store next : Kept) (kept later : BoardState) (generations : List Gener
         reloads = reloads;
         limit = limit i;
         count = count;
+        torn = torn;
       })
 
   -- what holds of the course stays
-  pub same_course : (more : List LogRow) (needs : List Need) → first ≤ length store.rows
+  pub same_rollout : (more : List LogRow) (needs : List Need) → first ≤ length store.rows
       → next.rows ≡ store.rows ++ more → next.limit ≡ store.limit → next.format ≡ store.format
       → later ≡ record kept { needs = needs }
-      → IsCourse (opening_of store first rs names reloads count)
+      → IsRollout (opening_of store first rs names reloads count torn)
       (state_with store kept generations current held) kept
-      → IsCourse (opening_of next first rs names reloads count)
+      → IsRollout (opening_of next first rs names reloads count torn)
       (state_with next later generations current held) later
-  same_course more needs l e limit format later_is k =
-      subst (λ o. IsCourse o (state_with next later generations current held) later)
+  same_rollout more needs l e limit format later_is k =
+      subst (λ o. IsRollout o (state_with next later generations current held) later)
       (sym (same_opening more l e limit format)) (record {
         board_is = later_is ∙ ap (λ (b : BoardState). record b { needs = needs }) k.board_is
-            ∙ ap (λ n. record (board (opening_of store first rs names reloads count)
+            ∙ ap (λ n. record (board (opening_of store first rs names reloads count torn)
             (state_with store kept generations current held)) { needs = n })
             (sym (ap (λ (b : BoardState). b.needs) later_is));
         current = k.current;
+        own = k.own;
         held = k.held;
         replicas = k.replicas;
         seats = k.seats;
         few = k.few;
       })
 
-  pub grown_course : (needs : List Need) (row : LogRow) (result : Result ℕ PutNo)
+  pub grown_rollout : (needs : List Need) (row : LogRow) (result : Result ℕ PutNo)
       → first ≤ length store.rows → Puts store next row result
       → later ≡ record kept { needs = needs }
-      → IsCourse (opening_of store first rs names reloads count)
+      → IsRollout (opening_of store first rs names reloads count torn)
       (state_with store kept generations current held) kept
-      → IsCourse (opening_of next first rs names reloads count)
+      → IsRollout (opening_of next first rs names reloads count torn)
       (state_with next later generations current held) later × (first ≤ length next.rows)
-  grown_course needs row result l p later_is k =
+  grown_rollout needs row result l p later_is k =
       let g = puts_grow store next row result p in (
-        same_course g.0 needs l g.1 g.2 g.3 later_is k,
+        same_rollout g.0 needs l g.1 g.2 g.3 later_is k,
         omega
             (arith, ap (λ (rows : List LogRow). length rows) g.1, length-append store.rows g.0),
       )
@@ -265,7 +265,7 @@ module _ (store next : Kept) (kept later : BoardState) (generations : List Gener
         count = next.count;
       })
 
-  module _ (seat : ℕ) (k : IsCourse (opening_of store first rs names reloads count)
+  module _ (seat : ℕ) (k : IsRollout (opening_of store first rs names reloads count torn)
       (state_with store kept generations current held) kept) (l : seat < length reloads)
       (room : first ≤ length store.rows) where
     -- ---- a put
@@ -274,11 +274,11 @@ module _ (store next : Kept) (kept later : BoardState) (generations : List Gener
         (there : published_at generations (Some number) ≡ Some p)
         (path_rule : IsPath path) (resource_rule : IsResource resource)
         (sealing : IsSealing p resource path plain stored) where
-      published_is : (gave : Gave) → published_at generations (named_by (number_at held seat) gave)
+      published_is : (gave : Gave) → published_at generations (generation_named_by (number_at held seat) gave)
           ≡ Some p
       published_is gave = names_some generations (number_at held seat) number p gave held_is there
 
-      bound_is : (gave : Gave) → IfSome (named_by (number_at held seat) gave)
+      bound_is : (gave : Gave) → IfSome (generation_named_by (number_at held seat) gave)
           (λ n. n < length generations)
       bound_is gave = names_bound generations (number_at held seat) number gave held_is
           (k.held seat number held_is)
@@ -295,14 +295,14 @@ module _ (store next : Kept) (kept later : BoardState) (generations : List Gener
           soon
       put_serves (Ok revision) w b =
           let row = put_of path resource stored (written_check store.format p resource) in
-          let row_is : row_at next.rows revision ≡ row_of revision path row.change =
+          let row_is : put_at next.rows revision ≡ row_of revision path row.change =
           row_new store.rows next.rows row revision w.rows w.revision_is in
           let needs_are : later.needs ≡ put_need
-          (published_at generations (named_by (number_at held seat) (Written revision)))
-          (row_at next.rows revision) kept.needs =
+          (published_at generations (generation_named_by (number_at held seat) (Written revision)))
+          (put_at next.rows revision) kept.needs =
           ap (λ (x : BoardState). x.needs) b ∙ sym
           (λ i. put_need (published_is (Written revision) i) (row_is i) kept.needs) in
-          let rows_are : next.rows ≡ store.rows ++ put_row (row_at next.rows revision) = w.rows
+          let rows_are : next.rows ≡ store.rows ++ put_row (put_at next.rows revision) = w.rows
           ∙ sym (ap (λ r. store.rows ++ put_row r) row_is) in
           let g = sym (append-nil generations) in
           stepped here soon seat (event.Put path resource plain stored) (answer.Written revision)
@@ -411,8 +411,8 @@ module _ (store next : Kept) (kept later : BoardState) (generations : List Gener
 
     -- ---- a delete
     module _ (path : List ℕ) (path_rule : IsPath path) where
-      any_bound : (gave : Gave) → adopted_in gave ≡ None
-          → IfSome (named_by (number_at held seat) gave) (λ n. n < length generations)
+      any_bound : (gave : Gave) → generation_adopted_in gave ≡ None
+          → IfSome (generation_named_by (number_at held seat) gave) (λ n. n < length generations)
       any_bound gave e = names_any generations (number_at held seat) gave e
           (held_in (state_with store kept generations current held) seat k.held)
 
@@ -438,7 +438,7 @@ module _ (store next : Kept) (kept later : BoardState) (generations : List Gener
       delete_serves (Ok (Some revision)) d b =
           let w = d.1 in
           let row = delete_of path in
-          let row_is : row_at next.rows revision ≡ None =
+          let row_is : put_at next.rows revision ≡ None =
           row_new store.rows next.rows row revision w.rows w.revision_is in
           let g = sym (append-nil generations) in
           let needs_are : later.needs ≡ drop_need kept.needs path =
@@ -524,13 +524,13 @@ module _ (store next : Kept) (kept later : BoardState) (generations : List Gener
     module _ (number : ℕ) (path : List ℕ) (revision : ℕ) (stored : List ℕ) (p : Publication)
         (row : Row) (held_is : number_at held seat ≡ Some number)
         (there : published_at generations (Some number) ≡ Some p)
-        (path_rule : IsPath path) (row_is : row_at store.rows revision ≡ Some row)
+        (path_rule : IsPath path) (row_is : put_at store.rows revision ≡ Some row)
         (resealing : IsResealing p row path stored) where
       published_then : (gave : Gave) → published_at generations
-          (named_by (number_at held seat) gave) ≡ Some p
+          (generation_named_by (number_at held seat) gave) ≡ Some p
       published_then gave = names_some generations (number_at held seat) number p gave held_is there
 
-      bound_then : (gave : Gave) → IfSome (named_by (number_at held seat) gave)
+      bound_then : (gave : Gave) → IfSome (generation_named_by (number_at held seat) gave)
           (λ n. n < length generations)
       bound_then gave = names_bound generations (number_at held seat) number gave held_is
           (k.held seat number held_is)
@@ -538,7 +538,7 @@ module _ (store next : Kept) (kept later : BoardState) (generations : List Gener
       -- the path's last put is the row that was found
       own_is : (own : Row) → IsLatestPut store.rows path revision own → own ≡ row
       own_is own latest = same_Some own row (sym (live_at store.rows path own latest.is).row_is
-          ∙ ap (row_at store.rows) latest.revision_is ∙ row_is)
+          ∙ ap (put_at store.rows) latest.revision_is ∙ row_is)
 
       anew : (own : Row) → IsLatestPut store.rows path revision own
           → IsSealedAnew store.format p path own (sealed_over store p own path stored)
@@ -563,14 +563,14 @@ module _ (store next : Kept) (kept later : BoardState) (generations : List Gener
           let own = r.0 in
           let w = r.2 in
           let new = sealed_over store p own path stored in
-          let new_is : row_at next.rows to ≡ row_of to path new.change =
+          let new_is : put_at next.rows to ≡ row_of to path new.change =
           row_new store.rows next.rows new to w.rows w.revision_is in
           let needs_are : later.needs ≡ put_need
-          (published_at generations (named_by (number_at held seat) (Written to)))
-          (row_at next.rows to) kept.needs =
+          (published_at generations (generation_named_by (number_at held seat) (Written to)))
+          (put_at next.rows to) kept.needs =
           ap (λ (x : BoardState). x.needs) r.3 ∙ sym
           (λ i. put_need (published_then (Written to) i) (new_is i) kept.needs) in
-          let rows_are : next.rows ≡ store.rows ++ put_row (row_at next.rows to) = w.rows
+          let rows_are : next.rows ≡ store.rows ++ put_row (put_at next.rows to) = w.rows
           ∙ sym (ap (λ x. store.rows ++ put_row x) new_is) in
           let g = sym (append-nil generations) in
           stepped here soon seat (event.Replace path revision stored) (answer.Written to)

@@ -16,9 +16,9 @@ use Rattle.kr_judge.specs.Boards.{GenerationState, BoardState, left_by, without_
 use Rattle.kr_judge.specs.Verdicts.{is_other}
 use Rattle.kr_judge.proofs.Parts.{take_at_more}
 use Rattle.kr_rollout.specs.declared.opening_board.StartNo.{StartNo}
-use Rattle.kr_rollout.specs.declared.opening_board.StartNo.TheVariants.{Stray, Unfit, NoMemory}
+use Rattle.kr_rollout.specs.declared.opening_board.StartNo.TheVariants.{Stray, OtherSecret, Unfit, NoMemory}
 use Rattle.kr_rollout.specs.Starts.{opening_generations, AllFit, IsUnfit}
-use Rattle.kr_rollout.specs.inner.Opens.{Admits, TakesUp, TakesAllUp}
+use Rattle.kr_rollout.specs.inner.OpeningBoards.{Admits, TakesUp, TakesAllUp}
 use Rattle.kr_rollout.proofs.Passing.{passed, AreReadable, own_writer, class_some}
 use Rattle.kr_rollout.specs.Openings.{rows_in, settings_rows}
 
@@ -228,10 +228,11 @@ stops_at : (replicas : List (Option Settings)) (old now next : BoardState) (i : 
     → Some s ≡ get_or replicas i (Some s) → Admits i (rows_of s.entries.0) now next (Err why)
     → TakesAllUp (rows_in replicas) old next (Err why)
 stops_at replicas old now next i s (Stray path) t l e w = absurd w
+stops_at replicas old now next i s (OtherSecret path) t l e w = absurd w
 stops_at replicas old now next i s NoMemory t l e w = tt
-stops_at replicas old now next i s (Unfit named verdict) t l e w =
+stops_at replicas old now next i s (Unfit other verdict) t l e w =
     let rows = rows_of s.entries.0 in
-    let v = subst (λ (b : BoardState). Admits i rows b next (Err (Unfit named verdict))) t.board_is
+    let v = subst (λ (b : BoardState). Admits i rows b next (Err (Unfit other verdict))) t.board_is
     w in
     subst (λ n. IsUnfit (rows_in replicas) old.needs n verdict) (sym v.0) (record {
       rows = rows;
@@ -272,6 +273,10 @@ taken_end replicas old now i t l =
       t.board_is
           ∙ ap (λ rs. record old { generations = opening_generations 0 rs }) all,
     )
+
+pub taken_idle : (rs : List (Option (List Row))) (old now : BoardState) (i : ℕ)
+    → AreTaken rs old now i → old.proposal ≡ None → now.proposal ≡ None
+taken_idle rs old now i t e = ap (λ (b : BoardState). b.proposal) t.board_is ∙ e
 
 pub taken_room : (replicas : List (Option Settings)) (old now : BoardState) (i : ℕ)
     → AreTaken (rows_in replicas) old now i → i < length replicas → length replicas ≤ old.room

@@ -31,10 +31,11 @@ use Rattle.kr_judge.specs.declared.need.Need.{Need}
 use Rattle.kr_judge.specs.Boards.{AreByPath, BoardState, set_need}
 use Rattle.kr_judge.proofs.Needs.{sorted_nil, sorted_set}
 use Rattle.kr_rollout.specs.declared.opening_board.StartNo.{StartNo}
-use Rattle.kr_rollout.specs.declared.opening_board.StartNo.TheVariants.{Stray, Unfit, NoMemory}
-use Rattle.kr_rollout.specs.inner.Opens.{IsStrayOf, Notes}
-use Rattle.kr_rollout.specs.Openings.{provider_of, need_of, needs_of, HasNoStray}
-use Rattle.kr_rollout.specs.Starts.{IsStray, IsLeastStray}
+use Rattle.kr_rollout.specs.declared.opening_board.StartNo.TheVariants.{Stray, OtherSecret, Unfit, NoMemory}
+use Rattle.kr_rollout.specs.Checks.{keeps_check}
+use Rattle.kr_rollout.specs.inner.OpeningBoards.{IsStrayOf, Notes, NotesAll, first_other, no_other}
+use Rattle.kr_rollout.specs.Openings.{provider_of, need_of, needs_of, HasNoStray, IsOtherSecret}
+use Rattle.kr_rollout.specs.Starts.{IsStray, IsLeastStray, IsLeastOther}
 use Rattle.kr_rollout.proofs.Revisions.{last_at}
 use Rattle.kr_rollout.proofs.Needing.{need_at, set_found, equal_by, same_path, own_path, last_row, needed, needs_found, needs_sorted, same_needs}
 
@@ -389,30 +390,128 @@ pub note_stray : (first : List Row) (row : stored_row.Row) (b : BoardState) (pat
     → provider_of first row.resource row.stored ≡ None
     → Notes first row b b (Err why)
 note_stray first row b path (Stray own) s e none = (s ∙ e, none)
+note_stray first row b path (OtherSecret own) s e none = absurd s
 note_stray first row b path (Unfit replica verdict) s e none = absurd s
 note_stray first row b path NoMemory s e none = tt
 
+-- ---- the first other secret
+
+-- up to a path no live row has another secret, or this one is the first that has
+abbrev pub AreKept : List Row → List LogRow → List ℕ → Option (List ℕ) → Type 0
+AreKept first rows after None = (path : List ℕ) → IsOtherSecret first rows path
+    → name_cmp after path ≢ Less → ⊥
+AreKept first rows after (Some path) = IsLeastOther first rows path
+
+pub kept_begin : (format : Format) (first : List Row) (rows : List LogRow) → AreRows format rows
+    → AreKept first rows [] None
+kept_begin format first rows f path other n = no_empty_path
+    (subst IsPath (not_above_empty path n) (path_of_live format rows path other.0 f other.2))
+
+module _ (first : List Row) (rows : List LogRow) (after : List ℕ) (row : stored_row.Row)
+    (who : Who) (next : IsNext rows after (Some row))
+    (is : provider_of first row.resource row.stored ≡ Some who) where
+  -- a row that has its provider's check isn't one with another secret
+  own_kept : keeps_check row.check who ≡ true → IsOtherSecret first rows row.path → ⊥
+  own_kept kept other =
+      let same : row ≡ other.0 = same_Some row other.0 (sym next.1 ∙ other.2) in
+      let writers : who ≡ other.1 = same_Some who other.1 (sym is
+      ∙ ap (λ (r : stored_row.Row). provider_of first r.resource r.stored) same ∙ other.3) in
+      both_ways (keeps_check other.0.check other.1) other.4
+      (subst (λ (r : stored_row.Row). keeps_check r.check other.1 ≡ true) same
+      (subst (λ w. keeps_check row.check w ≡ true) writers kept))
+
+  kept_more : keeps_check row.check who ≡ true → AreKept first rows after None
+      → AreKept first rows row.path None
+  kept_more kept old path other n = by (bytes_eq row.path path) refl
+    where
+      by : (v : Bool) → bytes_eq row.path path ≡ v → ⊥
+      by true h = own_kept kept
+          (subst (λ p. IsOtherSecret first rows p) (sym (same_path row.path path h)) other)
+      by false h = old path other (between rows after path row other.0 next other.2 n h)
+
+  other_next : keeps_check row.check who ≡ false → AreKept first rows after None
+      → IsLeastOther first rows row.path
+  other_next kept old = record {
+    other = (row, who, next.1, is, kept);
+    least = λ lesser other l. by lesser other l (name_cmp after lesser) refl;
+  }
+    where
+      equal_less : (r : Ordering) → r ≡ Equal → r ≡ Less → ⊥
+      equal_less r a b = cc
+
+      greater_less : (r : Ordering) → r ≡ Greater → r ≡ Less → ⊥
+      greater_less r a b = cc
+
+      by : (lesser : List ℕ) → IsOtherSecret first rows lesser → name_cmp lesser row.path ≡ Less
+          → (r : Ordering) → name_cmp after lesser ≡ r → ⊥
+      by lesser other l Less c = next.2 lesser (some_live rows lesser other.0 other.2) c l
+      by lesser other l Equal c =
+          old lesser other (equal_less (name_cmp after lesser) c)
+      by lesser other l Greater c =
+          old lesser other (greater_less (name_cmp after lesser) c)
+
+  pub kept_step : (found : Option (List ℕ)) (kept : Bool) → kept ≡ keeps_check row.check who
+      → AreKept first rows after found → AreKept first rows row.path (first_other found kept row.path)
+  kept_step (Some path) kept e old = old
+  kept_step None true e old = kept_more (sym e) old
+  kept_step None false e old = other_next (sym e) old
+
+-- after the last live row
+pub kept_end : (first : List Row) (rows : List LogRow) (after : List ℕ) (found : Option (List ℕ))
+    (start now : BoardState) → AreKept first rows after found → IsNext rows after None
+    → HasNoStray first rows → now ≡ record start { needs = needs_of first rows }
+    → NotesAll first rows start now (no_other found)
+kept_end first rows after None start now kept next none e = (
+  none,
+  λ path other. kept path other (all_up rows after path other.0 next other.2),
+  e,
+)
+kept_end first rows after (Some path) start now kept next none e = (none, kept)
+
+-- why the walk ends before its end
+pub note_stops : (first : List Row) (rows : List LogRow) (start now next : BoardState)
+    (after asked : List ℕ) (row seen : stored_row.Row) (why : StartNo)
+    → AreNoted first rows after now.needs → IsNext rows asked (Some row) → asked ≡ after
+    → seen ≡ row → Notes first seen now next (Err why) → NotesAll first rows start next (Err why)
+note_stops first rows start now next after asked row seen (Stray path) noted is asked_is seen_is n =
+    let m = subst (λ (r : stored_row.Row). Notes first r now next (Err (Stray path))) seen_is n in
+    subst (λ p. IsLeastStray first rows p) (sym m.0)
+    (stray_next first rows after now.needs row noted
+    (subst (λ p. IsNext rows p (Some row)) asked_is is) m.1)
+note_stops first rows start now next after asked row seen (OtherSecret path) noted is asked_is
+    seen_is n = absurd n
+note_stops first rows start now next after asked row seen (Unfit replica verdict) noted is asked_is
+    seen_is n = absurd n
+note_stops first rows start now next after asked row seen NoMemory noted is asked_is seen_is n = tt
+
 -- ---- the loop
 
--- what the board has so far
-abbrev pub IsWalked : List Row → List LogRow → BoardState → List ℕ → BoardState → Type 0
-IsWalked first rows start after now = AreNoted first rows after now.needs
-    × (now ≡ record start { needs = now.needs })
+-- what the board has so far, and where another secret was found first
+abbrev pub IsWalked : List Row → List LogRow → BoardState → List ℕ → BoardState
+    → Option (List ℕ) → Type 0
+IsWalked first rows start after now found = AreNoted first rows after now.needs
+    × (now ≡ record start { needs = now.needs }) × AreKept first rows after found
 
 pub walk_step : (first : List Row) (rows : List LogRow) (start now next : BoardState)
-    (after path asked : List ℕ) (row seen : stored_row.Row) → IsWalked first rows start after now
-    → IsNext rows asked (Some row) → asked ≡ after → seen ≡ row → Notes first seen now next (Ok tt)
-    → path ≡ row.path → IsWalked first rows start path next
-walk_step first rows start now next after path asked row seen walked is asked_is seen_is notes
-    path_is =
-    let n = subst (λ (r : stored_row.Row). Notes first r now next (Ok tt)) seen_is notes in
+    (after path asked shown : List ℕ) (row seen : stored_row.Row) (kept : Bool)
+    (found other : Option (List ℕ)) → IsWalked first rows start after now found
+    → IsNext rows asked (Some row) → asked ≡ after → seen ≡ row
+    → Notes first seen now next (Ok kept) → other ≡ first_other found kept shown
+    → shown ≡ row.path → path ≡ row.path → IsWalked first rows start path next other
+walk_step first rows start now next after path asked shown row seen kept found other walked is
+    asked_is seen_is notes other_is shown_is path_is =
+    let n = subst (λ (r : stored_row.Row). Notes first r now next (Ok kept)) seen_is notes in
+    let here = subst (λ p. IsNext rows p (Some row)) asked_is is in
     let needs = set_need now.needs (record { path = row.path; resource = row.resource; who = n.0 })
     in
-    let needs_is : next.needs ≡ needs = ap (λ (b : BoardState). b.needs) n.2 in
-    let more = noted_more first rows after now.needs row n.0 walked.0
-    (subst (λ p. IsNext rows p (Some row)) asked_is is) n.1 in (
+    let needs_is : next.needs ≡ needs = ap (λ (b : BoardState). b.needs) n.3 in
+    let more = noted_more first rows after now.needs row n.0 walked.0 here n.1 in (
       subst (λ p. AreNoted first rows p next.needs) (sym path_is)
           (subst (λ m. AreNoted first rows row.path m) (sym needs_is) more),
-      n.2 ∙ ap (λ (b : BoardState). record b { needs = needs }) walked.1
+      n.3 ∙ ap (λ (b : BoardState). record b { needs = needs }) walked.1
           ∙ ap (λ m. record start { needs = m }) (sym needs_is),
+      subst (λ p. AreKept first rows p other) (sym path_is)
+          (subst (AreKept first rows row.path)
+          (sym (other_is ∙ ap (first_other found kept) shown_is))
+          (kept_step first rows after row n.0 here n.1 found kept n.2 walked.2)),
     )

@@ -17,8 +17,8 @@ use Rattle.kr_rollout.specs.States.{State, current_of, verdict_on}
 -- the replica's current generation is adopted
 abbrev pub Adopts : ℕ → Gave → State → Option ℕ → Type 0
 Adopts replica (Adopted number) st held = (held ≡ None) × (current_of st replica ≡ Some number)
-Adopts replica (Gone named) st held =
-    (held ≡ None) × (named ≡ replica) × (current_of st replica ≡ None)
+Adopts replica (Gone other) st held =
+    (held ≡ None) × (other ≡ replica) × (current_of st replica ≡ None)
 Adopts replica Nothing st held = (held ≡ None) × IsSome (current_of st replica)
 Adopts replica gave st held = ⊥
 
@@ -99,7 +99,7 @@ IsNextGeneration st replica p number =
 -- a replica that is in is given another configuration; a replica that has moved on is told without
 -- memory
 abbrev pub Reloads : ℕ → Publication → Option ℕ → Gave → State → Type 0
-Reloads replica p expect (Gone named) st = (named ≡ replica) × (current_of st replica ≡ None)
+Reloads replica p expect (Gone other) st = (other ≡ replica) × (current_of st replica ≡ None)
 Reloads replica p expect (Moved current) st =
     (current_of st replica ≡ Some current) × IsUnexpected expect current
 Reloads replica p expect (Refused verdict) st =
@@ -122,7 +122,7 @@ Joins replica p gave st = ⊥
 -- a replica that is in is so no more; this never wants memory
 abbrev pub Leaves : ℕ → Gave → State → Type 0
 Leaves replica (Departed current) st = current_of st replica ≡ Some current
-Leaves replica (Gone named) st = (named ≡ replica) × (current_of st replica ≡ None)
+Leaves replica (Gone other) st = (other ≡ replica) × (current_of st replica ≡ None)
 Leaves replica gave st = ⊥
 
 -- one line for each event

@@ -1,6 +1,6 @@
 -- What a seat knows by its own entries, what it may ask by that, and what the journal records of
 -- it.
-use Rattle.std.specs.Prelude.{◌≡◌, ℕ, ◌<◌, ◌⊎◌, List, [], ◌∷◌, length, Option, None, Some, IsSome, ⊤}
+use Rattle.std.specs.Prelude.{◌≡◌, ℕ, ◌<◌, ◌+◌, ◌⊎◌, Bool, true, false, cond, List, [], ◌∷◌, length, get_or, Option, None, Some, IsSome, ⊤}
 use Rattle.std.specs.Option.{option_map}
 use Rattle.kr_base.specs.Rules.{IsPath, IsResource}
 use Rattle.kr_store.specs.declared.rows.Row.{Row}
@@ -13,12 +13,13 @@ use Rattle.kr_rollout.specs.declared.event.Event.{Event}
 use Rattle.kr_rollout.specs.declared.event.Event.TheVariants as event
 use Rattle.kr_rollout.specs.declared.generation.Generation.{Generation}
 use Rattle.kr_rollout.specs.declared.line.Did.{Did}
-use Rattle.kr_rollout.specs.declared.line.Did.TheVariants.{Adopt, Fetch, After, Put, Delete, Replace, LetGo}
+use Rattle.kr_rollout.specs.declared.line.Did.TheVariants.{Adopt, Fetch, After, Put, Delete, Replace, LetGo, Reload, Join, Leave}
 use Rattle.kr_rollout.specs.declared.line.Gave.{Gave}
-use Rattle.kr_rollout.specs.declared.line.Gave.TheVariants.{Adopted, Found, Absent, Written, Changed, Released, Gone, StoreFailed, StoreFull, Nothing}
+use Rattle.kr_rollout.specs.declared.line.Gave.TheVariants.{Adopted, Found, Absent, Written, Changed, Released, Reloaded, Joined, Refused, Moved, Present, Departed, Gone, StoreFailed, StoreFull, Nothing}
 use Rattle.kr_rollout.specs.declared.opening.Entry.{Entry}
 use Rattle.kr_rollout.specs.declared.opening.Opening.{Opening}
 use Rattle.kr_rollout.specs.Entries.{published_at}
+use Rattle.kr_rollout.specs.Openings.{NamesAmong}
 
 -- ---- what a seat holds, by its own entries
 
@@ -67,6 +68,19 @@ found_from now (e ∷ own) = found_from (found_then e.line.did e.line.gave e.row
 abbrev pub found_in : List Entry → Option Row
 found_in own = found_from None own
 
+-- ---- what it brought, by its own entries
+
+-- a configuration comes with the event
+abbrev pub brings_settings : Did → Bool
+brings_settings (Reload replica p expect) = true
+brings_settings (Join replica p) = true
+brings_settings did = false
+
+-- how many configurations came
+abbrev pub reloads_in : List Entry → ℕ
+reloads_in [] = 0
+reloads_in (e ∷ own) = cond (brings_settings e.line.did) 1 0 + reloads_in own
+
 -- ---- what it may ask
 
 -- the value is a sealing of the data as which the row reads by the configuration, with some
@@ -76,24 +90,32 @@ pub record IsResealing (p : Publication) (row : Row) (path stored : List ℕ) : 
   pub reads : HasSomeReading (list_at p row.resource) path row.stored (data_of plain)
   pub sealing : IsSealing p row.resource path plain stored
 
-abbrev pub Allows : Opening → List Entry → Event → Type 0
-Allows o own (event.Adopt replica) = (replica < length o.replicas) × (holding own ≡ None)
-Allows o own (event.Fetch path) = IsPath path × IsSome (holding own)
-Allows o own (event.After path) = ((path ≡ []) ⊎ IsPath path) × IsSome (holding own)
-Allows o own (event.Put path resource plain stored) = IsPath path × IsResource resource
+-- the seat may bring one more configuration, which names no other plugins
+abbrev pub MayBring : Opening → ℕ → List Entry → (replica : ℕ) → Publication → Type 0
+MayBring o seat own replica p = (replica < length o.replicas) × NamesAmong o.names p.rows
+    × (reloads_in own < get_or o.reloads seat 0)
+
+abbrev pub Allows : Opening → ℕ → List Entry → Event → Type 0
+Allows o seat own (event.Adopt replica) = (replica < length o.replicas) × (holding own ≡ None)
+Allows o seat own (event.Fetch path) = IsPath path × IsSome (holding own)
+Allows o seat own (event.After path) = ((path ≡ []) ⊎ IsPath path) × IsSome (holding own)
+Allows o seat own (event.Put path resource plain stored) = IsPath path × IsResource resource
     × (held : ℕ × Publication) × (holding own ≡ Some held)
     × IsSealing held.1 resource path plain stored
-Allows o own (event.Delete path) = IsPath path
-Allows o own (event.Replace path revision stored) = IsPath path
+Allows o seat own (event.Delete path) = IsPath path
+Allows o seat own (event.Replace path revision stored) = IsPath path
     × (held : ℕ × Publication) × (holding own ≡ Some held)
     × (row : Row) × (found_in own ≡ Some row) × (row.path ≡ path) × (row.revision ≡ revision)
     × IsResealing held.1 row path stored
-Allows o own event.LetGo = IsSome (holding own)
+Allows o seat own event.LetGo = IsSome (holding own)
+Allows o seat own (event.Reload replica p expect) = MayBring o seat own replica p
+Allows o seat own (event.Join replica p) = MayBring o seat own replica p
+Allows o seat own (event.Leave replica) = replica < length o.replicas
 
 -- a seat with these entries may ask this: it stands on the opening and on its own entries alone
 pub record MayAsk (o : Opening) (seat : ℕ) (own : List Entry) (event : Event) : Type 0 where
   pub seat_in : seat < length o.reloads
-  pub allowed : Allows o own event
+  pub allowed : Allows o seat own event
 
 -- ---- what is recorded
 
@@ -105,6 +127,9 @@ did_of (event.Put path resource plain stored) = Put path resource plain
 did_of (event.Delete path) = Delete path
 did_of (event.Replace path revision stored) = Replace path revision
 did_of event.LetGo = LetGo
+did_of (event.Reload replica p expect) = Reload replica p expect
+did_of (event.Join replica p) = Join replica p
+did_of (event.Leave replica) = Leave replica
 
 abbrev pub gave_of : Answer → Gave
 gave_of (answer.Adopted number p) = Adopted number
@@ -116,6 +141,12 @@ gave_of (answer.Changed revision) = Changed revision
 gave_of answer.StoreFailed = StoreFailed
 gave_of (answer.StoreFull needed) = StoreFull needed
 gave_of answer.Released = Released
+gave_of (answer.Reloaded number) = Reloaded number
+gave_of (answer.Joined number) = Joined number
+gave_of (answer.Refused verdict) = Refused verdict
+gave_of (answer.Moved number) = Moved number
+gave_of (answer.Present number) = Present number
+gave_of (answer.Departed number) = Departed number
 gave_of answer.NoMemory = Nothing
 
 -- what was handed out is what the entry names
@@ -129,6 +160,12 @@ Shows (answer.Changed revision) e = ⊤
 Shows answer.StoreFailed e = ⊤
 Shows (answer.StoreFull needed) e = ⊤
 Shows answer.Released e = ⊤
+Shows (answer.Reloaded number) e = ⊤
+Shows (answer.Joined number) e = ⊤
+Shows (answer.Refused verdict) e = ⊤
+Shows (answer.Moved number) e = ⊤
+Shows (answer.Present number) e = ⊤
+Shows (answer.Departed number) e = ⊤
 Shows answer.NoMemory e = ⊤
 
 -- the value that was handed in, where one was

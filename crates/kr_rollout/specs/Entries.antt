@@ -1,11 +1,10 @@
 -- Entries: lines of the journal with the rows and the configuration that they name. They are
 -- computed from all rows and all generations, and more of these change none of them.
-use Rattle.std.specs.Prelude.{ℕ, zero, suc, ◌<◌, ◌≤◌, List, length, Option, None, Some, IfSome}
+use Rattle.std.specs.Prelude.{ℕ, ◌<◌, ◌≤◌, List, length, Option, None, Some, IfSome}
 use Rattle.std.specs.List.{slice_get}
 use Rattle.std.specs.Option.{option_map}
 use Rattle.kr_store.specs.declared.rows.LogRow.{LogRow}
-use Rattle.kr_store.specs.declared.rows.Row.{Row}
-use Rattle.kr_store.specs.Rows.{row_of}
+use Rattle.kr_store.specs.Rows.{put_at}
 use Rattle.kr_provider.specs.Publication.{Publication}
 use Rattle.kr_rollout.specs.declared.generation.Generation.{Generation}
 use Rattle.kr_rollout.specs.declared.line.Did.{Did}
@@ -14,15 +13,6 @@ use Rattle.kr_rollout.specs.declared.line.Gave.{Gave}
 use Rattle.kr_rollout.specs.declared.line.Gave.TheVariants.{Adopted, Found, Written}
 use Rattle.kr_rollout.specs.declared.line.Line.{Line}
 use Rattle.kr_rollout.specs.declared.opening.Entry.{Entry}
-
--- the row with this revision, where it puts a value
-abbrev pub row_here : ℕ → Option LogRow → Option Row
-row_here revision None = None
-row_here revision (Some row) = row_of revision row.path row.change
-
-abbrev pub row_at : List LogRow → ℕ → Option Row
-row_at rows zero = None
-row_at rows (suc k) = row_here (suc k) (slice_get rows k)
 
 -- the configuration of a generation
 abbrev pub published_at : List Generation → Option ℕ → Option Publication
@@ -37,35 +27,35 @@ revision_in (Written revision) = revision
 revision_in gave = 0
 
 -- the revision of the row that was to be replaced; 0 where there is none
-abbrev pub replaced_in : Did → ℕ
-replaced_in (Replace path revision) = revision
-replaced_in did = 0
+abbrev pub revision_replaced_in : Did → ℕ
+revision_replaced_in (Replace path revision) = revision
+revision_replaced_in did = 0
 
-abbrev pub adopted_in : Gave → Option ℕ
-adopted_in (Adopted generation) = Some generation
-adopted_in gave = None
+abbrev pub generation_adopted_in : Gave → Option ℕ
+generation_adopted_in (Adopted generation) = Some generation
+generation_adopted_in gave = None
 
 -- the generation that the seat held, or else the one that it adopted
-abbrev pub named_by : (held : Option ℕ) → Gave → Option ℕ
-named_by (Some generation) gave = Some generation
-named_by None gave = adopted_in gave
+abbrev pub generation_named_by : (held : Option ℕ) → Gave → Option ℕ
+generation_named_by (Some generation) gave = Some generation
+generation_named_by None gave = generation_adopted_in gave
 
-abbrev pub named_in : Line → Option ℕ
-named_in line = named_by line.held line.gave
+abbrev pub generation_named_in : Line → Option ℕ
+generation_named_in line = generation_named_by line.held line.gave
 
 abbrev pub entry_of : List LogRow → List Generation → Line → Entry
 entry_of rows generations line = record {
   line = line;
-  published = published_at generations (named_in line);
-  row = row_at rows (revision_in line.gave);
-  replaced = row_at rows (replaced_in line.did);
+  published = published_at generations (generation_named_in line);
+  row = put_at rows (revision_in line.gave);
+  replaced = put_at rows (revision_replaced_in line.did);
 }
 
 -- what the line names is there
 pub record Reaches (rows : List LogRow) (generations : List Generation) (line : Line) : Type 0 where
   pub row : revision_in line.gave ≤ length rows
-  pub replaced : replaced_in line.did ≤ length rows
-  pub generation : IfSome (named_in line) (λ number. number < length generations)
+  pub replaced : revision_replaced_in line.did ≤ length rows
+  pub generation : IfSome (generation_named_in line) (λ number. number < length generations)
 
 -- the seat of an entry
 abbrev pub seat_of : Entry → ℕ

@@ -1,13 +1,14 @@
 -- What follows from the definitions of histories and of what seats know by their own entries.
 use Rattle.std.specs.Prelude.{◌≡◌, ℕ, ◌<◌, ◌++◌, List, length, Option, Some}
 use Rattle.kr_store.specs.declared.rows.Row as stored_row
+use Rattle.kr_store.specs.Rows.{put_at}
 use Rattle.kr_config.specs.Kept.{Row}
 use Rattle.kr_judge.specs.declared.need.Need.{Need}
 use Rattle.kr_judge.specs.declared.verdict.Verdict.{Verdict}
 use Rattle.kr_rollout.specs.declared.opening.Entry.{Entry}
 use Rattle.kr_rollout.specs.declared.opening.Opening.{Opening}
 use Rattle.kr_base.specs.Lines.{of_seat}
-use Rattle.kr_rollout.specs.Entries.{row_at, seat_of}
+use Rattle.kr_rollout.specs.Entries.{seat_of}
 use Rattle.kr_rollout.specs.States.{held_by}
 use Rattle.kr_rollout.specs.Histories.{state_of, IsLegal}
 use Rattle.kr_rollout.specs.Callers.{number_with, holding, found_in}
@@ -34,4 +35,4 @@ abbrev pub FoundIsThere : Type 0
 FoundIsThere = (o : Opening) (history : List Entry) (seat : ℕ) (row : stored_row.Row)
     → IsLegal o history
     → found_in (of_seat seat_of seat history) ≡ Some row
-    → row_at (state_of o history).rows row.revision ≡ Some row
+    → put_at (state_of o history).rows row.revision ≡ Some row

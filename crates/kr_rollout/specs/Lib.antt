@@ -9,6 +9,13 @@ pub mod Steps
 pub mod Histories
 pub mod Callers
 pub mod Cores
+pub mod Acting
 pub mod Starts
 pub mod inner
 pub mod Laws
+pub mod Judgements
+pub mod Contents
+pub mod Honesty
+pub mod FitLaws
+pub mod ContentLaws
+pub mod CallerLaws

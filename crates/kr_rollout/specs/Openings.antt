@@ -1,5 +1,5 @@
 -- What a rollout begins with: a store's rows, and configurations of the replicas that are in.
-use Rattle.std.specs.Prelude.{◌≡◌, ℕ, ◌+◌, List, [], ◌∷◌, length, map, sum, is_some, if◌then◌else◌, replicate, All, Contains, Option, None, Some, IfSome, IsSome}
+use Rattle.std.specs.Prelude.{◌≡◌, ℕ, ◌+◌, false, List, [], ◌∷◌, length, map, sum, is_some, if◌then◌else◌, replicate, All, Contains, Option, None, Some, IfSome, IsSome}
 use Rattle.std.specs.Option.{option_map}
 use Rattle.kr_store.specs.declared.rows.LogRow.{LogRow}
 use Rattle.kr_store.specs.declared.rows.Row as stored_row
@@ -17,6 +17,7 @@ use Rattle.kr_judge.specs.declared.need.Need.{Need}
 use Rattle.kr_judge.specs.Boards.{BoardState, set_need}
 use Rattle.kr_rollout.specs.declared.generation.Generation.{Generation}
 use Rattle.kr_rollout.specs.declared.opening.Opening.{Opening}
+use Rattle.kr_rollout.specs.Checks.{keeps_check}
 use Rattle.kr_rollout.specs.States.{State, board_generations}
 
 -- settings by their rows
@@ -99,6 +100,7 @@ opening_by store replicas names reloads = record {
   reloads = reloads;
   limit = store.limit;
   count = store.count;
+  torn = store.torn;
 }
 
 -- how many generations there may be
@@ -118,6 +120,15 @@ board o st = record {
 abbrev pub HasNoStray : (first : List Row) → List LogRow → Type 0
 HasNoStray first rows = (path : List ℕ) (row : stored_row.Row) → live rows path ≡ Some row
     → IsSome (provider_of first row.resource row.stored)
+
+-- the live row of the path was sealed with another secret than that of its provider
+abbrev pub IsOtherSecret : (first : List Row) → List LogRow → List ℕ → Type 0
+IsOtherSecret first rows path = (row : stored_row.Row) × (who : Who) × (live rows path ≡ Some row)
+    × (provider_of first row.resource row.stored ≡ Some who) × (keeps_check row.check who ≡ false)
+
+-- no live row was
+abbrev pub HasNoOtherSecret : (first : List Row) → List LogRow → Type 0
+HasNoOtherSecret first rows = (path : List ℕ) → IsOtherSecret first rows path → ⊥
 
 -- the settings name no other plugins than these
 abbrev pub NamesAmong : (names : List (List ℕ)) → List Row → Type 0
@@ -141,3 +152,4 @@ pub record IsOpening (o : Opening) : Type 0 where
   pub first : IsFirstIn o.replicas
   pub admitted : All (λ replica. IfSome replica (IsAdmitted o.names)) o.replicas
   pub readable : HasNoStray (first_of o) o.rows
+  pub secrets : HasNoOtherSecret (first_of o) o.rows

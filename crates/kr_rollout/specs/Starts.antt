@@ -14,9 +14,9 @@ use Rattle.kr_judge.specs.Boards.{BoardState, GenerationState}
 use Rattle.kr_judge.specs.Verdicts.{verdict_of}
 use Rattle.kr_rollout.specs.declared.opening.Opening.{Opening}
 use Rattle.kr_rollout.specs.declared.opening_board.StartNo.{StartNo}
-use Rattle.kr_rollout.specs.declared.opening_board.StartNo.TheVariants.{Stray, Unfit, NoMemory}
+use Rattle.kr_rollout.specs.declared.opening_board.StartNo.TheVariants.{Stray, OtherSecret, Unfit, NoMemory}
 use Rattle.kr_rollout.specs.Fits.{AreFit}
-use Rattle.kr_rollout.specs.Openings.{first_rows, provider_of, needs_of, settings_of, HasNoStray}
+use Rattle.kr_rollout.specs.Openings.{first_rows, provider_of, needs_of, settings_of, HasNoStray, IsOtherSecret, HasNoOtherSecret}
 use Rattle.kr_rollout.specs.Cores.{CoreState}
 
 -- the generations of the replicas that are in, from this replica on, as they are judged
@@ -43,6 +43,11 @@ pub record IsLeastStray (first : List Row) (rows : List LogRow) (path : List ℕ
   pub stray : IsStray first rows path
   pub least : (lesser : List ℕ) → IsStray first rows lesser → name_cmp lesser path ≢ Less
 
+-- the live row of the path was sealed with another secret, and of no lesser path
+pub record IsLeastOther (first : List Row) (rows : List LogRow) (path : List ℕ) : Type 0 where
+  pub other : IsOtherSecret first rows path
+  pub least : (lesser : List ℕ) → IsOtherSecret first rows lesser → name_cmp lesser path ≢ Less
+
 -- the settings of the replicas that are in fit
 abbrev pub AllFit : List (Option (List Row)) → List Need → Type 0
 AllFit replicas needs = AreFit (λ rows. Contains replicas (Some rows)) needs
@@ -59,15 +64,19 @@ pub record IsUnfit (replicas : List (Option (List Row))) (needs : List Need) (re
 
 abbrev pub IsNoStart : List LogRow → List (Option (List Row)) → StartNo → Type 0
 IsNoStart rows replicas (Stray path) = IsLeastStray (first_rows replicas) rows path
+IsNoStart rows replicas (OtherSecret path) = HasNoStray (first_rows replicas) rows
+    × IsLeastOther (first_rows replicas) rows path
 IsNoStart rows replicas (Unfit replica verdict) = HasNoStray (first_rows replicas) rows
+    × HasNoOtherSecret (first_rows replicas) rows
     × IsUnfit replicas (needs_of (first_rows replicas) rows) replica verdict
 IsNoStart rows replicas NoMemory = ⊤
 
 -- ---- the calls
 
--- each live row has a provider, and the replicas that are in fit
+-- each live row has a provider and its check, and the replicas that are in fit
 pub record MayStart (rows : List LogRow) (replicas : List (Option (List Row))) : Type 0 where
   pub readable : HasNoStray (first_rows replicas) rows
+  pub secrets : HasNoOtherSecret (first_rows replicas) rows
   pub fit : AllFit replicas (needs_of (first_rows replicas) rows)
 
 -- the board of the rows and of the replicas' settings, with room for so many generations

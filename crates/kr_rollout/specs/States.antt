@@ -49,22 +49,23 @@ abbrev pub is_number : ℕ → Option ℕ → Bool
 is_number number None = false
 is_number number (Some own) = own == number
 
-abbrev pub taken_of : (current held : List (Option ℕ)) → ℕ → Generation → GenerationState
-taken_of current held number generation = record {
+abbrev pub judged_generation : (current held : List (Option ℕ)) → ℕ → Generation → GenerationState
+judged_generation current held number generation = record {
   replica = generation.replica;
   rows = generation.published.rows;
   current = list_any (is_number number) current;
   holders = count_by (is_number number) held;
 }
 
-abbrev pub taken_from : (current held : List (Option ℕ)) → ℕ → List Generation
+abbrev pub judged_generations : (current held : List (Option ℕ)) → ℕ → List Generation
     → List GenerationState
-taken_from current held number [] = []
-taken_from current held number (generation ∷ generations) =
-    taken_of current held number generation ∷ taken_from current held (number + 1) generations
+judged_generations current held number [] = []
+judged_generations current held number (generation ∷ generations) =
+    judged_generation current held number generation
+    ∷ judged_generations current held (number + 1) generations
 
 abbrev pub board_generations : State → List GenerationState
-board_generations st = taken_from st.current st.held 0 st.generations
+board_generations st = judged_generations st.current st.held 0 st.generations
 
 -- the verdict on new settings of a replica
 abbrev pub verdict_on : State → ℕ → List Row → Verdict

@@ -25,14 +25,14 @@ use Rattle.kr_rollout.specs.Writes.{Writes}
 -- ---- the state after an entry: what isn't named stays
 
 -- the configuration that a replica was given
-abbrev pub given_generation : Did → List Generation
-given_generation (Reload replica p expect) = record { replica = replica; published = p } ∷ []
-given_generation (Join replica p) = record { replica = replica; published = p } ∷ []
-given_generation did = []
+abbrev pub new_generation : Did → List Generation
+new_generation (Reload replica p expect) = record { replica = replica; published = p } ∷ []
+new_generation (Join replica p) = record { replica = replica; published = p } ∷ []
+new_generation did = []
 
 abbrev pub new_generations : Gave → Did → List Generation
-new_generations (Reloaded number) did = given_generation did
-new_generations (Joined number) did = given_generation did
+new_generations (Reloaded number) did = new_generation did
+new_generations (Joined number) did = new_generation did
 new_generations gave did = []
 
 -- the replica whose current generation changes
@@ -58,12 +58,12 @@ abbrev pub put_row : Option Row → List LogRow
 put_row None = []
 put_row (Some row) = put_of row.path row.resource row.stored row.check ∷ []
 
-abbrev pub written_row : Did → Option Row → List LogRow
-written_row (Delete path) row = delete_of path ∷ []
-written_row did row = put_row row
+abbrev pub row_written_by : Did → Option Row → List LogRow
+row_written_by (Delete path) row = delete_of path ∷ []
+row_written_by did row = put_row row
 
 abbrev pub new_rows : Gave → Did → Option Row → List LogRow
-new_rows (Written revision) did row = written_row did row
+new_rows (Written revision) did row = row_written_by did row
 new_rows gave did row = []
 
 -- a put needs the writer of the held configuration, a delete nothing

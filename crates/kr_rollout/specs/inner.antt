@@ -1,4 +1,5 @@
 -- Definitions that serve inner contracts alone.
 pub mod Rollouts
-pub mod Opens
+pub mod OpeningBoards
 pub mod Writing
+pub mod Membership

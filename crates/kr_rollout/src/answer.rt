@@ -1,6 +1,7 @@
 //! What the core answers.
 
 use kr_base::Shared;
+use kr_judge::Verdict;
 use kr_provider::Published;
 use kr_store::Row;
 
@@ -36,6 +37,28 @@ pub enum Answer {
     },
     /// The seat holds nothing any more.
     Released,
+    /// The replica has this current generation, of the configuration that it was given.
+    Reloaded {
+        generation: u32,
+    },
+    /// The same, of a replica that had none.
+    Joined {
+        generation: u32,
+    },
+    /// The configuration is refused, for this first reason. All is as before.
+    Refused(Verdict),
+    /// The replica's current generation isn't the expected one, but this.
+    Moved {
+        generation: u32,
+    },
+    /// The replica has this current generation already.
+    Present {
+        generation: u32,
+    },
+    /// The replica had this current generation, and has none any more.
+    Departed {
+        generation: u32,
+    },
     /// There was no memory.
     NoMemory,
 }

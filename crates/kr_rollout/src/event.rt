@@ -1,6 +1,7 @@
 //! What seats ask of the core.
 
-use kr_base::{Bytes, Text};
+use kr_base::{Bytes, Shared, Text};
+use kr_provider::Published;
 
 /// What a seat asks of the core, one thing at a time.
 #[derive(Drop)]
@@ -38,4 +39,21 @@ pub enum Event {
     },
     /// Let the generation go that the seat holds.
     LetGo,
+    /// Give a replica that is in another configuration, where its current generation is the
+    /// expected one; any, where none is expected.
+    Reload {
+        replica: u32,
+        published: Shared<Published>,
+        expect: Option<u32>,
+    },
+    /// Give a replica that isn't in a configuration.
+    Join {
+        replica: u32,
+        published: Shared<Published>,
+    },
+    /// Take the replica's current generation away, which is live from then on only where a seat
+    /// holds it.
+    Leave {
+        replica: u32,
+    },
 }

@@ -1,5 +1,6 @@
 //! The core: a rollout and its journal.
-ghost use Rattle.std.specs.Prelude.{◌≡◌, ◌<◌, ◌≤◌, length, map, sum, IfErr};
+ghost use Rattle.std.specs.Prelude.{◌≡◌, ◌<◌, ◌≤◌, ◌⊎◌, ◌↔◌, IsTrue, true, length, map, sum, IfErr};
+ghost use Rattle.kr_base.specs.Faults.{Rose};
 ghost use Rattle.kr_rollout.specs.Callers.{MayAsk};
 ghost use Rattle.kr_rollout.specs.Cores.{Applies};
 ghost use Rattle.kr_rollout.specs.Entries.{seat_of};
@@ -101,6 +102,13 @@ impl<T: Tape> Core<T> {
         self.journal.as_slice()
     }
 
+    /// Whether the journal is full, so that no event can be made any more.
+    pub fn is_full(&self) -> bool
+        ensures { IsTrue result ↔ (self.now.room ≤ length self.now.history) }
+    {
+        self.journal.as_slice().len() as u64 >= self.room
+    }
+
     /// Lends the board on which new configurations are judged.
     pub fn board(&self) -> &Board
         ensures { result.now ≡ board self.now.opening (state_of self.now.opening self.now.history) }
@@ -120,7 +128,10 @@ impl<T: Tape> Core<T> {
     pub fn close(self) -> (Store<T>, List<Line>)
         ensures rows { result.0.rows ≡ (state_of self.opening self.history).rows }
         ensures count { result.0.count ≡ (state_of self.opening self.history).count }
+        ensures format { result.0.format ≡ self.opening.format }
         ensures limit { result.0.limit ≡ self.opening.limit }
+        ensures torn { result.0.torn ≡ true
+            → (self.opening.torn ≡ true) ⊎ Rose self.opening.count result.0.count }
         ensures lines { result.1.0 ≡ map (λ entry. entry.line) self.history }
     {
         let Core {

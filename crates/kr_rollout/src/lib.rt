@@ -3,24 +3,44 @@
 //! core's state is known.
 #![tactic(auto)]
 
+mod acts;
 mod answer;
 mod check;
 mod event;
 mod generation;
 mod journal;
+mod judged;
 mod laws;
+mod laws_caller;
+mod laws_content;
+mod laws_fit;
 mod line;
+mod membership;
 mod opening;
 mod opening_board;
 mod rollout;
+mod solo;
 mod start;
 mod writing;
 
+pub use acts::Acts;
 pub use answer::Answer;
 pub use event::Event;
 pub use generation::Generation;
 pub use journal::Core;
 pub use laws::{found_is_there, front_is_legal, holding_is_held, unfit_is_unfit};
+pub use laws_caller::{found_follows, holding_follows};
+pub use laws_content::{
+    absent_is_nothing, content_without_plugin, found_is_live, found_reads, honest_by_entries,
+    honest_by_seats, honest_without_plugin, live_reads, nothing_is_absent, one_content,
+    replaced_is_live,
+};
+pub use laws_fit::{
+    holding_is_live, judged_by_fit, judged_state_follows, legal_fits, live_is_readable,
+    needs_are_live, opening_fits, refresh_is_not_refused, refusal_is_exact, starts_where_it_fits,
+    verdict_is_exact,
+};
 pub use line::{Did, Gave, Line};
 pub use opening::{Entry, Opening};
 pub use opening_board::{StartNo, board_of};
+pub use solo::Solo;

@@ -23,6 +23,8 @@ pub struct Opening {
     pub limit: u64,
     /// How often the store's tape had failed.
     pub count: u64,
+    /// Whether a write had failed since the last one that was done.
+    pub torn: bool,
 }
 
 /// A line of the journal with what it names.

@@ -1,10 +1,11 @@
 //! The board of a store's rows and of the replicas' settings.
-ghost use Rattle.std.specs.Prelude.{◌≡◌, ◌<◌, ◌≤◌, [], length, None};
+ghost use Rattle.std.specs.Prelude.{◌≡◌, ◌<◌, ◌≤◌, [], length, None, IfOk};
 ghost use Rattle.kr_config.specs.Kept.{rows_of};
 ghost use Rattle.kr_rollout.specs.Openings.{IsFirstIn, first_rows, rows_in, settings_rows};
 ghost use Rattle.kr_rollout.specs.Starts.{Boards};
-ghost use Rattle.kr_rollout.specs.inner.Opens.{IsStrayOf, Notes, NotesAll, TakesUp, TakesAllUp, is_refusal};
+ghost use Rattle.kr_rollout.specs.inner.OpeningBoards.{IsStrayOf, Notes, NotesAll, TakesUp, TakesAllUp, is_refusal, first_other, no_other, path_of};
 
+use crate::check::keeps_check;
 use kr_base::{List, NoMemory, Shared, Tape, Text};
 use kr_config::Settings;
 use kr_judge::{Board, Verdict};
@@ -17,6 +18,9 @@ use std::alloc::Global;
 pub enum StartNo {
     /// No provider of the first replica reads the live row of this path, the least such path.
     Stray { path: Text },
+    /// The live row of this path has another check than its provider's, and no row of a lesser path
+    /// has: it was sealed with another secret of the same name.
+    OtherSecret { path: Text },
     /// This replica's settings are refused, for this first reason.
     Unfit { replica: u32, verdict: Verdict },
     /// There was no memory.
@@ -27,7 +31,7 @@ pub enum StartNo {
 /// is in. Each row's provider is the one that the first replica's settings have for it. The
 /// replicas are taken up in order, each judged on those before it; those that are in get the
 /// generations 0, 1 and so on.
-#[tactic(auto, using(crate::proofs::Boarding::board_made, crate::proofs::Boarding::board_stray, crate::proofs::Boarding::board_unfit))]
+#[tactic(auto, using(crate::proofs::Boarding::board_stray))]
 pub fn board_of<T: Tape>(
     alloc: Global,
     store: &Store<T>,
@@ -77,27 +81,69 @@ fn note_all<T: Tape>(
     ensures { NotesAll (rows_of first.now.entries.0) store.now.rows board.old board.new result }
 {
     store.known();
-    let mut after = Text::new(alloc);
+    let mut other = None;
+    let mut last = None;
     loop {
-        let row = match store.next_after(after.as_str()) {
+        let row = match store.next_after(path_of(&last)) {
             Ok(Some(row)) => row,
-            Ok(None) => return Ok(()),
+            Ok(None) => return no_other(other),
             Err(NoMemory) => return Err(StartNo::NoMemory),
         };
-        match note(alloc, first, row.get(), board) {
-            Ok(()) => {}
+        let kept = match note(alloc, first, row.get(), board) {
+            Ok(kept) => kept,
             Err(why) => return Err(why),
-        }
-        after = match Text::copy(alloc, row.get().path.as_str()) {
-            Ok(path) => path,
+        };
+        other = match first_other(alloc, other, kept, row.get().path.as_str()) {
+            Ok(other) => other,
             Err(NoMemory) => return Err(StartNo::NoMemory),
         };
+        last = Some(row);
     }
 }
 
-/// What the row needs.
+/// The path of the row where the walk is; the empty one at its begin.
+fn path_of(last: &Option<Shared<Row>>) -> &str
+    ensures { result.now ≡ path_of last.now }
+{
+    match last {
+        Some(row) => row.get().path.as_str(),
+        None => "",
+    }
+}
+
+/// The path of the first row with another secret: the one that was found, or else this one.
+fn first_other(
+    alloc: Global,
+    found: Option<Text>,
+    kept: bool,
+    path: &str,
+) -> Result<Option<Text>, NoMemory>
+    ensures { IfOk result (λ other. other ≡ first_other found kept path.now) }
+{
+    match found {
+        Some(found) => Ok(Some(found)),
+        None => {
+            if kept {
+                return Ok(None);
+            }
+            Ok(Some(Text::copy(alloc, path)?))
+        }
+    }
+}
+
+/// What is answered after all rows, where the first other secret is known.
+fn no_other(other: Option<Text>) -> Result<(), StartNo>
+    ensures { result ≡ no_other other }
+{
+    match other {
+        Some(path) => Err(StartNo::OtherSecret { path }),
+        None => Ok(()),
+    }
+}
+
+/// What the row needs, and whether it has its provider's check.
 #[tactic(auto, using(crate::proofs::Walking::reader_is, crate::proofs::Walking::reader_none))]
-fn note(alloc: Global, first: &Settings, row: &Row, board: &mut Board) -> Result<(), StartNo>
+fn note(alloc: Global, first: &Settings, row: &Row, board: &mut Board) -> Result<bool, StartNo>
     requires { board.old.proposal ≡ None }
     ensures { Notes (rows_of first.now.entries.0) row.now board.old board.new result }
 {
@@ -105,8 +151,9 @@ fn note(alloc: Global, first: &Settings, row: &Row, board: &mut Board) -> Result
     let Some(place) = reader_of(list, row.stored.as_slice()) else {
         return Err(stray(alloc, row.path.as_str()));
     };
-    match board.set_need(row.path.as_str(), row.resource.as_str(), &list[place]) {
-        Ok(()) => Ok(()),
+    let who = &list[place];
+    match board.set_need(row.path.as_str(), row.resource.as_str(), who) {
+        Ok(()) => Ok(keeps_check(row.check, who)),
         Err(NoMemory) => Err(StartNo::NoMemory),
     }
 }
@@ -122,9 +169,10 @@ fn stray(alloc: Global, path: &str) -> StartNo
 }
 
 /// Takes the replicas' settings up in order, each judged on those before it.
-#[tactic(auto, using(crate::proofs::Taking::taken_begin, crate::proofs::Taking::taken_step, crate::proofs::Taking::taking_stops, crate::proofs::Taking::taken_end, crate::proofs::Taking::taken_room))]
+#[tactic(auto, using(crate::proofs::Taking::taken_begin, crate::proofs::Taking::taken_step, crate::proofs::Taking::taking_stops, crate::proofs::Taking::taken_end, crate::proofs::Taking::taken_room, crate::proofs::Taking::taken_idle))]
 fn take_all_up(replicas: &[Option<Shared<Settings>>], board: &mut Board) -> Result<(), StartNo>
     requires none { board.old.generations ≡ [] }
+    requires idle { board.old.proposal ≡ None }
     requires room { length replicas.now ≤ board.old.room }
     requires few { length replicas.now ≤ 16 }
     ensures { TakesAllUp (rows_in replicas.now) board.old board.new result }
@@ -144,7 +192,8 @@ fn take_up(
     settings: &Option<Shared<Settings>>,
     board: &mut Board,
 ) -> Result<(), StartNo>
-    requires { length board.old.generations < board.old.room }
+    requires idle { board.old.proposal ≡ None }
+    requires room { length board.old.generations < board.old.room }
     ensures { TakesUp replica (settings_rows settings.now) board.old board.new result }
 {
     let Some(settings) = settings else {
@@ -168,7 +217,7 @@ fn take_up(
 }
 
 /// Whether there is a reason against the settings.
-fn is_refusal(verdict: &Verdict) -> bool
+pub(crate) fn is_refusal(verdict: &Verdict) -> bool
     ensures { result ≡ is_refusal verdict.now }
 {
     match verdict {

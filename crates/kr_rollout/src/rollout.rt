@@ -1,17 +1,19 @@
 //! A rollout without its journal: the store, the board, the generations and what the seats hold.
-ghost use Rattle.std.specs.Prelude.{◌≡◌, ◌<◌, length};
+ghost use Rattle.std.specs.Prelude.{◌≡◌, ◌<◌, ◌⊎◌, true, length};
+ghost use Rattle.kr_base.specs.Faults.{Rose};
 ghost use Rattle.kr_rollout.specs.declared.event.Event.TheVariants as event;
 ghost use Rattle.kr_rollout.specs.Openings.{board};
 ghost use Rattle.kr_rollout.specs.inner.Rollouts.{line_now, MayServe, Serves};
 
 use crate::answer::Answer;
 use crate::event::Event;
-use crate::generation::Generation;
+use crate::generation::{Generation, published_of};
 use crate::line::{Did, Gave, Line};
 use kr_base::{List, NoMemory, Shared, Tape, Text};
 use kr_judge::Board;
 use kr_provider::Published;
 use kr_store::Store;
+use std::alloc::Global;
 use std::marker::Model;
 
 /// What the core keeps beside its journal.
@@ -19,7 +21,8 @@ use std::marker::Model;
 pub(crate) struct Rollout<T: Tape> {
     pub store: Store<T>,
     pub board: Board,
-    pub generations: Vec<Generation>,
+    /// There is room for each that seats may bring.
+    pub generations: List<Generation>,
     /// For each replica the number of its current generation.
     pub current: Vec<Option<u32>>,
     /// For each seat the number of the generation that it holds.
@@ -31,24 +34,31 @@ pub(crate) struct Rollout<T: Tape> {
     pub reloads: Vec<u32>,
     /// How often the store's tape had failed at the start.
     pub first_faults: u64,
+    /// Whether a write had failed, at the start, since the last one that was done.
+    pub first_torn: bool,
+    pub alloc: Global,
 }
 
 impl<T: Tape> Model for Rollout<T> {
-    ghost use Rattle.std.specs.Prelude.{◌≤◌, length};
-    ghost use Rattle.kr_rollout.specs.inner.Rollouts.{Course, opening_of, state_with, IsCourse};
+    ghost use Rattle.std.specs.Prelude.{◌+◌, ◌≤◌, length, sum};
+    ghost use Rattle.kr_rollout.specs.inner.Rollouts.{RolloutState, opening_of, state_with, IsRollout, KeepsFaults};
 
-    ghost Value = { Course };
+    ghost Value = { RolloutState };
 
     ghost view = { λ r. record {
       opening = opening_of r.store r.first_rows r.replicas.0 r.names.0 r.reloads.items
-          r.first_faults;
-      state = state_with r.store r.board r.generations.items r.current.items r.held.items;
+          r.first_faults r.first_torn;
+      state = state_with r.store r.board r.generations.0 r.current.items r.held.items;
     } };
 
-    ghost invariant = { λ r. IsCourse
-        (opening_of r.store r.first_rows r.replicas.0 r.names.0 r.reloads.items r.first_faults)
-        (state_with r.store r.board r.generations.items r.current.items r.held.items) r.board
-        × (r.first_rows ≤ length r.store.rows) };
+    ghost invariant = { λ r. IsRollout
+        (opening_of r.store r.first_rows r.replicas.0 r.names.0 r.reloads.items r.first_faults
+        r.first_torn)
+        (state_with r.store r.board r.generations.0 r.current.items r.held.items) r.board
+        × (r.first_rows ≤ length r.store.rows)
+        × (length r.replicas.0 + sum r.reloads.items
+        ≤ length r.generations.0 + r.generations.1)
+        × KeepsFaults r.first_torn r.first_faults r.store };
 }
 
 impl<T: Tape> Rollout<T> {
@@ -75,6 +85,13 @@ impl<T: Tape> Rollout<T> {
                 stored,
             } => self.replace(seat, path, revision, stored),
             Event::LetGo => self.let_go(seat),
+            Event::Reload {
+                replica,
+                published,
+                expect,
+            } => self.reload(seat, replica, published, expect),
+            Event::Join { replica, published } => self.join(seat, replica, published),
+            Event::Leave { replica } => self.leave(seat, replica),
         }
     }
 
@@ -89,7 +106,10 @@ impl<T: Tape> Rollout<T> {
     pub fn close(self) -> Store<T>
         ensures rows { result.rows ≡ self.state.rows }
         ensures count { result.count ≡ self.state.count }
+        ensures format { result.format ≡ self.opening.format }
         ensures limit { result.limit ≡ self.opening.limit }
+        ensures torn { result.torn ≡ true
+            → (self.opening.torn ≡ true) ⊎ Rose self.opening.count result.count }
     {
         self.store
     }
@@ -120,7 +140,7 @@ impl<T: Tape> Rollout<T> {
             let line = self.line(seat, did, Gave::Gone { replica });
             return (Answer::Gone { replica }, line);
         };
-        match self.generations[generation as usize].published.share() {
+        match published_of(self.generations.as_slice(), generation).share() {
             Ok(published) => {
                 let line = self.line(seat, did, Gave::Adopted { generation });
                 self.board.hold(generation);

@@ -1,9 +1,9 @@
 //! The start of a rollout.
-ghost use Rattle.std.specs.Prelude.{◌≡◌, ◌<◌, ◌≤◌, ◌+◌, length, sum, replicate, ◌++◌, All, None, IsOk, IfOk, IfSome, IfErr, OnOk};
+ghost use Rattle.std.specs.Prelude.{◌≡◌, ◌<◌, ◌≤◌, ◌+◌, ◌^◌, length, sum, replicate, ◌++◌, All, None, IsOk, IfOk, IfSome, IfErr, OnOk};
 ghost use Rattle.std.specs.Option.{option_map};
 ghost use Rattle.kr_provider.specs.Publication.{IsPublished};
 ghost use Rattle.kr_rollout.specs.Openings.{opening_by, IsFirstIn, AreAmong, generations_from, current_from, settings_of, rows_in, settings_rows};
-ghost use Rattle.kr_rollout.specs.inner.Opens.{generation_at, number_if_in, number_after, Opens};
+ghost use Rattle.kr_rollout.specs.inner.OpeningBoards.{generation_at, number_if_in, number_after, StartsRollout};
 
 use crate::generation::Generation;
 use crate::opening_board::{StartNo, board_of};
@@ -29,7 +29,7 @@ impl<T: Tape> Rollout<T> {
         requires seats { (seats ≤ 64) × (length reloads.now ≡ seats) }
         requires room { sum reloads.now ≤ 4000000 }
         requires names { AreAmong names.0 replicas.0 }
-        ensures opens { Opens (opening_by store replicas.0 names.0 reloads.now) result }
+        ensures opens { StartsRollout (opening_by store replicas.0 names.0 reloads.now) result }
         ensures back { IfErr result (λ refused. refused.1 ≡ store) }
     {
         store.known();
@@ -43,6 +43,7 @@ impl<T: Tape> Rollout<T> {
         };
         let first_rows = store.revision();
         let first_faults = store.faults();
+        let first_torn = store.torn();
         Ok(Rollout {
             store,
             board,
@@ -54,15 +55,17 @@ impl<T: Tape> Rollout<T> {
             names,
             reloads: made.reloads,
             first_faults,
+            first_torn,
+            alloc,
         })
     }
 }
 
 /// What a rollout keeps of its replicas and seats at the opening.
 #[derive(Drop)]
-struct Made {
+struct StartParts {
     settings: List<Option<Shared<Settings>>>,
-    generations: Vec<Generation>,
+    generations: List<Generation>,
     current: Vec<Option<u32>>,
     held: Vec<Option<u32>>,
     reloads: Vec<u32>,
@@ -76,13 +79,14 @@ fn make(
     replicas: &[Option<Shared<Published>>],
     seats: u32,
     reloads: &[u32],
-) -> Result<Made, NoMemory>
+) -> Result<StartParts, NoMemory>
     requires few { length replicas.now ≤ 16 }
     requires room { sum reloads.now ≤ 4000000 }
     ensures settings { IfOk result (λ made. rows_in made.settings.0 ≡ settings_of replicas.now) }
     ensures published { IsOk result → All (λ replica. IfSome replica IsPublished) replicas.now }
     ensures generations { IfOk result (λ made.
-        made.generations.items ≡ generations_from 0 replicas.now) }
+        made.generations.0 ≡ generations_from 0 replicas.now) }
+    ensures spare { IfOk result (λ made. made.room ≤ made.generations.1) }
     ensures current { IfOk result (λ made. made.current.items ≡ current_from 0 replicas.now) }
     ensures held { IfOk result (λ made. made.held.items ≡ replicate seats None) }
     ensures reloads { IfOk result (λ made. made.reloads.items ≡ reloads.now) }
@@ -94,7 +98,7 @@ fn make(
     let current = number_replicas(alloc, replicas)?;
     let held = vec![in alloc; None; seats as usize]?;
     let reloads = Vec::from_slice(alloc, reloads)?;
-    Ok(Made {
+    Ok(StartParts {
         settings,
         generations,
         current,
@@ -135,21 +139,24 @@ fn settings_in(replica: &Option<Shared<Published>>) -> Result<Option<Shared<Sett
     }
 }
 
-/// The generations of the replicas that are in, with room for so many in all.
-#[tactic(auto, using(crate::proofs::Sharing::made_begin, crate::proofs::Sharing::made_step, crate::proofs::Sharing::made_end))]
+/// The generations of the replicas that are in, with room for so many more.
+#[tactic(auto, using(crate::proofs::Sharing::made_begin, crate::proofs::Sharing::made_step, crate::proofs::Sharing::made_end, crate::proofs::Sharing::made_all))]
 fn share_generations(
     alloc: Global,
     replicas: &[Option<Shared<Published>>],
     room: u32,
-) -> Result<Vec<Generation>, NoMemory>
+) -> Result<List<Generation>, NoMemory>
     requires { length replicas.now ≤ 16 }
-    ensures { IfOk result (λ generations.
-        generations.items ≡ generations_from 0 replicas.now) }
+    ensures generations { IfOk result (λ generations.
+        generations.0 ≡ generations_from 0 replicas.now) }
+    ensures spare { IfOk result (λ generations. room ≤ generations.1) }
 {
-    let mut generations = Vec::with_capacity(alloc, room as usize)?;
+    let mut generations = Vec::new(alloc);
     for (replica, published) in replicas.iter().enumerate() {
         add_generation(&mut generations, replica as u32, published)?;
     }
+    let mut generations = List::from_vec(generations);
+    generations.reserve(room as usize)?;
     Ok(generations)
 }
 
@@ -200,7 +207,7 @@ fn number_if_in(replica: &Option<Shared<Published>>, number: u32) -> Option<u32>
 
 /// The number of the next replica that is in.
 fn number_after(replica: &Option<Shared<Published>>, number: u32) -> u32
-    requires { number < 100 }
+    requires { number + 1 < 2 ^ 32 }
     ensures { result ≡ number_after replica.now number }
 {
     match replica {

@@ -14,6 +14,7 @@ ghost use Rattle.kr_rollout.specs.inner.Writing.{refused_as, written_as, deleted
 
 use crate::answer::Answer;
 use crate::check::store_check;
+use crate::generation::published_of;
 use crate::line::{Did, Gave, Line};
 use crate::rollout::Rollout;
 use kr_base::{Bytes, NoMemory, Tape, Text};
@@ -174,29 +175,42 @@ fn delete_answer(wrote: Result<Option<u64>, PutNo>) -> Answer
     }
 }
 
-/// The answer as the journal has it.
-fn line_answer(answer: &Answer) -> Gave
-    ensures { result ≡ gave_of answer.now }
+/// How the journal has it that the store refused a row.
+fn line_refusal(why: &PutNo) -> Gave
+    ensures { result ≡ gave_of (refused_as why.now) }
 {
-    match answer {
-        Answer::Adopted { generation, .. } => Gave::Adopted {
-            generation: *generation,
-        },
-        Answer::Gone { replica } => Gave::Gone { replica: *replica },
-        Answer::Found(row) => Gave::Found {
-            revision: row.get().revision,
-        },
-        Answer::Absent => Gave::Absent,
-        Answer::Written { revision } => Gave::Written {
+    match why {
+        PutNo::Failed => Gave::StoreFailed,
+        PutNo::Full { needed } => Gave::StoreFull { needed: *needed },
+        PutNo::Changed { revision } => Gave::Changed {
             revision: *revision,
         },
-        Answer::Changed { revision } => Gave::Changed {
+        PutNo::NoMemory => Gave::Nothing,
+    }
+}
+
+/// The answer to a put, as the journal has it.
+fn put_line(wrote: &Result<u64, PutNo>) -> Gave
+    ensures { result ≡ gave_of (written_as wrote.now) }
+{
+    match wrote {
+        Ok(revision) => Gave::Written {
             revision: *revision,
         },
-        Answer::StoreFailed => Gave::StoreFailed,
-        Answer::StoreFull { needed } => Gave::StoreFull { needed: *needed },
-        Answer::Released => Gave::Released,
-        Answer::NoMemory => Gave::Nothing,
+        Err(why) => line_refusal(why),
+    }
+}
+
+/// The answer to a delete, as the journal has it.
+fn delete_line(wrote: &Result<Option<u64>, PutNo>) -> Gave
+    ensures { result ≡ gave_of (deleted_as wrote.now) }
+{
+    match wrote {
+        Ok(Some(revision)) => Gave::Written {
+            revision: *revision,
+        },
+        Ok(None) => Gave::Absent,
+        Err(why) => line_refusal(why),
     }
 }
 
@@ -211,7 +225,7 @@ fn writer_of<'a>(published: &'a Published, resource: &str) -> &'a Who
 }
 
 /// Tells what each published configuration keeps.
-fn known(published: &Published)
+pub(crate) fn known(published: &Published)
     ensures { IsPublished published.now }
 {
     let _ = &published.settings;
@@ -236,7 +250,7 @@ impl<T: Tape> Rollout<T> {
         let Some(number) = self.held[seat as usize] else {
             unreachable!()
         };
-        let published = self.generations[number as usize].published.get();
+        let published = published_of(self.generations.as_slice(), number).get();
         known(published);
         let who = writer_of(published, resource.as_str());
         let result = put_value(
@@ -247,8 +261,8 @@ impl<T: Tape> Rollout<T> {
             who,
             stored,
         );
+        let gave = put_line(&result);
         let answer = put_answer(result);
-        let gave = line_answer(&answer);
         let did = Did::Put {
             path,
             resource,
@@ -265,8 +279,8 @@ impl<T: Tape> Rollout<T> {
         ensures { Serves self.old seat (event.Delete path) result.0 result.1 self.new }
     {
         let result = delete_value(&mut self.store, &mut self.board, path.as_str());
+        let gave = delete_line(&result);
         let answer = delete_answer(result);
-        let gave = line_answer(&answer);
         let line = self.line(seat, Did::Delete { path }, gave);
         (answer, line)
     }
@@ -282,7 +296,7 @@ impl<T: Tape> Rollout<T> {
         let Some(number) = self.held[seat as usize] else {
             unreachable!()
         };
-        let published = self.generations[number as usize].published.get();
+        let published = published_of(self.generations.as_slice(), number).get();
         known(published);
         let result = replace_live(
             &mut self.store,
@@ -292,8 +306,8 @@ impl<T: Tape> Rollout<T> {
             revision,
             stored,
         );
+        let gave = put_line(&result);
         let answer = put_answer(result);
-        let gave = line_answer(&answer);
         let line = self.line(seat, Did::Replace { path, revision }, gave);
         (answer, line)
     }

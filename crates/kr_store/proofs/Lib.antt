@@ -7,6 +7,7 @@ pub mod Refusals
 pub mod Written
 pub mod Places
 pub mod Shared
+pub mod Listings
 pub mod Above
 pub mod Lookahead
 pub mod OneReading

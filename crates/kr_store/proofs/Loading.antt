@@ -96,7 +96,7 @@ follows : (format : Format) (rows : List LogRow) (k : ℕ) (e : KeptRow)
     → may_change rows (log_row_of e).path (log_row_of e).change ≡ true
     → MayFollow format rows (log_row_of e)
 follows format rows k (kept.Put row) is small i m =
-    record { revision = omega arith; path = i.0.0; change = (i.0.1, i.0.2, i.0.3) }
+    record { revision = omega arith; path = i.0.0; change = i.0.1 }
 follows format rows k (kept.Delete path) is small i m =
     record { revision = omega arith; path = i; change = m }
 

@@ -226,7 +226,7 @@ reads_kept format k (kept.Put row) rest h i =
     ap (row_part format k) (regroup k kind.Put path put rest)
     ∙ behind_read _ _ _ _ (reads_head k kind.Put path (put ++ rest) h i.0.0)
     ∙ behind_read _ _ _ _
-    (reads_put format row.resource row.check row.stored rest i.0.1 i.0.2 i.0.3)
+    (reads_put format row.resource row.check row.stored rest i.0.1.0 i.0.1.1 i.0.1.2)
 reads_kept format k (kept.Delete path) rest h i =
     ap (row_part format k) (regroup k kind.Delete path [] rest)
     ∙ behind_read _ _ _ _ (reads_head k kind.Delete path rest h i)

@@ -1,8 +1,9 @@
 -- Rows by their revisions, and the last row of a path among them.
-use Rattle.std.proofs.Common.{◌≡◌, ℕ, suc, zero, ◌+◌, ◌-◌, ◌<◌, ◌≤◌, Bool, true, false, if◌then◌else◌, List, [], ◌∷◌, ◌++◌, length, get_or, slice_get, Option, None, Some, refl, sym, ◌∙◌, ap, subst, arith, inl, inr, ◌⊎◌}
+use Rattle.std.proofs.Common.{◌≡◌, ℕ, suc, zero, ◌+◌, ◌-◌, ◌<◌, ◌≤◌, Bool, true, false, if◌then◌else◌, List, [], ◌∷◌, ◌++◌, length, take, get_or, slice_get, Option, None, Some, refl, sym, ◌∙◌, ap, subst, arith, inl, inr, ◌⊎◌, append_assoc}
 use Rattle.std.specs.Str.{bytes_eq}
 use Rattle.std.proofs.lemmas.Slice.Eq.{bytes_eq-Decides}
 use Rattle.std.specs.Option.{option_map}
+use Rattle.std.proofs.lemmas.List.{append-nil}
 use Rattle.std.proofs.lemmas.Option.{same_Some, none-some, slice_get-map, slice_get-get_or, slice_get_past}
 use Rattle.kr_store.specs.declared.format.Format.{Format}
 use Rattle.kr_store.specs.declared.rows.Row.{Row}
@@ -11,7 +12,7 @@ use Rattle.kr_store.specs.declared.rows.Change.TheVariants.{Put, Delete}
 use Rattle.kr_store.specs.declared.rows.LogRow.{LogRow}
 use Rattle.kr_store.specs.declared.kept_row.KeptRow.{KeptRow}
 use Rattle.kr_store.specs.declared.kept_row.KeptRow.TheVariants as kept
-use Rattle.kr_store.specs.Rows.{later, latest_from, latest, live, live_row, row_of, numbered, row_at, log_row_at, delete_of}
+use Rattle.kr_store.specs.Rows.{later, latest_from, latest, live, live_row, row_of, with_revision, put_at, log_row_at, delete_of, MayFollow, AllFollow, AreRows}
 use Rattle.kr_store.specs.inner.KeptRows.{log_row_of, log_rows_of, shared_row, IsKeptRow, AreKeptRows}
 use Rattle.kr_store.proofs.Indexes.{bool_cases}
 
@@ -70,9 +71,9 @@ found_in n (x ∷ rows) path found e =
 -- rows by their revisions
 
 at_next : (rows : List LogRow) (k n : ℕ) (row : LogRow) → k ≡ suc n
-    → slice_get rows n ≡ Some row → row_at rows k ≡ row_of k row.path row.change
+    → slice_get rows n ≡ Some row → put_at rows k ≡ row_of k row.path row.change
 at_next rows k n row e g =
-    ap (row_at rows) e ∙ ap (λ o. live_row (numbered (suc n) o)) g
+    ap (put_at rows) e ∙ ap (λ o. live_row (with_revision (suc n) o)) g
     ∙ ap (λ i. row_of i row.path row.change) (sym e)
 
 -- what a put is handed out as
@@ -92,16 +93,16 @@ parts_of k path Delete row e = absurd (none-some row e)
 
 pub live_at_revision : (rows : List LogRow) (path : List ℕ) (row : Row)
     → live rows path ≡ Some row
-    → (row_at rows row.revision ≡ Some row) × (row.path ≡ path)
+    → (put_at rows row.revision ≡ Some row) × (row.path ≡ path)
 live_at_revision rows path row e = by (latest rows path) refl e
   where
     by : (found : Option (ℕ × LogRow)) → latest rows path ≡ found → live_row found ≡ Some row
-        → (row_at rows row.revision ≡ Some row) × (row.path ≡ path)
+        → (put_at rows row.revision ≡ Some row) × (row.path ≡ path)
     by None r e = absurd (none-some row e)
     by (Some found) r e =
         let s = found_in 1 rows path found r in
         let parts = parts_of found.0 found.1.path found.1.change row e in (
-          ap (row_at rows) parts.0
+          ap (put_at rows) parts.0
               ∙ at_next rows found.0 (found.0 - 1) found.1 (omega (arith, s.first)) s.item ∙ e,
           parts.1 ∙ s.path_is,
         )
@@ -113,10 +114,31 @@ front_stays (row ∷ rows) more zero l = refl
 front_stays (row ∷ rows) more (suc n) l = front_stays rows more n (omega (arith, l))
 
 pub row_stays : (rows more : List LogRow) (k : ℕ) → k ≤ length rows
-    → row_at (rows ++ more) k ≡ row_at rows k
+    → put_at (rows ++ more) k ≡ put_at rows k
 row_stays rows more zero l = refl
 row_stays rows more (suc n) l =
-    ap (λ o. live_row (numbered (suc n) o)) (front_stays rows more n (omega (arith, l)))
+    ap (λ o. live_row (with_revision (suc n) o)) (front_stays rows more n (omega (arith, l)))
+
+-- a row may stand behind those before it
+pub follows_at : (format : Format) (before rows : List LogRow) (k : ℕ) (row : LogRow)
+    → AllFollow format before rows → slice_get rows k ≡ Some row
+    → MayFollow format (before ++ take k rows) row
+follows_at format before [] k row f e = absurd (none-some row e)
+follows_at format before (x ∷ rows) zero row f e =
+    subst (λ (r : LogRow). MayFollow format (before ++ []) r) (same_Some x row e)
+    (subst (λ (b : List LogRow). MayFollow format b x) (sym (append-nil before)) f.0)
+follows_at format before (x ∷ rows) (suc k) row f e =
+    subst (λ (b : List LogRow). MayFollow format b row)
+    (append_assoc before (x ∷ []) (take k rows))
+    (follows_at format (before ++ x ∷ []) rows k row f.1 e)
+
+pub row_follows : (format : Format) (rows : List LogRow) (revision : ℕ) (row : LogRow)
+    → AreRows format rows → log_row_at rows revision ≡ Some row
+    → MayFollow format (take (revision - 1) rows) row
+row_follows format rows zero row f e = absurd (none-some row e)
+row_follows format rows (suc k) row f e =
+    subst (λ n. MayFollow format (take n rows) row) (let s : k ≡ suc k - 1 = omega arith in s)
+    (follows_at format [] rows k row f e)
 
 -- what is kept of a row
 
@@ -174,19 +196,24 @@ log_at rows j d row l e =
     slice_get-map log_row_of rows j ∙ ap (option_map log_row_of) (slice_get-get_or rows j d l)
     ∙ ap (λ (r : KeptRow). some_row (log_row_of r)) e
 
+pub lent_rule : (format : Format) (rows : List KeptRow) (k : ℕ) (d row : KeptRow)
+    → 1 ≤ k → k - 1 < length rows → AreKeptRows format 1 rows
+    → get_or rows (k - 1) d ≡ row → IsKeptRow format k row
+lent_rule format rows k d row l m all e =
+    let is : 1 + (k - 1) ≡ k = omega (arith, l) in
+    subst (λ i. IsKeptRow format i row) is
+    (subst (λ (r : KeptRow). IsKeptRow format (1 + (k - 1)) r) e
+    (kept_rule format 1 rows (k - 1) d all m))
+
 pub lends_put : (format : Format) (rows : List KeptRow) (k : ℕ) (d : KeptRow) (row : Row)
     → 1 ≤ k → k - 1 < length rows → AreKeptRows format 1 rows
-    → get_or rows (k - 1) d ≡ kept.Put row → row_at (log_rows_of rows) k ≡ Some row
+    → get_or rows (k - 1) d ≡ kept.Put row → put_at (log_rows_of rows) k ≡ Some row
 lends_put format rows k d row l m all e =
     let put : LogRow = log_row_of (kept.Put row) in
-    let is : 1 + (k - 1) ≡ k = omega (arith, l) in
-    let rule : IsKeptRow format (1 + (k - 1)) (kept.Put row) =
-    subst (λ (r : KeptRow). IsKeptRow format (1 + (k - 1)) r) e
-    (kept_rule format 1 rows (k - 1) d all m) in
     at_next (log_rows_of rows) k (k - 1) put (omega (arith, l))
     (log_at rows (k - 1) d (kept.Put row) m e)
     ∙ sym (row_shared format k (kept.Put row)
-    (subst (λ i. IsKeptRow format i (kept.Put row)) is rule))
+    (lent_rule format rows k d (kept.Put row) l m all e))
 
 log_row_found : (rows : List LogRow) (k : ℕ) → 1 ≤ k → log_row_at rows k ≡ slice_get rows (k - 1)
 log_row_found rows k l =

@@ -172,7 +172,7 @@ no_file bytes no.NoMemory b format rows f = b
 refused : (first : Ahead) (limit : ℕ) (why : StoreNo) → first.end ≤ limit
     → MayBreak first why → HasBreach first.left limit why
 refused first limit why l b =
-    (b.bytes, b.agrees, omega (arith, b.within), b.breach, no_file b.bytes why b.breach)
+    (b.bytes, b.agrees, omega (arith, b.within), b.breach)
 
 -- what was found in the rows is what loading answers
 pub load_refused : {T : Type 0} (first : Ahead) (limit : ℕ) (why : StoreNo) (tape : T)

@@ -220,13 +220,14 @@ pub fails_at : (format : Format) (rows : List KeptRow) (index : Index) (limit : 
     (log now : Tail) (s : Kept) (line : LogRow) (e n : ℕ)
     → IsStore format rows index limit log → kept_of format rows limit log ≡ s → e ≡ log.end
     → n ≡ length (behind_end format e (length rows + 1) line) → e + n ≤ limit
-    → now.torn ≡ true → Rose log.count now.count → log.count ≤ now.count
+    → now.end ≡ log.end → now.torn ≡ true → Rose log.count now.count → log.count ≤ now.count
     → Fails s (kept_of format rows limit now) line
-fails_at format rows index limit log now s line e n i v ends size fits t r l =
+fails_at format rows index limit log now s line e n i v ends size fits d t r l =
     subst (λ (z : Kept). Fails z (kept_of format rows limit now) line) v (record {
       rows = refl;
       format = refl;
       limit = refl;
+      length = d;
       within = omega (arith, sized format rows index limit log line e n i ends size);
       torn = t;
       rose = r;
@@ -237,14 +238,16 @@ pub wrote_at : (format : Format) (rows : List KeptRow) (index : Index) (limit : 
     (log now : Tail) (s : Kept) (line : LogRow) (row : KeptRow) (e n k : ℕ)
     → IsStore format rows index limit log → kept_of format rows limit log ≡ s → e ≡ log.end
     → n ≡ length (behind_end format e (length rows + 1) line) → e + n ≤ limit
-    → log_row_of row ≡ line → k ≡ length rows + 1 → now.torn ≡ false → log.count ≤ now.count
+    → log_row_of row ≡ line → k ≡ length rows + 1 → now.end ≡ e + n → now.torn ≡ false
+    → log.count ≤ now.count
     → Wrote s (kept_of format (rows ++ row ∷ []) limit now) line k
-wrote_at format rows index limit log now s line row e n k i v ends size fits same is t l =
+wrote_at format rows index limit log now s line row e n k i v ends size fits same is d t l =
     subst (λ (z : Kept). Wrote z (kept_of format (rows ++ row ∷ []) limit now) line k) v (record {
       revision_is = omega (arith, log_rows_length rows);
       rows = log_rows_more rows row ∙ ap (λ (x : LogRow). log_rows_of rows ++ x ∷ []) same;
       format = refl;
       limit = refl;
+      length = omega (arith, d, sized format rows index limit log line e n i ends size);
       within = omega (arith, sized format rows index limit log line e n i ends size);
       whole = t;
       later = l;

@@ -51,13 +51,14 @@ abbrev pub log_row_at : List LogRow → ℕ → Option LogRow
 log_row_at rows zero = None
 log_row_at rows (suc n) = slice_get rows n
 
-abbrev pub numbered : ℕ → Option LogRow → Option (ℕ × LogRow)
-numbered k None = None
-numbered k (Some row) = Some (k, row)
+-- a row with its revision
+abbrev pub with_revision : ℕ → Option LogRow → Option (ℕ × LogRow)
+with_revision k None = None
+with_revision k (Some row) = Some (k, row)
 
 -- the row with this revision, where it puts a value
-abbrev pub row_at : List LogRow → ℕ → Option Row
-row_at rows k = live_row (numbered k (log_row_at rows k))
+abbrev pub put_at : List LogRow → ℕ → Option Row
+put_at rows k = live_row (with_revision k (log_row_at rows k))
 
 -- the revision of the path's last row, 0 where it has none
 abbrev pub revision_of : Option (ℕ × LogRow) → ℕ
@@ -78,10 +79,14 @@ abbrev pub check_in : Format → Check → Option Check
 check_in One check = None
 check_in Two check = Some check
 
+-- the rules of what is put
+abbrev pub IsPut : Format → List ℕ → List ℕ → Option Check → Type 0
+IsPut format resource stored check =
+    IsResource resource × (length stored ≤ longest_value) × HasCheck format check
+
 -- what a row may do after the rows before it: put a value within its limits, or delete a live row
 abbrev pub MayChange : Format → List LogRow → List ℕ → Change → Type 0
-MayChange format before path (Put resource stored check) =
-    IsResource resource × (length stored ≤ longest_value) × HasCheck format check
+MayChange format before path (Put resource stored check) = IsPut format resource stored check
 MayChange format before path Delete = IsSome (live before path)
 
 -- a row may stand behind those before it; its revision has 8 bytes
@@ -101,6 +106,4 @@ AreRows format rows = AllFollow format [] rows
 
 -- a row that is handed out keeps the rules of its parts
 abbrev pub IsRow : Format → Row → Type 0
-IsRow format row =
-    IsPath row.path × IsResource row.resource × (length row.stored ≤ longest_value)
-    × HasCheck format row.check
+IsRow format row = IsPath row.path × IsPut format row.resource row.stored row.check

@@ -19,7 +19,8 @@ pub(crate) struct Index {
 
 impl Index {
     ghost use Rattle.std.specs.Prelude.{◌≡◌, [], ◌∷◌, ◌++◌, IfOk, OnOk, OnErr, IfSome, IsSome, Some, None};
-    ghost use Rattle.std.specs.String.{string_bytes};
+    ghost use Rattle.std.specs.String.{string_bytes, string_cmp};
+    ghost use Rattle.std.specs.BTreeMap.{btree_map_len, IsOrdered};
     ghost use Rattle.kr_store.specs.inner.KeptRows.{log_row_of};
     ghost use Rattle.kr_store.specs.inner.Index.{IsIndexOf, Adds, Same, SetsLive, SetsGone, IsNextIn, allows, live_at, gone_at};
 
@@ -56,6 +57,14 @@ impl Index {
             return None;
         };
         Some(*found.1)
+    }
+
+    /// How many paths have a live row.
+    pub fn live_count(&self) -> u64
+        ensures count { result ≡ btree_map_len self.now.live }
+        ensures ordered { IsOrdered string_cmp self.now.live }
+    {
+        self.live.len() as u64
     }
 
     /// Whether the row may stand behind the indexed ones.

@@ -17,6 +17,6 @@ mod write;
 
 pub use answers::{PutNo, StoreNo};
 pub use format::{Check, Format};
-pub use laws::{one_breach, one_file, one_row, some_answer};
+pub use laws::{one_breach, one_file, one_listing, one_row, some_answer};
 pub use rows::{Change, LogRow, Row, RowRef};
 pub use store::Store;

@@ -90,6 +90,13 @@ impl<T: Tape> Log<T> {
         self.end
     }
 
+    /// Whether a write has failed since the last one that was done.
+    pub fn torn(&self) -> bool
+        ensures { result ≡ self.now.torn }
+    {
+        self.torn
+    }
+
     /// How often the tape failed.
     pub fn faults(&self) -> u64
         ensures { result ≡ self.now.count }

@@ -9,7 +9,7 @@ ghost use Rattle.kr_store.specs.Rows.{longest_value, live, put_of, check_in, May
 ghost use Rattle.kr_store.specs.inner.KeptRows.{log_row_of, shared_row, IsKeptRow, IsChange};
 ghost use Rattle.kr_store.specs.inner.Writing.{lead};
 ghost use Rattle.kr_store.specs.File.{row_bytes};
-ghost use Rattle.kr_store.specs.Stores.{Loads, Holds, Puts, Deletes, Replaces, IsNext, LendsRow};
+ghost use Rattle.kr_store.specs.Stores.{Loads, Holds, Puts, Deletes, Replaces, IsNext, LendsRow, IsLent, IsLiveCount};
 
 use crate::answers::{PutNo, StoreNo};
 use crate::encode::{row_bytes, row_length};
@@ -307,7 +307,6 @@ impl<T: Tape> Store<T> {
 
     /// The path's live row. It is shared, not copied.
     pub fn get(&self, path: &str) -> Result<Option<Shared<Row>>, NoMemory>
-        requires { IsPath path.now }
         ensures live { IfOk result (λ found. found ≡ live self.now.rows path.now) }
         ensures rules { IfOk result (λ found. IfSome found (IsRow self.now.format)) }
     {
@@ -332,7 +331,8 @@ impl<T: Tape> Store<T> {
 
     /// Lends the row with this revision, if there is one.
     pub fn row_at(&self, revision: u64) -> Option<RowRef<'_>>
-        ensures { LendsRow self.now.rows revision result }
+        ensures row { LendsRow self.now.rows revision result }
+        ensures rules { IfSome result (IsLent self.now.format) }
     {
         if revision == 0 {
             return None;
@@ -351,11 +351,33 @@ impl<T: Tape> Store<T> {
         self.format
     }
 
+    /// How many bytes the file has. A store of no rows has none, or the 8 that name its format.
+    pub fn length(&self) -> u64
+        ensures { result ≡ self.now.length }
+    {
+        self.log.end()
+    }
+
+    /// How many rows are live, which is how long a listing of them is.
+    pub fn live_count(&self) -> u64
+        ensures { IsLiveCount self.now.rows result }
+    {
+        self.index.live_count()
+    }
+
     /// The revision of the last row, 0 where there is none.
     pub fn revision(&self) -> u64
         ensures { result ≡ length self.now.rows }
     {
         self.rows.as_slice().len() as u64
+    }
+
+    /// Whether a write has failed since the last one that was done: what it wrote of its row may
+    /// then stand behind the file, until the next write cuts it off.
+    pub fn torn(&self) -> bool
+        ensures { result ≡ self.now.torn }
+    {
+        self.log.torn()
     }
 
     /// How often the tape failed, up to the greatest number.

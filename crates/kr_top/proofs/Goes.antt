@@ -1,31 +1,43 @@
 -- How each phase ends its steps, and how a command goes on from one phase to the next.
-use Rattle.std.proofs.Common.{◌≡◌, ◌≢◌, ℕ, zero, suc, ◌≤◌, List, Option, None, Some, Result, Ok, Err, refl, sym, ◌∙◌, ap, subst, inl, inr, arith}
+use Rattle.std.proofs.Common.{◌≡◌, ◌≢◌, ℕ, ◌≤◌, List, Option, None, Some, Result, Ok, Err, refl, sym, ◌∙◌, ap, subst, inl, inr, arith}
 use Rattle.std.specs.Prelude.{Bool, true, false, ◌==◌, if◌then◌else◌}
 use Rattle.std.proofs.lemmas.Bool.Decides.{Decides-eqb}
 use Rattle.std.specs.Io.KnownBytes.{Keeps, Consumes}
+use Rattle.std.proofs.KnownBytes.{Keeps-refl}
 use Rattle.kr_base.specs.Faults.{Rose}
 use Rattle.kr_base.specs.Streams.{TakesAtMost}
 use Rattle.kr_base.specs.Told.{Agrees}
 use Rattle.kr_base.proofs.Counting.{Rose-later}
-use Rattle.kr_kms.specs.Outside.{Outside, noted, KeepsFiles, KeepsDice, HandsOut, TakesBack}
-use Rattle.kr_kms.specs.declared.world.Asked.{Asked}
-use Rattle.kr_kms.specs.declared.world.Asked.TheVariants.{File, RandomSource}
-use Rattle.kr_config.specs.Kept.{rows_of}
+use Rattle.kr_kms.specs.Outside.{Outside, Objects, noted, same_seat, IsLater, KeepsFiles, KeepsObjects}
+use Rattle.kr_kms.specs.declared.file_faults.FileFaults.{FileFaults}
+use Rattle.kr_kms.specs.declared.world.WorldCall.{WorldCall}
+use Rattle.kr_kms.specs.declared.world.WorldCall.TheVariants.{File, RandomSource}
+use Rattle.kr_config.specs.Kept.{Row}
 use Rattle.kr_config.specs.declared.settings.Settings.{Settings}
-use Rattle.kr_top.specs.Commands.{by_result, configuration, silently, tell, inspection}
-use Rattle.kr_top.specs.Configuration.{Entries}
-use Rattle.kr_top.specs.Inspect.{Inspects}
-use Rattle.kr_top.specs.Steps.{Steps, load, take_input, borrow_dice, draw, find, refuse, give, and_then, Call, loading, reading, opening, drawing, Point, awaits, amid, refuses, gives, Left, with_input, with_dice, with_asked, IsAt, Goes}
-use Rattle.kr_top.specs.Ran.{Around, around, faults_at, Stays, Reaches, IsHome}
-use Rattle.kr_top.specs.inner.Phases.{Ends, Does, AskedUnless, AskedFor, rows_in, IsPassed, Configures, NoDice, TakesInput, DrawsTo, Draws, Makes, Yields}
-use Rattle.kr_top.specs.declared.refusal.Outcome.{Outcome}
+use Rattle.kr_top.specs.Around.{Around, with_world, with_told_input, with_lent, with_lent_dice, left_of, faults_at, Stays, Reaches, AreHome, IsHome, Ends}
+use Rattle.kr_top.specs.Commands.{by_result, configuration, served, show, input_of, limit_of, long_input}
+use Rattle.kr_top.specs.Configuration.{Entries, without_plugin}
+use Rattle.kr_top.specs.Steps.{Steps, load, take_input, borrow_dice, draw, note, find, refuse, give, and_then, Call, loading, reading, opening, drawing, Point, awaits, amid, refuses, gives, Left, with_input, with_asked, IsAt, Goes}
+use Rattle.kr_top.specs.inner.Phases.{Does, Lent, Returned, AskedUnless, AskedFor, rows_in, IsFileRead, Configures, NoDice, TakesInput, Yields, shown_as}
+use Rattle.kr_top.specs.declared.command.Direction.{Direction}
 use Rattle.kr_top.specs.declared.refusal.Refusal.{Refusal}
 use Rattle.kr_top.specs.declared.refusal.Stop.{Stop}
 use Rattle.kr_top.specs.declared.refusal.Stop.TheVariants.{Words, Refused, Fault, NoMemory}
 
-reach : {A : Type 0} {next : Steps A} {left : Left} {new : Around} {point : Point A} (end : Left)
+pub reach : {A : Type 0} {next : Steps A} {left : Left} {new : Around} {point : Point A} (end : Left)
     → Goes point end next left → Stays end new → Reaches next left new point
 reach end goes stays = record { end = end; goes = goes; stays = stays }
+
+pub stays_refl : (a : Around) → Stays (left_of a) a
+stays_refl a = record {
+  file = refl;
+  tapes = refl;
+  links = refl;
+  input = Keeps-refl a.input;
+  dice = λ seat. Keeps-refl (a.world.dice.told seat);
+  asked = refl;
+  said = refl;
+}
 
 -- ---- from one phase to the next
 
@@ -63,24 +75,36 @@ module _ {A B : Type 0} (point : Point B) (last : Left) (others : A → Steps B)
   further p end f (draw seat size next) left (inl at) = inl (land (awaits (drawing seat)) at f)
   further p end f (draw seat size next) left (inr (bytes, rest, c, fits, goes)) =
       inr (bytes, rest, c, fits, further p end f (next bytes) _ goes)
+  further p end f (note text next) left goes = further p end f next _ goes
   further p end f (find D P next) left (inl at) = inl (land amid at f)
   further p end f (find D P next) left (inr (d, is, goes)) =
       inr (d, is, further p end f (next d) _ goes)
   further p end f (refuse why) left at = land (refuses why) at f
   further p end f (give x) left at = land (gives x) at f
 
-pub files_trans : {a b c : Outside} → KeepsFiles a b → KeepsFiles b c → KeepsFiles a c
-files_trans p q = record {
-  file = λ name. q.file name ∙ p.file name;
+back_home : {K V : Type 0} {a b c : Objects K V} → AreHome a b → AreHome b c → AreHome a c
+back_home p q = record {
+  out = λ key. q.out key ∙ p.out key;
+  later = λ key. omega (arith, p.later key, q.later key);
+}
+
+later_trans : {a b c : FileFaults} → IsLater a b → IsLater b c → IsLater a c
+later_trans p q = record {
   loads = omega (arith, p.loads, q.loads);
-  opens = omega (arith, p.opens, q.opens);
+  tapes = omega (arith, p.tapes, q.tapes);
+  dice = omega (arith, p.dice, q.dice);
+  links = omega (arith, p.links, q.links);
 }
 
 home_trans : {a b c : Around} → IsHome a b → IsHome b c → IsHome a c
 home_trans p q = record {
-  files = files_trans p.files q.files;
-  out = λ seat. q.out seat ∙ p.out seat;
-  dice = λ seat. omega (arith, p.dice seat, q.dice seat);
+  files = record {
+    file = q.files.file ∙ p.files.file;
+    later = later_trans p.files.later q.files.later;
+  };
+  dice = back_home p.dice q.dice;
+  tapes = back_home p.tapes q.tapes;
+  links = back_home p.links q.links;
   input = omega (arith, p.input, q.input);
 }
 
@@ -88,10 +112,10 @@ home_trans p q = record {
 earlier : {old mid : Around} (new : Around) (call : Call) → IsHome old mid
     → Rose (faults_at call mid) (faults_at call new)
     → Rose (faults_at call old) (faults_at call new)
-earlier new (loading name) h r = Rose-later _ _ _ h.files.loads r
+earlier new (loading name) h r = Rose-later _ _ _ h.files.later.loads r
 earlier new reading h r = Rose-later _ _ _ h.input r
-earlier new (opening seat) h r = Rose-later _ _ _ h.files.opens r
-earlier new (drawing seat) h r = Rose-later _ _ _ (h.dice seat) r
+earlier new (opening seat) h r = Rose-later _ _ _ h.files.later.dice r
+earlier new (drawing seat) h r = Rose-later _ _ _ (h.dice.later seat) r
 
 module _ {A B : Type 0} (first : Steps A) (others : A → Steps B) where
   onward : {left : Left} {mid new : Around} {p : Point A} {point : Point B}
@@ -147,19 +171,6 @@ by_bytes {old = old} {new} {result} next e d = subst (λ b. Does (next b) old ne
 
 -- ---- bytes that are kept
 
-pub Keeps-refl : (a : Option (List ℕ)) → Keeps a a
-Keeps-refl None = tt
-Keeps-refl (Some x) = refl
-
-pub keeps_by : (a b : Option (List ℕ)) → b ≡ a → Keeps a b
-keeps_by a b e = subst (λ o. Keeps a o) (sym e) (Keeps-refl a)
-
-pub keeps_trans : (a b c : Option (List ℕ)) → Keeps a b → Keeps b c → Keeps a c
-keeps_trans None b c p q = tt
-keeps_trans (Some x) None c p q = absurd p
-keeps_trans (Some x) (Some y) None p q = absurd q
-keeps_trans (Some x) (Some y) (Some z) p q = q ∙ p
-
 pub consumes_by : (bytes : List ℕ) (a b c : Option (List ℕ)) → Keeps a b → Consumes b c bytes
     → Consumes a c bytes
 consumes_by bytes None b c k h = tt
@@ -169,109 +180,48 @@ consumes_by bytes (Some x) (Some y) (Some z) k h = sym k ∙ h
 
 -- ---- phases that ask for nothing
 
-files_refl : {world : Outside} → KeepsFiles world world
-files_refl = record { file = λ name. refl; loads = omega arith; opens = omega arith }
+pub home_same : {K V : Type 0} {a b : Objects K V} → b ≡ a → AreHome a b
+home_same e = record {
+  out = λ key. ap (λ o. o.out key) e;
+  later = λ key. omega (arith, ap (λ o. o.faults key) e);
+}
 
-home_refl : (a : Around) → IsHome a a
-home_refl a =
+pub files_same : (world : Outside) → KeepsFiles world world
+files_same world = record {
+  file = refl;
+  later = record {
+    loads = omega arith;
+    tapes = omega arith;
+    dice = omega arith;
+    links = omega arith;
+  };
+}
+
+pub home_refl : (a : Around) → IsHome a a
+home_refl a = record {
+  files = files_same a.world;
+  dice = home_same refl;
+  tapes = home_same refl;
+  links = home_same refl;
+  input = omega arith;
+}
+
+shows_at : (Is : Result (List ℕ) Refusal → Type 0) {left : Left} {a : Around}
+    (result : Result (List ℕ) Stop) → Yields Is result → Stays left a
+    → Ends (show Is) left a a (shown_as result)
+shows_at Is {left} (Ok text) is s = reach left (inr (Ok text, is, (refl, refl))) s
+shows_at Is (Err (Words why)) is s = absurd is
+shows_at Is {left} (Err (Refused why)) is s = reach left (inr (Err why, is, (refl, refl))) s
+shows_at Is (Err (Fault object count)) is s = absurd is
+shows_at Is {left} (Err NoMemory) is s = inr (reach left (inl (refl, refl)) s)
+
+pub shows : (Is : Result (List ℕ) Refusal → Type 0) (a : Around) (result : Result (List ℕ) Stop)
+    → Yields Is result → Does (show Is) a a (shown_as result)
+shows Is a result is =
     record {
-      files = files_refl;
-      out = λ seat. refl;
-      dice =
-          λ seat. omega arith;
-      input = omega arith;
+      home = home_refl a;
+      ends = λ left s. shows_at Is {left = left} {a = a} result is s;
     }
-
-pub tells : {a : Around} {text : List ℕ} (made : List ℕ) → made ≡ text
-    → Does (tell text) a a (Ok (silently made))
-tells {a} made is = record {
-  home = home_refl a;
-  ends = λ left s. reach left (inr (made, is, (refl, refl))) s;
-}
-
-pub tells_nothing : {a : Around} {text : List ℕ} → Does (tell text) a a (Err NoMemory)
-tells_nothing {a} = record {
-  home = home_refl a;
-  ends = λ left s. inr (reach left (inl (refl, refl)) s);
-}
-
-pub shows : {a : Around} {bytes : List ℕ} (made : List ℕ) → Yields (Inspects bytes) (Ok made)
-    → Does (inspection bytes) a a (Ok (silently made))
-shows {a} made is = record {
-  home = home_refl a;
-  ends = λ left s. reach left (inr (Ok made, is, (refl, refl))) s;
-}
-
-pub shows_nothing : {a : Around} {bytes : List ℕ} (stop : Stop)
-    → Yields (Inspects bytes) (Err stop) → Does (inspection bytes) a a (Err stop)
-shows_nothing (Words why) is = absurd is
-shows_nothing {a} (Refused why) is = record {
-  home = home_refl a;
-  ends = λ left s. reach left (inr (Err why, is, (refl, refl))) s;
-}
-shows_nothing (Fault object count) is = absurd is
-shows_nothing {a} NoMemory is = record {
-  home = home_refl a;
-  ends = λ left s. inr (reach left (inl (refl, refl)) s);
-}
-
--- ---- the input
-
-module _ (limit : ℕ) (long : Refusal) (old new : Option (List ℕ)) (before count : ℕ)
-    (world : Outside) where
-  stays_taken : {left : Left} → Stays left (around world old before)
-      → Stays (with_input new left) (around world new count)
-  stays_taken s = record {
-    file = s.file;
-    input = Keeps-refl new;
-    dice = s.dice;
-    asked = s.asked;
-  }
-
-  takes_some : {left : Left} → Stays left (around world old before) → TakesAtMost old new limit
-      → Reaches (take_input limit long give) left (around world new count) (awaits reading)
-  takes_some {left} s (bytes, c, short) = reach (with_input new left)
-      (bytes, new, consumes_by bytes _ _ _ s.input c, inl (short, (refl, refl))) (stays_taken s)
-
-  takes_at : {left : Left} (result : Result (List ℕ) Stop) → Stays left (around world old before)
-      → TakesInput limit long old new before count result
-      → Ends (take_input limit long give) left (around world old before)
-      (around world new count) result
-  takes_at {left} (Ok bytes) s t = reach (with_input new left)
-      (bytes, new, consumes_by bytes _ _ _ s.input t.0, inr (inr (t.2, t.1, (refl, refl))))
-      (stays_taken s)
-  takes_at (Err (Words why)) s t = t
-  takes_at {left} (Err (Refused why)) s (w, (bytes, c, more)) = reach (with_input new left)
-      (bytes, new, consumes_by bytes _ _ _ s.input c, inr (inl (more, (ap refuses w, refl))))
-      (stays_taken s)
-  takes_at (Err (Fault object n)) s (o, rose, is, taken) =
-      (reading, takes_some s taken, (o, rose, is))
-  takes_at (Err NoMemory) s taken = inl (reading, takes_some s taken)
-
-  pub takes : (result : Result (List ℕ) Stop) → TakesInput limit long old new before count result
-      → before ≤ count
-      → Does (take_input limit long give) (around world old before) (around world new count) result
-  takes result t later = record {
-    home = record {
-      files = files_refl;
-      out = λ seat. refl;
-      dice =
-          λ seat. omega arith;
-      input = later;
-    };
-    ends = λ left s. takes_at result s t;
-  }
-
--- ---- the world
-
--- a call that was made, whatever came of it
-pub asked_for : {T : Type 0} {new : Option (List Asked)} (old : Option (List Asked)) (call : Asked)
-    (result : Result T Stop) → new ≡ noted call old → AskedFor old new call result
-asked_for old call (Ok x) e = e
-asked_for old call (Err (Words why)) e = e
-asked_for old call (Err (Refused why)) e = e
-asked_for old call (Err (Fault object count)) e = e
-asked_for old call (Err NoMemory) e = inr e
 
 abbrev by_point : {A : Type 0} → Result A Refusal → Point A
 by_point (Ok x) = gives x
@@ -282,182 +232,280 @@ by_goes : {A : Type 0} (r : Result A Refusal) (left : Left)
 by_goes (Ok x) left = (refl, refl)
 by_goes (Err why) left = (refl, refl)
 
-module _ {old new : Outside} (files : KeepsFiles old new) (dice : KeepsDice old new)
-    (input : Option (List ℕ)) (faults : ℕ) where
-  asked_home : IsHome (around old input faults) (around new input faults)
+abbrev pub as_stop : Entries → Result (List Row) Stop
+as_stop (Ok rows) = Ok rows
+as_stop (Err why) = Err (Refused why)
+
+decides : (read : Entries) (a : Around) → Does (by_result read) a a (as_stop read)
+decides (Ok rows) a =
+    record { home = home_refl a; ends = λ left s. reach left (refl, refl) s }
+decides (Err why) a =
+    record { home = home_refl a; ends = λ left s. reach left (refl, refl) s }
+
+pub serves : (rows : List Row) (read : Entries) → without_plugin rows ≡ read → (a : Around)
+    → Does (served rows) a a (as_stop read)
+serves rows read is a = subst (λ r. Does (by_result r) a a (as_stop read)) (sym is) (decides read a)
+
+-- ---- the input
+
+module _ (limit : ℕ) (long : Refusal) (old new : Option (List ℕ)) (before count : ℕ)
+    (a : Around) where
+  taken : {left : Left} → Stays left (with_told_input old before a)
+      → Stays (with_input new left) (with_told_input new count a)
+  taken s = record {
+    file = s.file;
+    tapes = s.tapes;
+    links = s.links;
+    input = Keeps-refl new;
+    dice = s.dice;
+    asked = s.asked;
+    said = s.said;
+  }
+
+  takes_some : {left : Left} → Stays left (with_told_input old before a)
+      → TakesAtMost old new limit
+      → Reaches (take_input limit long give) left (with_told_input new count a) (awaits reading)
+  takes_some {left} s (bytes, c, short) = reach (with_input new left)
+      (bytes, new, consumes_by bytes _ _ _ s.input c, inl (short, (refl, refl))) (taken s)
+
+  takes_at : {left : Left} (result : Result (List ℕ) Stop)
+      → Stays left (with_told_input old before a)
+      → TakesInput limit long old new before count result
+      → Ends (take_input limit long give) left (with_told_input old before a)
+      (with_told_input new count a) result
+  takes_at {left} (Ok bytes) s t = reach (with_input new left)
+      (bytes, new, consumes_by bytes _ _ _ s.input t.0, inr (inr (t.2, t.1, (refl, refl))))
+      (taken s)
+  takes_at (Err (Words why)) s t = t
+  takes_at {left} (Err (Refused why)) s (w, (bytes, c, more)) = reach (with_input new left)
+      (bytes, new, consumes_by bytes _ _ _ s.input c, inr (inl (more, (ap refuses w, refl))))
+      (taken s)
+  takes_at (Err (Fault object n)) s (o, rose, is, some) =
+      (reading, takes_some s some, (o, rose, is))
+  takes_at (Err NoMemory) s some = inl (reading, takes_some s some)
+
+  takes : (result : Result (List ℕ) Stop) → TakesInput limit long old new before count result
+      → before ≤ count
+      → Does (take_input limit long give) (with_told_input old before a)
+      (with_told_input new count a) result
+  takes result t later = record {
+    home = record {
+      files = files_same a.world;
+      dice = home_same refl;
+      tapes = home_same refl;
+      links = home_same refl;
+      input = later;
+    };
+    ends = λ left s. takes_at result s t;
+  }
+
+pub takes_in : {old new : Option (List ℕ)} {before count : ℕ} {direction : Direction}
+    (wanted : Direction) (result : Result (List ℕ) Stop) (a : Around) → direction ≡ wanted
+    → TakesInput (limit_of wanted) (long_input wanted) old new before count result
+    → before ≤ count
+    → Does (input_of direction) (with_told_input old before a) (with_told_input new count a) result
+takes_in {old} {new} {before} {count} wanted result a is t later =
+    subst (λ d. Does (input_of d) (with_told_input old before a) (with_told_input new count a)
+    result) (sym is)
+    (takes (limit_of wanted) (long_input wanted) old new before count a result t later)
+
+-- ---- the world
+
+-- a call that was made, whatever came of it
+pub asked_for : {T : Type 0} {new : Option (List WorldCall)} (old : Option (List WorldCall)) (call : WorldCall)
+    (result : Result T Stop) → new ≡ noted call old → AskedFor old new call result
+asked_for old call (Ok x) e = e
+asked_for old call (Err (Words why)) e = e
+asked_for old call (Err (Refused why)) e = e
+asked_for old call (Err (Fault object count)) e = e
+asked_for old call (Err NoMemory) e = inr e
+
+module _ {old new : Outside} (files : KeepsFiles old new) (objects : KeepsObjects old new)
+    (a : Around) where
+  asked_home : IsHome (with_world old a) (with_world new a)
   asked_home = record {
     files = files;
-    out = dice.out;
-    dice = λ seat. omega (arith, dice.faults seat);
+    dice = home_same objects.dice;
+    tapes = home_same objects.tapes;
+    links = home_same objects.links;
     input = omega arith;
   }
 
-  stays_asked : {left : Left} (asked : Option (List Asked)) → Stays left (around old input faults)
-      → new.asked ≡ asked → Stays (record left { asked = asked }) (around new input faults)
+  stays_asked : {left : Left} (asked : Option (List WorldCall)) → Stays left (with_world old a)
+      → new.asked ≡ asked → Stays (record left { asked = asked }) (with_world new a)
   stays_asked {left} asked s made = record {
-    file = λ name. files.file name ∙ s.file name;
+    file = files.file ∙ s.file;
+    tapes = ap (λ o. o.told) objects.tapes ∙ s.tapes;
+    links = ap (λ o. o.told) objects.links ∙ s.links;
     input = s.input;
-    dice = λ seat. subst (λ d. Keeps (left.dice seat) d) (sym (dice.dice seat)) (s.dice seat);
+    dice = λ seat. subst (λ d. Keeps (left.dice seat) (d.told seat)) (sym objects.dice)
+        (s.dice seat);
     asked = made;
+    said = s.said;
   }
 
-  stays_noted : {left : Left} (call : Asked) → Stays left (around old input faults)
-      → new.asked ≡ noted call old.asked → Stays (with_asked call left) (around new input faults)
+  stays_noted : {left : Left} (call : WorldCall) → Stays left (with_world old a)
+      → new.asked ≡ noted call old.asked → Stays (with_asked call left) (with_world new a)
   stays_noted call s made = stays_asked _ s (made ∙ ap (noted call) s.asked)
 
   -- memory lacked before the call
-  unasked : {A : Type 0} {next : Steps A} {left : Left} → Stays left (around old input faults)
+  unasked : {A : Type 0} {next : Steps A} {left : Left} → Stays left (with_world old a)
       → new.asked ≡ old.asked → Goes amid left next left
-      → Reaches next left (around new input faults) amid
+      → Reaches next left (with_world new a) amid
   unasked {left = left} s made goes = reach left goes (stays_asked left.asked s (made ∙ s.asked))
 
   -- what was read of a file
-  passes : {pass : Entries → Entries} {name : List ℕ} {left : Left} (result : Entries)
-      → Stays left (around old input faults) → IsPassed old pass name result
-      → new.asked ≡ noted (File name) old.asked
-      → Reaches (configuration pass name) left (around new input faults) (by_point result)
-  passes {name = name} {left} result s (file, agrees, read, is, e) made =
+  passes : {name : List ℕ} {left : Left} (read : Entries) → Stays left (with_world old a)
+      → IsFileRead old name read → new.asked ≡ noted (File name) old.asked
+      → Reaches (configuration name) left (with_world new a) (by_point read)
+  passes {name = name} {left} read s (file, agrees, is) made =
       let now : Left = with_asked (File name) left in
-      let goes = subst (λ r. Goes (by_point result) now (by_result r) now) (sym e)
-      (by_goes result now) in
-      reach now (inr
-      (inr (file, subst (λ t. Agrees t file) (s.file name) agrees, inr (read, is, goes))))
+      reach now (inr (inr (
+        file,
+        subst (λ t. Agrees (t name) file) s.file agrees,
+        inr (read, is, by_goes read now),
+      )))
       (stays_noted (File name) s made)
 
-  not_loaded : (pass : Entries → Entries) (name : List ℕ) {left : Left}
-      → Stays left (around old input faults)
+  not_loaded : (name : List ℕ) {left : Left} → Stays left (with_world old a)
       → new.asked ≡ noted (File name) old.asked
-      → Reaches (configuration pass name) left (around new input faults) (awaits (loading name))
-  not_loaded pass name {left} s made =
+      → Reaches (configuration name) left (with_world new a) (awaits (loading name))
+  not_loaded name {left} s made =
       reach (with_asked (File name) left) (inr (inl (refl, refl))) (stays_noted (File name) s made)
 
-  configures_at : (pass : Entries → Entries) (name : List ℕ) {left : Left}
-      (result : Result Settings Stop)
-      → Stays left (around old input faults) → Configures old new pass name result
+  configures_at : (name : List ℕ) {left : Left} (result : Result Settings Stop)
+      → Stays left (with_world old a) → Configures old new name result
       → AskedFor old.asked new.asked (File name) result
-      → Ends (configuration pass name) left (around old input faults) (around new input faults)
-      (rows_in result)
-  configures_at pass name (Ok settings) s c a = passes (Ok (rows_of settings.entries.0)) s c a
-  configures_at pass name (Err (Words why)) s c a = c
-  configures_at pass name (Err (Refused why)) s c a = passes (Err why) s c a
-  configures_at pass name (Err (Fault object count)) s c a =
-      (loading name, not_loaded pass name s a, c)
-  configures_at pass name (Err NoMemory) s c (inl a) = inr (unasked s a (inl (refl, refl)))
-  configures_at pass name (Err NoMemory) s c (inr a) = inl (loading name, not_loaded pass name s a)
+      → Ends (configuration name) left (with_world old a) (with_world new a) (rows_in result)
+  configures_at name (Ok settings) s c q = passes _ s c q
+  configures_at name (Err (Words why)) s c q = c
+  configures_at name (Err (Refused why)) s c q = passes (Err why) s c q
+  configures_at name (Err (Fault object count)) s c q = (loading name, not_loaded name s q, c)
+  configures_at name (Err NoMemory) s c (inl q) = inr (unasked s q (inl (refl, refl)))
+  configures_at name (Err NoMemory) s c (inr q) = inl (loading name, not_loaded name s q)
 
-  pub configures : (pass : Entries → Entries) (name : List ℕ) (result : Result Settings Stop)
-      → Configures old new pass name result → AskedFor old.asked new.asked (File name) result
-      → Does (configuration pass name) (around old input faults) (around new input faults)
-      (rows_in result)
-  configures pass name result c a =
-      record { home = asked_home; ends = λ left s. configures_at pass name result s c a }
+  pub configures : (name : List ℕ) (result : Result Settings Stop)
+      → Configures old new name result → AskedFor old.asked new.asked (File name) result
+      → Does (configuration name) (with_world old a) (with_world new a) (rows_in result)
+  configures name result c q =
+      record { home = asked_home; ends = λ left s. configures_at name result s c q }
 
-  not_opened_at : {A : Type 0} {next : Steps A} {left : Left} → Stays left (around old input faults)
-      → new.asked ≡ noted (RandomSource 0) old.asked
-      → Reaches (borrow_dice 0 next) left (around new input faults) (awaits (opening 0))
-  not_opened_at {left = left} s made =
-      reach (with_asked (RandomSource 0) left) (inr (inl (refl, refl)))
-      (stays_noted (RandomSource 0) s made)
+  not_opened_at : (seat : ℕ) {A : Type 0} {next : Steps A} {left : Left}
+      → Stays left (with_world old a) → new.asked ≡ noted (RandomSource seat) old.asked
+      → Reaches (borrow_dice seat next) left (with_world new a) (awaits (opening seat))
+  not_opened_at seat {left = left} s made =
+      reach (with_asked (RandomSource seat) left) (inr (inl (refl, refl)))
+      (stays_noted (RandomSource seat) s made)
 
-  pub not_opened : {A : Type 0} {next : Steps A} (stop : Stop) → NoDice old new stop
-      → AskedUnless old.asked new.asked (RandomSource 0) stop
-      → Does (borrow_dice 0 next) (around old input faults) (around new input faults) (Err stop)
-  not_opened (Words why) n a = absurd n
-  not_opened (Refused why) n a = absurd n
-  not_opened (Fault object count) n a =
-      record { home = asked_home; ends = λ left s. (opening 0, not_opened_at s a, n) }
-  not_opened NoMemory n (inl a) =
-      record { home = asked_home; ends = λ left s. inr (unasked s a (inl (refl, refl))) }
-  not_opened NoMemory n (inr a) =
-      record { home = asked_home; ends = λ left s. inl (opening 0, not_opened_at s a) }
+  pub not_opened : (seat : ℕ) {A : Type 0} {next : Steps A} (stop : Stop) → NoDice old new stop
+      → AskedUnless old.asked new.asked (RandomSource seat) stop
+      → Does (borrow_dice seat next) (with_world old a) (with_world new a) (Err stop)
+  not_opened seat (Words why) n q = absurd n
+  not_opened seat (Refused why) n q = absurd n
+  not_opened seat (Fault object count) n q =
+      record { home = asked_home; ends = λ left s. (opening seat, not_opened_at seat s q, n) }
+  not_opened seat NoMemory n (inl q) =
+      record { home = asked_home; ends = λ left s. inr (unasked s q (inl (refl, refl))) }
+  not_opened seat NoMemory n (inr q) =
+      record { home = asked_home; ends = λ left s. inl (opening seat, not_opened_at seat s q) }
 
 -- ---- a random source that is borrowed and comes back
 
-to_false : (q : Bool) → (q ≡ true → ⊥) → q ≡ false
-to_false true h = absurd (h refl)
-to_false false h = refl
+by_bool : {B : Type 0} (P : B → Type 0) (q : Bool) (x y : B) → (q ≡ true → P x)
+    → (q ≡ false → P y) → P (if q then x else y)
+by_bool P true x y h k = h refl
+by_bool P false x y h k = k refl
 
-module _ {old out new : Outside} {given back : Option (List ℕ)} {first count : ℕ}
-    (opens : HandsOut old out 0 given first) (backs : TakesBack out new 0 back count)
-    (files : KeepsFiles old new) (asked : new.asked ≡ noted (RandomSource 0) old.asked)
-    (input : Option (List ℕ)) (faults : ℕ) where
-  other_dice : {left : Left} → Stays left (around old input faults) → (seat : ℕ) → seat ≢ 0
-      → Keeps (left.dice seat) (new.dice seat)
-  other_dice {left} s seat n =
-      subst (λ b. Keeps (left.dice seat) b) (sym (backs.dice seat n ∙ opens.dice seat n))
-      (s.dice seat)
+-- at the seat, and at each other
+by_seat : {B : Type 0} (P : B → Type 0) (seat other : ℕ) (x y : B) → (seat ≡ other → P x)
+    → (other ≢ seat → P y) → P (if seat == other then x else y)
+by_seat P seat other x y h k = by_bool P (seat == other) x y
+    (λ t. h ((Decides-eqb seat other).0 t))
+    (λ f. k (λ e. absurd (let t : true ≡ false = sym ((Decides-eqb seat other).1 (sym e)) ∙ f
+    in cc)))
 
-  undrawn : {left : Left} → Stays left (around old input faults) → Keeps (left.dice 0) back
-      → (seat : ℕ) → Keeps (left.dice seat) (new.dice seat)
-  undrawn {left} s k zero = subst (λ b. Keeps (left.dice 0) b) (sym backs.left_is) k
-  undrawn s k (suc seat) = other_dice s (suc seat) (λ e. cc)
+-- steps that give nothing
+abbrev nothing : Steps (Unit {0})
+nothing = give tt
 
-  drawn : {left : Left} → Stays left (around old input faults)
-      → (seat : ℕ) → Keeps ((with_dice 0 back left).dice seat) (new.dice seat)
-  drawn s zero = keeps_by back (new.dice 0) backs.left_is
-  drawn {left} s (suc seat) =
-      subst (λ q. Keeps (if q then back else left.dice (suc seat)) (new.dice (suc seat)))
-      (sym (to_false (0 == suc seat) (λ t. absurd (let e = (Decides-eqb 0 (suc seat)).0 t in cc))))
-      (other_dice s (suc seat) (λ e. cc))
-
-  stays_drawn : {left : Left} (end : Left) → Stays left (around old input faults)
-      → DrawsTo (with_asked (RandomSource 0) left) back end → Stays end (around new input faults)
-  stays_drawn {left} end s (inl (e, k)) =
-      subst (λ l. Stays l (around new input faults)) (sym e) (record {
-        file = λ name. files.file name ∙ s.file name;
-        input = s.input;
-        dice = undrawn s k;
-        asked = asked ∙ ap (noted (RandomSource 0)) s.asked;
-      })
-  stays_drawn {left} end s (inr e) =
-      subst (λ l. Stays l (around new input faults)) (sym e) (record {
-        file = λ name. files.file name ∙ s.file name;
-        input = s.input;
-        dice = drawn s;
-        asked = asked ∙ ap (noted (RandomSource 0)) s.asked;
-      })
-
-  given_kept : {left : Left} → Stays left (around old input faults) → Keeps (left.dice 0) given
-  given_kept {left} s = subst (λ q. Keeps (left.dice 0) q) (sym opens.left_is) (s.dice 0)
-
-  reaches_by : {left : Left} {next : Steps Outcome} {point : Point Outcome}
-      → Stays left (around old input faults) → Draws next given back point
-      → Reaches (borrow_dice 0 next) left (around new input faults) point
-  reaches_by {left} s d =
-      let g = d.goes (with_asked (RandomSource 0) left) (given_kept s) in
-      reach g.0 (inr (inr g.1)) (stays_drawn g.0 s g.2)
-
-  lends_at : {left : Left} (next : Steps Outcome) (result : Result Outcome Stop)
-      → Stays left (around old input faults) → Makes next given back first count result
-      → Ends (borrow_dice 0 next) left (around old input faults) (around new input faults) result
-  lends_at next (Ok made) s m = reaches_by s m
-  lends_at next (Err (Words why)) s m = m
-  lends_at next (Err (Refused why)) s m = reaches_by s m
-  lends_at next (Err (Fault object n)) s (o, rose, is, m) =
-      let risen = subst (λ c. Rose (old.dice_faults 0) c) (sym backs.count_is)
-      (subst (λ c. Rose c count) opens.count_is rose) in
-      (drawing 0, reaches_by s m, (o, risen, is ∙ sym backs.count_is))
-  lends_at {left} next (Err NoMemory) s m =
-      inl (
-        opening 0,
-        reach (with_asked (RandomSource 0) left) (inr (inl (refl, refl)))
-            (stays_drawn _ s (inl (refl, keeps_trans _ _ _ (given_kept s) m))),
-      )
-
-  count_kept : first ≤ count → (seat : ℕ) → old.dice_faults seat ≤ new.dice_faults seat
-  count_kept later zero = omega (arith, later, opens.count_is, backs.count_is)
-  count_kept later (suc seat) =
-      omega (arith, opens.faults (suc seat) (λ e. cc), backs.faults (suc seat) (λ e. cc))
-
-  pub lends : {next : Steps Outcome} (result : Result Outcome Stop) → first ≤ count
-      → Makes next given back first count result
-      → Does (borrow_dice 0 next) (around old input faults) (around new input faults) result
-  lends {next} result later m = record {
-    home = record {
-      files = files;
-      out = λ seat. omega (arith, opens.out seat, backs.out seat);
-      dice = count_kept later;
-      input = omega arith;
+opened : (seat : ℕ) {old out : Outside} {left : Option (List ℕ)} {count : ℕ}
+    → Lent seat old out left count → (a : Around)
+    → Does (borrow_dice seat nothing) (with_world old a)
+    (with_lent_dice seat left count (with_world out a)) (Ok tt)
+opened seat {old} {out} {left} {count} h a = record {
+  home = record {
+    files = record { file = h.files.file; later = h.files.later };
+    dice = record {
+      out = λ other. omega (arith, h.out.out other);
+      later = λ other. by_seat (λ n. old.dice.faults other ≤ n) seat other count
+          (out.dice.faults other)
+          (λ e. omega (arith, h.out.count_is, ap (λ s. old.dice.faults s) e))
+          (λ n. omega (arith, h.out.faults other n));
     };
-    ends = λ left s. lends_at next result s m;
+    tapes = home_same h.tapes;
+    links = home_same h.links;
+    input = omega arith;
+  };
+  ends = λ l s. reach (with_asked (RandomSource seat) l) (inr (inr (refl, refl))) (record {
+    file = h.files.file ∙ s.file;
+    tapes = ap (λ o. o.told) h.tapes ∙ s.tapes;
+    links = ap (λ o. o.told) h.links ∙ s.links;
+    input = s.input;
+    dice = λ other. by_seat (λ b. Keeps (l.dice other) b) seat other left (out.dice.told other)
+        (λ e. subst (λ b. Keeps (l.dice other) b)
+        (ap (λ n. old.dice.told n) (sym e) ∙ sym h.left_is) (s.dice other))
+        (λ n. subst (λ b. Keeps (l.dice other) b) (sym (h.out.told other n)) (s.dice other));
+    asked = h.asked ∙ ap (noted (RandomSource seat)) s.asked;
+    said = s.said;
+  });
+}
+
+-- what is lent stands as what came back
+module _ (seat : ℕ) {out new : Outside} {left : Option (List ℕ)} {count : ℕ}
+    (h : Returned seat out new left count) (a : Around) where
+  told_back : (other : ℕ)
+      → (with_lent same_seat seat left count out.dice).told other ≡ new.dice.told other
+  told_back other = by_seat (λ b. b ≡ new.dice.told other) seat other left (out.dice.told other)
+      (λ e. sym h.left_is ∙ ap (λ n. new.dice.told n) e) (λ n. sym (h.home.told other n))
+
+  faults_back : (other : ℕ)
+      → (with_lent same_seat seat left count out.dice).faults other ≡ new.dice.faults other
+  faults_back other = by_seat (λ b. b ≡ new.dice.faults other) seat other count
+      (out.dice.faults other) (λ e. sym h.home.count_is ∙ ap (λ n. new.dice.faults n) e)
+      (λ n. sym (h.home.faults other n))
+
+  out_back : (other : ℕ)
+      → (with_lent same_seat seat left count out.dice).out other ≡ new.dice.out other
+  out_back other = omega (arith, h.home.out other)
+
+  dice_back : with_lent same_seat seat left count out.dice ≡ new.dice
+  dice_back = λ i. record {
+    told = λ other. told_back other i;
+    faults = λ other. faults_back other i;
+    out = λ other. out_back other i;
   }
+
+  came_back : with_lent_dice seat left count (with_world out a) ≡ with_world new a
+  came_back = λ i. record a {
+    world = record {
+      file = sym h.file i;
+      asked = sym h.asked i;
+      faults = sym h.faults i;
+      dice = dice_back i;
+      tapes = sym h.tapes i;
+      links = sym h.links i;
+    };
+  }
+
+module _ (seat : ℕ) {old out new : Outside} {given back : Option (List ℕ)} {first count : ℕ}
+    (lent : Lent seat old out given first) (returned : Returned seat out new back count)
+    (a : Around) where
+  pub lends : {B : Type 0} {next : Steps B} {result : Result B Stop}
+      → ((b : Around) → Does next (with_lent_dice seat given first b)
+      (with_lent_dice seat back count b) result)
+      → Does (borrow_dice seat next) (with_world old a) (with_world new a) result
+  lends {next = next} {result} works =
+      subst (λ b. Does (borrow_dice seat next) (with_world old a) b result)
+      (came_back seat returned a)
+      (goes_on (borrow_dice seat nothing) (λ u. next) tt
+      (opened seat lent a) (works (with_world out a)))

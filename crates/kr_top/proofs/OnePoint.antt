@@ -1,13 +1,14 @@
--- Over told files and a told input the same steps come to one point, but for what is drawn and for
--- what cuts them short.
-use Rattle.std.proofs.Common.{◌≡◌, ℕ, ◌≤◌, List, ◌++◌, length, Option, None, Some, Result, refl, sym, ◌∙◌, ap, subst, inl, inr, append-nil, length-append, arith}
+-- Over told files and a told input the steps of a command come to one point, but for what is drawn
+-- and for what cuts them short.
+use Rattle.std.proofs.Common.{◌≡◌, ℕ, ◌≤◌, List, ◌++◌, length, Option, None, Some, Result, Ok, Err, refl, sym, ◌∙◌, ap, subst, inl, inr, append-nil, length-append, arith}
 use Rattle.std.specs.Prelude.{IsSome}
 use Rattle.std.specs.Io.KnownBytes.{Consumes, IsAtEnd}
 use Rattle.kr_base.specs.Told.{Agrees}
-use Rattle.kr_kms.specs.declared.world.Asked.TheVariants.{File, RandomSource}
-use Rattle.kr_top.specs.Steps.{Steps, load, take_input, borrow_dice, draw, find, refuse, give, Point, refuses, gives, Left, with_input, with_asked, Goes}
+use Rattle.kr_kms.specs.declared.world.WorldCall.TheVariants.{File, RandomSource}
+use Rattle.kr_top.specs.Steps.{Steps, load, take_input, borrow_dice, draw, note, find, refuse, give, Point, refuses, gives, Left, with_input, with_dice, with_asked, with_said, Goes}
 use Rattle.kr_top.specs.Ran.{end_at}
 use Rattle.kr_top.specs.declared.refusal.Stop.{Stop}
+use Rattle.kr_top.specs.declared.refusal.Stop.TheVariants.{Refused}
 use Rattle.kr_top.specs.declared.refusal.Done.{Done}
 use Rattle.kr_top.specs.declared.refusal.Outcome.{Outcome}
 
@@ -28,25 +29,38 @@ pub alike_at : {p q : Point Outcome} (a b : Point Outcome) → end_at a ≡ end_
 alike_at a b h e f m n x y =
     let both : Some m ≡ Some n = sym x ∙ ap end_at e ∙ h ∙ sym (ap end_at f) ∙ y in cc
 
--- what is found is one, what is drawn decides nothing but the value, and what is touched is told
-abbrev pub IsSettled : Steps Outcome → Left → Type 0
-IsSettled (load name next) left = IsSome (left.file name)
-    × ((bytes : Option (List ℕ)) → IsSettled (next bytes) (with_asked (File name) left))
-IsSettled (take_input limit long next) left = IsSome left.input
-    × ((bytes : List ℕ) (rest : Option (List ℕ)) → IsSettled (next bytes) (with_input rest left))
-IsSettled (borrow_dice seat next) left = IsSettled next (with_asked (RandomSource seat) left)
-IsSettled (draw seat size next) left =
-    (a b : List ℕ) (left now end last : Left) (p q : Point Outcome)
-    → Goes p end (next a) left → Goes q last (next b) now → Alike p q
-IsSettled (find B P next) left =
-    ((a b : B) → P a → P b → a ≡ b) × ((b : B) → IsSettled (next b) left)
-IsSettled (refuse why) left = Unit {0}
-IsSettled (give made) left = Unit {0}
+-- two lists of steps go one way over what is told, whatever they draw and find, to one refusal or
+-- to values that end alike
+abbrev pub IsSettled : (first second : Steps Outcome) → (left right : Left) → Type 0
+IsSettled (load name next) (load other more) left right =
+    IsSome (left.file name) × (right.file other ≡ left.file name)
+    × ((bytes : Option (List ℕ)) → IsSettled (next bytes) (more bytes)
+    (with_asked (File name) left) (with_asked (File other) right))
+IsSettled (take_input limit long next) (take_input most much more) left right =
+    (most ≡ limit) × (much ≡ long) × IsSome left.input × (right.input ≡ left.input)
+    × ((bytes : List ℕ) (rest : Option (List ℕ)) → IsSettled (next bytes) (more bytes)
+    (with_input rest left) (with_input rest right))
+IsSettled (borrow_dice seat next) (borrow_dice other more) left right =
+    IsSettled next more (with_asked (RandomSource seat) left) (with_asked (RandomSource other) right)
+IsSettled (draw seat size next) (draw other count more) left right =
+    (a b : List ℕ) (ra rb : Option (List ℕ)) → IsSettled (next a) (more b)
+    (with_dice seat ra left) (with_dice other rb right)
+IsSettled (note text next) (note other more) left right =
+    IsSettled next more (with_said text left) (with_said other right)
+IsSettled (find B P next) (find C Q more) left right =
+    (b : B) (c : C) → P b → Q c → IsSettled (next b) (more c) left right
+IsSettled (refuse why) (refuse cause) left right = cause ≡ why
+IsSettled (give made) (give other) left right = other.done ≡ made.done
+IsSettled first second left right = ⊥
 
 one_file : (told : Option (Option (List ℕ))) (a b : Option (List ℕ)) → IsSome told → Agrees told a
     → Agrees told b → b ≡ a
 one_file None a b t x y = absurd cc
 one_file (Some f) a b t x y = sym y ∙ x
+
+by_input : {a b : Option (List ℕ)} (rest : Option (List ℕ)) (bytes : List ℕ) → b ≡ a
+    → Consumes b rest bytes → Consumes a rest bytes
+by_input rest bytes e c = subst (λ o. Consumes o rest bytes) e c
 
 -- what is taken of a told input is no longer than the whole, which is one
 part : (a b : List ℕ) (old ra rb : Option (List ℕ)) → IsSome old → Consumes old ra a
@@ -68,45 +82,71 @@ whole a b (Some x) None rb told c d e f = absurd c
 whole a b (Some x) (Some r) None told c d e f = absurd d
 
 module _ (p q : Point Outcome) (end last : Left) where
-  pub one_point : (next : Steps Outcome) (left : Left) → IsSettled next left → Goes p end next left
-      → Goes q last next left → Alike p q
-  one_point (load name next) left s (inl e) k = no_first p q _ refl e.0
-  one_point (load name next) left s (inr (inl e)) k = no_first p q _ refl e.0
-  one_point (load name next) left s (inr (inr g)) (inl f) = no_second p q _ refl f.0
-  one_point (load name next) left s (inr (inr g)) (inr (inl f)) = no_second p q _ refl f.0
-  one_point (load name next) left s (inr (inr (a, x, g))) (inr (inr (b, y, k))) =
-      one_point (next a) _ (s.1 a) g
-      (subst (λ c. Goes q last (next c) (with_asked (File name) left))
-      (one_file (left.file name) a b s.0 x y) k)
-  one_point (take_input limit long next) left s (a, ra, ca, inl (x, e)) k = no_first p q _ refl e.0
-  one_point (take_input limit long next) left s (a, ra, ca, inr g) (b, rb, cb, inl (y, f)) =
+  pub one_point : (first second : Steps Outcome) (left right : Left)
+      → IsSettled first second left right → Goes p end first left → Goes q last second right
+      → Alike p q
+  one_point (load name next) (load other more) left right s (inl e) k = no_first p q _ refl e.0
+  one_point (load name next) (load other more) left right s (inr (inl e)) k =
+      no_first p q _ refl e.0
+  one_point (load name next) (load other more) left right s (inr (inr g)) (inl f) =
       no_second p q _ refl f.0
-  one_point (take_input limit long next) left s (a, ra, ca, inr (inl (x, e)))
-      (b, rb, cb, inr (inl (y, f))) =
-      alike_at (refuses long) (refuses long) refl e.0 f.0
-  one_point (take_input limit long next) left s (a, ra, ca, inr (inl (x, e)))
-      (b, rb, cb, inr (inr (y, f, k))) =
-      absurd (let h = part a b left.input ra rb s.0 ca cb f in omega (arith, x, y, h))
-  one_point (take_input limit long next) left s (a, ra, ca, inr (inr (x, e, g)))
-      (b, rb, cb, inr (inl (y, f))) =
-      absurd (let h = part b a left.input rb ra s.0 cb ca e in omega (arith, x, y, h))
-  one_point (take_input limit long next) left s (a, ra, ca, inr (inr (x, e, g)))
-      (b, rb, cb, inr (inr (y, f, k))) =
-      let h = whole a b left.input ra rb s.0 ca cb e f in
-      one_point (next a) _ (s.1 a ra) g (subst (λ r. Goes q last (next a) (with_input r left)) h.1
-      (subst (λ c. Goes q last (next c) (with_input rb left)) h.0 k))
-  one_point (borrow_dice seat next) left s (inl e) k = no_first p q _ refl e.0
-  one_point (borrow_dice seat next) left s (inr (inl e)) k = no_first p q _ refl e.0
-  one_point (borrow_dice seat next) left s (inr (inr g)) (inl f) = no_second p q _ refl f.0
-  one_point (borrow_dice seat next) left s (inr (inr g)) (inr (inl f)) = no_second p q _ refl f.0
-  one_point (borrow_dice seat next) left s (inr (inr g)) (inr (inr k)) = one_point next _ s g k
-  one_point (draw seat size next) left s (inl e) k = no_first p q _ refl e.0
-  one_point (draw seat size next) left s (inr g) (inl f) = no_second p q _ refl f.0
-  one_point (draw seat size next) left s (inr (a, ra, ca, x, g)) (inr (b, rb, cb, y, k)) =
-      s a b _ _ end last p q g k
-  one_point (find B P next) left s (inl e) k = no_first p q _ refl e.0
-  one_point (find B P next) left s (inr g) (inl f) = no_second p q _ refl f.0
-  one_point (find B P next) left s (inr (a, x, g)) (inr (b, y, k)) =
-      one_point (next a) left (s.1 a) g (subst (λ c. Goes q last (next c) left) (s.0 b a y x) k)
-  one_point (refuse why) left s e f = alike_at (refuses why) (refuses why) refl e.0 f.0
-  one_point (give made) left s e f = alike_at (gives made) (gives made) refl e.0 f.0
+  one_point (load name next) (load other more) left right s (inr (inr g)) (inr (inl f)) =
+      no_second p q _ refl f.0
+  one_point (load name next) (load other more) left right s (inr (inr (a, x, g)))
+      (inr (inr (b, y, k))) =
+      one_point (next a) (more a) _ _ (s.2 a) g
+      (subst (λ c. Goes q last (more c) (with_asked (File other) right))
+      (one_file (left.file name) a b s.0 x (subst (λ t. Agrees t b) s.1 y)) k)
+  one_point (take_input limit long next) (take_input most much more) left right s
+      (a, ra, ca, inl (x, e)) k =
+      no_first p q _ refl e.0
+  one_point (take_input limit long next) (take_input most much more) left right s
+      (a, ra, ca, inr g) (b, rb, cb, inl (y, f)) =
+      no_second p q _ refl f.0
+  one_point (take_input limit long next) (take_input most much more) left right s
+      (a, ra, ca, inr (inl (x, e))) (b, rb, cb, inr (inl (y, f))) =
+      alike_at (refuses long) (refuses much) (ap (λ w. Some (Err (Refused w))) (sym s.1)) e.0 f.0
+  one_point (take_input limit long next) (take_input most much more) left right s
+      (a, ra, ca, inr (inl (x, e))) (b, rb, cb, inr (inr (y, f, k))) =
+      absurd (let h = part a b left.input ra rb s.2 ca (by_input rb b s.3 cb) f in
+      omega (arith, x, y, h, s.0))
+  one_point (take_input limit long next) (take_input most much more) left right s
+      (a, ra, ca, inr (inr (x, e, g))) (b, rb, cb, inr (inl (y, f))) =
+      absurd (let h = part b a left.input rb ra s.2 (by_input rb b s.3 cb) ca e in
+      omega (arith, x, y, h, s.0))
+  one_point (take_input limit long next) (take_input most much more) left right s
+      (a, ra, ca, inr (inr (x, e, g))) (b, rb, cb, inr (inr (y, f, k))) =
+      let h = whole a b left.input ra rb s.2 ca (by_input rb b s.3 cb) e f in
+      one_point (next a) (more a) _ _ (s.4 a ra) g
+      (subst (λ r. Goes q last (more a) (with_input r right)) h.1
+      (subst (λ c. Goes q last (more c) (with_input rb right)) h.0 k))
+  one_point (borrow_dice seat next) (borrow_dice other more) left right s (inl e) k =
+      no_first p q _ refl e.0
+  one_point (borrow_dice seat next) (borrow_dice other more) left right s (inr (inl e)) k =
+      no_first p q _ refl e.0
+  one_point (borrow_dice seat next) (borrow_dice other more) left right s (inr (inr g)) (inl f) =
+      no_second p q _ refl f.0
+  one_point (borrow_dice seat next) (borrow_dice other more) left right s (inr (inr g))
+      (inr (inl f)) =
+      no_second p q _ refl f.0
+  one_point (borrow_dice seat next) (borrow_dice other more) left right s (inr (inr g))
+      (inr (inr k)) =
+      one_point next more _ _ s g k
+  one_point (draw seat size next) (draw other count more) left right s (inl e) k =
+      no_first p q _ refl e.0
+  one_point (draw seat size next) (draw other count more) left right s (inr g) (inl f) =
+      no_second p q _ refl f.0
+  one_point (draw seat size next) (draw other count more) left right s (inr (a, ra, ca, x, g))
+      (inr (b, rb, cb, y, k)) =
+      one_point (next a) (more b) _ _ (s a b ra rb) g k
+  one_point (note text next) (note other more) left right s g k = one_point next more _ _ s g k
+  one_point (find B P next) (find C Q more) left right s (inl e) k = no_first p q _ refl e.0
+  one_point (find B P next) (find C Q more) left right s (inr g) (inl f) =
+      no_second p q _ refl f.0
+  one_point (find B P next) (find C Q more) left right s (inr (a, x, g)) (inr (b, y, k)) =
+      one_point (next a) (more b) left right (s a b x y) g k
+  one_point (refuse why) (refuse cause) left right s e f =
+      alike_at (refuses why) (refuses cause) (ap (λ w. Some (Err (Refused w))) (sym s)) e.0 f.0
+  one_point (give made) (give other) left right s e f =
+      alike_at (gives made) (gives other) (ap (λ d. Some (Ok d)) (sym s)) e.0 f.0
+  one_point first second left right s e f = absurd s

@@ -1,11 +1,14 @@
 -- Pieces of text that were written one behind another.
-use Rattle.std.proofs.Common.{◌≡◌, ℕ, suc, ◌+◌, ◌<◌, ◌≤◌, List, ◌++◌, length, take, drop, Option, Bor, sym, ◌∙◌, ap, subst, append_assoc, append-nil, arith, get_or, add-one}
+use Rattle.std.proofs.Common.{◌≡◌, ℕ, suc, ◌+◌, ◌<◌, ◌≤◌, List, ◌++◌, length, take, drop, Option, Result, Ok, Err, Bor, sym, ◌∙◌, ap, subst, append_assoc, append-nil, arith, get_or, add-one}
 use Rattle.std.proofs.Math.Seq.{drop-cons, take-append-add}
 use Rattle.std.proofs.lemmas.List.{take-append-le, drop_all, length-append}
 use Rattle.std.specs.Io.KnownBytes.{Appends}
 use Rattle.std.proofs.KnownBytes.{Appends-trans}
 use Rattle.kr_base.specs.Streams.{AppendsFront}
-use Rattle.kr_top.specs.inner.Phases.{whole}
+use Rattle.kr_base.specs.Faults.{Rose}
+use Rattle.kr_base.proofs.Counting.{Rose-later}
+use Rattle.kr_top.specs.Ran.{Receipt, receipt}
+use Rattle.kr_top.specs.inner.Phases.{whole, Says}
 
 -- the first pieces were written, and how many bytes they are in all is left open
 pub record Spoke (before now : Option (List ℕ)) (pieces : List (Bor (List ℕ)))
@@ -34,12 +37,16 @@ spoke-more {a} {b} {pieces} {i} c d piece after s h e p later = record {
   later = omega (arith, s.later);
 }
 
+pub says_by : {T E : Type 0} {sink : Receipt} {result : Result T E} {a b : List ℕ} → a ≡ b
+    → Says sink a result → Says sink b result
+says_by {sink = sink} {result} e s = subst (λ l. Says sink l result) e s
+
 -- a fault leaves a prefix of what comes next
-pub spoke-front : {a b : Option (List ℕ)} {pieces : List (Bor (List ℕ))} {i faults count : ℕ}
+front : {a b : Option (List ℕ)} {pieces : List (Bor (List ℕ))} {i faults count : ℕ}
     (c : Option (List ℕ)) (d : Bor (List ℕ)) (next : List ℕ) → Spoke a b pieces i faults count
     → i < length pieces
     → next ≡ (get_or pieces i d).now → AppendsFront b c next → AppendsFront a c (whole pieces)
-spoke-front {a} {b} {pieces} {i} c d next s h e (n, short, appended) =
+front {a} {b} {pieces} {i} c d next s h e (n, short, appended) =
     let all : whole pieces ≡ s.written ++ (next ++ whole (drop (suc i) pieces)) =
     s.split ∙ ap (λ l. s.written ++ l)
     (whole-drop pieces i d h ∙ ap (λ l. l ++ whole (drop (suc i) pieces)) (sym e)) in
@@ -58,9 +65,24 @@ spoke-front {a} {b} {pieces} {i} c d next s h e (n, short, appended) =
       subst (Appends a c) (sym front) (Appends-trans a b c _ _ s.appended appended),
     )
 
-pub spoke-all : {a b : Option (List ℕ)} {pieces : List (Bor (List ℕ))} {i faults count : ℕ}
-    → Spoke a b pieces i faults count → length pieces ≤ i → Appends a b (whole pieces)
-spoke-all {a} {b} {pieces} {i} s h =
-    subst (Appends a b)
-    (sym (s.split ∙ ap (λ l. s.written ++ whole l) (drop_all i pieces h) ∙ append-nil s.written))
-    s.appended
+pub spoke-front : {T E : Type 0} {x : E} {a b : Option (List ℕ)} {pieces : List (Bor (List ℕ))}
+    {i faults count after : ℕ} {c : Option (List ℕ)} (d : Bor (List ℕ)) (next : List ℕ) → Spoke a b pieces i faults count
+    → i < length pieces → next ≡ (get_or pieces i d).now → AppendsFront b c next
+    → count ≤ after → Rose count after
+    → Says {T = T} {E = E} (receipt a c faults after) (whole pieces) (Err x)
+spoke-front d next s h e f later rose = record {
+  ok = tt;
+  err = front _ d next s h e f;
+  cause = record { later = omega (arith, s.later, later); failed = Rose-later _ _ _ s.later rose };
+}
+
+pub spoke-all : {T E : Type 0} {x : T} {a b : Option (List ℕ)} {pieces : List (Bor (List ℕ))} {i faults count : ℕ}
+    → Spoke a b pieces i faults count → length pieces ≤ i
+    → Says {T = T} {E = E} (receipt a b faults count) (whole pieces) (Ok x)
+spoke-all {a} {b} {pieces} {i} s h = record {
+  ok = subst (Appends a b)
+      (sym (s.split ∙ ap (λ l. s.written ++ whole l) (drop_all i pieces h) ∙ append-nil s.written))
+      s.appended;
+  err = tt;
+  cause = record { later = s.later; failed = tt };
+}

@@ -1,16 +1,22 @@
 -- What readers take from the relation of a call, whose result decides the status.
-use Rattle.std.proofs.Common.{◌≡◌, ℕ, ◌+◌, ◌-◌, ◌^◌, ◌≤◌, ◌⊎◌, min, List, length, take_all, Option, Bool, true, false, Result, Ok, Err, refl, sym, ◌∙◌, ap, subst, inl, inr, arith}
-use Rattle.std.specs.Prelude.{◌==◌, if◌then◌else◌}
+use Rattle.std.proofs.Common.{◌≡◌, ℕ, ◌+◌, ◌-◌, ◌^◌, ◌≤◌, ◌⊎◌, min, List, length, take_all, Option, Result, Ok, Err, refl, sym, subst, inl, inr, arith}
 use Rattle.std.specs.Io.KnownBytes.{Appends}
 use Rattle.kr_base.specs.Faults.{Rose}
 use Rattle.kr_base.specs.Streams.{AppendsFront}
-use Rattle.kr_top.specs.Command.{Command, Asks, AskNothing, AskReplicas, AskSize}
+use Rattle.kr_kms.specs.Outside.{file_faults}
 use Rattle.kr_config.specs.declared.refusal.ConfigNo.{ConfigNo}
 use Rattle.kr_config.specs.declared.refusal.ConfigNo.TheVariants as config
-use Rattle.kr_top.specs.Message.{status_of, status_of_done, status_of_configuration, status_of_refusal, line_of, done_line}
-use Rattle.kr_top.specs.Steps.{Call, loading, reading, opening, drawing, gives}
-use Rattle.kr_top.specs.Ran.{Around, Receipt, IsIdle, IsHome, faults_at, count_at, IsUntouched, Comes, Answers, Tells, IsUsage, FailsAt, FailsToWrite, IsCaused, RefusesWith, GivesWith, IsRefused, IsDone, IsWritten}
+use Rattle.kr_top.specs.Around.{Around, left_of, IsHome, IsFault, faults_at, count_at, Reaches}
+use Rattle.kr_top.specs.Command.{Asks, AskBadly}
+use Rattle.kr_top.specs.Commands.{steps}
+use Rattle.kr_top.specs.Message.{status_of, status_of_done, status_of_configuration, status_of_refusal, line_of, fault_line}
+use Rattle.kr_top.specs.Steps.{Call, loading, reading, opening, drawing, object_of, Point, refuses, gives}
+use Rattle.kr_top.specs.Ran.{Receipt, IsIdle, Reports, IsUntouched, StopsAtOnce, Did, Comes, Writes, Answers, Tells, FailsAt, FailsToWrite, Readings}
+use Rattle.kr_top.specs.declared.command.Command.{Command}
+use Rattle.kr_top.specs.declared.refusal.BadWords.{BadWords}
 use Rattle.kr_top.specs.declared.refusal.BadWords.TheVariants.{Usage, Replicas, Size}
+use Rattle.kr_top.specs.declared.refusal.Object.{Object}
+use Rattle.kr_top.specs.declared.refusal.Object.TheVariants.{Output}
 use Rattle.kr_top.specs.declared.refusal.Refusal.{Refusal}
 use Rattle.kr_top.specs.declared.refusal.Refusal.TheVariants.{Absent, Configuration, NotServed, Limit, Value, Placed}
 use Rattle.kr_top.specs.declared.refusal.Stop.{Stop}
@@ -18,6 +24,7 @@ use Rattle.kr_top.specs.declared.refusal.Stop.TheVariants.{Words, Refused, Fault
 use Rattle.kr_top.specs.declared.refusal.Done.{Done}
 use Rattle.kr_top.specs.declared.refusal.Done.TheVariants.{Silent, Fresh, Stale}
 use Rattle.kr_top.specs.declared.refusal.Outcome.{Outcome}
+use Rattle.kr_top.proofs.Decided.{asks_something, no_stop, same_end}
 
 -- ---- statuses
 
@@ -46,24 +53,28 @@ done_zero Stale = refl
 -- ---- counts and texts
 
 -- a sum rises with a part, as far as it goes
-sum_rose : (a b c d : ℕ) → b ≤ d → Rose a c
-    → Rose (min (a + b) (2 ^ 64 - 1)) (min (c + d) (2 ^ 64 - 1))
-sum_rose a b c d h r = grind arith
+sum_rose : (loads tapes dice links l t d k : ℕ) → loads ≤ l → tapes ≤ t → dice ≤ d → links ≤ k
+    → Rose loads l ⊎ Rose dice d
+    → Rose (min (loads + tapes + dice + links) (2 ^ 64 - 1)) (min (l + t + d + k) (2 ^ 64 - 1))
+sum_rose loads tapes dice links l t d k a b c e (inl r) = grind arith
+sum_rose loads tapes dice links l t d k a b c e (inr r) = grind arith
 
-other_rose : (a b c d : ℕ) → a ≤ c → Rose b d
-    → Rose (min (a + b) (2 ^ 64 - 1)) (min (c + d) (2 ^ 64 - 1))
-other_rose a b c d h r = grind arith
+file_rose : {old new : Around} → IsHome old new
+    → Rose old.world.faults.loads new.world.faults.loads
+    ⊎ Rose old.world.faults.dice new.world.faults.dice
+    → Rose (file_faults old.world) (file_faults new.world)
+file_rose {old} {new} h r =
+    sum_rose old.world.faults.loads old.world.faults.tapes old.world.faults.dice
+    old.world.faults.links new.world.faults.loads new.world.faults.tapes new.world.faults.dice
+    new.world.faults.links h.files.later.loads h.files.later.tapes h.files.later.dice
+    h.files.later.links r
 
 -- a call that failed raised its object's count
 object_rose : {old new : Around} (call : Call) → IsHome old new
     → Rose (faults_at call old) (faults_at call new) → Rose (count_at call old) (count_at call new)
-object_rose {old} {new} (loading name) h r =
-    sum_rose old.world.load_faults old.world.open_faults new.world.load_faults new.world.open_faults
-    h.files.opens r
+object_rose (loading name) h r = file_rose h (inl r)
 object_rose reading h r = r
-object_rose {old} {new} (opening seat) h r =
-    other_rose old.world.load_faults old.world.open_faults new.world.load_faults
-    new.world.open_faults h.files.loads r
+object_rose (opening seat) h r = file_rose h (inr r)
 object_rose (drawing seat) h r = r
 
 whole_front : (old new : Option (List ℕ)) (value : List ℕ) → Appends old new value
@@ -74,138 +85,199 @@ whole_front old new value a = (
   subst (λ v. Appends old new v) (sym (take_all (length value) value (omega arith))) a,
 )
 
--- words that ask for a command ask for something
-pub asks_something : {words : List (List ℕ)} {command : Command} → Asks words command
-    → AskNothing words → ⊥
-asks_something asks none =
-    absurd (let e = sym asks.is ∙ none asks.verb asks.options asks.means in cc)
-
--- ---- by the result
+-- ---- by how the call ended
 
 module _ (words : List (List ℕ)) (old new : Around) (output errors : Receipt) (status : ℕ) where
-  usage_means : (r : Result Done Stop) → Answers words old new output r → status_of r ≡ 2
-      → AskNothing words × IsUntouched old new output
-  usage_means (Ok done) a e = absurd (omega (arith, done_zero done))
-  usage_means (Err (Words Usage)) a e = a
-  usage_means (Err (Words Replicas)) a e = absurd (omega arith)
-  usage_means (Err (Words Size)) a e = absurd (omega arith)
-  usage_means (Err (Refused why)) a e = absurd (let s = status_in why in omega (arith, s))
-  usage_means (Err (Fault object count)) a e = absurd (omega arith)
-  usage_means (Err NoMemory) a e = absurd (omega arith)
+  -- the line was written, and the status is that of the result
+  abbrev Told : Result Done Stop → Type 0
+  Told r = (status ≡ status_of r) × Appends errors.old errors.new (line_of r)
 
-  nothing_so : (r : Result Done Stop) → Answers words old new output r → status ≡ status_of r
-      → AskNothing words → (status ≡ 2) ⊎ (status ≡ 5)
-      ⊎ ((status ≡ 6) × (AskReplicas words ⊎ AskSize words))
-      ⊎ ((status ≡ 4) × Rose errors.old_faults errors.new_faults)
-  nothing_so (Ok done) a e none = absurd (asks_something a.1.asks none)
-  nothing_so (Err (Words Usage)) a e none = inl e
-  nothing_so (Err (Words Replicas)) a e none = inr (inr (inl (e, inl a.0)))
-  nothing_so (Err (Words Size)) a e none = inr (inr (inl (e, inr a.0)))
-  nothing_so (Err (Refused why)) a e none = absurd (asks_something a.0.asks none)
-  nothing_so (Err (Fault object count)) (inl a) e none = absurd (asks_something a.1.asks none)
-  nothing_so (Err (Fault object count)) (inr a) e none = absurd (asks_something a.1.asks none)
-  nothing_so (Err NoMemory) a e none = inr (inl e)
+  abbrev AreRead : Type 0
+  AreRead = Readings words old new output errors status
 
-  fault_by : (r : Result Done Stop) → Answers words old new output r → status_of r ≡ 4
-      → ((call : Call) × FailsAt words old new output call)
-      ⊎ ((made : Outcome) × FailsToWrite words old new output made)
-  fault_by (Ok done) a e = absurd (omega (arith, done_zero done))
-  fault_by (Err (Words Usage)) a e = absurd (omega arith)
-  fault_by (Err (Words Replicas)) a e = absurd (omega arith)
-  fault_by (Err (Words Size)) a e = absurd (omega arith)
-  fault_by (Err (Refused why)) a e = absurd (let s = status_in why in omega (arith, s))
-  fault_by (Err (Fault object count)) (inl (call, comes, fault, idle)) e =
-      inl (call, (comes, idle, fault.1, object_rose call comes.home fault.1))
-  fault_by (Err (Fault object count)) (inr (made, comes, front, o, rose, n)) e =
-      inr (made, (comes, front, rose))
-  fault_by (Err NoMemory) a e = absurd (omega arith)
+  at_words : (why : BadWords) → AskBadly why words → IsUntouched old new output
+      → Told (Err (Words why)) → AreRead
+  at_words Usage bad same t = record {
+    usage = (λ two. bad, λ none. inl t.0);
+    caused = λ four. absurd (omega (arith, t.0, four));
+    refused = λ which. absurd (omega (arith, t.0, which));
+    decided = λ command point end asks tells would at. absurd (no_stop Usage asks bad);
+    done = λ zero_is. absurd (omega (arith, t.0, zero_is));
+    written = record { front = inr (inl same.1); usage = λ two. same };
+  }
+  at_words Replicas bad same t = record {
+    usage = (λ two. absurd (omega (arith, t.0, two)), λ none. inr (inr (inl (t.0, inl bad))));
+    caused = λ four. absurd (omega (arith, t.0, four));
+    refused = λ which. inr (inr (t.0, inl bad, same));
+    decided = λ command point end asks tells would at. absurd (no_stop Replicas asks bad);
+    done = λ zero_is. absurd (omega (arith, t.0, zero_is));
+    written = record { front = inr (inl same.1); usage = λ two. same };
+  }
+  at_words Size bad same t = record {
+    usage = (λ two. absurd (omega (arith, t.0, two)), λ none. inr (inr (inl (t.0, inr bad))));
+    caused = λ four. absurd (omega (arith, t.0, four));
+    refused = λ which. inr (inr (t.0, inr bad, same));
+    decided = λ command point end asks tells would at. absurd (no_stop Size asks bad);
+    done = λ zero_is. absurd (omega (arith, t.0, zero_is));
+    written = record { front = inr (inl same.1); usage = λ two. same };
+  }
 
-  given : {done : Done} → Answers words old new output (Ok done) → status ≡ status_of_done done
-      → Appends errors.old errors.new (done_line done)
-      → GivesWith words old new output errors status
-  given (made, comes, is, whole) e line = (
-    made,
-    comes,
-    ap status_of_done (sym is) ∙ sym e,
-    whole,
-    subst (λ d. Appends errors.old errors.new (done_line d)) is line,
-  )
+  at_memory : Reports new.said output ⊎ IsIdle output → Told (Err NoMemory) → AreRead
+  at_memory idle t = record {
+    usage = (λ two. absurd (omega (arith, t.0, two)), λ none. inr (inl t.0));
+    caused = λ four. absurd (omega (arith, t.0, four));
+    refused = λ which. absurd (omega (arith, t.0, which));
+    decided = λ command point end asks tells would at. inr (inr t.0);
+    done = λ zero_is. absurd (omega (arith, t.0, zero_is));
+    written = record {
+      front = elim idle [ inl said ↦ inl said | inr none ↦ inr (inl none) ];
+      usage = λ two. absurd (omega (arith, t.0, two));
+    };
+  }
 
-  refusal_by : (r : Result Done Stop) → Answers words old new output r → status ≡ status_of r
-      → Appends errors.old errors.new (line_of r) → Statuses status
-      → RefusesWith words old new output errors status
-      ⊎ GivesWith words old new output errors status
-      ⊎ ((status ≡ 6) × (AskReplicas words ⊎ AskSize words) × IsUntouched old new output)
-  refusal_by (Ok done) a e line which = inr (inl (given a e line))
-  refusal_by (Err (Words Usage)) a e line which = absurd (omega (arith, e, which))
-  refusal_by (Err (Words Replicas)) a e line which = inr (inr (e, inl a.0, a.1))
-  refusal_by (Err (Words Size)) a e line which = inr (inr (e, inr a.0, a.1))
-  refusal_by (Err (Refused why)) a e line which = inl (why, a.0, sym e, a.1, line)
-  refusal_by (Err (Fault object count)) a e line which = absurd (omega (arith, e, which))
-  refusal_by (Err NoMemory) a e line which = absurd (omega (arith, e, which))
+  at_value : (made : Outcome) → Comes words old new (gives made)
+      → Appends output.old output.new made.bytes → Told (Ok made.done) → AreRead
+  at_value made comes whole t = let z = done_zero made.done in record {
+    usage = (λ two. absurd (omega (arith, t.0, two, z)), λ none. absurd (asks_something comes.asks none));
+    caused = λ four. absurd (omega (arith, t.0, four, z));
+    refused = λ which. inr (inl (made, comes, sym t.0, whole, t.1));
+    decided = λ command point end asks tells would at.
+        inl (subst Told (sym (same_end point end (Ok made.done) asks tells would comes at refl)) t);
+    done = λ zero_is. (made, comes, z, whole, t.1);
+    written = record {
+      front = inr (inr (made, comes, whole_front output.old output.new made.bytes whole));
+      usage = λ two. absurd (omega (arith, t.0, two, z));
+    };
+  }
 
-  done_by : (r : Result Done Stop) → Answers words old new output r → status ≡ status_of r
-      → Appends errors.old errors.new (line_of r) → status ≡ 0
-      → GivesWith words old new output errors status
-  done_by (Ok done) a e line z = given a e line
-  done_by (Err (Words Usage)) a e line z = absurd (omega (arith, e, z))
-  done_by (Err (Words Replicas)) a e line z = absurd (omega (arith, e, z))
-  done_by (Err (Words Size)) a e line z = absurd (omega (arith, e, z))
-  done_by (Err (Refused why)) a e line z =
-      absurd (let s = status_in why in omega (arith, s, e, z))
-  done_by (Err (Fault object count)) a e line z = absurd (omega (arith, e, z))
-  done_by (Err NoMemory) a e line z = absurd (omega (arith, e, z))
+  at_refusal : (why : Refusal) → Comes words old new (refuses why) → Reports new.said output
+      → Told (Err (Refused why)) → AreRead
+  at_refusal why comes said t = let s = status_in why in record {
+    usage = (λ two. absurd (omega (arith, t.0, two, s)), λ none. absurd (asks_something comes.asks none));
+    caused = λ four. absurd (omega (arith, t.0, four, s));
+    refused = λ which. inl (why, comes, sym t.0, said, t.1);
+    decided = λ command point end asks tells would at.
+        inl (subst Told (sym (same_end point end (Err (Refused why)) asks tells would comes at refl)) t);
+    done = λ zero_is. absurd (omega (arith, t.0, zero_is, s));
+    written = record {
+      front = inl said;
+      usage = λ two. absurd (omega (arith, t.0, two, s));
+    };
+  }
 
-  writes : (r : Result Done Stop) → Answers words old new output r → IsIdle output
+  -- an object failed
+  at_fault : (object : Object) (count : ℕ) (command : Command) → Asks words command
+      → (((call : Call) × FailsAt words old new output errors call)
+      ⊎ ((made : Outcome) × FailsToWrite words old new output errors made))
+      → Reports new.said output
       ⊎ ((made : Outcome) × Comes words old new (gives made)
       × AppendsFront output.old output.new made.bytes)
-  writes (Ok done) a = inr (a.0, a.1, whole_front output.old output.new a.0.bytes a.3)
-  writes (Err (Words Usage)) a = inl a.1.1
-  writes (Err (Words Replicas)) a = inl a.1.1
-  writes (Err (Words Size)) a = inl a.1.1
-  writes (Err (Refused why)) a = inl a.1
-  writes (Err (Fault object count)) (inl (call, comes, fault, idle)) = inl idle
-  writes (Err (Fault object count)) (inr (made, comes, front, o, rose, n)) =
-      inr (made, comes, front)
-  writes (Err NoMemory) a = inl a.1
-
--- ---- the clauses
-
-module _ (words : List (List ℕ)) (old new : Around) (output errors : Receipt) (status : ℕ)
-    (r : Result Done Stop) (a : Answers words old new output r) where
-  pub usage : Tells (line_of r) (status_of r) errors status → IsUsage words errors status
-  usage (inl t) = (
-    λ two. (usage_means words old new output errors status r a (sym t.0 ∙ two)).0,
-    λ none. nothing_so words old new output errors status r a t.0 none,
-  )
-  usage (inr t) = (λ two. absurd (omega (arith, t.0)), λ none. inr (inr (inr (t.0, t.1))))
-
-  pub caused : Tells (line_of r) (status_of r) errors status
-      → IsCaused words old new output errors status
-  caused (inl t) four = elim (fault_by words old new output errors status r a (sym t.0 ∙ four)) [
-    | inl c ↦ inl c
-    | inr c ↦ inr (inl c)
-  ]
-  caused (inr t) four = inr (inr t.1)
-
-  pub refused : Tells (line_of r) (status_of r) errors status
-      → IsRefused words old new output errors status
-  refused (inl t) which = refusal_by words old new output errors status r a t.0 t.1 which
-  refused (inr t) which = absurd (omega (arith, t.0, which))
-
-  pub done : Tells (line_of r) (status_of r) errors status
-      → IsDone words old new output errors status
-  done (inl t) zero = subst (λ n. GivesWith words old new output errors n) zero
-      (done_by words old new output errors status r a t.0 t.1 zero)
-  done (inr t) zero = absurd (omega (arith, t.0))
-
-  pub written : Tells (line_of r) (status_of r) errors status
-      → IsWritten words old new output status
-  written (inl t) = record {
-    front = writes words old new output errors status r a;
-    usage = λ two. (usage_means words old new output errors status r a (sym t.0 ∙ two)).1;
+      → Told (Err (Fault object count)) → AreRead
+  at_fault object count command asks why front t = record {
+    usage = (λ two. absurd (omega (arith, t.0, two)), λ none. absurd (asks_something asks none));
+    caused = λ four. elim why [ inl c ↦ inl c | inr c ↦ inr (inl c) ];
+    refused = λ which. absurd (omega (arith, t.0, which));
+    decided = λ command point end asks tells would at. inr (inl t.0);
+    done = λ zero_is. absurd (omega (arith, t.0, zero_is));
+    written = record {
+      front = elim front [ inl said ↦ inl said | inr some ↦ inr (inr some) ];
+      usage = λ two. absurd (omega (arith, t.0, two));
+    };
   }
-  written (inr t) = record {
-    front = writes words old new output errors status r a;
-    usage = λ two. absurd (omega (arith, t.0));
-  }
+
+  comes : {made : Result Outcome Stop} {point : Point Outcome} (did : Did words old new made)
+      → Reaches (steps did.command) (left_of old) new point → Comes words old new point
+  comes did r = record { command = did.command; asks = did.asks; reaches = r; home = did.home }
+
+  -- the line has the object and the count
+  line_at : {object : Object} {count : ℕ} (same : Object) (number : ℕ) → object ≡ same
+      → count ≡ number → Told (Err (Fault object count))
+      → Appends errors.old errors.new (fault_line same number)
+  line_at {object} {count} same number o n t =
+      subst (λ c. Appends errors.old errors.new (fault_line same c)) n
+      (subst (λ x. Appends errors.old errors.new (fault_line x count)) o t.1)
+
+  at_step : (stop : Stop) → Did words old new (Err stop) → Reports new.said output
+      → Told (Err stop) → AreRead
+  at_step (Words why) did said t = absurd did.ends
+  at_step (Refused why) did said t = at_refusal why (comes did did.ends) said t
+  at_step (Fault object count) did said t =
+      let call : Call = did.ends.0 in
+      let f : IsFault call object count old new = did.ends.2 in
+      at_fault object count did.command did.asks (inl (
+        call,
+        (
+          comes did did.ends.1,
+          said,
+          f.1,
+          object_rose call did.home f.1,
+          line_at (object_of call) (count_at call new) f.0 f.2 t,
+        ),
+      ))
+      (inl said) t
+  at_step NoMemory did said t = at_memory (inl said) t
+
+  at_once : (r : Result Done Stop) → StopsAtOnce words r → IsUntouched old new output → Told r
+      → AreRead
+  at_once (Ok done) stops same t = absurd stops
+  at_once (Err (Words why)) stops same t = at_words why stops same t
+  at_once (Err (Refused why)) stops same t = absurd stops
+  at_once (Err (Fault object count)) stops same t = absurd stops
+  at_once (Err NoMemory) stops same t = at_memory (inr same.1) t
+
+  at_output : (made : Outcome) (r : Result Done Stop) → Did words old new (Ok made)
+      → Writes new.said output (Ok made) r → Told r → AreRead
+  at_output made (Ok done) did w t =
+      at_value made (comes did did.ends) w.1 (subst (λ d. Told (Ok d)) w.0 t)
+  at_output made (Err (Words why)) did w t = absurd w
+  at_output made (Err (Refused why)) did w t = absurd w
+  at_output made (Err (Fault object count)) did w t =
+      at_fault object count did.command did.asks
+      (inr (
+        made,
+        (
+          comes did did.ends,
+          w.0,
+          w.2,
+          line_at Output output.new_faults w.1 w.3 t,
+        ),
+      ))
+      (inr (made, comes did did.ends, w.0)) t
+  at_output made (Err NoMemory) did w t = absurd w
+
+  by_end : (r : Result Done Stop) → Answers words old new output r → Told r → AreRead
+  by_end r (inl (stops, same)) t = at_once r stops same t
+  by_end r (inr (Ok made, did, w)) t = at_output made r did w t
+  by_end r (inr (Err stop, did, w)) t = at_step stop did w.1 (subst Told w.0 t)
+
+  front_of : (r : Result Done Stop) → Answers words old new output r
+      → Reports new.said output ⊎ IsIdle output
+      ⊎ ((made : Outcome) × Comes words old new (gives made)
+      × AppendsFront output.old output.new made.bytes)
+  front_of r (inl (stops, same)) = inr (inl same.1)
+  front_of (Ok done) (inr (Ok made, did, w)) =
+      inr (inr (made, comes did did.ends, whole_front output.old output.new made.bytes w.1))
+  front_of (Err (Words why)) (inr (Ok made, did, w)) = absurd w
+  front_of (Err (Refused why)) (inr (Ok made, did, w)) = absurd w
+  front_of (Err (Fault object count)) (inr (Ok made, did, w)) =
+      inr (inr (made, comes did did.ends, w.0))
+  front_of (Err NoMemory) (inr (Ok made, did, w)) = absurd w
+  front_of r (inr (Err stop, did, w)) = inl w.1
+
+pub readings : (words : List (List ℕ)) (old new : Around) (output errors : Receipt) (status : ℕ)
+    (r : Result Done Stop) → Answers words old new output r
+    → Tells (line_of r) (status_of r) errors status
+    → Readings words old new output errors status
+readings words old new output errors status r a (inl t) =
+    by_end words old new output errors status r a t
+readings words old new output errors status r a (inr t) = record {
+  usage = (λ two. absurd (omega (arith, t.0, two)), λ none. inr (inr (inr (t.0, t.1))));
+  caused = λ four. inr (inr t.1);
+  refused = λ which. absurd (omega (arith, t.0, which));
+  decided = λ command point end asks tells would at. inr (inl t.0);
+  done = λ zero_is. absurd (omega (arith, t.0, zero_is));
+  written = record {
+    front = front_of words old new output errors status r a;
+    usage = λ two. absurd (omega (arith, t.0, two));
+  };
+}

@@ -4,7 +4,7 @@ use Rattle.std.specs.Prelude.{◌&&◌, nat_le, if◌then◌else◌}
 use Rattle.std.specs.Str.{IsAscii}
 use Rattle.std.proofs.lemmas.Bool.{leb-true}
 use Rattle.kr_config.proofs.Inversions.{right}
-use Rattle.kr_top.specs.Configuration.{visible_byte, visible}
+use Rattle.kr_top.specs.Texts.{visible_byte, visible}
 
 small : (byte : ℕ) (q : Bool) → (q ≡ true → byte ≤ 126) → (if q then byte else 63) < 128
 small byte true h = omega (arith, h refl)

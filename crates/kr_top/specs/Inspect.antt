@@ -1,25 +1,19 @@
 -- What a stored value says of itself.
-use Rattle.std.specs.Prelude.{◌≡◌, ◌⊎◌, ℕ, List, ◌++◌, length, codes, decimal, map, Option, None, Some, Result, Ok, Err}
+use Rattle.std.specs.Prelude.{◌≡◌, ℕ, List, ◌++◌, length, codes, map, Option, None, Some, Result, Ok, Err}
 use Rattle.std.specs.List.{concat}
-use Rattle.kr_base.specs.Rules.{IsName}
-use Rattle.kr_envelope.specs.Prefixes.{mark, prefix, Begins}
+use Rattle.kr_envelope.specs.Prefixes.{IsSplit}
 use Rattle.kr_envelope.specs.Limits.{Reads, number_of}
 use Rattle.kr_envelope.specs.declared.prefix.Kind.{Kind}
 use Rattle.kr_envelope.specs.declared.prefix.Kind.TheVariants.{Aescbc, Aesgcm, Kms}
+use Rattle.kr_envelope.specs.declared.prefix.Tagged.{Tagged}
+use Rattle.kr_envelope.specs.declared.prefix.Tagged.TheVariants.{Plain, Known, Strange}
 use Rattle.kr_envelope.specs.declared.object.EncryptedObject.{EncryptedObject}
 use Rattle.kr_envelope.specs.declared.object.ObjectNo.{ObjectNo}
 use Rattle.kr_envelope.specs.declared.object.ObjectNo.TheVariants.{Wire, KeyId, Source, Annotations, SourceType, NoData, NotUtf8, NoMemory}
 use Rattle.kr_provider.specs.declared.refusal.ValueNo.TheVariants as value
-use Rattle.kr_top.specs.Configuration.{visible}
+use Rattle.kr_top.specs.Texts.{line, numbered, visible}
 use Rattle.kr_top.specs.declared.refusal.Refusal.{Refusal}
 use Rattle.kr_top.specs.declared.refusal.Refusal.TheVariants.{Value, Placed}
-
-abbrev pub line : List ℕ → List ℕ
-line text = text ++ codes "\n"
-
--- a word, and a number or a printed text behind it
-abbrev pub word_and_number : List ℕ → ℕ → List ℕ
-word_and_number word n = word ++ (codes " " ++ decimal n)
 
 abbrev pub kind_text : Kind → List ℕ
 kind_text Aescbc = codes "aescbc"
@@ -28,19 +22,19 @@ kind_text Kms = codes "kms"
 
 -- the kind, the name, and how long the body is
 abbrev pub tag_line : Kind → (name body : List ℕ) → List ℕ
-tag_line kind name body = line (kind_text kind ++ (codes " " ++ word_and_number name (length body)))
+tag_line kind name body = line (kind_text kind ++ (codes " " ++ numbered name (length body)))
 
 abbrev pub annotation_line : List ℕ × List ℕ → List ℕ
 annotation_line pair =
-    line (codes "annotation " ++ word_and_number (visible pair.0) (length pair.1))
+    line (codes "annotation " ++ numbered (visible pair.0) (length pair.1))
 
 abbrev pub object_lines : EncryptedObject → List ℕ
 object_lines object =
     line (codes "key-id " ++ visible object.key_id)
-    ++ (line (word_and_number (codes "source") (length object.source))
+    ++ (line (numbered (codes "source") (length object.source))
     ++ (concat (map annotation_line object.annotations)
-    ++ (line (word_and_number (codes "type") (number_of object.kind))
-    ++ line (word_and_number (codes "data") (length object.encrypted)))))
+    ++ (line (numbered (codes "type") (number_of object.kind))
+    ++ line (numbered (codes "data") (length object.encrypted)))))
 
 -- why bytes are no object; a breach of the wire format and of UTF-8 has its place
 abbrev pub object_refusal : ObjectNo → Option Refusal
@@ -67,13 +61,12 @@ ShowsBody Aesgcm name body shown = shown ≡ Ok (tag_line Aesgcm name body)
 ShowsBody Kms name body shown =
     (read : Result EncryptedObject ObjectNo) × Reads body read × ShowsObject name body read shown
 
--- a value without a prefix; one of a kind and a name; one that begins as a prefix does and has none
--- is refusal 12
+-- a value by its prefix; one that begins as a prefix does and has none is refusal 12
+abbrev pub ShowsSplit : Tagged → Result (List ℕ) Refusal → Type 0
+ShowsSplit (Plain content) shown =
+    shown ≡ Ok (line (numbered (codes "plain") (length content.now)))
+ShowsSplit (Known kind name body) shown = ShowsBody kind name.now body.now shown
+ShowsSplit Strange shown = shown ≡ Err (Value value.NoProvider)
+
 abbrev pub Inspects : List ℕ → Result (List ℕ) Refusal → Type 0
-Inspects bytes shown =
-    ((Begins mark bytes → ⊥) × (shown ≡ Ok (line (word_and_number (codes "plain") (length bytes)))))
-    ⊎ ((kind : Kind) × (name : List ℕ) × (body : List ℕ) × IsName name
-    × (bytes ≡ prefix kind name ++ body) × ShowsBody kind name body shown)
-    ⊎ (Begins mark bytes
-    × ((kind : Kind) (name : List ℕ) → IsName name → Begins (prefix kind name) bytes → ⊥)
-    × (shown ≡ Err (Value value.NoProvider)))
+Inspects bytes shown = (tagged : Tagged) × IsSplit bytes tagged × ShowsSplit tagged shown

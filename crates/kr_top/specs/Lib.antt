@@ -1,4 +1,5 @@
 -- The definitions that contracts cite.
+pub mod Around
 pub mod Check
 pub mod Command
 pub mod Commands
@@ -7,4 +8,5 @@ pub mod Inspect
 pub mod Message
 pub mod Ran
 pub mod Steps
+pub mod Texts
 pub mod inner

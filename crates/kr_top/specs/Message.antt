@@ -1,5 +1,7 @@
 -- What a command says at its end: its status, and its line on the errors sink.
 use Rattle.std.specs.Prelude.{ℕ, List, [], ◌++◌, codes, decimal, Result, Ok, Err}
+use Rattle.kr_base.specs.Limits.{config_limit, data_limit, value_limit}
+use Rattle.kr_words.specs.Grammar.{replica_limit, size_limit}
 use Rattle.kr_config.specs.declared.refusal.ConfigNo.{ConfigNo}
 use Rattle.kr_config.specs.declared.refusal.ConfigNo.TheVariants as config
 use Rattle.kr_config.specs.declared.refusal.Counted.{Counted}
@@ -50,16 +52,19 @@ status_of (Err (Refused why)) = status_of_refusal why
 status_of (Err (Fault object count)) = 4
 status_of (Err NoMemory) = 5
 
+-- some words, one that tells of what, and a number
+abbrev pub counted_line : (start word : List ℕ) → ℕ → List ℕ
+counted_line start word n = start ++ (word ++ (codes " " ++ (decimal n ++ codes "\n")))
+
+abbrev pub limit_line : List ℕ → ℕ → List ℕ
+limit_line word n = counted_line (codes "kmsrest: limit ") word n
+
 -- what a configuration has too many of
 abbrev pub counted_text : Counted → List ℕ
 counted_text Entries = codes "entries"
 counted_text Patterns = codes "patterns"
 counted_text Keys = codes "keys"
 counted_text Plugins = codes "kms"
-
-abbrev pub too_many_line : Counted → List ℕ
-too_many_line counted = codes "kmsrest: limit " ++ (counted_text counted
-    ++ (codes " " ++ (decimal (limit_of counted) ++ codes "\n")))
 
 abbrev pub breach_line : ConfigNo → List ℕ
 breach_line why = codes "kmsrest: text " ++ (decimal (code_of why)
@@ -69,23 +74,28 @@ breach_line why = codes "kmsrest: text " ++ (decimal (code_of why)
 abbrev pub configuration_line : ConfigNo → List ℕ
 configuration_line (config.Breach broken place) = breach_line (config.Breach broken place)
 configuration_line (config.Yaml broken line) = breach_line (config.Yaml broken line)
-configuration_line (config.Limit counted) = too_many_line counted
+configuration_line (config.Limit counted) = limit_line (counted_text counted) (limit_of counted)
 
 abbrev pub words_line : BadWords → List ℕ
 words_line Usage = codes "kmsrest: usage: kmsrest COMMAND OPTIONS\n"
-words_line Replicas = codes "kmsrest: limit replicas 16\n"
-words_line Size = codes "kmsrest: limit size 10000\n"
+words_line Replicas = limit_line (codes "replicas") replica_limit
+words_line Size = limit_line (codes "size") size_limit
 
-abbrev pub limit_line : limits.Limit → List ℕ
-limit_line limit.Config = codes "kmsrest: limit config 1048576\n"
-limit_line limit.Data = codes "kmsrest: limit data 2097152\n"
-limit_line limit.Value = codes "kmsrest: limit value 2162688\n"
+abbrev pub limit_text : limits.Limit → List ℕ
+limit_text limit.Config = codes "config"
+limit_text limit.Data = codes "data"
+limit_text limit.Value = codes "value"
+
+abbrev pub limit_size : limits.Limit → ℕ
+limit_size limit.Config = config_limit
+limit_size limit.Data = data_limit
+limit_size limit.Value = value_limit
 
 abbrev pub refusal_line : Refusal → List ℕ
 refusal_line (Absent name) = codes "kmsrest: text 40 " ++ (name ++ codes "\n")
 refusal_line (Configuration why) = configuration_line why
 refusal_line NotServed = codes "kmsrest: text 50 0 0\n"
-refusal_line (Limit which) = limit_line which
+refusal_line (Limit which) = limit_line (limit_text which) (limit_size which)
 refusal_line (Value why) = codes "kmsrest: refused " ++ (decimal (number_of why)
     ++ (codes " " ++ (name_of why ++ codes "\n")))
 refusal_line (Placed why at) =
@@ -99,8 +109,7 @@ object_text Files = codes "files"
 object_text (Dice seat) = codes "dice " ++ decimal seat
 
 abbrev pub fault_line : Object → ℕ → List ℕ
-fault_line object count = codes "kmsrest: fault " ++ (object_text object
-    ++ (codes " " ++ (decimal count ++ codes "\n")))
+fault_line object count = counted_line (codes "kmsrest: fault ") (object_text object) count
 
 -- decrypt says whether the value is one that the resource's writer would write today
 abbrev pub done_line : Done → List ℕ

@@ -3,8 +3,9 @@ use Rattle.std.specs.Prelude.{◌≡◌, ℕ, ◌+◌, ◌≤◌, ◌==◌, ◌�
 use Rattle.std.specs.Io.KnownBytes.{Consumes, IsAtEnd}
 use Rattle.kr_base.specs.Told.{Agrees}
 use Rattle.kr_kms.specs.Outside.{noted}
-use Rattle.kr_kms.specs.declared.world.Asked.{Asked}
-use Rattle.kr_kms.specs.declared.world.Asked.TheVariants.{File, RandomSource}
+use Rattle.kr_kms.specs.declared.plugin.Status.{Status}
+use Rattle.kr_kms.specs.declared.world.WorldCall.{WorldCall}
+use Rattle.kr_kms.specs.declared.world.WorldCall.TheVariants.{File, RandomSource}
 use Rattle.kr_top.specs.declared.refusal.Object.{Object}
 use Rattle.kr_top.specs.declared.refusal.Object.TheVariants.{Input, Files, Dice}
 use Rattle.kr_top.specs.declared.refusal.Refusal.{Refusal}
@@ -19,6 +20,8 @@ pub data Steps (A : Type 0) : Type 1 where
   borrow_dice : ℕ → Steps A → Steps A
   -- so many bytes of the random source of a seat
   draw : (seat size : ℕ) → (List ℕ → Steps A) → Steps A
+  -- nothing is asked: where a later step ends the command, this is written in place of a value
+  note : List ℕ → Steps A → Steps A
   -- nothing is asked: a thing of which this holds, where there is memory for it
   find : (B : Type 0) → (B → Type 0) → (B → Steps A) → Steps A
   refuse : Refusal → Steps A
@@ -31,6 +34,7 @@ and_then (take_input limit long next) others =
     take_input limit long (λ bytes. and_then (next bytes) others)
 and_then (borrow_dice seat next) others = borrow_dice seat (and_then next others)
 and_then (draw seat size next) others = draw seat size (λ bytes. and_then (next bytes) others)
+and_then (note text next) others = note text (and_then next others)
 and_then (find B P next) others = find B P (λ b. and_then (next b) others)
 and_then (refuse why) others = refuse why
 and_then (give x) others = others x
@@ -56,23 +60,33 @@ pub data Point (A : Type 0) : Type 0 where
   refuses : Refusal → Point A
   gives : A → Point A
 
--- the files by their names, which stay; what the steps so far left of the input and of the random
--- source of each seat; and the calls that they made on the world: all this where it is told
+-- x at the number, what f says at each other
+abbrev pub instead : {A : Type 0} → ℕ → A → (ℕ → A) → ℕ → A
+instead number x f other = if number == other then x else f other
+
+-- the files and tapes by their names and the statuses of links, which stay; what the steps so far
+-- left of the input and of the random source of each seat, and the calls that they made on the
+-- world, all this where it is told; and what they said last
 pub record Left : Type 0 where
   pub file : List ℕ → Option (Option (List ℕ))
+  pub tapes : List ℕ → Option (Option (List ℕ))
+  pub links : ℕ × List ℕ → Option Status
   pub input : Option (List ℕ)
   pub dice : ℕ → Option (List ℕ)
-  pub asked : Option (List Asked)
+  pub asked : Option (List WorldCall)
+  pub said : List ℕ
 
 abbrev pub with_input : Option (List ℕ) → Left → Left
 with_input rest left = record left { input = rest }
 
 abbrev pub with_dice : ℕ → Option (List ℕ) → Left → Left
-with_dice seat rest left =
-    record left { dice = λ other. if seat == other then rest else left.dice other }
+with_dice seat rest left = record left { dice = instead seat rest left.dice }
 
-abbrev pub with_asked : Asked → Left → Left
+abbrev pub with_asked : WorldCall → Left → Left
 with_asked call left = record left { asked = noted call left.asked }
+
+abbrev pub with_said : List ℕ → Left → Left
+with_said text left = record left { said = text }
 
 -- from what is left the steps went to this point, and left this
 module _ {A : Type 0} (point : Point A) (end : Left) where
@@ -99,6 +113,7 @@ module _ {A : Type 0} (point : Point A) (end : Left) where
       IsAt (awaits (drawing seat)) left
       ⊎ ((bytes : List ℕ) × (rest : Option (List ℕ)) × Consumes (left.dice seat) rest bytes
       × (length bytes ≡ size) × Goes (next bytes) (with_dice seat rest left))
+  Goes (note text next) left = Goes next (with_said text left)
   Goes (find B P next) left = IsAt amid left ⊎ ((b : B) × P b × Goes (next b) left)
   Goes (refuse why) left = IsAt (refuses why) left
   Goes (give x) left = IsAt (gives x) left

@@ -1,42 +1,34 @@
 //! `inspect`: input, split and read, what the value says of itself.
 ghost use Rattle.std.specs.Prelude.{◌≡◌, ◌≢◌, ◌++◌, codes, decimal, Some, IfOk, map};
 ghost use Rattle.std.specs.List.{concat};
-ghost use Rattle.kr_kms.specs.Outside.{Outside};
 ghost use Rattle.kr_envelope.specs.Limits.{number_of};
-ghost use Rattle.kr_top.specs.Command.{inspect};
+ghost use Rattle.kr_top.specs.Around.{Around, with_told_input};
 ghost use Rattle.kr_top.specs.Commands.{steps};
-ghost use Rattle.kr_top.specs.Inspect.{line, word_and_number, kind_text, tag_line, annotation_line, object_lines, object_refusal};
+ghost use Rattle.kr_top.specs.Inspect.{kind_text, tag_line, annotation_line, object_lines, object_refusal};
 ghost use Rattle.kr_top.specs.Inspect.{Inspects, ShowsBody};
-ghost use Rattle.kr_top.specs.Configuration.{visible};
+ghost use Rattle.kr_top.specs.Texts.{line, numbered, visible};
 ghost use Rattle.kr_top.specs.inner.Phases.{Does, Yields};
-ghost use Rattle.kr_top.specs.Ran.{around};
 
-use crate::phases::take_input;
-use crate::refusal::{Done, Limit, Outcome, Refusal, Stop};
+use crate::command::{Command, Direction};
+use crate::phases::{show, take_input};
+use crate::refusal::{Outcome, Refusal, Stop};
 use crate::text::{add, add_number, add_pair, add_visible};
-use kr_base::{Bytes, NoMemory, Source, Text, VALUE_LIMIT};
+use kr_base::{Bytes, NoMemory, Source, Text};
 use kr_envelope::{EncryptedObject, Kind, ObjectNo, SourceKind, Tagged, split};
 use kr_provider::ValueNo;
 use std::alloc::Global;
 
 /// Makes the text of what the input, a stored value, says of itself.
 pub fn inspect<I: Source>(alloc: Global, input: &mut I) -> Result<Outcome, Stop>
-    ensures { (world : Outside) → Does (steps inspect)
-        (around world (I.left input.old) (I.count input.old))
-        (around world (I.left input.new) (I.count input.new))
-        result }
+    ensures { (a : Around) → Does (steps Command.Inspect)
+        (with_told_input (I.left input.old) (I.count input.old) a)
+        (with_told_input (I.left input.new) (I.count input.new) a) result }
 {
-    let bytes = match take_input(alloc, input, VALUE_LIMIT, Refusal::Limit(Limit::Value)) {
+    let bytes = match take_input(alloc, input, Direction::Decrypt) {
         Ok(bytes) => bytes,
         Err(stop) => return Err(stop),
     };
-    match inspected(alloc, bytes.as_slice()) {
-        Ok(bytes) => Ok(Outcome {
-            bytes,
-            done: Done::Silent,
-        }),
-        Err(stop) => Err(stop),
-    }
+    show(inspected(alloc, bytes.as_slice()))
 }
 
 /// What a value says of itself.
@@ -168,7 +160,7 @@ fn add_annotation(text: &mut Vec<u8>, key: &str, value: &[u8]) -> Result<(), NoM
 /// Adds a line of a foreign text and a number.
 fn add_visible_count(text: &mut Vec<u8>, foreign: &str, number: usize) -> Result<(), NoMemory>
     ensures { IfOk result (λ done. text.new.items
-        ≡ text.old.items ++ line (word_and_number (visible foreign.now) number)) }
+        ≡ text.old.items ++ line (numbered (visible foreign.now) number)) }
 {
     add_visible(text, foreign)?;
     add_size(text, number)
@@ -177,7 +169,7 @@ fn add_visible_count(text: &mut Vec<u8>, foreign: &str, number: usize) -> Result
 /// Adds a line of a word and a number.
 fn add_count(text: &mut Vec<u8>, word: &str, number: usize) -> Result<(), NoMemory>
     ensures { IfOk result (λ done. text.new.items
-        ≡ text.old.items ++ line (word_and_number word.now number)) }
+        ≡ text.old.items ++ line (numbered word.now number)) }
 {
     add(text, word)?;
     add_size(text, number)

@@ -3,6 +3,7 @@
 
 mod call;
 mod check;
+mod command;
 mod convert;
 mod inspect;
 mod listing;

@@ -1,16 +1,13 @@
 //! What a command says at its end.
-ghost use Rattle.std.specs.Prelude.{◌≡◌, ◌≤◌, ◌++◌, OnOk, OnErr, List, [], ◌∷◌, codes, decimal};
-ghost use Rattle.std.specs.Io.KnownBytes.{Appends};
-ghost use Rattle.kr_base.specs.Faults.{IsCounted};
-ghost use Rattle.kr_base.specs.Streams.{AppendsFront};
+ghost use Rattle.std.specs.Prelude.{◌≡◌, ◌≤◌};
 ghost use Rattle.kr_top.specs.Message.{status_of, status_of_words, status_of_configuration, status_of_refusal, status_of_done};
-ghost use Rattle.kr_top.specs.Message.{words_line, limit_line, refusal_line, done_line, counted_text, too_many_line, breach_line, configuration_line, fault_line, line_of};
+ghost use Rattle.kr_top.specs.Message.{words_line, limit_line, limit_text, limit_size, refusal_line, done_line, counted_text, counted_line, breach_line, configuration_line, fault_line, line_of};
 ghost use Rattle.kr_top.specs.Ran.{receipt, Tells};
-ghost use Rattle.kr_top.specs.inner.Phases.{whole};
+ghost use Rattle.kr_top.specs.inner.Phases.{whole, Says};
 
 use crate::refusal::{BadWords, Done, Limit, Object, Refusal, Stop};
 use itoa::Buffer;
-use kr_base::{Failed, Sink, write_all};
+use kr_base::{CONFIG_LIMIT, DATA_LIMIT, Failed, Sink, VALUE_LIMIT, write_all};
 use kr_config::{ConfigNo, Counted};
 use kr_provider::ValueNo;
 
@@ -85,55 +82,16 @@ pub fn tell<E: Sink>(errors: &mut E, answer: &Result<Done, Stop>) -> u8
 }
 
 fn write_line<E: Sink>(errors: &mut E, answer: &Result<Done, Stop>) -> Result<(), Failed>
-    ensures ok { OnOk result
-        (Appends (E.held errors.old) (E.held errors.new) (line_of answer.now)) }
-    ensures err { OnErr result
-        (AppendsFront (E.held errors.old) (E.held errors.new) (line_of answer.now)) }
-    ensures cause { IsCounted (E.count errors.old) (E.count errors.new) result }
+    ensures { Says (receipt (E.held errors.old) (E.held errors.new)
+        (E.count errors.old) (E.count errors.new))
+        (line_of answer.now) result }
 {
     match answer {
-        Ok(done) => write_all(errors, done_line(*done).as_bytes()),
-        Err(Stop::Words(why)) => write_all(errors, words_line(*why).as_bytes()),
+        Ok(done) => write_text(errors, done_line(*done)),
+        Err(Stop::Words(why)) => write_words(errors, *why),
         Err(Stop::Refused(why)) => write_refusal(errors, why),
         Err(Stop::Fault(object, count)) => write_fault(errors, *object, *count),
-        Err(Stop::NoMemory) => write_all(errors, b"kmsrest: memory\n"),
-    }
-}
-
-fn write_refusal<E: Sink>(errors: &mut E, why: &Refusal) -> Result<(), Failed>
-    ensures ok { OnOk result
-        (Appends (E.held errors.old) (E.held errors.new) (refusal_line why.now)) }
-    ensures err { OnErr result
-        (AppendsFront (E.held errors.old) (E.held errors.new) (refusal_line why.now)) }
-    ensures cause { IsCounted (E.count errors.old) (E.count errors.new) result }
-{
-    match why {
-        Refusal::Absent(name) => write_each(errors, &["kmsrest: text 40 ", name.as_str(), "\n"]),
-        Refusal::Configuration(why) => write_configuration(errors, *why),
-        Refusal::NotServed => write_all(errors, b"kmsrest: text 50 0 0\n"),
-        Refusal::Limit(which) => write_all(errors, limit_line(*which).as_bytes()),
-        Refusal::Value(why) => write_value(errors, *why),
-        Refusal::Placed(why, at) => write_placed(errors, *why, *at),
-    }
-}
-
-fn words_line(why: BadWords) -> &'static str
-    ensures { result.now ≡ words_line why }
-{
-    match why {
-        BadWords::Usage => "kmsrest: usage: kmsrest COMMAND OPTIONS\n",
-        BadWords::Replicas => "kmsrest: limit replicas 16\n",
-        BadWords::Size => "kmsrest: limit size 10000\n",
-    }
-}
-
-fn limit_line(which: Limit) -> &'static str
-    ensures { result.now ≡ limit_line which }
-{
-    match which {
-        Limit::Config => "kmsrest: limit config 1048576\n",
-        Limit::Data => "kmsrest: limit data 2097152\n",
-        Limit::Value => "kmsrest: limit value 2162688\n",
+        Err(Stop::NoMemory) => write_text(errors, "kmsrest: memory\n"),
     }
 }
 
@@ -147,13 +105,67 @@ fn done_line(done: Done) -> &'static str
     }
 }
 
+fn write_words<E: Sink>(errors: &mut E, why: BadWords) -> Result<(), Failed>
+    ensures { Says (receipt (E.held errors.old) (E.held errors.new)
+        (E.count errors.old) (E.count errors.new))
+        (words_line why) result }
+{
+    match why {
+        BadWords::Usage => write_text(errors, "kmsrest: usage: kmsrest COMMAND OPTIONS\n"),
+        BadWords::Replicas => write_limit(errors, "replicas", 16),
+        BadWords::Size => write_limit(errors, "size", 10_000),
+    }
+}
+
+fn write_refusal<E: Sink>(errors: &mut E, why: &Refusal) -> Result<(), Failed>
+    ensures { Says (receipt (E.held errors.old) (E.held errors.new)
+        (E.count errors.old) (E.count errors.new))
+        (refusal_line why.now) result }
+{
+    match why {
+        Refusal::Absent(name) => write_each(errors, &["kmsrest: text 40 ", name.as_str(), "\n"]),
+        Refusal::Configuration(why) => write_configuration(errors, *why),
+        Refusal::NotServed => write_text(errors, "kmsrest: text 50 0 0\n"),
+        Refusal::Limit(which) => write_limit(errors, limit_text(*which), limit_size(*which)),
+        Refusal::Value(why) => write_value(errors, *why),
+        Refusal::Placed(why, at) => write_placed(errors, *why, *at),
+    }
+}
+
+/// Writes the line of a limit that was passed.
+fn write_limit<E: Sink>(errors: &mut E, word: &str, limit: u64) -> Result<(), Failed>
+    ensures { Says (receipt (E.held errors.old) (E.held errors.new)
+        (E.count errors.old) (E.count errors.new))
+        (limit_line word.now limit) result }
+{
+    write_counted(errors, "kmsrest: limit ", word, limit)
+}
+
+fn limit_text(which: Limit) -> &'static str
+    ensures { result.now ≡ limit_text which }
+{
+    match which {
+        Limit::Config => "config",
+        Limit::Data => "data",
+        Limit::Value => "value",
+    }
+}
+
+fn limit_size(which: Limit) -> u64
+    ensures { result ≡ limit_size which }
+{
+    match which {
+        Limit::Config => CONFIG_LIMIT,
+        Limit::Data => DATA_LIMIT,
+        Limit::Value => VALUE_LIMIT,
+    }
+}
+
 /// Writes the line of a refused value.
 fn write_value<E: Sink>(errors: &mut E, why: ValueNo) -> Result<(), Failed>
-    ensures ok { OnOk result
-        (Appends (E.held errors.old) (E.held errors.new) (refusal_line (Refusal.Value why))) }
-    ensures err { OnErr result
-        (AppendsFront (E.held errors.old) (E.held errors.new) (refusal_line (Refusal.Value why))) }
-    ensures cause { IsCounted (E.count errors.old) (E.count errors.new) result }
+    ensures { Says (receipt (E.held errors.old) (E.held errors.new)
+        (E.count errors.old) (E.count errors.new))
+        (refusal_line (Refusal.Value why)) result }
 {
     let mut buffer = Buffer::new();
     let digits = buffer.format(why.number());
@@ -165,12 +177,9 @@ fn write_value<E: Sink>(errors: &mut E, why: ValueNo) -> Result<(), Failed>
 
 /// Writes the line of a refused value with its place.
 fn write_placed<E: Sink>(errors: &mut E, why: ValueNo, at: u64) -> Result<(), Failed>
-    ensures ok { OnOk result
-        (Appends (E.held errors.old) (E.held errors.new) (refusal_line (Refusal.Placed why at))) }
-    ensures err { OnErr result
-        (AppendsFront (E.held errors.old) (E.held errors.new)
-        (refusal_line (Refusal.Placed why at))) }
-    ensures cause { IsCounted (E.count errors.old) (E.count errors.new) result }
+    ensures { Says (receipt (E.held errors.old) (E.held errors.new)
+        (E.count errors.old) (E.count errors.new))
+        (refusal_line (Refusal.Placed why at)) result }
 {
     let mut buffer = Buffer::new();
     let digits = buffer.format(why.number());
@@ -192,26 +201,26 @@ fn write_placed<E: Sink>(errors: &mut E, why: ValueNo, at: u64) -> Result<(), Fa
 
 /// Writes the line of what a configuration breaks.
 fn write_configuration<E: Sink>(errors: &mut E, why: ConfigNo) -> Result<(), Failed>
-    ensures ok { OnOk result
-        (Appends (E.held errors.old) (E.held errors.new) (configuration_line why)) }
-    ensures err { OnErr result
-        (AppendsFront (E.held errors.old) (E.held errors.new) (configuration_line why)) }
-    ensures cause { IsCounted (E.count errors.old) (E.count errors.new) result }
+    ensures { Says (receipt (E.held errors.old) (E.held errors.new)
+        (E.count errors.old) (E.count errors.new))
+        (configuration_line why) result }
 {
     match why {
         ConfigNo::Breach(_, _) => write_breach(errors, why),
         ConfigNo::Yaml(_, _) => write_breach(errors, why),
-        ConfigNo::Limit(counted) => write_too_many(errors, counted),
+        ConfigNo::Limit(counted) => write_limit(
+            errors,
+            counted_text(counted),
+            counted.limit() as u64,
+        ),
     }
 }
 
 /// Writes the line of a breach with its code and numbers.
 fn write_breach<E: Sink>(errors: &mut E, why: ConfigNo) -> Result<(), Failed>
-    ensures ok { OnOk result
-        (Appends (E.held errors.old) (E.held errors.new) (breach_line why)) }
-    ensures err { OnErr result
-        (AppendsFront (E.held errors.old) (E.held errors.new) (breach_line why)) }
-    ensures cause { IsCounted (E.count errors.old) (E.count errors.new) result }
+    ensures { Says (receipt (E.held errors.old) (E.held errors.new)
+        (E.count errors.old) (E.count errors.new))
+        (breach_line why) result }
 {
     let mut code_buffer = Buffer::new();
     let code = code_buffer.format(why.code());
@@ -222,22 +231,6 @@ fn write_breach<E: Sink>(errors: &mut E, why: ConfigNo) -> Result<(), Failed>
     write_each(
         errors,
         &["kmsrest: text ", code, " ", first, " ", second, "\n"],
-    )
-}
-
-/// Writes the line of a limit that a configuration passes.
-fn write_too_many<E: Sink>(errors: &mut E, counted: Counted) -> Result<(), Failed>
-    ensures ok { OnOk result
-        (Appends (E.held errors.old) (E.held errors.new) (too_many_line counted)) }
-    ensures err { OnErr result
-        (AppendsFront (E.held errors.old) (E.held errors.new) (too_many_line counted)) }
-    ensures cause { IsCounted (E.count errors.old) (E.count errors.new) result }
-{
-    let mut buffer = Buffer::new();
-    let limit = buffer.format(counted.limit());
-    write_each(
-        errors,
-        &["kmsrest: limit ", counted_text(counted), " ", limit, "\n"],
     )
 }
 
@@ -254,55 +247,58 @@ fn counted_text(counted: Counted) -> &'static str
 }
 
 fn write_fault<E: Sink>(errors: &mut E, object: Object, count: u64) -> Result<(), Failed>
-    ensures ok { OnOk result
-        (Appends (E.held errors.old) (E.held errors.new) (fault_line object count)) }
-    ensures err { OnErr result
-        (AppendsFront (E.held errors.old) (E.held errors.new) (fault_line object count)) }
-    ensures cause { IsCounted (E.count errors.old) (E.count errors.new) result }
+    ensures { Says (receipt (E.held errors.old) (E.held errors.new)
+        (E.count errors.old) (E.count errors.new))
+        (fault_line object count) result }
 {
     match object {
-        Object::Input => write_named_fault(errors, "input", count),
-        Object::Output => write_named_fault(errors, "output", count),
-        Object::Files => write_named_fault(errors, "files", count),
+        Object::Input => write_counted(errors, "kmsrest: fault ", "input", count),
+        Object::Output => write_counted(errors, "kmsrest: fault ", "output", count),
+        Object::Files => write_counted(errors, "kmsrest: fault ", "files", count),
         Object::Dice(seat) => write_dice_fault(errors, seat, count),
     }
 }
 
-fn write_named_fault<E: Sink>(errors: &mut E, name: &str, count: u64) -> Result<(), Failed>
-    ensures ok { OnOk result (Appends (E.held errors.old) (E.held errors.new)
-        (codes "kmsrest: fault " ++ (name.now ++ (codes " " ++ (decimal count ++ codes "\n"))))) }
-    ensures err { OnErr result (AppendsFront (E.held errors.old) (E.held errors.new)
-        (codes "kmsrest: fault " ++ (name.now ++ (codes " " ++ (decimal count ++ codes "\n"))))) }
-    ensures cause { IsCounted (E.count errors.old) (E.count errors.new) result }
+fn write_dice_fault<E: Sink>(errors: &mut E, seat: u32, count: u64) -> Result<(), Failed>
+    ensures { Says (receipt (E.held errors.old) (E.held errors.new)
+        (E.count errors.old) (E.count errors.new))
+        (fault_line (Object.Dice seat) count) result }
 {
     let mut buffer = Buffer::new();
-    let digits = buffer.format(count);
-    write_each(errors, &["kmsrest: fault ", name, " ", digits, "\n"])
+    let seat = buffer.format(seat);
+    write_counted(errors, "kmsrest: fault dice ", seat, count)
 }
 
-fn write_dice_fault<E: Sink>(errors: &mut E, seat: u32, count: u64) -> Result<(), Failed>
-    ensures ok { OnOk result (Appends (E.held errors.old) (E.held errors.new)
-        (fault_line (Object.Dice seat) count)) }
-    ensures err { OnErr result (AppendsFront (E.held errors.old) (E.held errors.new)
-        (fault_line (Object.Dice seat) count)) }
-    ensures cause { IsCounted (E.count errors.old) (E.count errors.new) result }
+/// Writes some words, one that tells of what, and a number.
+fn write_counted<E: Sink>(
+    errors: &mut E,
+    start: &str,
+    word: &str,
+    number: u64,
+) -> Result<(), Failed>
+    ensures { Says (receipt (E.held errors.old) (E.held errors.new)
+        (E.count errors.old) (E.count errors.new))
+        (counted_line start.now word.now number) result }
 {
-    let mut seat_buffer = Buffer::new();
-    let seat = seat_buffer.format(seat);
     let mut buffer = Buffer::new();
-    let digits = buffer.format(count);
-    write_each(
-        errors,
-        &["kmsrest: fault ", "dice ", seat, " ", digits, "\n"],
-    )
+    let digits = buffer.format(number);
+    write_each(errors, &[start, word, " ", digits, "\n"])
+}
+
+/// Writes the text.
+fn write_text<E: Sink>(errors: &mut E, text: &str) -> Result<(), Failed>
+    ensures { Says (receipt (E.held errors.old) (E.held errors.new)
+        (E.count errors.old) (E.count errors.new))
+        text.now result }
+{
+    write_each(errors, &[text])
 }
 
 /// Writes the pieces, one behind another.
 fn write_each<E: Sink>(errors: &mut E, pieces: &[&str]) -> Result<(), Failed>
-    ensures ok { OnOk result (Appends (E.held errors.old) (E.held errors.new) (whole pieces.now)) }
-    ensures err { OnErr result
-        (AppendsFront (E.held errors.old) (E.held errors.new) (whole pieces.now)) }
-    ensures cause { IsCounted (E.count errors.old) (E.count errors.new) result }
+    ensures { Says (receipt (E.held errors.old) (E.held errors.new)
+        (E.count errors.old) (E.count errors.new))
+        (whole pieces.now) result }
 {
     for piece in pieces {
         match write_all(errors, piece.as_bytes()) {

@@ -1,30 +1,41 @@
 //! The phases that commands are made of.
-ghost use Rattle.std.specs.Prelude.{◌≡◌, ◌≤◌, length, Some, false, IfOk, IfErr, OnErr};
-ghost use Rattle.std.specs.Option.{option_copied};
+ghost use Rattle.std.specs.Prelude.{◌≡◌, ◌<◌, ◌≤◌, false, length, [], IfOk, IfErr, OnErr};
 ghost use Rattle.kr_config.specs.Kept.{rows_of};
 ghost use Rattle.kr_provider.specs.Publication.{names_plugin};
-ghost use Rattle.kr_kms.specs.Outside.{KeepsFiles, KeepsDice, HandsOut};
-ghost use Rattle.kr_kms.specs.declared.world.Asked.{Asked};
-ghost use Rattle.kr_top.specs.Configuration.{any, without_plugin};
-ghost use Rattle.kr_top.specs.Ran.{receipt};
-ghost use Rattle.kr_top.specs.inner.Phases.{AskedFor, Configures, ReadsRows, TakesInput, NoDice, Writes};
+ghost use Rattle.kr_kms.specs.Outside.{KeepsFiles, KeepsObjects};
+ghost use Rattle.kr_kms.specs.declared.world.WorldCall.{WorldCall};
+ghost use Rattle.kr_top.specs.Around.{Around, with_told_input, with_world};
+ghost use Rattle.kr_top.specs.Commands.{configuration, served, input_of, limit_of};
+ghost use Rattle.kr_top.specs.Ran.{receipt, Writes};
+ghost use Rattle.kr_top.specs.inner.Phases.{Does, Lent, Returned, AskedFor, Configures, ReadsRows, TakesInput, NoDice, rows_in, shown_as};
 
+use crate::command::Direction;
 use crate::refusal::{Done, Limit, Object, Outcome, Refusal, Stop};
 use crate::text::visible;
-use kr_base::{Bytes, CONFIG_LIMIT, Failed, ReadNo, Sink, Source, read_all, write_all};
+use kr_base::{
+    Bytes, CONFIG_LIMIT, DATA_LIMIT, Failed, ReadNo, Sink, Source, VALUE_LIMIT, read_all, write_all,
+};
 use kr_config::{ConfigErr, Settings, read};
 use kr_kms::{FileNo, World};
 use kr_provider::names_plugin;
 use std::alloc::Global;
 
+/// The configuration in a file.
+pub fn configure<W: World>(alloc: Global, world: &mut W, name: &str) -> Result<Settings, Stop>
+    ensures { (a : Around) → Does (configuration name.now) (with_world (W.told world.old) a)
+        (with_world (W.told world.new) a) (rows_in result) }
+{
+    load_settings(alloc, world, name)
+}
+
 /// Loads a configuration. What is printed where there is no such file is made first, so that this
 /// refusal needs no memory.
-pub fn configure<W: World>(alloc: Global, world: &mut W, name: &str) -> Result<Settings, Stop>
-    ensures settings { Configures (W.told world.old) (W.told world.new) any name.now result }
+fn load_settings<W: World>(alloc: Global, world: &mut W, name: &str) -> Result<Settings, Stop>
+    ensures settings { Configures (W.told world.old) (W.told world.new) name.now result }
     ensures asked { AskedFor (W.told world.old).asked (W.told world.new).asked
-        (Asked.File name.now) result }
+        (WorldCall.File name.now) result }
     ensures files { KeepsFiles (W.told world.old) (W.told world.new) }
-    ensures dice { KeepsDice (W.told world.old) (W.told world.new) }
+    ensures objects { KeepsObjects (W.told world.old) (W.told world.new) }
 {
     let absent = match visible(alloc, name) {
         Ok(text) => text,
@@ -40,27 +51,6 @@ pub fn configure<W: World>(alloc: Global, world: &mut W, name: &str) -> Result<S
     read_settings(alloc, file.as_slice())
 }
 
-/// Loads a configuration that is served: one that names no plugin.
-pub fn serve<W: World>(alloc: Global, world: &mut W, name: &str) -> Result<Settings, Stop>
-    ensures settings { Configures (W.told world.old) (W.told world.new)
-        without_plugin name.now result }
-    ensures asked { AskedFor (W.told world.old).asked (W.told world.new).asked
-        (Asked.File name.now) result }
-    ensures no_plugin { IfOk result
-        (λ settings. names_plugin (rows_of settings.entries.0) ≡ false) }
-    ensures files { KeepsFiles (W.told world.old) (W.told world.new) }
-    ensures dice { KeepsDice (W.told world.old) (W.told world.new) }
-{
-    let settings = match configure(alloc, world, name) {
-        Ok(settings) => settings,
-        Err(stop) => return Err(stop),
-    };
-    if names_plugin(&settings) {
-        return Err(Stop::Refused(Refusal::NotServed));
-    }
-    Ok(settings)
-}
-
 /// The configuration by its bytes.
 fn read_settings(alloc: Global, bytes: &[u8]) -> Result<Settings, Stop>
     ensures { ReadsRows bytes.now result }
@@ -72,15 +62,40 @@ fn read_settings(alloc: Global, bytes: &[u8]) -> Result<Settings, Stop>
     }
 }
 
-/// Takes the whole input, of at most `limit` bytes; `long` is the refusal where there are more.
+/// A configuration that is served: one that names no plugin.
+pub fn serve(settings: Settings) -> Result<Settings, Stop>
+    ensures does { (a : Around) → Does (served (rows_of settings.entries.0)) a a (rows_in result) }
+    ensures no_plugin { IfOk result
+        (λ settings. names_plugin (rows_of settings.entries.0) ≡ false) }
+{
+    if names_plugin(&settings) {
+        return Err(Stop::Refused(Refusal::NotServed));
+    }
+    Ok(settings)
+}
+
+/// Takes the input: an object's data, or a stored value.
 pub fn take_input<I: Source>(
     alloc: Global,
     input: &mut I,
-    limit: u64,
-    long: Refusal,
+    direction: Direction,
 ) -> Result<Bytes, Stop>
+    ensures does { (a : Around) → Does (input_of direction)
+        (with_told_input (I.left input.old) (I.count input.old) a)
+        (with_told_input (I.left input.new) (I.count input.new) a) result }
+    ensures fits { IfOk result (λ bytes. length bytes ≤ limit_of direction) }
+{
+    match direction {
+        Direction::Encrypt => take(alloc, input, DATA_LIMIT, Refusal::Limit(Limit::Data)),
+        Direction::Decrypt => take(alloc, input, VALUE_LIMIT, Refusal::Limit(Limit::Value)),
+    }
+}
+
+/// Takes the whole input, of at most `limit` bytes; `long` is the refusal where there are more.
+fn take<I: Source>(alloc: Global, input: &mut I, limit: u64, long: Refusal) -> Result<Bytes, Stop>
     ensures taken { TakesInput limit long (I.left input.old) (I.left input.new) (I.count input.old)
         (I.count input.new) result }
+    ensures fits { IfOk result (λ bytes. length bytes ≤ limit) }
     ensures later { I.count input.old ≤ I.count input.new }
 {
     match read_all(alloc, input, limit) {
@@ -93,13 +108,12 @@ pub fn take_input<I: Source>(
 
 /// Asks the world for the random source of the seat.
 pub fn open_dice<W: World>(alloc: Global, world: &mut W, seat: u32) -> Result<W::Rand, Stop>
-    ensures ok { IfOk result
-        (λ dice. HandsOut (W.told world.old) (W.told world.new) seat (W.Rand.left dice)
-        (W.Rand.count dice)) }
-    ensures err { OnErr result (KeepsDice (W.told world.old) (W.told world.new)) }
+    ensures lent { IfOk result (λ dice. Lent seat (W.told world.old) (W.told world.new)
+        (W.Rand.left dice) (W.Rand.count dice)) }
+    ensures objects { OnErr result (KeepsObjects (W.told world.old) (W.told world.new)) }
     ensures why { IfErr result (NoDice (W.told world.old) (W.told world.new)) }
     ensures asked { AskedFor (W.told world.old).asked (W.told world.new).asked
-        (Asked.RandomSource seat) result }
+        (WorldCall.RandomSource seat) result }
     ensures files { KeepsFiles (W.told world.old) (W.told world.new) }
 {
     match world.dice(alloc, seat) {
@@ -111,11 +125,32 @@ pub fn open_dice<W: World>(alloc: Global, world: &mut W, seat: u32) -> Result<W:
     }
 }
 
+/// Gives the random source of the seat back.
+pub fn close_dice<W: World>(world: &mut W, seat: u32, dice: W::Rand)
+    requires out { 0 < (W.told world.old).dice.out seat }
+    ensures { Returned seat (W.told world.old) (W.told world.new) (W.Rand.left dice)
+        (W.Rand.count dice) }
+{
+    world.back_dice(seat, dice);
+}
+
+/// What a command makes of a text.
+pub fn show(text: Result<Bytes, Stop>) -> Result<Outcome, Stop>
+    ensures { result ≡ shown_as text }
+{
+    match text {
+        Ok(bytes) => Ok(Outcome {
+            bytes,
+            done: Done::Silent,
+        }),
+        Err(stop) => Err(stop),
+    }
+}
+
 /// Writes what a command made to the output.
 pub fn write_output<O: Sink>(output: &mut O, made: Result<Outcome, Stop>) -> Result<Done, Stop>
-    ensures written { Writes
-        (receipt (O.held output.old) (O.held output.new) (O.count output.old) (O.count output.new))
-        made result }
+    ensures written { Writes [] (receipt (O.held output.old) (O.held output.new)
+        (O.count output.old) (O.count output.new)) made result }
     ensures later { O.count output.old ≤ O.count output.new }
 {
     let Outcome { bytes, done } = match made {

@@ -1,6 +1,6 @@
 //! Texts that are written a piece at a time.
 ghost use Rattle.std.specs.Prelude.{◌≡◌, ◌++◌, IfOk, decimal};
-ghost use Rattle.kr_top.specs.Configuration.{visible, visible_byte};
+ghost use Rattle.kr_top.specs.Texts.{visible, visible_byte};
 
 use itoa::Buffer;
 use kr_base::{NoMemory, Text};

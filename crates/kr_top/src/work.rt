@@ -1,15 +1,15 @@
 //! Seals or unseals by a bench of one configuration.
-ghost use Rattle.std.specs.Prelude.{◌≡◌, ℕ, ◌≤◌, length, Option, Some, List, [], false, IsSome, IfSome};
+ghost use Rattle.std.specs.Prelude.{◌≡◌, ◌≤◌, length, [], false, Some, IfOk, IsSome, IfSome, MatchResult};
 ghost use Rattle.kr_base.specs.Limits.{path_limit};
 ghost use Rattle.kr_config.specs.Kept.{rows_of};
 ghost use Rattle.kr_provider.specs.Publication.{names_plugin};
+ghost use Rattle.kr_top.specs.Around.{Around, with_world, with_lent_dice};
 ghost use Rattle.kr_top.specs.Commands.{freshness, working, limit_of};
-ghost use Rattle.kr_top.specs.Ran.{around};
 ghost use Rattle.kr_top.specs.Steps.{borrow_dice};
-ghost use Rattle.kr_top.specs.inner.Phases.{Does, Makes, seal_outcome, unseal_outcome};
+ghost use Rattle.kr_top.specs.inner.Phases.{Does, seal_outcome, unseal_outcome};
 
-use crate::convert::Direction;
-use crate::phases::open_dice;
+use crate::command::{Conversion, Direction};
+use crate::phases::{close_dice, open_dice};
 use crate::refusal::{Done, Object, Outcome, Refusal, Stop};
 use kr_base::{Bytes, Dice, Shared};
 use kr_config::Settings;
@@ -22,44 +22,45 @@ const PAGES: u32 = 64;
 
 const CACHE: u32 = 64;
 
-/// Borrows the random source of seat 0 for what the direction makes of the bytes by these settings.
+/// Borrows the random source of seat 0 for what is made of the bytes by these settings.
 pub fn make<W: World>(
     alloc: Global,
-    direction: Direction,
+    words: &Conversion,
     settings: Settings,
     world: &mut W,
-    resource: &str,
-    path: &str,
     bytes: &[u8],
 ) -> Result<Outcome, Stop>
     requires no_plugin { names_plugin (rows_of settings.entries.0) ≡ false }
-    requires path { length path.now ≤ path_limit }
-    requires fits { length bytes.now ≤ limit_of direction }
-    ensures { (input : Option (List ℕ)) (faults : ℕ) → Does
-        (borrow_dice 0
-        (working direction resource.now path.now (rows_of settings.entries.0) bytes.now))
-        (around (W.told world.old) input faults)
-        (around (W.told world.new) input faults)
-        result }
+    requires path { length words.now.path ≤ path_limit }
+    requires fits { length bytes.now ≤ limit_of words.now.direction }
+    ensures { (a : Around) → Does
+        (borrow_dice 0 (working words.now.direction words.now.resource words.now.path
+        (rows_of settings.entries.0) bytes.now))
+        (with_world (W.told world.old) a) (with_world (W.told world.new) a) result }
 {
     let dice = match open_dice(alloc, world, 0) {
         Ok(dice) => dice,
         Err(stop) => return Err(stop),
     };
     let (made, dice) = make_by::<W::Link, W::Rand>(
-        alloc, direction, settings, dice, resource, path, bytes,
+        alloc,
+        words.direction,
+        settings,
+        dice,
+        words.resource.as_str(),
+        words.path.as_str(),
+        bytes,
     );
-    world.back_dice(0, dice);
+    close_dice(world, 0, dice);
     made
 }
 
-/// What the direction makes of the bytes by a bench of these settings. The random source comes
-/// back.
+/// What a bench of these settings makes of the bytes. The random source comes back.
 fn make_by<L: Kms, D: Dice>(
     alloc: Global,
     direction: Direction,
     settings: Settings,
-    mut dice: D,
+    dice: D,
     resource: &str,
     path: &str,
     bytes: &[u8],
@@ -67,15 +68,35 @@ fn make_by<L: Kms, D: Dice>(
     requires no_plugin { names_plugin (rows_of settings.entries.0) ≡ false }
     requires path { length path.now ≤ path_limit }
     requires fits { length bytes.now ≤ limit_of direction }
-    ensures made { Makes
+    ensures { (a : Around) → Does
         (working direction resource.now path.now (rows_of settings.entries.0) bytes.now)
-        (D.left dice) (D.left result.1) (D.count dice) (D.count result.1)
-        result.0 }
-    ensures later { D.count dice ≤ D.count result.1 }
+        (with_lent_dice 0 (D.left dice) (D.count dice) a)
+        (with_lent_dice 0 (D.left result.1) (D.count result.1) a) result.0 }
+{
+    let bench = match adopted::<L, D>(alloc, settings, dice) {
+        Ok(bench) => bench,
+        Err(dice) => return (Err(Stop::NoMemory), dice),
+    };
+    let (made, links, dice) = work(alloc, direction, bench, resource, path, bytes);
+    links.end();
+    (made, dice)
+}
+
+/// A bench that adopted these settings; where there is no memory, the random source comes back.
+fn adopted<L: Kms, D: Dice>(
+    alloc: Global,
+    settings: Settings,
+    mut dice: D,
+) -> Result<Bench<L, D>, D>
+    requires no_plugin { names_plugin (rows_of settings.entries.0) ≡ false }
+    ensures published { IfOk result (λ bench. bench.published
+        ≡ Some (record { rows = rows_of settings.entries.0; seeds = [] })) }
+    ensures links { IfOk result (λ bench. bench.links ≡ []) }
+    ensures dice { MatchResult result (λ bench. bench.dice ≡ dice) (λ back. back ≡ dice) }
 {
     let settings = match Shared::new(alloc, settings) {
         Ok(settings) => settings,
-        Err(_) => return (Err(Stop::NoMemory), dice),
+        Err(_) => return Err(dice),
     };
     let mut links = Links::<L>::new(alloc);
     let published = publish_bare(alloc, settings, &mut links, &mut dice);
@@ -83,22 +104,20 @@ fn make_by<L: Kms, D: Dice>(
         Ok(published) => published,
         Err(_) => {
             links.end();
-            return (Err(Stop::NoMemory), dice);
+            return Err(dice);
         }
     };
     let mut bench = match Bench::new(alloc, links, dice, PAGES, CACHE) {
         Ok(bench) => bench,
         Err((_, links, dice)) => {
             links.end();
-            return (Err(Stop::NoMemory), dice);
+            return Err(dice);
         }
     };
     let Ok(()) = bench.adopt(published) else {
         unreachable!();
     };
-    let (made, links, dice) = work(alloc, direction, bench, resource, path, bytes);
-    links.end();
-    (made, dice)
+    Ok(bench)
 }
 
 /// Publishes settings that name no plugin, which asks nothing and draws nothing.
@@ -134,11 +153,10 @@ fn work<L: Kms, D: Dice>(
     requires no_plugin { IfSome bench.published (λ p. names_plugin p.rows ≡ false) }
     requires path { length path.now ≤ path_limit }
     requires fits { length bytes.now ≤ limit_of direction }
-    ensures made { IfSome bench.published
-        (λ p. Makes (working direction resource.now path.now p.rows bytes.now)
-        (D.left bench.dice) (D.left result.2) (D.count bench.dice) (D.count result.2)
-        result.0) }
-    ensures later { D.count bench.dice ≤ D.count result.2 }
+    ensures made { (a : Around) → IfSome bench.published (λ p. Does
+        (working direction resource.now path.now p.rows bytes.now)
+        (with_lent_dice 0 (D.left bench.dice) (D.count bench.dice) a)
+        (with_lent_dice 0 (D.left result.2) (D.count result.2) a) result.0) }
     ensures links { result.1 ≡ bench.links }
 {
     match direction {

@@ -2,14 +2,17 @@
 use Rattle.std.specs.Prelude.{◌≡◌, ◌≢◌, ◌==◌, ℕ, List, [], ◌∷◌, codes, length, ◌⊎◌, Ok}
 use Rattle.std.specs.List.{slice_split}
 use Rattle.hex.specs.Hex.{IsBytes, decode_of, encode_lower}
+use Rattle.kr_keywrap.specs.KeyWrap.{IsWrappable}
+use Rattle.kr_keywrap.specs.declared.key_wrap.WrapNo.{WrapNo}
+use Rattle.kr_keywrap.specs.declared.key_wrap.WrapNo.TheVariants.{Length, Check}
 use Rattle.kr_modes.specs.declared.ModeNo.{ModeNo}
 use Rattle.kr_modes.specs.declared.ModeNo.TheVariants.{Short, BadBlock, BadPadding, BadTag}
 use Rattle.kr_vectors.specs.declared.case.Case.{Case}
 use Rattle.kr_vectors.specs.declared.case.Case.TheVariants.{Cipher, Hmac, Hkdf}
 use Rattle.kr_vectors.specs.declared.case.Operation.{Operation}
-use Rattle.kr_vectors.specs.declared.case.Operation.TheVariants.{Encrypt, Decrypt, CbcSeal, CbcUnseal, GcmSeal, GcmUnseal}
+use Rattle.kr_vectors.specs.declared.case.Operation.TheVariants.{Encrypt, Decrypt, CbcSeal, CbcUnseal, GcmSeal, GcmUnseal, Wrap, Unwrap}
 use Rattle.kr_vectors.specs.declared.outcome.Outcome.{Outcome}
-use Rattle.kr_vectors.specs.declared.outcome.Outcome.TheVariants.{Bytes, KeyLength, Refused}
+use Rattle.kr_vectors.specs.declared.outcome.Outcome.TheVariants.{Bytes, KeyLength, Refused, NotWrapped}
 
 -- a word stands for the bytes: in hex, and by a dash where there are none
 abbrev pub StandsFor : List ℕ → List ℕ → Type 0
@@ -38,6 +41,11 @@ AskFor name words (GcmSeal nonce aad plain) =
 AskFor name words (GcmUnseal nonce aad body) =
     (name ≡ codes "ungcm") × (length nonce ≡ 12)
     × StandFor words (nonce ∷ aad.bytes.items ∷ body.bytes.items ∷ [])
+AskFor name words (Wrap plain) =
+    (name ≡ codes "wrap") × IsWrappable (length plain.bytes.items)
+    × StandFor words (plain.bytes.items ∷ [])
+AskFor name words (Unwrap body) =
+    (name ≡ codes "unwrap") × StandFor words (body.bytes.items ∷ [])
 
 -- a name, the key and the words behind it ask for a case
 abbrev pub AskUnderKey : List ℕ → List ℕ → List (List ℕ) → Case → Type 0
@@ -75,11 +83,16 @@ name_of BadBlock = codes "BadBlock"
 name_of BadPadding = codes "BadPadding"
 name_of BadTag = codes "BadTag"
 
+abbrev pub wrap_name_of : WrapNo → List ℕ
+wrap_name_of Length = codes "Length"
+wrap_name_of Check = codes "Check"
+
 -- what is printed for an outcome
 abbrev pub outcome_text : Outcome → List ℕ
 outcome_text (Bytes bytes) = word_of bytes.items
 outcome_text KeyLength = codes "KeyLength"
 outcome_text (Refused why) = name_of why
+outcome_text (NotWrapped why) = wrap_name_of why
 
 -- ---- a law for a reader: the word that is printed for bytes stands for them where it is read
 

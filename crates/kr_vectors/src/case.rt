@@ -2,6 +2,7 @@
 
 ghost use Rattle.std.specs.Prelude.{◌≤◌, length};
 ghost use Rattle.std.specs.Int.{w16, from_be_bytes};
+ghost use Rattle.kr_keywrap.specs.KeyWrap.{IsWrappable};
 
 /// The most bytes that an operand has.
 pub const MOST: usize = 4_194_304;
@@ -17,6 +18,13 @@ pub const MOST_OUTPUT: usize = 8_160;
 pub struct Operand {
     pub bytes: Vec<u8>,
     ghost fits: { length bytes.items ≤ 4194304 },
+}
+
+/// A string of bytes of a length that the key wrap takes.
+#[derive(Drop)]
+pub struct KeyData {
+    pub bytes: Vec<u8>,
+    ghost wrappable: { IsWrappable (length bytes.items) },
 }
 
 /// An operation under a key of AES, with its operands.
@@ -43,6 +51,12 @@ pub enum Operation {
     GcmUnseal {
         nonce: [u8; 12],
         aad: Operand,
+        body: Operand,
+    },
+    Wrap {
+        plain: KeyData,
+    },
+    Unwrap {
         body: Operand,
     },
 }

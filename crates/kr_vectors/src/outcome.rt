@@ -1,8 +1,9 @@
 //! What a case comes to, and how it is printed.
 
 ghost use Rattle.std.specs.Prelude.{◌≡◌, IfOk, string_bytes};
-ghost use Rattle.kr_vectors.specs.Words.{name_of, outcome_text};
+ghost use Rattle.kr_vectors.specs.Words.{name_of, outcome_text, wrap_name_of};
 
+use kr_keywrap::WrapNo;
 use kr_modes::ModeNo;
 use std::alloc::{AllocError, Global};
 
@@ -13,6 +14,7 @@ pub enum Outcome {
     /// The key hasn't 16, 24 or 32 bytes.
     KeyLength,
     Refused(ModeNo),
+    NotWrapped(WrapNo),
 }
 
 impl Outcome {
@@ -25,6 +27,7 @@ impl Outcome {
             Outcome::Bytes(bytes) => hex::encode(alloc, bytes.as_slice()),
             Outcome::KeyLength => "KeyLength".to_string(alloc),
             Outcome::Refused(why) => name_of(*why).to_string(alloc),
+            Outcome::NotWrapped(why) => wrap_name_of(*why).to_string(alloc),
         }
     }
 }
@@ -37,5 +40,14 @@ fn name_of(why: ModeNo) -> &'static str
         ModeNo::BadBlock => "BadBlock",
         ModeNo::BadPadding => "BadPadding",
         ModeNo::BadTag => "BadTag",
+    }
+}
+
+fn wrap_name_of(why: WrapNo) -> &'static str
+    ensures { result.now ≡ wrap_name_of why }
+{
+    match why {
+        WrapNo::Length => "Length",
+        WrapNo::Check => "Check",
     }
 }

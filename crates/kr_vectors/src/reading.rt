@@ -1,11 +1,12 @@
 //! A line of a case: the operation's name, the key and the further operands, with one space between
 //! them. Operands are in hex, and `-` is the empty one.
 
-ghost use Rattle.std.specs.Prelude.{◌≡◌, ◌≤◌, ◌<◌, ◌⊎◌, ℕ, List, [], ◌∷◌, length, map, IfOk, IfErr};
+ghost use Rattle.std.specs.Prelude.{◌≡◌, ◌↔◌, ◌≤◌, ◌<◌, ◌⊎◌, ℕ, List, [], ◌∷◌, length, map, IsTrue, IfOk, IfErr};
 ghost use Rattle.std.specs.Int.{w16, from_be_bytes};
+ghost use Rattle.kr_keywrap.specs.KeyWrap.{IsWrappable};
 ghost use Rattle.kr_vectors.specs.Words.{AskFor, Asks, StandFor, StandsFor, WordsAskFor, words_of};
 
-use crate::case::{Case, Expansion, MOST, MOST_INFO, MOST_OUTPUT, Operand, Operation};
+use crate::case::{Case, Expansion, KeyData, MOST, MOST_INFO, MOST_OUTPUT, Operand, Operation};
 use hex::FromHexError;
 use std::alloc::{AllocError, Global};
 
@@ -91,6 +92,12 @@ fn operation(alloc: Global, name: &str, operands: &[&str]) -> Result<Operation, 
             let (nonce, aad, body) = after_nonce(alloc, operands)?;
             Ok(Operation::GcmUnseal { nonce, aad, body })
         }
+        "wrap" => Ok(Operation::Wrap {
+            plain: key_data(alloc, operands)?,
+        }),
+        "unwrap" => Ok(Operation::Unwrap {
+            body: only(alloc, operands)?,
+        }),
         _ => Err(LineError::Form),
     }
 }
@@ -121,6 +128,32 @@ fn only(alloc: Global, operands: &[&str]) -> Result<Operand, LineError>
     }
     let [word] = operands else { unreachable!() };
     operand(alloc, word)
+}
+
+/// The one operand, of a length that the key wrap takes.
+fn key_data(alloc: Global, operands: &[&str]) -> Result<KeyData, LineError>
+    ensures read { IfOk result (λ plain.
+        StandFor (map (λ word. word.now) operands.now) (plain.bytes.items ∷ [])) }
+    ensures refused { IfErr result (λ why. (why ≡ LineError.Memory)
+        ⊎ ((bytes : List ℕ) → IsWrappable (length bytes)
+        → ¬ StandFor (map (λ word. word.now) operands.now) (bytes ∷ []))) }
+{
+    if operands.len() != 1 {
+        return Err(LineError::Form);
+    }
+    let [word] = operands else { unreachable!() };
+    let bytes = operand(alloc, word)?.bytes;
+    if !is_wrappable(bytes.len()) {
+        return Err(LineError::Form);
+    }
+    Ok(KeyData { bytes })
+}
+
+/// Whether the key wrap takes so many bytes.
+fn is_wrappable(size: usize) -> bool
+    ensures { IsTrue result ↔ IsWrappable size }
+{
+    size % 8 == 0 && (16..=1016).contains(&size)
 }
 
 /// An IV and the data behind it.

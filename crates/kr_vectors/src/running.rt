@@ -7,12 +7,13 @@ ghost use Rattle.kr_aes.specs.InverseCipher.{inverse_cipher};
 ghost use Rattle.kr_aes.specs.KeyExpansion.{IsKeyLength, IsKeyOf, IsSchedule, padded_schedule};
 ghost use Rattle.kr_hkdf.specs.Hkdf.{hkdf_expand};
 ghost use Rattle.kr_hkdf.specs.Hmac.{hmac};
+ghost use Rattle.kr_keywrap.specs.KeyWrap.{key_unwrap, key_wrap};
 ghost use Rattle.kr_modes.specs.Cbc.{cbc, cbc_opened};
 ghost use Rattle.kr_modes.specs.Gcm.{gcm, gcm_opened};
 ghost use Rattle.kr_modes.specs.Padding.{pad};
-ghost use Rattle.kr_vectors.specs.Answers.{ComesTo, Tells, answer};
+ghost use Rattle.kr_vectors.specs.Answers.{ComesTo, Gives, Tells, TellsUnwrapped};
 
-use crate::case::{Case, Expansion, Operand, Operation};
+use crate::case::{Case, Expansion, KeyData, Operand, Operation};
 use crate::outcome::Outcome;
 use kr_aes::Rounds;
 use std::alloc::{AllocError, Global};
@@ -56,7 +57,7 @@ fn by_cipher(alloc: Global, key: &Operand, operation: &Operation) -> Result<Outc
         ¬ IsKeyLength (length key.now.bytes.items) → outcome ≡ Outcome.KeyLength) }
     ensures given { IfOk result (λ outcome. (rounds : Rounds)
         → IsKeyOf (length key.now.bytes.items) rounds
-        → Tells outcome (answer (padded_schedule key.now.bytes.items) rounds operation.now)) }
+        → Gives (padded_schedule key.now.bytes.items) rounds operation.now outcome) }
 {
     let mut words = [0; 60];
     match kr_aes::expand(key.bytes.as_slice(), &mut words) {
@@ -72,7 +73,7 @@ fn under_key(
     operation: &Operation,
 ) -> Result<Outcome, AllocError>
     requires { IsSchedule words.now rounds }
-    ensures { IfOk result (λ outcome. Tells outcome (answer words.now rounds operation.now)) }
+    ensures { IfOk result (Gives words.now rounds operation.now) }
 {
     match operation {
         Operation::Encrypt { block } => encrypt(alloc, words, rounds, block),
@@ -85,6 +86,8 @@ fn under_key(
         Operation::GcmUnseal { nonce, aad, body } => gcm_unseal(
             alloc, words, rounds, nonce, aad, body,
         ),
+        Operation::Wrap { plain } => wrap(alloc, words, rounds, plain),
+        Operation::Unwrap { body } => unwrap(alloc, words, rounds, body),
     }
 }
 
@@ -207,5 +210,39 @@ fn gcm_unseal(
             Ok(Outcome::Bytes(out))
         }
         Err(why) => Ok(Outcome::Refused(why)),
+    }
+}
+
+fn wrap(
+    alloc: Global,
+    words: &[u32; 60],
+    rounds: Rounds,
+    plain: &KeyData,
+) -> Result<Outcome, AllocError>
+    requires { IsSchedule words.now rounds }
+    ensures { IfOk result (λ outcome. Tells outcome
+        (Ok (key_wrap (cipher words.now rounds) plain.now.bytes.items))) }
+{
+    let plain = plain.bytes.as_slice();
+    let mut out = vec![in alloc; 0; plain.len() + 8]?;
+    kr_keywrap::wrap(words, rounds, plain, out.as_mut_slice());
+    Ok(Outcome::Bytes(out))
+}
+
+fn unwrap(
+    alloc: Global,
+    words: &[u32; 60],
+    rounds: Rounds,
+    body: &Operand,
+) -> Result<Outcome, AllocError>
+    requires { IsSchedule words.now rounds }
+    ensures { IfOk result (λ outcome. TellsUnwrapped outcome
+        (key_unwrap (inverse_cipher words.now rounds) body.now.bytes.items)) }
+{
+    let body = body.bytes.as_slice();
+    let mut out = vec![in alloc; 0; body.len().saturating_sub(8)]?;
+    match kr_keywrap::unwrap_key(words, rounds, body, out.as_mut_slice()) {
+        Ok(()) => Ok(Outcome::Bytes(out)),
+        Err(why) => Ok(Outcome::NotWrapped(why)),
     }
 }

@@ -4,7 +4,8 @@ use Rattle.std.proofs.Common.{Option, None, Some, refl, sym, ap, ◌∙◌, subs
 use Rattle.std.specs.Prelude.{if◌then◌else◌, ◌==◌, ◌&&◌, ◌||◌, not}
 use Rattle.std.specs.Option.{option_map_or}
 use Rattle.std.proofs.lemmas.List.{append_assoc, append-nil, take-append-drop}
-use Rattle.kr_yaml.specs.Bytes.{behind, spaces}
+use Rattle.std.specs.List.{list_all}
+use Rattle.kr_yaml.specs.Bytes.{behind, spaces, is_blank}
 use Rattle.kr_yaml.specs.Written.{is_indicator, IsPlain, NoSpaceBehind, NoFlowSign}
 use Rattle.kr_yaml.specs.Lines.{IsTail, spaces_alone, comment_behind}
 use Rattle.kr_yaml.specs.inner.Stops.{opens, closes, is_hash, trim, has, stops, length_until}
@@ -24,12 +25,13 @@ NoComment text = (front rest : List ℕ) → text ≢ front ++ 32 ∷ (35 ∷ re
 
 -- the rules of a plain scalar, as the reader has them
 
-all_three : (a b c : Bool) → (not a && not b && not c) ≡ true
-    → (a ≡ false) × (b ≡ false) × (c ≡ false)
-all_three true b c h = absurd cc
-all_three false true c h = absurd cc
-all_three false false true h = absurd cc
-all_three false false false h = (refl, refl, refl)
+all_four : (a b c d : Bool) → (not a && not b && not c && not d) ≡ true
+    → (a ≡ false) × (b ≡ false) × (c ≡ false) × (d ≡ false)
+all_four true b c d h = absurd cc
+all_four false true c d h = absurd cc
+all_four false false true d h = absurd cc
+all_four false false false true h = absurd cc
+all_four false false false false h = (refl, refl, refl, refl)
 
 abbrev dash_space : List ℕ → Bool
 dash_space [] = false
@@ -57,12 +59,14 @@ plain_is : (text more whole : List ℕ) → is_plain text ≡ true → whole ≡
     → NoSpaceFront whole → NoComment text → IsPlain text
 plain_is [] more whole h e f k = absurd cc
 plain_is (b ∷ bs) more whole h e f k =
-    let a = all_three (is_indicator b) (b == 45 && is_space bs) (has Colon (b ∷ bs)) h in
+    let a = all_four (is_indicator b) (b == 45 && is_space bs) (has Colon (b ∷ bs))
+    (list_all is_blank (b ∷ bs)) h in
     record {
       first = b;
       more = bs;
       begins = refl;
       no_space = not_space b bs more whole e f;
+      no_blanks = a.3;
       no_indicator = a.0;
       no_item = λ rest. no_dash b bs rest a.1;
       no_key = λ front rest. no_stop (b ∷ bs) front (32 ∷ rest) 58 a.2 refl;
@@ -129,8 +133,9 @@ plain_reads text p = subst (λ t. is_plain t ≡ true) (sym p.begins) (by p.firs
         let item : (b == 45 && is_space bs) ≡ false = none_of (b == 45 && is_space bs) (λ t. let d =
         dash_space_is b bs t in p.no_item d.0 (e ∙ d.1)) in
         let key : has Colon (b ∷ bs) ≡ false = ap (has Colon) (sym e) ∙ no_colon text p in
-        ap (λ v. not v && not (b == 45 && is_space bs) && not (has Colon (b ∷ bs))) first
-        ∙ ap (λ v. not v && not (has Colon (b ∷ bs))) item ∙ ap not key
+        let some : list_all is_blank (b ∷ bs) ≡ false =
+        ap (list_all is_blank) (sym e) ∙ p.no_blanks in
+        λ i. not (first i) && not (item i) && not (key i) && not (some i)
 
 -- what was read
 

@@ -10,7 +10,7 @@ use Rattle.kr_yaml.specs.inner.Open.{State, put, doubles, run, closed_value}
 use Rattle.kr_yaml.specs.inner.Standing.{Stands, empty}
 use Rattle.kr_yaml.specs.Reads.{plain, Makes, FormNone, FormTwice, FormDeep, Breaks, IsFirst}
 use Rattle.kr_yaml.specs.Reads.{Refuses}
-use Rattle.kr_yaml.specs.Laws.{Answered, SomeAnswer}
+use Rattle.kr_yaml.specs.Laws.{AnswerOf, SomeAnswer}
 use Rattle.kr_yaml.specs.declared.yaml_no.YamlNo.{YamlNo}
 use Rattle.kr_yaml.specs.declared.yaml_no.YamlNo.TheVariants.{Outside, Indent, DuplicateKey, Deep}
 use Rattle.kr_yaml.specs.declared.yaml_no.YamlNo.TheVariants.{NoMemory}
@@ -144,7 +144,7 @@ refuses us (DuplicateKey n) h = (h, λ e. cc)
 refuses us (Deep n) h = (h, λ e. cc)
 refuses us NoMemory h = absurd h
 
-answered : (us : List (ℕ × Token)) → Reached us → Answered (Ok us)
+answered : (us : List (ℕ × Token)) → Reached us → AnswerOf (Ok us)
 answered us (inl g) = inl (closed_value g.st.0 g.st.1, makes us g)
 answered us (inr b) = let r = refuses us b.why b.first in inr (b.why, r.0, r.1)
 

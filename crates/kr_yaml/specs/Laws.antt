@@ -34,13 +34,13 @@ OneAnswer = (wanted : Result (List (ℕ × Token)) ℕ) (a b : Result Tree YamlN
     → Reads wanted a → Reads wanted b → AreOne a b
 
 -- a tree, or a refusal other than want of memory
-abbrev pub Answered : Result (List (ℕ × Token)) ℕ → Type 0
-Answered wanted =
+abbrev pub AnswerOf : Result (List (ℕ × Token)) ℕ → Type 0
+AnswerOf wanted =
     ((d : Data) × HasTree wanted d) ⊎ ((why : YamlNo) × Refuses wanted why × (why ≢ NoMemory))
 
 -- a text has an answer
 abbrev pub SomeAnswer : Type 0
-SomeAnswer = (wanted : Result (List (ℕ × Token)) ℕ) → Answered wanted
+SomeAnswer = (wanted : Result (List (ℕ × Token)) ℕ) → AnswerOf wanted
 
 -- Behind a token of its own line a token always goes on, and repeats no key. So of the breaches
 -- on one line the first is also the first in the order Indent, DuplicateKey, Deep.

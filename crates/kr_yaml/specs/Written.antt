@@ -40,13 +40,15 @@ pub data IsQuoted : List ℕ → List ℕ → Type 0 where
 abbrev pub is_indicator : ℕ → Bool
 is_indicator b = list_any (λ c. c == b) (codes "?:,[]{}#&*!|>'\"%@`")
 
--- A plain scalar isn't empty, begins with no space, no indicator and not with `- `, holds no `: `
--- and no ` #`, and doesn't end with `:`.
+-- A plain scalar holds more than blanks, begins with no space, no indicator and not with `- `,
+-- holds no `: ` and no ` #`, and doesn't end with `:`. YAML has none that begins with a blank; of
+-- tabs alone some readers make nothing.
 pub record IsPlain (text : List ℕ) : Type 0 where
   pub first : ℕ
   pub more : List ℕ
   pub begins : text ≡ first ∷ more
   pub no_space : (first == 32) ≡ false
+  pub no_blanks : list_all is_blank text ≡ false
   pub no_indicator : is_indicator first ≡ false
   pub no_item : (rest : List ℕ) → text ≢ 45 ∷ (32 ∷ rest)
   pub no_key : (front rest : List ℕ) → text ≢ front ++ 58 ∷ (32 ∷ rest)

@@ -161,10 +161,7 @@ fn content_at(alloc: Global, column: usize, text: &str) -> Result<LineToken, Lin
         let value = mapping_alone(alloc, rest)?;
         return Ok(LineToken::Leaf { column, value });
     }
-    let (scalar, rest) = match scalar_at(alloc, Context::Line, text) {
-        Ok(found) => found,
-        Err(why) => return Err(why),
-    };
+    let (scalar, rest) = scalar_at(alloc, Context::Line, text)?;
     if closes(rest) {
         return Ok(LineToken::Leaf {
             column,

@@ -123,6 +123,13 @@ fn is_space(bytes: &[u8]) -> bool
     }
 }
 
+/// Whether each byte is a space or a tab.
+fn are_blank(bytes: &[u8]) -> bool
+    ensures { result ≡ list_all is_blank bytes.now }
+{
+    bytes.iter().all(|byte| *byte == b' ' || *byte == b'\t')
+}
+
 /// Whether the text may stand as a plain scalar.
 fn is_plain(text: &str) -> bool
     ensures { result ≡ is_plain text.now }
@@ -131,7 +138,10 @@ fn is_plain(text: &str) -> bool
     match bytes {
         [] => false,
         [byte, rest @ ..] => {
-            !is_indicator(*byte) && !(*byte == b'-' && is_space(rest)) && !has(Stop::Colon, bytes)
+            !is_indicator(*byte)
+                && !(*byte == b'-' && is_space(rest))
+                && !has(Stop::Colon, bytes)
+                && !are_blank(bytes)
         }
     }
 }
@@ -204,13 +214,6 @@ fn is_null(scalar: &Scalar) -> bool
     ensures { result ≡ is_null scalar.now }
 {
     scalar.plain && (scalar.text.as_str() == "null" || scalar.text.as_str() == "~")
-}
-
-/// Whether each byte is a space or a tab.
-fn are_blank(bytes: &[u8]) -> bool
-    ensures { result ≡ list_all is_blank bytes.now }
-{
-    bytes.iter().all(|byte| *byte == b' ' || *byte == b'\t')
 }
 
 /// Whether the scalar is a plain `<<`, whatever blanks stand behind it.

@@ -1,47 +1,69 @@
-use Rattle.std.proofs.Common.{◌≡◌, ◌-◌, ◌<◌, ◌≤◌, ℕ, List, suc, refl, sym, ap, ◌∙◌, arith}
-use Rattle.kr_aes.specs.Cipher.{add_round_key}
-use Rattle.kr_aes.specs.InverseCipher.{inverse_mix_columns, inverse_shift_rows, inverse_sub_bytes}
-use Rattle.kr_aes.specs.EquivalentInverse.{after_equivalent_rounds, equivalent_inverse_cipher}
+use Rattle.std.proofs.Common.{◌≡◌, ◌-◌, ◌+◌, ℕ, List, refl, ap, ◌∙◌}
+use Rattle.kr_aes.specs.Cipher.{add_round_key, round_count}
+use Rattle.kr_aes.specs.declared.Rounds.{Rounds}
+use Rattle.kr_aes.specs.InverseCipher.{inverse_cipher, inverse_shift_rows, inverse_sub_bytes}
+use Rattle.kr_aes.specs.EquivalentInverse.{after_equivalent_rounds, equivalent_inverse_cipher, inverse_schedule}
 use Rattle.kr_aes.proofs.Equivalent.{equivalent_is_inverse}
-use Rattle.kr_aes.proofs.RoundCounts.{some_rounds}
 use Rattle.kr_aes.proofs.decrypt_block_by_inverse.Goals as goal
 
--- one more round, with the key below
-next_round : (inverse : List ℕ) (last : ℕ) (block : List ℕ) (round : ℕ) → 1 < round → round ≤ last
-    → after_equivalent_rounds inverse last block (last - (round - 1))
-    ≡ add_round_key inverse (round - 1) (inverse_mix_columns (inverse_shift_rows (inverse_sub_bytes (after_equivalent_rounds inverse last block (last - round)))))
-unfolding after_equivalent_rounds
-next_round inverse last block round some within =
-    let e : last - (round - 1) ≡ suc (last - round) = omega arith in
-    let at : last - suc (last - round) ≡ round - 1 = omega arith in
-    rw e (ap (λ i. add_round_key inverse i (inverse_mix_columns (inverse_shift_rows (inverse_sub_bytes (after_equivalent_rounds inverse last block (last - round)))))) at)
-
-pub loop-round-init : goal.loop-round-init
-unfolding after_equivalent_rounds
-loop-round-init c =
-    let none : c.count-last.result - c.count-last.result ≡ 0 = omega arith in record {
-      some = omega (arith, some_rounds c.args.rounds, c.count-last.ensures);
-      within = omega arith;
-      state = rw none c.first-state.ensures;
-    }
-
-pub loop-round-preserved : goal.loop-round-preserved
-loop-round-preserved c = record {
-  some = omega arith;
-  within = omega (arith, c.loop-round.invariant.within);
-  state =
-      rw (c.inverse_round-next.ensures, c.loop-round.invariant.state)
-      (sym (next_round c.args.inverse.now c.count-last.result c.args.block.now c.loop-round.round c.loop-round-test.true c.loop-round.invariant.within));
-}
-
-pub returns-clause-equivalent : goal.returns-clause-equivalent
+-- the last round's block, where all other rounds are done
+ends : (inverse : List ℕ) (rounds : Rounds) (block : List ℕ) (last done : ℕ) (state result : List ℕ)
+    → last ≡ round_count rounds → done ≡ round_count rounds - 1
+    → state ≡ after_equivalent_rounds inverse last block done
+    → result ≡ add_round_key inverse 0 (inverse_shift_rows (inverse_sub_bytes state))
+    → result ≡ equivalent_inverse_cipher inverse rounds block
 unfolding equivalent_inverse_cipher
-returns-clause-equivalent c =
-    let at : c.loop-round.round ≡ 1 = omega (arith, c.loop-round.invariant.some) in
-    rw (c.block_of.ensures, c.last_inverse_round-deciphered.ensures, c.loop-round.invariant.state, at, c.count-last.ensures) refl
+ends inverse rounds block last done state result last_is done_is state_is result_is =
+    result_is
+    ∙ ap (λ s. add_round_key inverse 0 (inverse_shift_rows (inverse_sub_bytes s)))
+    (state_is ∙ rw (last_is, done_is) refl)
 
-pub returns-clause-inverse : goal.returns-clause-inverse
-returns-clause-inverse c = λ words is.
-    returns-clause-equivalent c
-    ∙ ap (λ s. equivalent_inverse_cipher s c.args.rounds c.args.block.now) is
-    ∙ equivalent_is_inverse words c.args.rounds c.args.block.now
+-- under a schedule of the inverse cipher it is the inverse cipher's
+undone : (inverse : List ℕ) (rounds : Rounds) (block result : List ℕ)
+    → result ≡ equivalent_inverse_cipher inverse rounds block
+    → (words : List ℕ) → inverse ≡ inverse_schedule words rounds → result ≡ inverse_cipher words rounds block
+undone inverse rounds block result result_is words is =
+    result_is ∙ ap (λ s. equivalent_inverse_cipher s rounds block) is ∙ equivalent_is_inverse words rounds block
+
+pub returns-in-Ten-clause-equivalent : goal.returns-in-Ten-clause-equivalent
+unfolding after_equivalent_rounds
+returns-in-Ten-clause-equivalent c =
+    let block = c.args.block.now in
+    let done : 6 + 3 ≡ round_count c.args.rounds - 1 = rw c.in-Ten.is refl in
+    ends c.args.inverse.now c.args.rounds block _ _ _ _ c.count-last.ensures done
+    (c.three_inverse-nine.ensures block (c.three_inverse-state-2.ensures block
+    (c.three_inverse-state.ensures block c.first-state.ensures)))
+    c.last_inverse.ensures
+
+pub returns-in-Ten-clause-inverse : goal.returns-in-Ten-clause-inverse
+returns-in-Ten-clause-inverse c =
+    undone c.args.inverse.now c.args.rounds c.args.block.now _ (returns-in-Ten-clause-equivalent c)
+
+pub returns-in-Twelve-clause-equivalent : goal.returns-in-Twelve-clause-equivalent
+unfolding after_equivalent_rounds
+returns-in-Twelve-clause-equivalent c =
+    let block = c.args.block.now in
+    let done : 9 + 2 ≡ round_count c.args.rounds - 1 = rw c.in-Twelve.is refl in
+    ends c.args.inverse.now c.args.rounds block _ _ _ _ c.count-last.ensures done
+    (c.two_inverse-eleven.ensures block (c.three_inverse-nine.ensures block
+    (c.three_inverse-state-2.ensures block (c.three_inverse-state.ensures block c.first-state.ensures))))
+    c.last_inverse-in-Twelve.ensures
+
+pub returns-in-Twelve-clause-inverse : goal.returns-in-Twelve-clause-inverse
+returns-in-Twelve-clause-inverse c =
+    undone c.args.inverse.now c.args.rounds c.args.block.now _ (returns-in-Twelve-clause-equivalent c)
+
+pub returns-in-Fourteen-clause-equivalent : goal.returns-in-Fourteen-clause-equivalent
+unfolding after_equivalent_rounds
+returns-in-Fourteen-clause-equivalent c =
+    let block = c.args.block.now in
+    let done : 11 + 2 ≡ round_count c.args.rounds - 1 = rw c.in-Fourteen.is refl in
+    ends c.args.inverse.now c.args.rounds block _ _ _ _ c.count-last.ensures done
+    (c.two_inverse-thirteen.ensures block (c.two_inverse-eleven-in-Fourteen.ensures block
+    (c.three_inverse-nine.ensures block (c.three_inverse-state-2.ensures block
+    (c.three_inverse-state.ensures block c.first-state.ensures)))))
+    c.last_inverse-in-Fourteen.ensures
+
+pub returns-in-Fourteen-clause-inverse : goal.returns-in-Fourteen-clause-inverse
+returns-in-Fourteen-clause-inverse c =
+    undone c.args.inverse.now c.args.rounds c.args.block.now _ (returns-in-Fourteen-clause-equivalent c)

@@ -155,6 +155,25 @@ fn makes_a_seed(rt: HostRuntime) -> Result<(), Fail> {
     Ok(())
 }
 
+/// Why the plugin `p` whose calls of these numbers fail makes no seed.
+fn no_seed(alloc: Global, fails: &[u64], dice: &mut MemDice) -> Option<SeedNo> {
+    let mut link = plugin(alloc, "k1", fails)?;
+    make_seed(alloc, &mut link, dice).err()
+}
+
+// The status, the wrap behind the draw, and the draw.
+#[test]
+fn makes_no_seed_behind_a_fault(rt: HostRuntime) -> Result<(), Fail> {
+    let alloc = rt.alloc();
+    let mut dice = MemDice::new(Bytes::from_vec(vec![in alloc; 0; 32]?), List::new(alloc));
+    assert!(rt; matches!(no_seed(alloc, &[1], &mut dice), Some(SeedNo::Failed)));
+    assert_eq!(rt; dice.bytes().len(), 32);
+    assert!(rt; matches!(no_seed(alloc, &[2], &mut dice), Some(SeedNo::Failed)));
+    assert_eq!(rt; dice.bytes().len(), 0);
+    assert!(rt; matches!(no_seed(alloc, &[], &mut dice), Some(SeedNo::DiceFailed)));
+    Ok(())
+}
+
 /// The first byte of what is fetched for a source of 32 bytes 9d under a key id, and whether all
 /// are the same.
 fn fetched(
@@ -185,6 +204,23 @@ fn fetches_a_kept_seed_without_a_call(rt: HostRuntime) -> Result<(), Fail> {
     assert_eq!(rt; link.faults(), 0);
     // Another key is asked for.
     assert!(rt; fetched(alloc, &mut cache, &mut link, "k3") == None);
+    assert_eq!(rt; link.faults(), 1);
+    Ok(())
+}
+
+// A fault of the link is told as one, and a seed that was fetched twice stays.
+#[test]
+fn tells_a_fault_of_the_link(rt: HostRuntime) -> Result<(), Fail> {
+    let alloc = rt.alloc();
+    let mut link = plugin(alloc, "k1", &[2]).ok_or("memory")?;
+    let mut cache = SeedCache::new(alloc, 1)?;
+    assert!(rt; fetched(alloc, &mut cache, &mut link, "k1") == Some(0));
+    assert!(rt; fetched(alloc, &mut cache, &mut link, "k1") == Some(0));
+    let annotations = salted(alloc, &[1])?;
+    let failed = cache.fetch(&mut link, "k2", &annotations, b"s");
+    assert!(rt; matches!(failed, Err(KmsNo::Failed)));
+    // The first is still kept, since there was nothing to put in its place.
+    assert!(rt; fetched(alloc, &mut cache, &mut link, "k1") == Some(0));
     assert_eq!(rt; link.faults(), 1);
     Ok(())
 }

@@ -1,6 +1,9 @@
 //! Lines to and from a plugin.
 use kr_base::{Annotations, Bytes, NoMemory, Text};
-use kr_kms::{PluginCall, Reply, ReplyNo, Request, Status, read_reply, request_line};
+use kr_kms::{
+    Answered, Asked, Reply, ReplyNo, Request, RequestNo, Status, read_reply, read_request,
+    reply_line, request_line,
+};
 use std::alloc::Global;
 use std::test::Fail;
 
@@ -50,7 +53,7 @@ fn writes_annotations_in_order(rt: HostRuntime) -> Result<(), Fail> {
 }
 
 /// What a line is read as, in a word: its kind, and its text or its bytes.
-fn reads(alloc: Global, call: PluginCall, line: &[u8], kind: &str, content: &[u8]) -> bool {
+fn reads(alloc: Global, call: Asked, line: &[u8], kind: &str, content: &[u8]) -> bool {
     match read_reply(alloc, call, line) {
         Ok(Reply::Status(status)) => kind == "status" && is_v2(&status, content),
         Ok(Reply::Encrypt(wrapped)) => kind == "wrapped" && wrapped.cipher.as_slice() == content,
@@ -71,15 +74,15 @@ fn is_v2(status: &Status, key_id: &[u8]) -> bool {
 #[test]
 fn reads_replies(rt: HostRuntime) {
     let alloc = rt.alloc();
-    let call = PluginCall::Status;
+    let call = Asked::Status;
     let line = b"{\"version\":\"v2\",\"more\":[],\"healthz\":\"ok\",\"key_id\":\"k1\"}\n";
     assert!(rt; reads(alloc, call, line, "status", b"k1"));
-    let call = PluginCall::Encrypt;
+    let call = Asked::Encrypt;
     let line = b"{\"ciphertext\":\"aGk=\",\"key_id\":\"k1\"}";
     assert!(rt; reads(alloc, call, line, "wrapped", b"hi"));
     let line = b"{\"annotations\":{\"a.io\":\"AQ==\"},\"ciphertext\":\"aGk=\",\"key_id\":\"k1\"}";
     assert!(rt; reads(alloc, call, line, "wrapped", b"hi"));
-    let call = PluginCall::Decrypt;
+    let call = Asked::Decrypt;
     assert!(rt; reads(alloc, call, b"{\"plaintext\":\"aGk=\"}", "plain", b"hi"));
     assert!(rt;
         reads(
@@ -95,7 +98,7 @@ fn reads_replies(rt: HostRuntime) {
 #[test]
 fn refuses_replies(rt: HostRuntime) {
     let alloc = rt.alloc();
-    let call = PluginCall::Decrypt;
+    let call = Asked::Decrypt;
     assert!(rt; reads(alloc, call, b"{\"error\":\"no\"}", "error", b"no"));
     assert!(rt;
         reads(
@@ -119,11 +122,64 @@ fn refuses_replies(rt: HostRuntime) {
 #[test]
 fn refuses_annotations(rt: HostRuntime) {
     let alloc = rt.alloc();
-    let call = PluginCall::Encrypt;
+    let call = Asked::Encrypt;
     let line = b"{\"annotations\":null,\"ciphertext\":\"\",\"key_id\":\"k1\"}";
     assert!(rt; reads(alloc, call, line, "shape", b""));
     let line = b"{\"annotations\":{\"a.io\":1},\"ciphertext\":\"\",\"key_id\":\"k1\"}";
     assert!(rt; reads(alloc, call, line, "shape", b""));
     let line = b"{\"annotations\":{\"a.io\":\"A\"},\"ciphertext\":\"\",\"key_id\":\"k1\"}";
     assert!(rt; reads(alloc, call, line, "shape", b""));
+}
+
+/// What a line is read as, in a word: the call of a request, or why it is none.
+fn call_of(alloc: Global, line: &[u8]) -> &'static str {
+    match read_request(alloc, line) {
+        Ok(Request::Status) => "status",
+        Ok(Request::Encrypt { plain: _, uid: _ }) => "encrypt",
+        Ok(
+            Request::Decrypt {
+                source: _,
+                key_id: _,
+                annotations: _,
+                uid: _,
+            },
+        ) => "decrypt",
+        Err(RequestNo::NotJson) => "no JSON",
+        Err(RequestNo::Shape) => "shape",
+        Err(RequestNo::NoMemory) => "memory",
+    }
+}
+
+#[test]
+fn reads_requests(rt: HostRuntime) {
+    let alloc = rt.alloc();
+    assert!(rt; call_of(alloc, b"{\"call\":\"status\",\"more\":1}\n") == "status");
+    let line = b"{\"call\":\"encrypt\",\"plaintext\":\"aGk=\",\"uid\":\"3\"}";
+    assert!(rt; call_of(alloc, line) == "encrypt");
+    // A uid with a leading zero, and a call that there isn't.
+    let line = b"{\"call\":\"encrypt\",\"plaintext\":\"aGk=\",\"uid\":\"03\"}";
+    assert!(rt; call_of(alloc, line) == "shape");
+    assert!(rt; call_of(alloc, b"{\"call\":\"rotate\"}") == "shape");
+    assert!(rt; call_of(alloc, b"[]") == "shape");
+    assert!(rt; call_of(alloc, b"{") == "no JSON");
+}
+
+/// Whether this is the line of the answer.
+fn answers(alloc: Global, answered: &Answered, line: &[u8]) -> Result<bool, NoMemory> {
+    Ok(reply_line(alloc, answered)?.as_slice() == line)
+}
+
+#[test]
+fn writes_answers(rt: HostRuntime) -> Result<(), Fail> {
+    let alloc = rt.alloc();
+    let refused = Answered::Error(Text::copy(alloc, "request")?);
+    assert!(rt; answers(alloc, &refused, b"{\"error\":\"request\"}\n")?);
+    let status = Answered::Reply(Reply::Status(Status {
+        version: Text::copy(alloc, "v2")?,
+        healthz: Text::copy(alloc, "ok")?,
+        key_id: Text::copy(alloc, "example-1")?,
+    }));
+    let line = b"{\"healthz\":\"ok\",\"key_id\":\"example-1\",\"version\":\"v2\"}\n";
+    assert!(rt; answers(alloc, &status, line)?);
+    Ok(())
 }

@@ -2,6 +2,6 @@
 use Rattle.std.specs.Prelude.{ℕ, List, [], ◌∷◌, ◌++◌}
 use Rattle.std.specs.Borrow.{Bor}
 
-abbrev pub joined : List (Bor (List ℕ)) → List ℕ
-joined [] = []
-joined (piece ∷ pieces) = piece.now ++ joined pieces
+abbrev pub whole_text : List (Bor (List ℕ)) → List ℕ
+whole_text [] = []
+whole_text (piece ∷ pieces) = piece.now ++ whole_text pieces

@@ -1,7 +1,6 @@
 //! The command line: a line of each form, each refusal, and what a command gives.
 use kr_words::{Command, WordsNo, one_meaning, read_words};
 use std::alloc::{AllocError, Global};
-use std::test::Fail;
 
 /// The words of a line parted by single spaces, so that two spaces stand around an empty word.
 fn words_of(alloc: Global, line: &str) -> Result<Vec<String>, AllocError> {
@@ -82,11 +81,11 @@ fn with_replicas(alloc: Global, line: &str, count: u64) -> Result<String, AllocE
     shown(alloc, &read)
 }
 
-#[test]
-fn refuses_a_seventeenth_replica(rt: HostRuntime) -> Result<(), Fail> {
-    let read = with_replicas(rt.alloc(), "judge --store s --reload 0=f", 17)?;
-    assert_eq!(rt; read.as_str(), "Replicas");
-    Ok(())
+fn has_too_many(alloc: Global) -> bool {
+    match with_replicas(alloc, "judge --store s --reload 0=f", 17) {
+        Ok(read) => read.as_str() == "Replicas",
+        Err(_) => false,
+    }
 }
 
 /// The command of a line.
@@ -95,42 +94,42 @@ fn command(alloc: Global, line: &str) -> Option<Command> {
     read_words(alloc, words.as_slice()).ok()
 }
 
-#[test]
-fn gives_replicas(rt: HostRuntime) -> Result<(), Fail> {
-    let line = "judge --replica=a --store= --replica=b --reload=1=f=g";
-    let command = command(rt.alloc(), line).ok_or("not read")?;
-    assert_eq!(rt; command.value("store"), Some(""));
-    assert_eq!(rt; command.replicas(), 2);
-    assert_eq!(rt; command.replica(1), Some("b"));
-    assert_eq!(rt; command.replica(2), None);
-    Ok(())
+fn gives_replicas(command: &Command) -> bool {
+    command.value("store") == Some("")
+        && command.replicas() == 2
+        && command.replica(1) == Some("b")
+        && command.replica(2) == None
 }
 
-#[test]
-fn gives_a_reload(rt: HostRuntime) -> Result<(), Fail> {
-    let line = "judge --replica=a --store=s --replica=b --reload=1=f=g";
-    let command = command(rt.alloc(), line).ok_or("not read")?;
-    let reload = command.reload().ok_or("no reload")?;
-    assert_eq!(rt; reload.replica, 1);
-    assert_eq!(rt; reload.file, "f=g");
-    Ok(())
+fn gives_a_reload(command: &Command) -> bool {
+    match command.reload() {
+        Some(reload) => reload.replica == 1 && reload.file == "f=g",
+        None => false,
+    }
 }
 
-#[test]
-fn gives_programs(rt: HostRuntime) -> Result<(), Fail> {
+fn gives_programs(command: &Command) -> bool {
+    command.program("l") == Some("/c")
+        && command.program("k") == Some("/a=b")
+        && command.program("m") == None
+}
+
+/// What the commands of three lines give.
+fn gives(alloc: Global) -> Option<bool> {
+    let judge = command(
+        alloc,
+        "judge --replica=a --store= --replica=b --reload=1=f=g",
+    )?;
     let line = "rewrite --store s --config c --plugin k=/a=b --plugin l=/c";
-    let command = command(rt.alloc(), line).ok_or("not read")?;
-    assert_eq!(rt; command.program("l"), Some("/c"));
-    assert_eq!(rt; command.program("k"), Some("/a=b"));
-    assert_eq!(rt; command.program("m"), None);
-    Ok(())
+    let rewrite = command(alloc, line)?;
+    let line = "gen --store s --seed 18446744073709551615 --size 10000";
+    let gen_rows = command(alloc, line)?;
+    let numbers = gen_rows.seed() == Some(u64::MAX) && gen_rows.size() == Some(10_000);
+    Some(gives_replicas(&judge) && gives_a_reload(&judge) && gives_programs(&rewrite) && numbers)
 }
 
 #[test]
-fn gives_numbers(rt: HostRuntime) -> Result<(), Fail> {
-    let line = "gen --store s --seed 18446744073709551615 --size 10000";
-    let command = command(rt.alloc(), line).ok_or("not read")?;
-    assert_eq!(rt; command.seed(), Some(18_446_744_073_709_551_615));
-    assert_eq!(rt; command.size(), Some(10_000));
-    Ok(())
+fn gives_what_stands_in_a_line(rt: HostRuntime) {
+    assert!(rt; has_too_many(rt.alloc()));
+    assert_eq!(rt; gives(rt.alloc()), Some(true));
 }

@@ -5,7 +5,7 @@ use Rattle.kr_store.specs.declared.answers.PutNo.TheVariants as no
 use Rattle.kr_store.specs.declared.rows.Row.{Row}
 use Rattle.kr_store.specs.declared.rows.LogRow.{LogRow}
 use Rattle.kr_store.specs.Rows.{put_of, latest, revision_of}
-use Rattle.kr_store.specs.Stores.{Kept, IsLatestPut, Wrote, Fails, Refused}
+use Rattle.kr_store.specs.Stores.{Kept, IsLatestPut, Wrote, Fails, Refusal}
 use Rattle.kr_provider.specs.Publication.{Publication, list_at}
 use Rattle.kr_provider.specs.Readers.{writer_of}
 use Rattle.kr_judge.specs.declared.need.Need.{Need}
@@ -53,7 +53,7 @@ StaysBy p old new path revision stored no.Failed =
     × Fails old new (sealed_over old p row path stored)
 StaysBy p old new path revision stored (no.Full needed) =
     (row : Row) × IsLatestPut old.rows path revision row
-    × Refused old new (sealed_over old p row path stored) (no.Full needed)
+    × Refusal old new (sealed_over old p row path stored) (no.Full needed)
 StaysBy p old new path revision stored (no.Changed to) =
     (to ≡ revision_of (latest old.rows path)) × (new ≡ old)
     × ((row : Row) → IsLatestPut old.rows path revision row → ⊥)

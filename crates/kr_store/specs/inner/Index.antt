@@ -50,9 +50,7 @@ SetsGone old new path to =
 
 -- a row was added
 abbrev pub AddsAs : Index → Index → ℕ → List ℕ → Kind → Type 0
-AddsAs old new k path kind.Put =
-    ((q : List ℕ) → live_at new q ≡ update bytes_eq (live_at old) path (Some k) q)
-    × ((q : List ℕ) → gone_at new q ≡ gone_at old q)
+AddsAs old new k path kind.Put = SetsLive old new path (Some k)
 AddsAs old new k path kind.Delete =
     ((q : List ℕ) → live_at new q ≡ update bytes_eq (live_at old) path None q)
     × ((q : List ℕ) → gone_at new q ≡ update bytes_eq (gone_at old) path (Some k) q)

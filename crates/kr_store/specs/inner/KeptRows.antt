@@ -1,7 +1,7 @@
 -- What a store keeps of its rows.
-use Rattle.std.specs.Prelude.{◌≡◌, ℕ, ◌+◌, ◌≤◌, length, List, [], ◌∷◌, map, Option, None, Some, ⊤}
-use Rattle.kr_base.specs.Rules.{IsPath, IsResource}
-use Rattle.kr_store.specs.Rows.{IsRow, HasCheck, longest_value}
+use Rattle.std.specs.Prelude.{◌≡◌, ℕ, ◌+◌, List, [], ◌∷◌, map, Option, None, Some, ⊤}
+use Rattle.kr_base.specs.Rules.{IsPath}
+use Rattle.kr_store.specs.Rows.{IsRow, IsPut}
 use Rattle.kr_store.specs.declared.format.Format.{Format}
 use Rattle.kr_store.specs.declared.rows.Row.{Row}
 use Rattle.kr_store.specs.declared.rows.Change.{Change}
@@ -23,8 +23,7 @@ shared_row (kept.Delete path) = None
 
 -- a put keeps the rules of its parts
 abbrev pub IsChange : Format → Change → Type 0
-IsChange format (Put resource stored check) =
-    IsResource resource × (length stored ≤ longest_value) × HasCheck format check
+IsChange format (Put resource stored check) = IsPut format resource stored check
 IsChange format Delete = ⊤
 
 -- the rules of what is kept of the row with revision k

@@ -26,6 +26,7 @@ abbrev pub kept_of : Format → List KeptRow → ℕ → Tail → Kept
 kept_of format rows limit log = record {
   format = format;
   rows = log_rows_of rows;
+  length = log.end;
   limit = limit;
   told = log.told;
   count = log.count;

@@ -1,49 +1,41 @@
 -- What the phases of a command give to it: each result is said by cases, and want of memory alone
 -- is free.
-use Rattle.std.specs.Prelude.{◌≡◌, ℕ, ◌+◌, ◌≤◌, ◌⊎◌, List, [], ◌∷◌, ◌++◌, length, Option, Some, None, Result, Ok, Err, ⊤}
+use Rattle.std.specs.Prelude.{◌≡◌, ℕ, ◌+◌, ◌≤◌, ◌⊎◌, List, [], ◌∷◌, ◌++◌, length, Option, Some, None, Result, Ok, Err, OnOk, OnErr, ⊤}
 use Rattle.std.specs.Borrow.{Bor}
-use Rattle.std.specs.Io.KnownBytes.{Appends, Consumes, IsAtEnd, Keeps}
-use Rattle.kr_base.specs.Faults.{Rose}
+use Rattle.std.specs.Io.KnownBytes.{Appends, Consumes, IsAtEnd}
+use Rattle.kr_base.specs.Faults.{Rose, IsCounted}
+use Rattle.kr_base.specs.Limits.{path_limit}
 use Rattle.kr_base.specs.Told.{Agrees}
 use Rattle.kr_base.specs.Streams.{AppendsFront, TakesAtMost}
-use Rattle.kr_kms.specs.Outside.{Outside, noted, file_faults}
-use Rattle.kr_kms.specs.declared.world.Asked.{Asked}
-use Rattle.kr_words.specs.declared.command.Verb.{Verb}
+use Rattle.kr_kms.specs.Outside.{Outside, noted, file_faults, same_seat, KeepsFiles, HandsOut, TakesBack}
+use Rattle.kr_kms.specs.declared.world.WorldCall.{WorldCall}
+use Rattle.kr_kms.specs.declared.world.WorldCall.TheVariants.{RandomSource}
 use Rattle.kr_config.specs.Kept.{Row, rows_of}
 use Rattle.kr_config.specs.declared.settings.Settings.{Settings}
 use Rattle.kr_config.specs.Meanings.{Means}
 use Rattle.kr_config.specs.declared.refusal.ConfigNo.{ConfigNo}
-use Rattle.kr_top.specs.Command.{Command, command_of}
 use Rattle.kr_provider.specs.declared.refusal.Opened.{Opened}
 use Rattle.kr_provider.specs.declared.refusal.SealNo.{SealNo}
 use Rattle.kr_provider.specs.declared.refusal.SealNo.TheVariants as seal
 use Rattle.kr_provider.specs.declared.refusal.UnsealNo.{UnsealNo}
 use Rattle.kr_provider.specs.declared.refusal.UnsealNo.TheVariants as unseal
 use Rattle.kr_provider.specs.declared.refusal.ValueNo.TheVariants as value
-use Rattle.kr_top.specs.Commands.{steps, silently, freshness}
+use Rattle.kr_top.specs.Around.{Around, Stays, IsHome, Ends}
+use Rattle.kr_top.specs.Command.{Asks, AskBadly}
+use Rattle.kr_top.specs.Commands.{silently, freshness}
 use Rattle.kr_top.specs.Configuration.{Entries, IsConfiguration}
-use Rattle.kr_top.specs.Ran.{Around, Receipt, IsIdle, IsFault, Stays, Reaches, IsHome}
-use Rattle.kr_top.specs.Steps.{Steps, Goes, Call, Left, with_dice, Point, awaits, amid, drawing, refuses, gives}
-use Rattle.kr_top.specs.declared.refusal.BadWords.TheVariants.{Usage}
-use Rattle.kr_top.specs.declared.refusal.Object.TheVariants.{Input, Output, Files, Dice}
+use Rattle.kr_top.specs.Ran.{Receipt}
+use Rattle.kr_top.specs.Steps.{Steps, Left}
+use Rattle.kr_top.specs.declared.command.Command.{Command}
+use Rattle.kr_top.specs.declared.command.Command.TheVariants.{Convert, Check, Inspect}
+use Rattle.kr_top.specs.declared.refusal.Object.TheVariants.{Input, Files, Dice}
 use Rattle.kr_top.specs.declared.refusal.Outcome.{Outcome}
 use Rattle.kr_top.specs.declared.refusal.Refusal.{Refusal}
 use Rattle.kr_top.specs.declared.refusal.Refusal.TheVariants.{Configuration, NotServed, Value}
 use Rattle.kr_top.specs.declared.refusal.Stop.{Stop}
 use Rattle.kr_top.specs.declared.refusal.Stop.TheVariants.{Words, Refused, Fault, NoMemory}
-use Rattle.kr_top.specs.declared.refusal.Done.{Done}
 
 -- ---- any phase
-
--- how steps end: a fault stands only for the call that they come to, and want of memory for any
-abbrev pub Ends : {A : Type 0} → Steps A → Left → Around → Around → Result A Stop → Type 0
-Ends next left old new (Ok x) = Reaches next left new (gives x)
-Ends next left old new (Err (Words why)) = ⊥
-Ends next left old new (Err (Refused why)) = Reaches next left new (refuses why)
-Ends next left old new (Err (Fault object count)) =
-    (call : Call) × Reaches next left new (awaits call) × IsFault call object count old new
-Ends next left old new (Err NoMemory) =
-    ((call : Call) × Reaches next left new (awaits call)) ⊎ Reaches next left new amid
 
 -- wherever a command comes to these steps, they end so
 pub record Does {A : Type 0} (next : Steps A) (old new : Around)
@@ -51,32 +43,30 @@ pub record Does {A : Type 0} (next : Steps A) (old new : Around)
   pub home : IsHome old new
   pub ends : (left : Left) → Stays left old → Ends next left old new result
 
--- the command of the words was done, up to its value; or there is none
-abbrev pub Performs : Verb → List (List ℕ × List ℕ) → Around → Around → Result Outcome Stop → Type 0
-Performs verb options old new result =
-    ((command : Command) × (command_of verb options ≡ Some command)
-    × Does (steps command) old new result)
-    ⊎ ((command_of verb options ≡ None) × (new ≡ old) × (result ≡ Err (Words Usage)))
+-- ---- the words
 
--- the value of a command was written, or a prefix of it
-abbrev pub Writes : Receipt → Result Outcome Stop → Result Done Stop → Type 0
-Writes output (Ok made) (Ok done) =
-    (done ≡ made.done) × Appends output.old output.new made.bytes
-Writes output (Ok made) (Err (Fault object count)) =
-    AppendsFront output.old output.new made.bytes × (object ≡ Output)
-    × Rose output.old_faults output.new_faults × (count ≡ output.new_faults)
-Writes output (Ok made) (Err stop) = ⊥
-Writes output (Err stop) result = (result ≡ Err stop) × IsIdle output
+abbrev pub HasShortPath : Option Command → Type 0
+HasShortPath None = ⊤
+HasShortPath (Some (Convert words)) = length words.path ≤ path_limit
+HasShortPath (Some (Check config resource)) = ⊤
+HasShortPath (Some Inspect) = ⊤
+
+-- the words ask for the command, or stop the call
+abbrev pub IsReadAs : List (List ℕ) → Result Command Stop → Type 0
+IsReadAs words (Ok command) = Asks words command × HasShortPath (Some command)
+IsReadAs words (Err (Words why)) = AskBadly why words
+IsReadAs words (Err NoMemory) = ⊤
+IsReadAs words result = ⊥
 
 -- ---- the world
 
 -- the call was made on the world, and no other; where there was no memory, perhaps not even this
-abbrev pub AskedUnless : (old new : Option (List Asked)) → Asked → Stop → Type 0
+abbrev pub AskedUnless : (old new : Option (List WorldCall)) → WorldCall → Stop → Type 0
 AskedUnless old new call NoMemory = (new ≡ old) ⊎ (new ≡ noted call old)
 AskedUnless old new call why = new ≡ noted call old
 
-abbrev pub AskedFor : {T : Type 0} → (old new : Option (List Asked)) → Asked → Result T Stop
-    → Type 0
+abbrev pub AskedFor : {T : Type 0} → (old new : Option (List WorldCall)) → WorldCall
+    → Result T Stop → Type 0
 AskedFor old new call (Ok x) = new ≡ noted call old
 AskedFor old new call (Err why) = AskedUnless old new call why
 
@@ -93,29 +83,46 @@ abbrev pub rows_in : Result Settings Stop → Result (List Row) Stop
 rows_in (Ok settings) = Ok (rows_of settings.entries.0)
 rows_in (Err stop) = Err stop
 
--- what the file of a name is read as is passed on so
-abbrev pub IsPassed : Outside → (Entries → Entries) → List ℕ → Entries → Type 0
-IsPassed old pass name passed =
-    (file : Option (List ℕ)) × Agrees (old.file name) file
-    × (read : Entries) × IsConfiguration name file read × (pass read ≡ passed)
+-- the file of a name is read so
+abbrev pub IsFileRead : Outside → List ℕ → Entries → Type 0
+IsFileRead old name read =
+    (file : Option (List ℕ)) × Agrees (old.file name) file × IsConfiguration name file read
 
 -- the configuration in a file, or why it wasn't read
-abbrev pub Configures : (old new : Outside) → (Entries → Entries) → List ℕ → Result Settings Stop
-    → Type 0
-Configures old new pass name (Ok settings) =
-    IsPassed old pass name (Ok (rows_of settings.entries.0))
-Configures old new pass name (Err (Refused why)) = IsPassed old pass name (Err why)
-Configures old new pass name (Err (Fault object count)) =
-    (object ≡ Files) × Rose old.load_faults new.load_faults × (count ≡ file_faults new)
-Configures old new pass name (Err NoMemory) = ⊤
-Configures old new pass name result = ⊥
+abbrev pub Configures : (old new : Outside) → List ℕ → Result Settings Stop → Type 0
+Configures old new name (Ok settings) = IsFileRead old name (Ok (rows_of settings.entries.0))
+Configures old new name (Err (Refused why)) = IsFileRead old name (Err why)
+Configures old new name (Err (Fault object count)) =
+    (object ≡ Files) × Rose old.faults.loads new.faults.loads × (count ≡ file_faults new)
+Configures old new name (Err NoMemory) = ⊤
+Configures old new name result = ⊥
 
 -- why no random source was handed out
 abbrev pub NoDice : Outside → Outside → Stop → Type 0
 NoDice old new (Fault object count) =
-    (object ≡ Files) × Rose old.open_faults new.open_faults × (count ≡ file_faults new)
+    (object ≡ Files) × Rose old.faults.dice new.faults.dice × (count ≡ file_faults new)
 NoDice old new NoMemory = ⊤
 NoDice old new why = ⊥
+
+-- the random source of the seat was handed out, and nothing else done but the call noted
+pub record Lent (seat : ℕ) (old new : Outside) (left : Option (List ℕ)) (count : ℕ) : Type 0 where
+  pub out : HandsOut same_seat old.dice new.dice seat count
+  pub left_is : left ≡ old.dice.told seat
+  pub files : KeepsFiles old new
+  pub asked : new.asked ≡ noted (RandomSource seat) old.asked
+  pub tapes : new.tapes ≡ old.tapes
+  pub links : new.links ≡ old.links
+
+-- it came back, and nothing else was done
+pub record Returned (seat : ℕ) (old new : Outside) (left : Option (List ℕ)) (count : ℕ)
+    : Type 0 where
+  pub home : TakesBack same_seat old.dice new.dice seat count
+  pub left_is : new.dice.told seat ≡ left
+  pub file : new.file ≡ old.file
+  pub faults : new.faults ≡ old.faults
+  pub asked : new.asked ≡ old.asked
+  pub tapes : new.tapes ≡ old.tapes
+  pub links : new.links ≡ old.links
 
 -- ---- the input
 
@@ -131,28 +138,7 @@ TakesInput limit long old new before count (Err (Fault object n)) =
 TakesInput limit long old new before count (Err NoMemory) = TakesAtMost old new limit
 TakesInput limit long old new before count result = ⊥
 
--- ---- a random source
-
--- the steps drew nothing from seat 0, or just what it lost
-abbrev pub DrawsTo : Left → (new : Option (List ℕ)) → Left → Type 0
-DrawsTo left new end = ((end ≡ left) × Keeps (left.dice 0) new) ⊎ (end ≡ with_dice 0 new left)
-
--- the steps over a random source that was borrowed come to this point, wherever a command takes
--- them
-pub record Draws (next : Steps Outcome) (old new : Option (List ℕ))
-    (point : Point Outcome) : Type 0 where
-  pub goes : (left : Left) → Keeps (left.dice 0) old
-      → (end : Left) × Goes point end next left × DrawsTo left new end
-
--- what a bench made of the bytes: a value, a refusal, or the draw failed
-abbrev pub Makes : Steps Outcome → (old new : Option (List ℕ)) (before count : ℕ)
-    → Result Outcome Stop → Type 0
-Makes next old new before count (Ok made) = Draws next old new (gives made)
-Makes next old new before count (Err (Refused why)) = Draws next old new (refuses why)
-Makes next old new before count (Err (Fault object n)) =
-    (object ≡ Dice 0) × Rose before count × (n ≡ count) × Draws next old new (awaits (drawing 0))
-Makes next old new before count (Err NoMemory) = Keeps old new
-Makes next old new before count result = ⊥
+-- ---- a bench
 
 -- what a bench answers, as a command says it; data above the limit don't come to a bench, and
 -- without a plugin none fails
@@ -178,7 +164,19 @@ Yields Is (Err (Refused why)) = Is (Err why)
 Yields Is (Err NoMemory) = ⊤
 Yields Is result = ⊥
 
+-- a text as what a command makes
+abbrev pub shown_as : Result (List ℕ) Stop → Result Outcome Stop
+shown_as (Ok text) = Ok (silently text)
+shown_as (Err stop) = Err stop
+
 -- pieces of text, one behind another
 abbrev pub whole : List (Bor (List ℕ)) → List ℕ
 whole [] = []
 whole (piece ∷ pieces) = piece.now ++ whole pieces
+
+-- the line was written, or a prefix of it before a fault
+pub record Says {T E : Type 0} (sink : Receipt) (line : List ℕ) (result : Result T E)
+    : Type 0 where
+  pub ok : OnOk result (Appends sink.old sink.new line)
+  pub err : OnErr result (AppendsFront sink.old sink.new line)
+  pub cause : IsCounted sink.old_faults sink.new_faults result

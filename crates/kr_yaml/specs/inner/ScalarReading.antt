@@ -4,7 +4,8 @@ use Rattle.std.specs.Prelude.{ℕ, ◌==◌, ◌&&◌, ◌||◌, not, Bool, true
 use Rattle.std.specs.Prelude.{take, drop, codes, Option, None, Some, if◌then◌else◌}
 use Rattle.std.specs.Option.{option_map_or}
 use Rattle.std.specs.Str.{bytes_eq}
-use Rattle.kr_yaml.specs.Bytes.{behind}
+use Rattle.std.specs.List.{list_all}
+use Rattle.kr_yaml.specs.Bytes.{behind, is_blank}
 use Rattle.kr_yaml.specs.Data.{Data, null, word}
 use Rattle.kr_yaml.specs.Written.{escape, is_indicator, is_merge_text}
 use Rattle.kr_yaml.specs.inner.Stops.{trim, has, stops, length_until}
@@ -44,10 +45,12 @@ abbrev pub is_space : List ℕ → Bool
 is_space [] = false
 is_space (b ∷ bs) = b == 32
 
--- it isn't empty, begins with no indicator and not with `- `, holds no `: ` and ends with no `:`
+-- it holds more than blanks, begins with no indicator and not with `- `, holds no `: ` and ends
+-- with no `:`
 abbrev pub is_plain : List ℕ → Bool
 is_plain [] = false
-is_plain (b ∷ bs) = not (is_indicator b) && not (b == 45 && is_space bs) && not (has Colon (b ∷ bs))
+is_plain (b ∷ bs) = not (is_indicator b) && not (b == 45 && is_space bs)
+    && not (has Colon (b ∷ bs)) && not (list_all is_blank (b ∷ bs))
 
 -- the trailing spaces of a plain scalar are dropped, but not those of a key
 abbrev pub plain_text : List ℕ → List ℕ → List ℕ

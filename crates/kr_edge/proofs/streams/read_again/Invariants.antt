@@ -1,5 +1,4 @@
 -- A read that was interrupted took nothing.
-use Rattle.std.proofs.Common.{◌≡◌, length}
 use Rattle.std.specs.Io.KnownBytes.{Keeps}
 use Rattle.kr_edge.proofs.streams.read_again.Given as goal
 

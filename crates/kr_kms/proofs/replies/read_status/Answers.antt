@@ -1,7 +1,8 @@
 -- A status is read part by part.
 use Rattle.std.proofs.Common.{codes}
 use Rattle.serde_json.specs.View.{view}
-use Rattle.kr_kms.specs.Replies.{text_at, status_in}
+use Rattle.kr_kms.specs.Members.{text_at}
+use Rattle.kr_kms.specs.Replies.{status_in}
 use Rattle.kr_kms.proofs.Shapes.{stops, no_version, no_healthz, no_key_id, whole_status}
 use Rattle.kr_kms.proofs.replies.read_status.Goals as goal
 

@@ -1,7 +1,8 @@
 -- A wrap is read part by part.
 use Rattle.std.proofs.Common.{codes}
 use Rattle.serde_json.specs.View.{view}
-use Rattle.kr_kms.specs.Replies.{text_at, bytes_at, annotations_in, wrapped_in}
+use Rattle.kr_kms.specs.Members.{text_at, bytes_at}
+use Rattle.kr_kms.specs.Replies.{annotations_in, wrapped_in}
 use Rattle.kr_kms.proofs.Shapes.{stops, no_wrap_key_id, no_annotations, no_cipher, whole_wrap}
 use Rattle.kr_kms.proofs.replies.read_wrapped.Goals as goal
 

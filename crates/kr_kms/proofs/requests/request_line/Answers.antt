@@ -1,12 +1,23 @@
--- A request holds no float, so its text is known.
-use Rattle.std.proofs.Common.{[], ◌∷◌, ◌++◌, ap, ◌∙◌}
-use Rattle.serde_json.specs.Written.{has_float, compact_text}
-use Rattle.kr_kms.proofs.Lines.{no_float}
+-- The members hold no float and don't nest deep, and what is written is read back.
+use Rattle.std.proofs.Common.{◌≤◌, sym, ◌∙◌, ap, subst}
+use Rattle.serde_json.specs.Data.{depth, object}
+use Rattle.serde_json.specs.Read.{max_depth}
+use Rattle.serde_json.specs.View.{members_view}
+use Rattle.serde_json.specs.Written.{has_float}
+use Rattle.kr_kms.proofs.Lines.{no_float, request_depth}
+use Rattle.kr_kms.proofs.ReadBack.{request_reads_if}
 use Rattle.kr_kms.proofs.requests.request_line.Goals as goal
 
-pub returns : goal.returns
-returns c =
-    let is = c.in_ok-value.ensures in
-    c.from_vec.ensures ∙ c.in_ok-push.ensures.items
-    ∙ ap (λ l. l ++ 10 ∷ [])
-    (c.in_ok-line.ensures.text (ap has_float is ∙ no_float c.args.request.now) ∙ ap compact_text is)
+pub line_of-requires-clause-floats : goal.line_of-requires-clause-floats
+line_of-requires-clause-floats c =
+    ap (λ m. has_float (object m)) c.in_ok-members.ensures ∙ no_float c.args.request.now
+
+pub line_of-requires-clause-nests : goal.line_of-requires-clause-nests
+line_of-requires-clause-nests c =
+    subst (λ m. depth (object m) ≤ max_depth) (sym c.in_ok-members.ensures)
+    (request_depth c.args.request.now)
+
+pub returns-clause-read : goal.returns-clause-read
+returns-clause-read c = request_reads_if c.line_of.result c.args.request.now
+    (members_view c.in_ok-members.members.entries) c.in_ok-members.ensures c.tell_bytes.ensures
+    c.line_of.ensures.read

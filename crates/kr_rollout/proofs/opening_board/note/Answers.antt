@@ -25,6 +25,7 @@ returns-in-Ok c = (
       (ap (reader_place c.list_for-list.result.now) (sym c.as_slice.ensures)
       ∙ sym c.reader_of.ensures ∙ c.in-Some.is)
       c.index-list-place.is,
+  c.keeps_check.ensures,
   c.in-Ok.ensures.ok ∙ (λ i. record c.args.board.now {
     needs = set_need c.args.board.now.needs
         (record {

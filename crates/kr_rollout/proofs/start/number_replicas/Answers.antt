@@ -1,5 +1,5 @@
 use Rattle.std.proofs.Common.{◌≡◌, ◌+◌, ◌++◌, ◌∷◌, [], sym, ap, subst, ◌∙◌}
-use Rattle.kr_rollout.specs.inner.Opens.{number_if_in}
+use Rattle.kr_rollout.specs.inner.OpeningBoards.{number_if_in}
 use Rattle.kr_rollout.proofs.Sharing.{AreNumbered, numbered_step}
 use Rattle.kr_rollout.proofs.start.number_replicas.Goals as goal
 

@@ -1,36 +1,31 @@
-use Rattle.std.proofs.Common.{◌∙◌, ap, inl}
-use Rattle.std.specs.Option.{option_copied}
-use Rattle.kr_top.specs.Command.{encrypt, decrypt, check, inspect, command_of}
-use Rattle.kr_top.proofs.Asked.{object_is, check_is}
+use Rattle.std.proofs.Common.{◌≡◌, Result, Some, sym, ◌∙◌, ap, subst}
+use Rattle.kr_top.specs.Around.{Around, around}
+use Rattle.kr_top.specs.Commands.{steps}
+use Rattle.kr_top.specs.inner.Phases.{Does, HasShortPath}
+use Rattle.kr_top.specs.declared.command.Command.{Command}
+use Rattle.kr_top.specs.declared.command.Command.TheVariants.{Check}
+use Rattle.kr_top.specs.declared.refusal.Outcome.{Outcome}
+use Rattle.kr_top.specs.declared.refusal.Stop.{Stop}
 use Rattle.kr_top.proofs.call.perform.Goals as goal
 
-pub returns-in-Encrypt : goal.returns-in-Encrypt
-returns-in-Encrypt g c = let words = c.object_words in inl (
-  encrypt words.result.config.now words.result.resource.now words.result.path.now,
-  ap (λ v. command_of v c.args.command.now.options.0) c.in-Encrypt.is
-      ∙ object_is encrypt words.ensures.config words.ensures.resource words.ensures.value,
-  c.convert.ensures,
-)
+does_by : {a b : Command} {old new : Around} {result : Result Outcome Stop} → a ≡ b
+    → Does (steps a) old new result → Does (steps b) old new result
+does_by {old = old} {new} {result} e d = subst (λ c. Does (steps c) old new result) e d
 
-pub returns-in-Decrypt : goal.returns-in-Decrypt
-returns-in-Decrypt g c = let words = c.object_words-in-Decrypt in inl (
-  decrypt words.result.config.now words.result.resource.now words.result.path.now,
-  ap (λ v. command_of v c.args.command.now.options.0) c.in-Decrypt.is
-      ∙ object_is decrypt words.ensures.config words.ensures.resource words.ensures.value,
-  c.convert-in-Decrypt.ensures,
-)
+pub convert-requires-clause-path : goal.convert-requires-clause-path
+convert-requires-clause-path g c = λ κs lives.
+    subst (λ k. HasShortPath (Some k)) c.in-Convert.is c.requires.path
+
+pub returns-in-Convert : goal.returns-in-Convert
+returns-in-Convert g c = does_by (sym c.in-Convert.is) c.convert.ensures
 
 pub returns-in-Check : goal.returns-in-Check
-returns-in-Check g c = inl (
-  check c.check_words.result.config.now (option_copied c.check_words.result.resource),
-  ap (λ v. command_of v c.args.command.now.options.0) c.in-Check.is
-      ∙ check_is c.check_words.ensures.config c.check_words.ensures.resource,
-  c.check.ensures _ _,
-)
+returns-in-Check g c = does_by
+    (ap (λ name. Check name c.in-Check.resource) c.as_str.ensures ∙ sym c.in-Check.is)
+    (c.check.ensures (around (g.W.World.told c.args.world.now) (g.I.Source.left c.args.input.now)
+    (g.I.Source.count c.args.input.now)))
 
 pub returns-in-Inspect : goal.returns-in-Inspect
-returns-in-Inspect g c = inl (
-  inspect,
-  ap (λ v. command_of v c.args.command.now.options.0) c.in-Inspect.is,
-  c.inspect.ensures _,
-)
+returns-in-Inspect g c = does_by (sym c.in-Inspect.is)
+    (c.inspect.ensures (around (g.W.World.told c.args.world.now)
+    (g.I.Source.left c.args.input.now) (g.I.Source.count c.args.input.now)))

@@ -1,28 +1,20 @@
-use Rattle.std.proofs.Common.{Ok, Err}
-use Rattle.std.specs.Option.{option_copied}
+use Rattle.std.proofs.Common.{◌≡◌, Ok, sym, subst}
+use Rattle.kr_config.specs.Kept.{rows_of}
+use Rattle.kr_top.specs.Around.{with_world}
 use Rattle.kr_top.specs.Check.{listing}
-use Rattle.kr_top.specs.Commands.{configuration, tell}
-use Rattle.kr_top.specs.Configuration.{any}
-use Rattle.kr_top.proofs.Goes.{configures, goes_on, stops, tells, tells_nothing}
+use Rattle.kr_top.specs.Commands.{configuration, show}
+use Rattle.kr_top.specs.inner.Phases.{Does}
+use Rattle.kr_top.proofs.Goes.{goes_on, stops, shows}
 use Rattle.kr_top.proofs.check.check.Goals as goal
 
 pub returns-in-Err : goal.returns-in-Err
-returns-in-Err g c i n = stops (configuration any _) _ c.in-Err.stop
-    (configures c.in-Err.ensures.files c.in-Err.ensures.dice i n any _
-    (Err c.in-Err.stop) c.in-Err.ensures.settings c.in-Err.ensures.asked)
-
-pub returns-in-Ok-listing : goal.returns-in-Ok-listing
-returns-in-Ok-listing g c i n =
-    goes_on (configuration any _)
-    (λ rows. tell (listing rows (option_copied c.args.words.resource))) _
-    (configures c.in-Ok.ensures.files c.in-Ok.ensures.dice i n any _
-    (Ok c.in-Ok.settings) c.in-Ok.ensures.settings c.in-Ok.ensures.asked)
-    (tells _ c.in-Ok-listing.ensures)
+returns-in-Err g c a = stops (configuration _) _ c.in-Err.stop (c.in-Err.ensures a)
 
 pub returns : goal.returns
-returns g c i n =
-    goes_on (configuration any _)
-    (λ rows. tell (listing rows (option_copied c.args.words.resource))) _
-    (configures c.in-Ok.ensures.files c.in-Ok.ensures.dice i n any _
-    (Ok c.in-Ok.settings) c.in-Ok.ensures.settings c.in-Ok.ensures.asked)
-    tells_nothing
+returns g c a =
+    let rows = rows_of c.in-Ok.settings.entries.0 in
+    let now = with_world (g.W.World.told c.configure.new.world) a in
+    goes_on (configuration _) (λ rows. show (λ shown. shown ≡ Ok (listing rows c.args.resource.now)))
+    rows (c.in-Ok.ensures a)
+    (subst (λ r. Does (show (λ shown. shown ≡ Ok (listing rows c.args.resource.now))) now now r)
+    (sym c.show.ensures) (shows _ now c.listing.result c.listing.ensures))

@@ -1,30 +1,20 @@
-use Rattle.std.proofs.Common.{Ok, Err, subst}
-use Rattle.kr_base.specs.Limits.{value_limit}
-use Rattle.kr_top.specs.Commands.{inspection}
+use Rattle.std.proofs.Common.{sym, subst}
+use Rattle.kr_top.specs.Around.{with_told_input}
+use Rattle.kr_top.specs.Commands.{input_of, show}
 use Rattle.kr_top.specs.Inspect.{Inspects}
-use Rattle.kr_top.specs.inner.Phases.{Yields}
-use Rattle.kr_top.specs.Steps.{take_input, give}
-use Rattle.kr_top.specs.declared.refusal.Limit.TheVariants as limit
-use Rattle.kr_top.specs.declared.refusal.Refusal.TheVariants.{Limit}
-use Rattle.kr_top.proofs.Goes.{takes, goes_on, stops, shows, shows_nothing}
+use Rattle.kr_top.specs.inner.Phases.{Does, Yields}
+use Rattle.kr_top.specs.declared.command.Direction.TheVariants.{Decrypt}
+use Rattle.kr_top.proofs.Goes.{goes_on, stops, shows}
 use Rattle.kr_top.proofs.inspect.inspect.Goals as goal
 
 pub returns-in-Err : goal.returns-in-Err
-returns-in-Err g c world =
-    stops (take_input value_limit (Limit limit.Value) give) inspection c.in-Err.stop
-    (takes _ _ _ _ _ _ world (Err c.in-Err.stop) c.in-Err.ensures.taken c.in-Err.ensures.later)
-
-pub returns-in-Ok-inspected : goal.returns-in-Ok-inspected
-returns-in-Ok-inspected g c world =
-    goes_on (take_input value_limit (Limit limit.Value) give) inspection _
-    (takes _ _ _ _ _ _ world (Ok c.in-Ok.bytes) c.in-Ok.ensures.taken c.in-Ok.ensures.later)
-    (shows _ (subst
-    (λ b. Yields (Inspects b) (Ok c.in-Ok-inspected.bytes)) c.as_slice.ensures
-    c.in-Ok-inspected.ensures))
+returns-in-Err g c a = stops (input_of Decrypt) _ c.in-Err.stop (c.in-Err.ensures.does a)
 
 pub returns : goal.returns
-returns g c world = goes_on (take_input value_limit (Limit limit.Value) give) inspection _
-    (takes _ _ _ _ _ _ world (Ok c.in-Ok.bytes) c.in-Ok.ensures.taken c.in-Ok.ensures.later)
-    (shows_nothing c.in-Err-inspected.stop
-    (subst (λ b. Yields (Inspects b) (Err c.in-Err-inspected.stop)) c.as_slice.ensures
-    c.in-Err-inspected.ensures))
+returns g c a =
+    let now = with_told_input (g.I.Source.left c.take_input.new.input)
+    (g.I.Source.count c.take_input.new.input) a in
+    goes_on (input_of Decrypt) (λ bytes. show (Inspects bytes)) c.in-Ok.bytes (c.in-Ok.ensures.does a)
+    (subst (λ r. Does (show (Inspects c.in-Ok.bytes)) now now r) (sym c.show.ensures)
+    (shows _ now c.inspected.result
+    (subst (λ b. Yields (Inspects b) c.inspected.result) c.as_slice.ensures c.inspected.ensures)))

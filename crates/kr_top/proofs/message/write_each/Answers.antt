@@ -6,10 +6,10 @@ loop-piece-preserved g c =
     spoke-more _ _ _ _ c.loop-piece.invariant c.loop-piece-test.true c.as_bytes.ensures.value
     c.in-Ok.ensures.ok c.write_all.ensures.cause.later
 
-pub returns-in-Err-clause-err : goal.returns-in-Err-clause-err
-returns-in-Err-clause-err g c =
-    spoke-front _ _ _ c.loop-piece.invariant c.loop-piece-test.true c.as_bytes.ensures.value
-    c.in-Err.ensures.err
+pub returns-in-Err : goal.returns-in-Err
+returns-in-Err g c =
+    spoke-front _ _ c.loop-piece.invariant c.loop-piece-test.true c.as_bytes.ensures.value
+    c.in-Err.ensures.err c.in-Err.ensures.cause.later c.in-Err.ensures.cause.failed
 
-pub returns-clause-ok : goal.returns-clause-ok
-returns-clause-ok g c = spoke-all c.loop-piece.invariant c.loop-piece-test.false
+pub returns : goal.returns
+returns g c = spoke-all c.loop-piece.invariant c.loop-piece-test.false

@@ -1,8 +1,7 @@
-use Rattle.kr_kms.specs.declared.world.Asked.TheVariants.{File}
-use Rattle.kr_top.proofs.Goes.{asked_for}
+use Rattle.kr_top.proofs.Goes.{configures}
 use Rattle.kr_top.proofs.phases.configure.Goals as goal
 
-pub returns-clause-asked : goal.returns-clause-asked
-returns-clause-asked g c =
-    asked_for (g.W.World.told c.args.world.now).asked
-    (File c.args.name.now) c.read_settings.result c.in-Ok-load.ensures.asked
+pub returns : goal.returns
+returns g c a = let done = c.load_settings in
+    configures done.ensures.files done.ensures.objects a c.args.name.now done.result
+    done.ensures.settings done.ensures.asked

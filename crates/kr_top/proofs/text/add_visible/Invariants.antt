@@ -1,5 +1,5 @@
 use Rattle.std.proofs.Common.{◌≡◌, ◌++◌, map, take}
-use Rattle.kr_top.specs.Configuration.{visible_byte}
+use Rattle.kr_top.specs.Texts.{visible_byte}
 use Rattle.kr_top.proofs.text.add_visible.Given as goal
 
 abbrev pub invariant-loop-byte : goal.invariant-loop-byte

@@ -1,7 +1,7 @@
 use Rattle.std.proofs.Common.{◌≡◌, true, false, subst, sym, ◌∙◌, ap, ◌++◌}
 use Rattle.std.specs.Str.{IsUtf8}
 use Rattle.std.proofs.lemmas.Str.{IsUtf8-from_ascii}
-use Rattle.kr_top.specs.Configuration.{visible}
+use Rattle.kr_top.specs.Texts.{visible}
 use Rattle.kr_top.proofs.Visible.{visible_ascii}
 use Rattle.kr_top.proofs.text.visible.Goals as goal
 

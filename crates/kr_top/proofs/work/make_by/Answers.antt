@@ -1,26 +1,18 @@
--- `make_by`: a page is there for each key, and no link is needed.
-use Rattle.std.proofs.Common.{Ok, ap, refl, ◌∙◌}
 use Rattle.kr_config.specs.Kept.{rows_of}
-use Rattle.kr_config.specs.declared.settings.Settings.{Settings}
-use Rattle.kr_provider.specs.Names.{names_of}
-use Rattle.kr_provider.specs.Publication.{names_plugin}
-use Rattle.kr_provider.proofs.Lists.{no_links}
-use Rattle.kr_top.proofs.Rooms.{room}
+use Rattle.kr_config.specs.Lists.{list_of}
+use Rattle.kr_top.specs.Commands.{working_by}
+use Rattle.kr_top.proofs.Works.{lacks_after, made_by}
 use Rattle.kr_top.proofs.work.make_by.Goals as goal
 
-pub adopt-requires : goal.adopt-requires
-adopt-requires g c = record {
-  links = no_links (names_of g.L.Kms.link c.in-Ok-new-2.bench.links) c.in-Ok-new.published.rows
-      (ap (λ p. names_plugin p.rows)
-      (c.in-Ok-new.ensures.ok ∙ c.publish_bare-published.ensures.published)
-      ∙ ap (λ (s : Settings). names_plugin (rows_of s.entries.0)) c.in-Ok.ensures.ok
-      ∙ c.requires.no_plugin);
-}
+pub returns-in-Err : goal.returns-in-Err
+returns-in-Err g c a = lacks_after g.D.Dice.left g.D.Dice.count
+    (working_by c.args.direction
+    (list_of (rows_of c.args.settings.entries.0) c.args.resource.now) c.args.path.now
+    c.args.bytes.now) c.args.dice c.in-Err.dice c.in-Err.ensures.dice a
 
-pub unreachable-requires : goal.unreachable-requires
-unreachable-requires g c =
-    room (rows_of c.in-Ok.settings.entries.0) c.publish_bare-published.result
-    c.in-Ok-new.published c.in-Ok-new-2.bench.pages
-    c.in-Ok.settings.kept (ap (λ p. Ok p) c.publish_bare-published.ensures.published)
-    c.in-Ok-new.ensures.ok
-    (ap (λ b. b.pages) c.in-Ok-new-2.ensures.ok) (c.in_default.ensures.full.0 refl)
+pub returns : goal.returns
+returns g c a = made_by g.D.Dice.left g.D.Dice.count c.args.direction c.args.resource.now
+    c.args.path.now c.args.bytes.now a c.in-Ok.bench.published
+    (rows_of c.args.settings.entries.0) c.args.dice c.in-Ok.bench.dice c.work-made.result.2
+    c.work-made.result.0 c.in-Ok.ensures.published c.in-Ok.ensures.dice
+    (c.work-made.ensures.made a)

@@ -12,7 +12,7 @@ pub serve-answer-requires-clause-may : goal.serve-answer-requires-clause-may
 serve-answer-requires-clause-may g c =
     may_serve c.self.inside.rollout.opening c.self.inside.rollout.state
     (entries_by c.self.inside.rollout.state c.self.inside.journal.0) c.args.seat c.args.event
-    c.self.invariant.legal c.self.invariant.leads
+    c.self.invariant.legal c.self.invariant.budgets c.self.invariant.leads
     (subst (λ (x : CoreState). MayAsk x.opening c.args.seat
     (of_seat seat_of c.args.seat x.history) c.args.event) (sym c.self.view_is) c.requires.may)
 
@@ -23,6 +23,8 @@ invariant_of-self g c =
     c.push_in_room.new.self.1
     c.self.inside.room c.args.seat c.args.event c.serve-answer.result.0 c.self.view_is
     c.self.invariant c.serve-answer.ensures c.push_in_room.ensures.items
+    (subst (λ (x : CoreState). MayAsk x.opening c.args.seat
+    (of_seat seat_of c.args.seat x.history) c.args.event) (sym c.self.view_is) c.requires.may)
     c.push_in_room.ensures.room
 
 pub returns-clause-legal : goal.returns-clause-legal
@@ -32,6 +34,8 @@ returns-clause-legal g c =
     c.self.inside.journal.1 c.push_in_room.new.self.1
     c.self.inside.room c.args.seat c.args.event c.serve-answer.result.0 c.self.view_is
     c.self.invariant c.serve-answer.ensures c.push_in_room.ensures.items
+    (subst (λ (x : CoreState). MayAsk x.opening c.args.seat
+    (of_seat seat_of c.args.seat x.history) c.args.event) (sym c.self.view_is) c.requires.may)
     c.push_in_room.ensures.room).legal
 
 pub returns-clause-applied : goal.returns-clause-applied

@@ -1,14 +1,16 @@
-use Rattle.std.proofs.Common.{◌≡◌, ◌<◌, length, Some, sym, ap, subst, ◌∙◌, arith}
+use Rattle.std.proofs.Common.{◌≡◌, ◌<◌, List, length, Some, sym, ap, subst, ◌∙◌, arith}
 use Rattle.kr_rollout.specs.declared.event.Event.TheVariants as event
+use Rattle.kr_rollout.specs.declared.generation.Generation.{Generation}
+use Rattle.kr_rollout.specs.Entries.{published_at}
 use Rattle.kr_rollout.specs.States.{number_at}
-use Rattle.kr_rollout.specs.inner.Rollouts.{Course, MayServe}
-use Rattle.kr_rollout.proofs.Keeping.{read_number, read_published, board_holds, course_taken}
+use Rattle.kr_rollout.specs.inner.Rollouts.{RolloutState, MayServe}
+use Rattle.kr_rollout.proofs.Keeping.{read_number, board_holds, rollout_taken}
 use Rattle.kr_rollout.proofs.Serving.{adopted_at}
 use Rattle.kr_rollout.proofs.rollout.Rollout.adopt.Goals as goal
 
-pub index-requires-2 : goal.index-requires-2
-index-requires-2 g c =
-    let may = subst (λ (x : Course). MayServe x c.args.seat (event.Adopt c.args.replica))
+pub published_of-requires : goal.published_of-requires
+published_of-requires g c =
+    let may = subst (λ (x : RolloutState). MayServe x c.args.seat (event.Adopt c.args.replica))
     (sym c.self.view_is) c.requires.may in
     let is : number_at c.self.inside.current.items c.args.replica ≡ Some c.in-Some.generation =
     read_number c.self.inside.current.items c.args.replica c.index.result.now
@@ -16,12 +18,12 @@ index-requires-2 g c =
     omega (
       arith,
       c.self.invariant.0.current c.args.replica c.in-Some.generation is,
-      c.self.inside.generations.ok,
+      ap (λ (l : List Generation). length l) c.as_slice.ensures,
     )
 
 pub hold-requires : goal.hold-requires
 hold-requires g c =
-    let may = subst (λ (x : Course). MayServe x c.args.seat (event.Adopt c.args.replica))
+    let may = subst (λ (x : RolloutState). MayServe x c.args.seat (event.Adopt c.args.replica))
     (sym c.self.view_is) c.requires.may in
     let is : number_at c.self.inside.current.items c.args.replica ≡ Some c.in-Some.generation =
     read_number c.self.inside.current.items c.args.replica c.index.result.now
@@ -31,33 +33,34 @@ hold-requires g c =
 
 pub invariant_of-self : goal.invariant_of-self
 invariant_of-self g c =
-    let may = subst (λ (x : Course). MayServe x c.args.seat (event.Adopt c.args.replica))
+    let may = subst (λ (x : RolloutState). MayServe x c.args.seat (event.Adopt c.args.replica))
     (sym c.self.view_is) c.requires.may in
     let is : number_at c.self.inside.current.items c.args.replica ≡ Some c.in-Some.generation =
     read_number c.self.inside.current.items c.args.replica c.index.result.now
     (omega (arith, may.0, c.self.invariant.0.replicas)) c.index.ensures ∙ c.in-Some.is in
-    let l = subst (λ (x : Course). c.args.seat < length x.opening.reloads)
+    let l = subst (λ (x : RolloutState). c.args.seat < length x.opening.reloads)
     (sym c.self.view_is) c.requires.seat_in in (
-      course_taken _ c.self.inside.store c.self.inside.board c.hold.new.self
-          c.self.inside.generations.items c.self.inside.current.items c.self.inside.held.items
+      rollout_taken _ c.self.inside.store c.self.inside.board c.hold.new.self
+          c.self.inside.generations.0 c.self.inside.current.items c.self.inside.held.items
           c.self.invariant.0
           c.args.seat c.args.replica c.in-Some.generation c.hold.ensures l may.1 is,
       c.self.invariant.1,
+      c.self.invariant.2,
+      c.self.invariant.3,
     )
 
 pub returns-in-Ok : goal.returns-in-Ok
 returns-in-Ok g c =
-    let may = subst (λ (x : Course). MayServe x c.args.seat (event.Adopt c.args.replica))
+    let may = subst (λ (x : RolloutState). MayServe x c.args.seat (event.Adopt c.args.replica))
     (sym c.self.view_is) c.requires.may in
     let is : number_at c.self.inside.current.items c.args.replica ≡ Some c.in-Some.generation =
     read_number c.self.inside.current.items c.args.replica c.index.result.now
     (omega (arith, may.0, c.self.invariant.0.replicas)) c.index.ensures ∙ c.in-Some.is in
     adopted_at _ c.self.inside.store c.self.inside.board c.hold.new.self
-    c.self.inside.generations.items c.self.inside.current.items c.self.inside.held.items
+    c.self.inside.generations.0 c.self.inside.current.items c.self.inside.held.items
     c.args.self.now c.line-line-in-Ok.result
     c.args.seat c.args.replica c.in-Some.generation c.in-Ok.published c.self.invariant.0
     c.self.view_is c.hold.ensures c.requires.seat_in c.requires.may is
-    (read_published c.self.inside.generations.items c.in-Some.generation c.index-2.result.now
-    (c.self.invariant.0.current c.args.replica c.in-Some.generation is) c.index-2.ensures
-    ∙ ap Some (sym c.in-Ok.ensures))
+    (ap (λ (l : List Generation). published_at l (Some c.in-Some.generation))
+    (sym c.as_slice.ensures) ∙ c.published_of.ensures ∙ ap Some (sym c.in-Ok.ensures))
     c.line-line-in-Ok.ensures

@@ -42,7 +42,7 @@ append-requires-clause-change g c =
     subst (λ o. IfSome o (λ (row : Row). row.resource ≡ c.in-Ok.resource))
     (ap (λ (l : List KeptRow). shared_row (get_or l (c.in-Some.last - 1) d)) c.as_slice.ensures
     ∙ p.1.shares d) (c.in-Ok.ensures d) in (
-      subst IsResource same p.1.rules.1,
+      subst IsResource same p.1.rules.1.0,
       c.requires.stored,
       subst (λ (k : Kept). HasCheck k.format c.keep-check.result) c.self.view_is
           c.keep-check.ensures.rule,

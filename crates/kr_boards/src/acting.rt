@@ -1,0 +1,114 @@
+//! The lines: a call, and behind it what it is made with, parted by single spaces. What isn't of
+//! the form is answered by `line`.
+//!
+//!     settings NAME JSON            a configuration in one line
+//!     board ROOM                    a board in place of the last one
+//!     add REPLICA NAME              the replica takes the settings up,
+//!     hold REPLICA NAME             and one holds them from then on,
+//!     leave REPLICA NAME            or it leaves behind that
+//!     need PATH RESOURCE NAME       the data need what the settings write the resource by
+//!     keep PATH RESOURCE NAME       the same, as a proposal that is kept
+//!     undo PATH RESOURCE NAME       a proposal that isn't
+//!     drop PATH                     nothing stands at the path any more
+//!     judge REPLICA NAME            prints the verdict
+//!     again TIMES REPLICA NAME      prints the last verdict of as many
+//!     live                          prints the numbers of the live generations
+//!     paths RESOURCE NAME           prints how many paths need the provider, and the first
+//!     # TEXT                        says nothing
+use crate::asking::ask;
+use crate::named::NamedSettings;
+use crate::play::{Play, Then};
+use crate::wrong::{Wrong, number_of, two_words};
+use std::alloc::{AllocError, Global};
+
+/// Makes the line's call, and tells what is printed for it.
+pub fn answer(
+    alloc: Global,
+    named: &mut NamedSettings,
+    current: &mut Option<Play>,
+    line: &str,
+) -> Result<Vec<u8>, AllocError> {
+    match act(alloc, named, current, line) {
+        Ok(text) => Ok(text),
+        Err(Wrong::Form) => b"line\n".to_vec(alloc),
+        Err(Wrong::Memory) => Err(AllocError),
+    }
+}
+
+fn act(
+    alloc: Global,
+    named: &mut NamedSettings,
+    current: &mut Option<Play>,
+    line: &str,
+) -> Result<Vec<u8>, Wrong> {
+    let (key, rest) = match line.split_once(' ') {
+        Some(parts) => parts,
+        None => (line, ""),
+    };
+    match key {
+        "#" => Ok(Vec::new(alloc)),
+        "settings" => silent(alloc, named.add(alloc, rest)),
+        "board" => silent(alloc, begin(alloc, current, rest)),
+        _ => match current {
+            Some(play) => act_on(alloc, named, play, key, rest),
+            None => Err(Wrong::Form),
+        },
+    }
+}
+
+/// Nothing is printed.
+fn silent(alloc: Global, done: Result<(), Wrong>) -> Result<Vec<u8>, Wrong> {
+    match done {
+        Ok(()) => Ok(Vec::new(alloc)),
+        Err(why) => Err(why),
+    }
+}
+
+/// Makes a call on the board.
+fn act_on(
+    alloc: Global,
+    named: &NamedSettings,
+    play: &mut Play,
+    key: &str,
+    rest: &str,
+) -> Result<Vec<u8>, Wrong> {
+    match key {
+        "add" => silent(alloc, add(named, play, rest, Then::Stays)),
+        "hold" => silent(alloc, add(named, play, rest, Then::IsHeld)),
+        "leave" => silent(alloc, add(named, play, rest, Then::Leaves)),
+        "need" => silent(alloc, set_need(named, play, rest)),
+        "keep" => silent(alloc, propose(named, play, rest, true)),
+        "undo" => silent(alloc, propose(named, play, rest, false)),
+        "drop" => {
+            play.drop_need(rest);
+            Ok(Vec::new(alloc))
+        }
+        _ => ask(alloc, named, play, key, rest),
+    }
+}
+
+/// `ROOM`.
+fn begin(alloc: Global, current: &mut Option<Play>, rest: &str) -> Result<(), Wrong> {
+    *current = Some(Play::new(alloc, number_of(rest)?)?);
+    Ok(())
+}
+
+/// `REPLICA NAME`.
+fn add(named: &NamedSettings, play: &mut Play, rest: &str, then: Then) -> Result<(), Wrong> {
+    let (replica, name) = two_words(rest)?;
+    play.add(number_of(replica)?, named.at(name)?.share()?, then)
+}
+
+/// `PATH RESOURCE NAME`.
+fn set_need(named: &NamedSettings, play: &mut Play, rest: &str) -> Result<(), Wrong> {
+    let (path, rest) = two_words(rest)?;
+    let (resource, name) = two_words(rest)?;
+    play.set_need(path, resource, named.writer(resource, name)?)
+}
+
+/// `PATH RESOURCE NAME`.
+fn propose(named: &NamedSettings, play: &mut Play, rest: &str, keep: bool) -> Result<(), Wrong> {
+    let (path, rest) = two_words(rest)?;
+    let (resource, name) = two_words(rest)?;
+    play.propose(path, resource, named.writer(resource, name)?, keep)
+}

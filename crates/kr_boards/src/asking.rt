@@ -1,0 +1,57 @@
+//! What is asked of a board, which stays as it is.
+use crate::named::NamedSettings;
+use crate::play::Play;
+use crate::printing::{numbers_line, paths_line, verdict_line};
+use crate::wrong::{Wrong, number_of, two_words};
+use std::alloc::Global;
+
+pub fn ask(
+    alloc: Global,
+    named: &NamedSettings,
+    play: &Play,
+    key: &str,
+    rest: &str,
+) -> Result<Vec<u8>, Wrong> {
+    match key {
+        "judge" => judge(alloc, named, play, 1, rest),
+        "again" => judge_again(alloc, named, play, rest),
+        "live" => numbers_line(alloc, play.live()),
+        "paths" => tell_paths(alloc, named, play, rest),
+        _ => Err(Wrong::Form),
+    }
+}
+
+/// `REPLICA NAME`.
+fn judge(
+    alloc: Global,
+    named: &NamedSettings,
+    play: &Play,
+    times: u32,
+    rest: &str,
+) -> Result<Vec<u8>, Wrong> {
+    let (replica, name) = two_words(rest)?;
+    let verdict = play.judge(times, number_of(replica)?, named.at(name)?.get())?;
+    verdict_line(alloc, &verdict)
+}
+
+/// `TIMES REPLICA NAME`.
+fn judge_again(
+    alloc: Global,
+    named: &NamedSettings,
+    play: &Play,
+    rest: &str,
+) -> Result<Vec<u8>, Wrong> {
+    let (times, rest) = two_words(rest)?;
+    judge(alloc, named, play, number_of(times)?, rest)
+}
+
+/// `RESOURCE NAME`.
+fn tell_paths(
+    alloc: Global,
+    named: &NamedSettings,
+    play: &Play,
+    rest: &str,
+) -> Result<Vec<u8>, Wrong> {
+    let (resource, name) = two_words(rest)?;
+    paths_line(alloc, play.paths(resource, named.writer(resource, name)?))
+}

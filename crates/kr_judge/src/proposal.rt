@@ -1,0 +1,115 @@
+//! Paths that are put to and taken from the needs, in the map of all and in the set of their pair.
+ghost use Rattle.std.specs.Prelude.{◌≡◌, ◌<◌, length, None, Some, IfOk, OnErr};
+ghost use Rattle.std.specs.Map.{remove_entry};
+ghost use Rattle.std.specs.BTreeMap.{is_at, insert_entry};
+ghost use Rattle.kr_config.specs.Nexts.{name_cmp};
+ghost use Rattle.kr_judge.specs.inner.Indexes.{IsIndexed, labels_of, without_proposed};
+
+use crate::pair::{Pair, put_path, take_path, take_unless};
+use crate::path_map::PathMap;
+use kr_base::{NoMemory, Text};
+use std::alloc::Global;
+
+/// A path that would need the pair at the place.
+#[derive(Drop)]
+pub struct Proposal {
+    pub path: Text,
+    pub place: usize,
+    /// Whether nothing is needed at the path yet.
+    pub fresh: bool,
+}
+
+/// Puts the path among those of the pair, and gives it a place where it has none.
+#[tactic(auto, using(crate::proofs::IndexSteps::made_there, crate::proofs::IndexSteps::made_fresh, crate::proofs::IndexSteps::made_and_gone, crate::proofs::IndexSteps::without_there, crate::proofs::IndexSteps::without_fresh))]
+pub fn make_proposal(
+    places: &mut PathMap,
+    pairs: &mut Vec<Pair>,
+    alloc: Global,
+    path: &str,
+    place: usize,
+) -> Result<Proposal, NoMemory>
+    requires indexed { IsIndexed places.old pairs.old.items None }
+    requires place { place < length pairs.old.items }
+    ensures is { IfOk result (λ made. (made.path ≡ path.now) × (made.place ≡ place)) }
+    ensures made { IfOk result (λ made. IsIndexed places.new pairs.new.items (Some made)) }
+    ensures fresh { IfOk result (λ made. without_proposed (Some made) places.new ≡ places.old) }
+    ensures indexed { OnErr result (IsIndexed places.new pairs.new.items None) }
+    ensures same { OnErr result (places.new ≡ places.old) }
+    ensures labels { labels_of pairs.new.items ≡ labels_of pairs.old.items }
+{
+    let kept = Text::copy(alloc, path)?;
+    let key = Text::copy(alloc, path)?;
+    put_path(pairs, place, alloc, path)?;
+    match places.get(path) {
+        Some(_own) => Ok(Proposal {
+            path: kept,
+            place,
+            fresh: false,
+        }),
+        None => match places.insert(key, place) {
+            Ok(()) => Ok(Proposal {
+                path: kept,
+                place,
+                fresh: true,
+            }),
+            Err(NoMemory) => {
+                take_path(pairs, place, path);
+                Err(NoMemory)
+            }
+        },
+    }
+}
+
+/// The path needs the pair, and no longer another.
+#[tactic(auto, using(crate::proofs::IndexSteps::there, crate::proofs::IndexSteps::fits, crate::proofs::IndexSteps::kept))]
+pub fn keep_proposal(places: &mut PathMap, pairs: &mut Vec<Pair>, proposal: Proposal)
+    requires { IsIndexed places.old pairs.old.items (Some proposal) }
+    ensures indexed { IsIndexed places.new pairs.new.items None }
+    ensures places { places.new ≡ insert_entry name_cmp places.old proposal.path proposal.place }
+    ensures labels { labels_of pairs.new.items ≡ labels_of pairs.old.items }
+{
+    let Some(own) = places.get(proposal.path.as_str()) else {
+        unreachable!();
+    };
+    take_unless(pairs, own, proposal.place, proposal.path.as_str());
+    match places.insert(proposal.path, proposal.place) {
+        Ok(()) => {}
+        Err(_) => unreachable!(),
+    }
+}
+
+/// The path leaves the pair, unless it needed it before.
+#[tactic(auto, using(crate::proofs::IndexSteps::there, crate::proofs::IndexSteps::place_fits, crate::proofs::IndexSteps::gone_fresh, crate::proofs::IndexSteps::gone_own, crate::proofs::IndexSteps::gone_there, crate::proofs::IndexSteps::taken_fresh, crate::proofs::IndexSteps::taken_there))]
+pub fn unmake_proposal(places: &mut PathMap, pairs: &mut Vec<Pair>, proposal: Proposal)
+    requires { IsIndexed places.old pairs.old.items (Some proposal) }
+    ensures indexed { IsIndexed places.new pairs.new.items None }
+    ensures places { places.new ≡ without_proposed (Some proposal) places.old }
+    ensures labels { labels_of pairs.new.items ≡ labels_of pairs.old.items }
+{
+    if proposal.fresh {
+        let _own = places.remove(proposal.path.as_str());
+        take_path(pairs, proposal.place, proposal.path.as_str());
+        return;
+    }
+    let Some(own) = places.get(proposal.path.as_str()) else {
+        unreachable!();
+    };
+    if own == proposal.place {
+        return;
+    }
+    take_path(pairs, proposal.place, proposal.path.as_str());
+}
+
+/// The path needs nothing.
+#[tactic(auto, using(crate::proofs::IndexSteps::fits_none, crate::proofs::IndexSteps::dropped_own, crate::proofs::IndexSteps::dropped_none))]
+pub fn drop_path(places: &mut PathMap, pairs: &mut Vec<Pair>, path: &str)
+    requires { IsIndexed places.old pairs.old.items None }
+    ensures indexed { IsIndexed places.new pairs.new.items None }
+    ensures places { places.new ≡ remove_entry (is_at (name_cmp path.now)) places.old }
+    ensures labels { labels_of pairs.new.items ≡ labels_of pairs.old.items }
+{
+    match places.remove(path) {
+        Some(place) => take_path(pairs, place, path),
+        None => {}
+    }
+}

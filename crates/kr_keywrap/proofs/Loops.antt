@@ -1,0 +1,156 @@
+-- Lines that are answered, one after another.
+use Rattle.std.proofs.Common.{◌≡◌, ℕ, ◌+◌, ◌<◌, ◌≤◌, inl, inr, List, [], ◌∷◌, ◌++◌, length, take, Option, refl, sym, ap, subst, ◌∙◌, arith}
+use Rattle.std.proofs.KnownBytes.{Appends-nil, Appends-trans, Consumes-nil, Consumes-trans}
+use Rattle.std.specs.Io.KnownBytes.{Appends, Consumes, IsAtEnd}
+use Rattle.std.proofs.lemmas.List.{append-nil, append_assoc, flat_map_more, length-append, nil_from_length}
+use Rattle.std.proofs.lemmas.List.Elements.{All-nil, All-push}
+use Rattle.std.proofs.lemmas.Grind.{flat_map-append}
+use Rattle.kr_keywrap.specs.Answer.{Plugin, answer}
+use Rattle.kr_keywrap.specs.Serving.{AreLines, HasNoBreak, Serves, answers, last_line, line_limit, lines_limit, text_of}
+use Rattle.kr_keywrap.specs.declared.serving.Served.TheVariants.{Done, Failed, NoMemory, TooLong}
+use Rattle.kr_keywrap.specs.inner.Lines.{Fails, Goes, Grows, Passes, ServesLast, ServesLine, Starves}
+
+pub goes_none : (plugin : Plugin) (left held : Option (List ℕ)) → Goes plugin left left held held [] 0
+goes_none plugin left held = record {
+  lines = [];
+  took = Consumes-nil left;
+  breaks = All-nil HasNoBreak;
+  short = All-nil (λ (line : List ℕ). length line ≤ line_limit);
+  size = refl;
+  wrote = Appends-nil held;
+}
+
+module _ (plugin : Plugin) (a b c h i j : Option (List ℕ)) (pending all : List ℕ) (count : ℕ)
+    (before : Goes plugin a b h i pending count) (grows : Grows b c pending all) where
+  -- all that was taken
+  took_all : Consumes a c (text_of before.lines ++ all)
+  took_all =
+      subst (Consumes a c) (append_assoc (text_of before.lines) pending grows.bytes ∙ ap (λ (l : List ℕ). text_of before.lines ++ l) (sym grows.behind))
+      (Consumes-trans a b c (text_of before.lines ++ pending) grows.bytes before.took grows.took)
+
+  took_parts : (next behind : List ℕ) → all ≡ next ++ behind → Consumes a c (text_of before.lines ++ (next ++ behind))
+  took_parts next behind is = subst (λ (l : List ℕ). Consumes a c (text_of before.lines ++ l)) is took_all
+
+  are_lines : count ≤ lines_limit → AreLines before.lines
+  are_lines few = record { breaks = before.breaks; short = before.short; few = omega (arith, before.size, few) }
+
+  -- nothing more was written
+  wrote_nothing : Appends i j [] → Appends h j (answers plugin before.lines)
+  wrote_nothing w = subst (Appends h j) (append-nil (answers plugin before.lines)) (Appends-trans h i j (answers plugin before.lines) [] before.wrote w)
+
+  pub goes_more : (new : List ℕ) → ServesLine plugin i j all new → Goes plugin a c h j new (count + 1)
+  goes_more new one =
+      let lines : List (List ℕ) = before.lines in
+      let text : text_of lines ++ all ≡ text_of (lines ++ one.line ∷ []) ++ new =
+      ap (λ (l : List ℕ). text_of lines ++ l) one.is ∙ sym (append_assoc (text_of lines) (one.line ++ 0x0A ∷ []) new)
+      ∙ ap (λ (l : List ℕ). l ++ new) (flat_map_more (λ (line : List ℕ). line ++ 0x0A ∷ []) [] lines one.line) in record {
+        lines = lines ++ one.line ∷ [];
+        took = subst (Consumes a c) text took_all;
+        breaks = All-push HasNoBreak lines one.line before.breaks one.unbroken;
+        short = All-push (λ (line : List ℕ). length line ≤ line_limit) lines one.line before.short one.short;
+        size = omega (arith, length-append lines (one.line ∷ []), before.size);
+        wrote =
+            subst (Appends h j) (flat_map_more (answer plugin) [] lines one.line)
+            (Appends-trans h i j (answers plugin lines) (answer plugin one.line) before.wrote one.wrote);
+      }
+
+  last_lines : (next : List ℕ) → HasNoBreak next → length next ≤ line_limit → count < lines_limit → AreLines (before.lines ++ last_line next)
+  last_lines [] unbroken short few =
+      subst AreLines (sym (append-nil before.lines)) (are_lines (omega arith))
+  last_lines (byte ∷ bytes) unbroken short few = record {
+    breaks = All-push HasNoBreak before.lines (byte ∷ bytes) before.breaks unbroken;
+    short = All-push (λ (line : List ℕ). length line ≤ line_limit) before.lines (byte ∷ bytes) before.short short;
+    few = omega (arith, length-append before.lines ((byte ∷ bytes) ∷ []), before.size, few);
+  }
+
+  pub served_done : (Rises : Type 0) → ServesLast plugin c i j all → count < lines_limit → Serves plugin a c h j Rises Done
+  served_done Rises last few = record {
+    lines = before.lines;
+    next = all;
+    behind = [];
+    took = took_parts all [] (sym (append-nil all));
+    are_lines = are_lines (omega arith);
+    unbroken = last.unbroken;
+    ends = (
+      refl,
+      last.ends,
+      last_lines all last.unbroken last.short few,
+      subst (Appends h j) (sym (flat_map-append (answer plugin) before.lines (last_line all)))
+          (Appends-trans h i j (answers plugin before.lines) (answers plugin (last_line all)) before.wrote last.wrote),
+    );
+  }
+
+  -- nothing is left where the source is at its end
+  pub served_end : (Rises : Type 0) → IsAtEnd c → length all ≡ 0 → Appends i j [] → count ≤ lines_limit → Serves plugin a c h j Rises Done
+  served_end Rises ends none wrote few = record {
+    lines = before.lines;
+    next = [];
+    behind = [];
+    took = subst (λ (l : List ℕ). Consumes a c (text_of before.lines ++ l)) (nil_from_length all none) took_all;
+    are_lines = are_lines few;
+    unbroken = All-nil (λ (byte : ℕ). byte ≡ 0x0A → ⊥);
+    ends = (
+      refl,
+      ends,
+      subst AreLines (sym (append-nil before.lines)) (are_lines few),
+      subst (λ (l : List (List ℕ)). Appends h j (answers plugin l)) (sym (append-nil before.lines)) (wrote_nothing wrote),
+    );
+  }
+
+  pub served_failed : (Rises Later : Type 0) → Fails plugin c i j all Rises → (Rises → Later) → count ≤ lines_limit → Serves plugin a c h j Later Failed
+  served_failed Rises Later fails later few = record {
+    lines = before.lines;
+    next = fails.next;
+    behind = fails.behind;
+    took = took_parts fails.next fails.behind fails.is;
+    are_lines = are_lines few;
+    unbroken = fails.unbroken;
+    ends = (
+      later fails.rises,
+      fails.short,
+      elim fails.wrote [
+        | inl nothing ↦ inl (wrote_nothing nothing)
+        | inr some ↦ inr (
+          some.0,
+          (
+            some.1.0,
+            Appends-trans h i j (answers plugin before.lines) (take some.1.0 (answer plugin fails.next)) before.wrote some.1.1,
+          ),
+        )
+      ],
+    );
+  }
+
+  pub served_starved : (Rises : Type 0) → Starves i j all → count ≤ lines_limit → Serves plugin a c h j Rises NoMemory
+  served_starved Rises starves few = record {
+    lines = before.lines;
+    next = starves.next;
+    behind = starves.behind;
+    took = took_parts starves.next starves.behind starves.is;
+    are_lines = are_lines few;
+    unbroken = starves.unbroken;
+    ends = (starves.short, wrote_nothing starves.wrote);
+  }
+
+  pub served_long : (Rises : Type 0) → Passes i j all → count ≤ lines_limit → Serves plugin a c h j Rises TooLong
+  served_long Rises passes few = record {
+    lines = before.lines;
+    next = all;
+    behind = [];
+    took = took_parts all [] (sym (append-nil all));
+    are_lines = are_lines few;
+    unbroken = passes.unbroken;
+    ends = (inl passes.long, wrote_nothing passes.wrote);
+  }
+
+  -- the source goes on behind the last line that is answered
+  pub served_many : (Rises : Type 0) → Appends i j [] → 0 < length all → count ≡ lines_limit → Serves plugin a c h j Rises TooLong
+  served_many Rises wrote some full = record {
+    lines = before.lines;
+    next = [];
+    behind = all;
+    took = took_parts [] all refl;
+    are_lines = are_lines (omega arith);
+    unbroken = All-nil (λ (byte : ℕ). byte ≡ 0x0A → ⊥);
+    ends = (inr (before.size ∙ full, omega arith), wrote_nothing wrote);
+  }

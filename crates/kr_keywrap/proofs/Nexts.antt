@@ -1,0 +1,199 @@
+-- What is made of the next line.
+use Rattle.std.proofs.Common.{◌≡◌, ◌==◌, ℕ, zero, suc, true, false, ◌+◌, ◌<◌, ◌≤◌, ◌⊎◌, inl, inr, List, [], ◌∷◌, ◌++◌, length, take, drop, Option, Some, None, Ok, Err, refl, sym, ap, subst, ◌∙◌, arith}
+use Rattle.std.proofs.KnownBytes.{Appends-nil}
+use Rattle.std.specs.Io.KnownBytes.{Appends, IsAtEnd}
+use Rattle.std.proofs.lemmas.Bool.Decides.{Decides-eqb}
+use Rattle.std.proofs.lemmas.List.Elements.{All-nil}
+use Rattle.kr_base.proofs.Counting.{Rose-later}
+use Rattle.kr_base.specs.Faults.{Rose}
+use Rattle.kr_base.specs.Streams.{AppendsFront}
+use Rattle.std.proofs.lemmas.List.{append-nil, append_assoc, drop_more, length-take-le, nil_from_length, take-append-drop}
+use Rattle.std.proofs.lemmas.List.Concat.{flat_map-cons}
+use Rattle.kr_keywrap.specs.Answer.{Plugin, answer}
+use Rattle.kr_keywrap.specs.Serving.{HasNoBreak, Serves, answers, last_line, line_limit, lines_limit}
+use Rattle.kr_keywrap.specs.declared.serving.Served.{Served}
+use Rattle.kr_keywrap.specs.declared.serving.Served.TheVariants.{Done, Failed, NoMemory, TooLong}
+use Rattle.kr_keywrap.specs.inner.Lines.{Finds, Goes, Grows, IsBreak, ServesLast, ServesLine, ServesNext, ServesOne, WritesAnswer}
+use Rattle.kr_keywrap.proofs.Lines.{grows_none, no_break, no_break_all}
+use Rattle.kr_keywrap.proofs.Loops.{goes_none, served_end, served_failed, served_long, served_starved}
+
+-- there is no line
+pub none_found : (plugin : Plugin) (left held : Option (List ℕ)) (all new : List ℕ) (R Rises : Type 0) (why : Served)
+    → Finds left all R (Err why) → (R → Rises) → ServesNext plugin left held held all new Rises (Err why)
+none_found plugin left held all new R Rises Done finds later = absurd finds
+none_found plugin left held all new R Rises Failed finds later = record {
+  rises = later finds.0;
+  next = all;
+  behind = [];
+  is = sym (append-nil all);
+  unbroken = no_break_all all finds.1;
+  short = finds.2;
+  wrote = inl (Appends-nil held);
+}
+none_found plugin left held all new R Rises NoMemory finds later = absurd finds
+none_found plugin left held all new R Rises TooLong finds later = record {
+  unbroken = no_break_all all finds.0;
+  long = finds.1;
+  wrote = Appends-nil held;
+}
+
+-- ---- the source's end
+
+one_answer : (plugin : Plugin) (all : List ℕ) → 0 < length all → answer plugin all ≡ answers plugin (last_line all)
+one_answer plugin [] some = absurd (omega arith)
+one_answer plugin (byte ∷ bytes) some = sym (flat_map-cons (answer plugin) (byte ∷ bytes) [] ∙ append-nil (answer plugin (byte ∷ bytes)))
+
+-- a last line
+pub last_written : (plugin : Plugin) (held_old held : Option (List ℕ)) (last : List ℕ) → 0 < length last → Appends held_old held (answer plugin last)
+    → Appends held_old held (answers plugin (last_line last))
+last_written plugin held_old held last some wrote = subst (Appends held_old held) (one_answer plugin last some) wrote
+
+pub nothing_written : (plugin : Plugin) (held : Option (List ℕ)) (last : List ℕ) → length last ≡ 0 → Appends held held (answers plugin (last_line last))
+nothing_written plugin held last none =
+    subst (λ (l : List ℕ). Appends held held (answers plugin (last_line l))) (sym (nil_from_length last none)) (Appends-nil held)
+
+pub last_served : (plugin : Plugin) (left held_old held : Option (List ℕ)) (all last : List ℕ) (R : Type 0) → Finds left all R (Ok None) → last ≡ all
+    → Appends held_old held (answers plugin (last_line last)) → ServesLast plugin left held_old held all
+last_served plugin left held_old held all last R finds same wrote = record {
+  ends = finds.0;
+  unbroken = no_break_all all finds.1;
+  short = finds.2;
+  wrote = subst (λ (l : List ℕ). Appends held_old held (answers plugin (last_line l))) same wrote;
+}
+
+-- what was written of an answer, where the bytes are that answer
+pub answer_written : (plugin : Plugin) (held_old held : Option (List ℕ)) (line bytes slice : List ℕ) → slice ≡ bytes → bytes ≡ answer plugin line
+    → Appends held_old held slice → Appends held_old held (answer plugin line)
+answer_written plugin held_old held line bytes slice same is wrote = subst (Appends held_old held) (same ∙ is) wrote
+
+pub answer_begun : (plugin : Plugin) (held_old held : Option (List ℕ)) (line bytes slice : List ℕ) → slice ≡ bytes → bytes ≡ answer plugin line
+    → AppendsFront held_old held slice → (n : ℕ) × Appends held_old held (take n (answer plugin line))
+answer_begun plugin held_old held line bytes slice same is front =
+    (front.0, subst (λ (l : List ℕ). Appends held_old held (take front.0 l)) (same ∙ is) front.2)
+
+pub last_failed : (plugin : Plugin) (left held_old held : Option (List ℕ)) (all new last : List ℕ) (R Q Rises : Type 0) (why : Served)
+    → Finds left all R (Ok None) → last ≡ all → WritesAnswer plugin last held_old held Q (Err why) → (Q → Rises)
+    → ServesNext plugin left held_old held all new Rises (Err why)
+last_failed plugin left held_old held all new last R Q Rises Done finds same writes later = absurd writes
+last_failed plugin left held_old held all new last R Q Rises Failed finds same writes later = record {
+  rises = later writes.0;
+  next = last;
+  behind = [];
+  is = sym same ∙ sym (append-nil last);
+  unbroken = subst HasNoBreak (sym same) (no_break_all all finds.1);
+  short = omega (arith, ap length same, finds.2);
+  wrote = inr (inr (refl, finds.0), writes.1);
+}
+last_failed plugin left held_old held all new last R Q Rises NoMemory finds same writes later = record {
+  next = last;
+  behind = [];
+  is = sym same ∙ sym (append-nil last);
+  unbroken = subst HasNoBreak (sym same) (no_break_all all finds.1);
+  short = omega (arith, ap length same, finds.2);
+  wrote = writes;
+}
+last_failed plugin left held_old held all new last R Q Rises TooLong finds same writes later = absurd writes
+
+-- ---- a line with its LF
+
+-- the bytes at an LF
+at_break : (all : List ℕ) (place : ℕ) → IsBreak all place → drop place all ≡ 0x0A ∷ drop (place + 1) all
+at_break all place is =
+    drop_more all place 0 is.within ∙ ap (λ (byte : ℕ). byte ∷ drop (place + 1) all) is.found
+
+pub line_failed : (plugin : Plugin) (left held_old held : Option (List ℕ)) (all new line : List ℕ) (place : ℕ) (Q Rises : Type 0) (why : Served)
+    → IsBreak all place → place ≤ line_limit → line ≡ take place all → WritesAnswer plugin line held_old held Q (Err why) → (Q → Rises)
+    → ServesNext plugin left held_old held all new Rises (Err why)
+line_failed plugin left held_old held all new line place Q Rises Done is most at writes later = absurd writes
+line_failed plugin left held_old held all new line place Q Rises Failed is most at writes later = record {
+  rises = later writes.0;
+  next = line;
+  behind = drop place all;
+  is = sym (ap (λ (l : List ℕ). l ++ drop place all) at ∙ take-append-drop place all);
+  unbroken = subst HasNoBreak (sym at) (no_break all place (omega (arith, is.within)) is.unbroken);
+  short = omega (arith, ap length at, length-take-le place all (omega (arith, is.within)), most);
+  wrote = inr (inl (drop (place + 1) all, at_break all place is), writes.1);
+}
+line_failed plugin left held_old held all new line place Q Rises NoMemory is most at writes later = record {
+  next = line;
+  behind = drop place all;
+  is = sym (ap (λ (l : List ℕ). l ++ drop place all) at ∙ take-append-drop place all);
+  unbroken = subst HasNoBreak (sym at) (no_break all place (omega (arith, is.within)) is.unbroken);
+  short = omega (arith, ap length at, length-take-le place all (omega (arith, is.within)), most);
+  wrote = writes;
+}
+line_failed plugin left held_old held all new line place Q Rises TooLong is most at writes later = absurd writes
+
+pub line_served : (plugin : Plugin) (held_old held : Option (List ℕ)) (all new line : List ℕ) (place : ℕ)
+    → IsBreak all place → place ≤ line_limit → line ≡ take place all → new ≡ drop (place + 1) all → Appends held_old held (answer plugin line)
+    → ServesLine plugin held_old held all new
+line_served plugin held_old held all new line place is short at rest wrote =
+    let whole : all ≡ (line ++ 0x0A ∷ []) ++ new =
+    sym (take-append-drop place all) ∙ ap (λ (l : List ℕ). take place all ++ l) (at_break all place is)
+    ∙ (λ i. sym at i ++ (0x0A ∷ sym rest i)) ∙ sym (append_assoc line (0x0A ∷ []) new) in record {
+      line = line;
+      is = whole;
+      unbroken = subst HasNoBreak (sym at) (no_break all place (omega (arith, is.within)) is.unbroken);
+      short = omega (arith, ap length at, length-take-le place all (omega (arith, is.within)), short);
+      wrote = wrote;
+    }
+
+-- ---- the whole loop
+
+stopped : (plugin : Plugin) (a b c h i j : Option (List ℕ)) (pending all new : List ℕ) (count : ℕ) (R Later : Type 0) (why : Served)
+    → Goes plugin a b h i pending count → Grows b c pending all → ServesNext plugin c i j all new R (Err why) → (R → Later) → count ≤ lines_limit
+    → Serves plugin a c h j Later why
+stopped plugin a b c h i j pending all new count R Later Done before grows one later few = absurd one
+stopped plugin a b c h i j pending all new count R Later Failed before grows one later few =
+    served_failed plugin a b c h i j pending all count before grows R Later one later few
+stopped plugin a b c h i j pending all new count R Later NoMemory before grows one later few =
+    served_starved plugin a b c h i j pending all count before grows Later one few
+stopped plugin a b c h i j pending all new count R Later TooLong before grows one later few =
+    served_long plugin a b c h i j pending all count before grows Later one few
+
+pub stops : (plugin : Plugin) (a b c h i j : Option (List ℕ)) (pending new : List ℕ) (count : ℕ) (R Later : Type 0) (why : Served)
+    → Goes plugin a b h i pending count → ServesOne plugin b c i j pending new R (Err why) → (R → Later) → count ≤ lines_limit
+    → Serves plugin a c h j Later why
+stops plugin a b c h i j pending new count R Later why before one later few =
+    stopped plugin a b c h i j pending one.all new count R Later why before one.grows one.serves later few
+
+-- the lines are all answered, and there is no further one
+pub stops_behind : (plugin : Plugin) (a b c h i : Option (List ℕ)) (pending all : List ℕ) (count : ℕ) (R Later : Type 0) (why : Served)
+    → Goes plugin a b h i pending count → Grows b c pending all → Finds c all R (Err why) → (R → Later) → count ≤ lines_limit
+    → Serves plugin a c h i Later why
+stops_behind plugin a b c h i pending all count R Later why before grows finds later few =
+    stopped plugin a b c h i i pending all all count R Later why before grows (none_found plugin c i all all R R why finds (λ r. r)) later few
+
+at_end : (left : Option (List ℕ)) (all : List ℕ) (R : Type 0) (found : Option ℕ) → Finds left all R (Ok found) → length all ≡ 0 → IsAtEnd left
+at_end left all R None finds none = finds.0
+at_end left all R (Some place) finds none = absurd (omega (arith, finds.0.within, none))
+
+pub ends_behind : (plugin : Plugin) (a b c h i : Option (List ℕ)) (pending all : List ℕ) (count : ℕ) (R Later : Type 0) (found : Option ℕ)
+    → Goes plugin a b h i pending count → Grows b c pending all → Finds c all R (Ok found) → length all ≡ 0 → count ≤ lines_limit
+    → Serves plugin a c h i Later Done
+ends_behind plugin a b c h i pending all count R Later found before grows finds none few =
+    served_end plugin a b c h i i pending all count before grows Later (at_end c all R found finds none) none (Appends-nil i) few
+
+-- ---- before the first line, and counts
+
+pub nothing_starves : (plugin : Plugin) (left held : Option (List ℕ)) (Later : Type 0) → Serves plugin left left held held Later NoMemory
+nothing_starves plugin left held Later =
+    served_starved plugin left left left held held held [] [] 0 (goes_none plugin left held) (grows_none left []) Later
+    (record { next = []; behind = []; is = refl; unbroken = All-nil (λ (byte : ℕ). byte ≡ 0x0A → ⊥); short = omega arith; wrote = Appends-nil held }) (omega arith)
+
+-- a count that rose in a step rose in the loop
+pub rises_later : (i j k u v w : ℕ) → i ≤ j → u ≤ v → Rose j k ⊎ Rose v w → Rose i k ⊎ Rose u w
+rises_later i j k u v w before behind (inl r) = inl (Rose-later i j k before r)
+rises_later i j k u v w before behind (inr r) = inr (Rose-later u v w behind r)
+
+pub source_rises : (i j k u v : ℕ) → i ≤ j → Rose j k → Rose i k ⊎ Rose u v
+source_rises i j k u v before r = inl (Rose-later i j k before r)
+
+-- ---- whether there are any
+
+pub some_of : (n : ℕ) → false ≡ (n == 0) → 0 < n
+some_of zero e = absurd (cc)
+some_of (suc n) e = omega arith
+
+pub none_of : (n : ℕ) → true ≡ (n == 0) → n ≡ 0
+none_of n e = (Decides-eqb n 0).0 (sym e)

@@ -1,0 +1,33 @@
+//! What a caller has of a core.
+ghost use Rattle.std.specs.Prelude.{◌≡◌, ◌↔◌, IsErr, IfOk, OnErr};
+ghost use Rattle.kr_rollout.specs.Acting.{Caller, IsCaller, Acted};
+ghost use Rattle.kr_rollout.specs.Callers.{MayAsk};
+
+use crate::answer::Answer;
+use crate::event::Event;
+use kr_base::Spent;
+
+/// A caller of a core: one seat, alone or among others.
+pub trait Acts {
+    /// What it knows: its opening, its seat, the journal up to its latest line, its own lines, and
+    /// how many it may still add.
+    ghost caller: { Self → Caller };
+
+    /// Its seat.
+    fn seat(&self) -> u32
+        ensures { result ≡ (caller self.now).seat };
+
+    /// What is known of each caller. It does nothing.
+    fn known(&self)
+        ensures { IsCaller (caller self.now) };
+
+    /// Makes one event of the seat. `Spent` comes exactly where the caller may add no more lines,
+    /// and then nothing changes.
+    fn act(&mut self, event: Event) -> Result<Answer, Spent>
+        requires { MayAsk (caller self.old).opening (caller self.old).seat (caller self.old).mine
+            event }
+        ensures spent { IsErr result ↔ ((caller self.old).left ≡ 0) }
+        ensures nothing { OnErr result (caller self.new ≡ caller self.old) }
+        ensures acted { IfOk result
+            (λ answer. Acted (caller self.old) event answer (caller self.new)) };
+}

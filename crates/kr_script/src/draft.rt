@@ -1,0 +1,261 @@
+//! A fleet file in the making.
+ghost use Rattle.std.specs.Prelude.{◌≤◌, length};
+
+use crate::head::{head, knows};
+use crate::line_no::LineNo;
+use crate::script::{Part, Script, ScriptLine, ScriptNo};
+use crate::script_line::{place_of, read_line};
+use crate::statement::{Keyword, Statement};
+use crate::words::{first_word, is_comment, two_words};
+use kr_base::{List, Text, name_ok};
+use std::alloc::Global;
+
+/// The most replicas.
+const REPLICA_LIMIT: usize = 16;
+
+/// The most workers.
+const WORKER_LIMIT: usize = 64;
+
+/// What the lines so far say.
+#[derive(Drop)]
+pub struct Draft {
+    /// Whether the first line, `fleet 1`, was there.
+    pub begun: bool,
+    pub replicas: List<(Text, Text)>,
+    /// The workers before the last one.
+    pub workers: List<Part>,
+    /// The last worker, to which lines are added.
+    pub last: Option<Part>,
+    pub ghost few: { length replicas.0 ≤ 16 },
+}
+
+impl Draft {
+    ghost use Rattle.std.specs.Prelude.{◌≡◌, ◌∷◌, ◌++◌, OnOk, None};
+    ghost use Rattle.std.specs.Option.{option_map, option_to_list};
+    ghost use Rattle.kr_script.specs.Fleets.{worker_of};
+    ghost use Rattle.kr_script.specs.Rows.{words_of};
+    ghost use Rattle.kr_script.specs.declared.statement.Statement.TheVariants.{Replica, Worker, Line};
+    ghost use Rattle.kr_script.specs.inner.Drafts.{Draft as Seen, draft_of, start, knows_replica};
+    ghost use Rattle.kr_script.specs.inner.Drafts.{knows_worker, may_be_replica, replica_in};
+    ghost use Rattle.kr_script.specs.inner.Drafts.{may_be_worker, worker_in, line_of_worker};
+    ghost use Rattle.kr_script.specs.inner.Drafts.{said_by, workers_in, passes, taken};
+    ghost use Rattle.kr_script.specs.inner.Reading.{Finds, Moves, Closes, Gives, finished, row_step};
+
+    pub fn new(alloc: Global) -> Draft
+        ensures { draft_of result ≡ start }
+    {
+        Draft {
+            begun: false,
+            replicas: List::new(alloc),
+            workers: List::new(alloc),
+            last: None,
+        }
+    }
+
+    /// Takes one line more, which may be blank or a comment.
+    pub fn take_line(&mut self, alloc: Global, line: &str) -> Result<(), LineNo>
+        ensures { Moves (row_step (draft_of self.old) (words_of line.now)) (draft_of self.new)
+            result }
+    {
+        let Some((word, rest)) = first_word(line) else {
+            return Ok(());
+        };
+        if is_comment(word) {
+            return Ok(());
+        }
+        let Some(keyword) = Keyword::read(word) else {
+            return Err(LineNo::Form);
+        };
+        let statement = self.said(alloc, keyword, rest)?;
+        self.take(alloc, statement)
+    }
+
+    /// What a line says behind what was said so far.
+    fn said(&self, alloc: Global, keyword: Keyword, rest: &str) -> Result<Statement, LineNo>
+        ensures { Finds (said_by (draft_of self.now) keyword (words_of rest.now)) result }
+    {
+        if !self.begun {
+            return head(keyword, rest);
+        }
+        match keyword {
+            Keyword::Fleet => Err(LineNo::Form),
+            Keyword::Replica => match two_words(rest) {
+                Some((name, file)) => self.replica(alloc, name, file),
+                None => Err(LineNo::Form),
+            },
+            Keyword::Worker => match two_words(rest) {
+                Some((name, replica)) => self.worker(alloc, name, replica),
+                None => Err(LineNo::Form),
+            },
+            _ => self.line(alloc, keyword, rest),
+        }
+    }
+
+    fn line(&self, alloc: Global, keyword: Keyword, rest: &str) -> Result<Statement, LineNo>
+        ensures { Finds (line_of_worker (draft_of self.now) keyword (words_of rest.now)) result }
+    {
+        if self.last.is_none() {
+            return Err(LineNo::Form);
+        }
+        match read_line(alloc, self.replicas.as_slice(), keyword, rest) {
+            Ok(line) => Ok(Statement::Line(line)),
+            Err(why) => Err(why),
+        }
+    }
+
+    fn replica(&self, alloc: Global, name: &str, file: &str) -> Result<Statement, LineNo>
+        ensures { Finds (replica_in (draft_of self.now) (name.now, file.now)) result }
+    {
+        if !self.may_be_replica(name, file) {
+            return Err(LineNo::Form);
+        }
+        Ok(Statement::Replica {
+            name: Text::copy(alloc, name)?,
+            file: Text::copy(alloc, file)?,
+        })
+    }
+
+    fn may_be_replica(&self, name: &str, file: &str) -> bool
+        ensures { result ≡ may_be_replica (draft_of self.now) name.now file.now }
+    {
+        self.last.is_none()
+            && (name_ok(name)
+                && (!self.knows_replica(name)
+                    && !(self.replicas.as_slice().is_empty() && file == "-")))
+    }
+
+    fn knows_replica(&self, name: &str) -> bool
+        ensures { result ≡ knows_replica self.now.replicas.0 name.now }
+    {
+        self.replicas
+            .as_slice()
+            .iter()
+            .any(|replica| replica.0.as_str() == name)
+    }
+
+    fn worker(&self, alloc: Global, name: &str, replica: &str) -> Result<Statement, LineNo>
+        ensures { Finds (worker_in (draft_of self.now) (name.now, replica.now)) result }
+    {
+        if !self.may_be_worker(name) {
+            return Err(LineNo::Form);
+        }
+        match place_of(self.replicas.as_slice(), replica) {
+            Some(replica) => Ok(Statement::Worker {
+                name: Text::copy(alloc, name)?,
+                replica,
+            }),
+            None => Err(LineNo::Form),
+        }
+    }
+
+    fn may_be_worker(&self, name: &str) -> bool
+        ensures { result ≡ may_be_worker (draft_of self.now) name.now }
+    {
+        name_ok(name) && (!knows(self.workers.as_slice(), name) && !self.is_last(name))
+    }
+
+    /// Whether the last worker has the name.
+    fn is_last(&self, name: &str) -> bool
+        ensures { result ≡ knows_worker (option_to_list (option_map worker_of self.now.last))
+            name.now }
+    {
+        match &self.last {
+            Some(worker) => worker.name.as_str() == name,
+            None => false,
+        }
+    }
+
+    /// Takes a statement up, unless it passes a limit.
+    fn take(&mut self, alloc: Global, statement: Statement) -> Result<(), LineNo>
+        ensures { Moves (taken (draft_of self.old) statement
+            (passes (draft_of self.old) statement)) (draft_of self.new) result }
+    {
+        match statement {
+            Statement::Head => {
+                self.begun = true;
+                Ok(())
+            }
+            Statement::Replica { name, file } => self.add_replica(name, file),
+            Statement::Worker { name, replica } => self.add_worker(alloc, name, replica),
+            Statement::Line(line) => self.add_line(line),
+        }
+    }
+
+    fn add_replica(&mut self, name: Text, file: Text) -> Result<(), LineNo>
+        ensures { Moves (taken (draft_of self.old) (Replica name file)
+            (passes (draft_of self.old) (Replica name file))) (draft_of self.new) result }
+    {
+        if self.replicas.as_slice().len() >= REPLICA_LIMIT {
+            return Err(LineNo::Replicas);
+        }
+        match self.replicas.push((name, file)) {
+            Ok(()) => Ok(()),
+            Err(_) => Err(LineNo::NoMemory),
+        }
+    }
+
+    fn add_worker(&mut self, alloc: Global, name: Text, replica: u32) -> Result<(), LineNo>
+        ensures { Moves (taken (draft_of self.old) (Worker name replica)
+            (passes (draft_of self.old) (Worker name replica))) (draft_of self.new) result }
+    {
+        self.close_last()?;
+        if self.workers.as_slice().len() >= WORKER_LIMIT {
+            return Err(LineNo::Workers);
+        }
+        self.last = Some(Part {
+            name,
+            replica,
+            lines: List::new(alloc),
+        });
+        Ok(())
+    }
+
+    /// Puts the last worker behind the others.
+    fn close_last(&mut self) -> Result<(), LineNo>
+        ensures { Closes (draft_of self.old) (draft_of self.new) result }
+    {
+        match self.last.take() {
+            Some(worker) => match self.workers.push(worker) {
+                Ok(()) => Ok(()),
+                Err(_) => Err(LineNo::NoMemory),
+            },
+            None => Ok(()),
+        }
+    }
+
+    fn add_line(&mut self, line: ScriptLine) -> Result<(), LineNo>
+        ensures { Moves (taken (draft_of self.old) (Line line)
+            (passes (draft_of self.old) (Line line))) (draft_of self.new) result }
+    {
+        if line.is_long() {
+            return Err(LineNo::TooLarge);
+        }
+        match &mut self.last {
+            Some(worker) => match worker.lines.push(line) {
+                Ok(()) => Ok(()),
+                Err(_) => Err(LineNo::NoMemory),
+            },
+            None => Ok(()),
+        }
+    }
+
+    /// The whole script, where the file has so many lines, and one.
+    pub fn finish(mut self, line: u64) -> Result<Script, ScriptNo>
+        ensures { Gives (finished line (draft_of self)) result }
+    {
+        if self.last.is_none() {
+            return Err(ScriptNo::Breach { line });
+        }
+        match self.close_last() {
+            Ok(()) => {}
+            Err(_) => return Err(ScriptNo::NoMemory),
+        }
+        let Draft {
+            begun: _,
+            replicas,
+            workers,
+            last: _,
+        } = self;
+        Ok(Script { replicas, workers })
+    }
+}

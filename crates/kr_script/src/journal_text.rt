@@ -1,0 +1,228 @@
+//! The text of a line of the journal.
+ghost use Rattle.std.specs.Prelude.{◌≡◌, ◌++◌, IfOk, codes, decimal, map};
+ghost use Rattle.kr_script.specs.Fleets.{fleet_of, worker_of};
+ghost use Rattle.kr_script.specs.Statements.{name_at};
+ghost use Rattle.kr_script.specs.Output.{two, three, kind_of, path_of, path_text, replica_of, object_of};
+ghost use Rattle.kr_judge.specs.Texts.{verdict_text};
+ghost use Rattle.kr_script.specs.Output.{event_text, worker_at, journal_text};
+
+use crate::line_text::LineText;
+use crate::script::{Part, Script};
+use kr_base::{NoMemory, Text};
+use kr_judge::Verdict;
+use kr_rollout::{Did, Gave, Line};
+
+/// The word of an event's kind.
+fn kind_of(did: &Did) -> &'static str
+    ensures { result.now ≡ kind_of did.now }
+{
+    match did {
+        Did::Adopt { .. } => "adopt",
+        Did::Fetch { .. } => "fetch",
+        Did::After { .. } => "after",
+        Did::Put { .. } => "put",
+        Did::Delete { .. } => "delete",
+        Did::Replace { .. } => "replace",
+        Did::LetGo => "letgo",
+        Did::Reload { .. } => "reload",
+        Did::Join { .. } => "join",
+        Did::Leave { .. } => "leave",
+    }
+}
+
+/// The path that an event is about, or nothing.
+fn path_of(did: &Did) -> &str
+    ensures { result.now ≡ path_of did.now }
+{
+    match did {
+        Did::Fetch { path } => path.as_str(),
+        Did::After { path } => path.as_str(),
+        Did::Put { path, .. } => path.as_str(),
+        Did::Delete { path } => path.as_str(),
+        Did::Replace { path, .. } => path.as_str(),
+        Did::Adopt { .. } => "",
+        Did::LetGo => "",
+        Did::Reload { .. } => "",
+        Did::Join { .. } => "",
+        Did::Leave { .. } => "",
+    }
+}
+
+/// A path as it is printed.
+fn path_text(path: &str) -> &str
+    ensures { result.now ≡ path_text path.now }
+{
+    match path.as_bytes() {
+        [] => "-",
+        [_, ..] => path,
+    }
+}
+
+/// The name of the replica with this number.
+fn name_at(replicas: &[(Text, Text)], number: u32) -> &str
+    ensures { result.now ≡ name_at replicas.now number }
+{
+    match replicas.get(number as usize) {
+        Some(replica) => replica.0.as_str(),
+        None => "",
+    }
+}
+
+/// The name of the worker of a seat.
+#[tactic(auto, using(crate::proofs::Seats::worker_there, crate::proofs::Seats::worker_missing))]
+fn worker_at(workers: &[Part], seat: u32) -> &str
+    ensures { result.now ≡ worker_at (map worker_of workers.now) seat }
+{
+    let seat = seat as usize;
+    if seat < workers.len() {
+        workers[seat].name.as_str()
+    } else {
+        ""
+    }
+}
+
+/// The name of the replica that an event is about, or nothing.
+fn replica_of<'a>(replicas: &'a [(Text, Text)], did: &Did) -> &'a str
+    ensures { result.now ≡ replica_of replicas.now did.now }
+{
+    match did {
+        Did::Adopt { replica } => name_at(replicas, *replica),
+        Did::Reload { replica, .. } => name_at(replicas, *replica),
+        Did::Join { replica, .. } => name_at(replicas, *replica),
+        Did::Leave { replica } => name_at(replicas, *replica),
+        Did::Fetch { .. } => "",
+        Did::After { .. } => "",
+        Did::Put { .. } => "",
+        Did::Delete { .. } => "",
+        Did::Replace { .. } => "",
+        Did::LetGo => "",
+    }
+}
+
+/// Adds the path of an event, and for a replace the revision that it replaced.
+fn add_object(text: &mut LineText, did: &Did) -> Result<(), NoMemory>
+    ensures { IfOk result (λ done. text.new.bytes.items
+        ≡ text.old.bytes.items ++ object_of did.now) }
+{
+    match did {
+        Did::Replace { path, revision } => { text.add_counted(path_text(path.as_str()), *revision) }
+        Did::Fetch { path } => text.add(path_text(path.as_str())),
+        Did::After { path } => text.add(path_text(path.as_str())),
+        Did::Put { path, .. } => text.add(path_text(path.as_str())),
+        Did::Delete { path } => text.add(path_text(path.as_str())),
+        Did::Adopt { .. } => text.add("-"),
+        Did::LetGo => text.add("-"),
+        Did::Reload { .. } => text.add("-"),
+        Did::Join { .. } => text.add("-"),
+        Did::Leave { .. } => text.add("-"),
+    }
+}
+
+/// Adds a word, the object of an event and a revision.
+fn add_write(text: &mut LineText, word: &str, did: &Did, revision: u64) -> Result<(), NoMemory>
+    ensures { IfOk result (λ done. text.new.bytes.items ≡ text.old.bytes.items
+        ++ three word.now (object_of did.now) (decimal revision)) }
+{
+    text.add(word)?;
+    text.add(" ")?;
+    add_object(text, did)?;
+    text.add(" ")?;
+    text.add_number(revision)
+}
+
+/// Adds the replica's name behind `refused`, and the verdict.
+fn add_refusal(text: &mut LineText, name: &str, verdict: &Verdict) -> Result<(), NoMemory>
+    ensures { IfOk result (λ done. text.new.bytes.items ≡ text.old.bytes.items
+        ++ three (codes "refused") name.now (verdict_text verdict.now)) }
+{
+    text.add("refused ")?;
+    text.add(name)?;
+    text.add(" ")?;
+    text.add_verdict(verdict)
+}
+
+/// Adds an event with its answer.
+fn add_event(
+    text: &mut LineText,
+    replicas: &[(Text, Text)],
+    did: &Did,
+    gave: &Gave,
+) -> Result<(), NoMemory>
+    ensures { IfOk result (λ done. text.new.bytes.items
+        ≡ text.old.bytes.items ++ event_text replicas.now did.now gave.now) }
+{
+    match gave {
+        Gave::Adopted { generation } => {
+            text.add_placed("adopt", replica_of(replicas, did), *generation as u64)
+        }
+        Gave::Found { revision } => {
+            text.add_placed(kind_of(did), path_text(path_of(did)), *revision)
+        }
+        Gave::Absent => text.add_three(kind_of(did), path_text(path_of(did)), "0"),
+        Gave::Written { revision } => add_write(text, kind_of(did), did, *revision),
+        Gave::Changed { revision } => add_write(text, "changed", did, *revision),
+        Gave::Released => text.add("letgo"),
+        Gave::Reloaded { generation } => {
+            text.add_placed("reload", replica_of(replicas, did), *generation as u64)
+        }
+        Gave::Joined { generation } => {
+            text.add_placed("join", replica_of(replicas, did), *generation as u64)
+        }
+        Gave::Refused(verdict) => add_refusal(text, replica_of(replicas, did), verdict),
+        Gave::Moved { generation } => {
+            text.add_placed("moved", replica_of(replicas, did), *generation as u64)
+        }
+        Gave::Present { generation } => {
+            text.add_placed("present", replica_of(replicas, did), *generation as u64)
+        }
+        Gave::Departed { generation } => {
+            text.add_placed("leave", replica_of(replicas, did), *generation as u64)
+        }
+        Gave::Gone { replica } => {
+            text.add_three("gone", kind_of(did), name_at(replicas, *replica))
+        }
+        Gave::StoreFailed => text.add_three("failed", kind_of(did), path_text(path_of(did))),
+        Gave::StoreFull { .. } => text.add_three("full", kind_of(did), path_text(path_of(did))),
+        Gave::Nothing => text.add_two("nothing", kind_of(did)),
+    }
+}
+
+/// Adds the worker's name and the event.
+fn add_seen(text: &mut LineText, script: &Script, line: &Line) -> Result<(), NoMemory>
+    ensures { IfOk result (λ done. text.new.bytes.items ≡ text.old.bytes.items
+        ++ two (worker_at (fleet_of script.now).workers line.now.seat)
+        (event_text (fleet_of script.now).replicas line.now.did line.now.gave)) }
+{
+    text.add(worker_at(script.workers.as_slice(), line.seat))?;
+    text.add(" ")?;
+    add_event(text, script.replicas.as_slice(), &line.did, &line.gave)
+}
+
+fn add_text(
+    text: &mut LineText,
+    script: &Script,
+    number: usize,
+    line: &Line,
+) -> Result<(), NoMemory>
+    ensures { IfOk result (λ done. text.new.bytes.items
+        ≡ text.old.bytes.items ++ journal_text (fleet_of script.now) number line.now) }
+{
+    text.add_number(number as u64)?;
+    text.add(" ")?;
+    add_seen(text, script, line)
+}
+
+/// The text of a line of the journal with its LF, in the place of what the text was.
+pub fn set_line(
+    text: &mut LineText,
+    script: &Script,
+    number: usize,
+    line: &Line,
+) -> Result<(), NoMemory>
+    ensures { IfOk result (λ done. text.new.bytes.items
+        ≡ journal_text (fleet_of script.now) number line.now ++ codes "\n") }
+{
+    text.clear();
+    add_text(text, script, number, line)?;
+    text.add("\n")
+}

@@ -1,0 +1,16 @@
+use Rattle.std.proofs.Common.{sym, ap}
+use Rattle.kr_top.specs.Message.{fault_line}
+use Rattle.kr_top.proofs.Pieces.{says_by}
+use Rattle.kr_top.proofs.message.write_fault.Goals as goal
+
+pub returns-in-Input : goal.returns-in-Input
+returns-in-Input g c =
+    says_by (ap (λ o. fault_line o c.args.count) (sym c.in-Input.is)) c.write_counted.ensures
+
+pub returns-in-Output : goal.returns-in-Output
+returns-in-Output g c = says_by (ap (λ o. fault_line o c.args.count) (sym c.in-Output.is))
+    c.write_counted-in-Output.ensures
+
+pub returns-in-Files : goal.returns-in-Files
+returns-in-Files g c = says_by (ap (λ o. fault_line o c.args.count) (sym c.in-Files.is))
+    c.write_counted-in-Files.ensures

@@ -1,0 +1,120 @@
+-- What is around a command, and how its steps end there.
+use Rattle.std.specs.Prelude.{◌≡◌, ℕ, ◌-◌, ◌≤◌, ◌⊎◌, Bool, List, [], Option, Result, Ok, Err, if◌then◌else◌}
+use Rattle.std.specs.Io.KnownBytes.{Keeps}
+use Rattle.kr_base.specs.Faults.{Rose}
+use Rattle.kr_kms.specs.Outside.{Outside, Objects, KeepsFiles, file_faults, at_key, same_seat}
+use Rattle.kr_top.specs.Steps.{Steps, Call, loading, reading, opening, drawing, object_of, Point, awaits, amid, refuses, gives, Left, Goes}
+use Rattle.kr_top.specs.declared.refusal.Object.{Object}
+use Rattle.kr_top.specs.declared.refusal.Stop.{Stop}
+use Rattle.kr_top.specs.declared.refusal.Stop.TheVariants.{Words, Refused, Fault, NoMemory}
+
+-- what is around a command: the world and the input, with what they tell and their counts of
+-- faults; and what is to be written in place of a value
+pub record Around : Type 0 where
+  pub world : Outside
+  pub input : Option (List ℕ)
+  pub faults : ℕ
+  pub said : List ℕ
+
+abbrev pub around : Outside → Option (List ℕ) → ℕ → Around
+around world input faults = record { world = world; input = input; faults = faults; said = [] }
+
+-- ---- its parts
+
+abbrev pub with_world : Outside → Around → Around
+with_world world a = record a { world = world }
+
+abbrev pub with_told_input : Option (List ℕ) → ℕ → Around → Around
+with_told_input input faults a = record a { input = input; faults = faults }
+
+-- an object that is out, of which this is told, stands as if it were at home
+abbrev pub with_lent : {K V : Type 0} → (same : K → K → Bool) → K → V → ℕ → Objects K V
+    → Objects K V
+with_lent same key told faults objects = record {
+  told = λ other. if same key other then told else objects.told other;
+  faults = λ other. if same key other then faults else objects.faults other;
+  out = λ other. objects.out other - at_key same key 1 other;
+}
+
+abbrev pub with_lent_dice : ℕ → Option (List ℕ) → ℕ → Around → Around
+with_lent_dice seat left faults a = record a {
+  world = record a.world {
+    dice = with_lent same_seat seat left faults a.world.dice;
+  };
+}
+
+-- ---- faults
+
+-- the faults of a kind of call
+abbrev pub faults_at : Call → Around → ℕ
+faults_at (loading name) around = around.world.faults.loads
+faults_at reading around = around.faults
+faults_at (opening seat) around = around.world.faults.dice
+faults_at (drawing seat) around = around.world.dice.faults seat
+
+-- the faults of its object
+abbrev pub count_at : Call → Around → ℕ
+count_at (loading name) around = file_faults around.world
+count_at reading around = around.faults
+count_at (opening seat) around = file_faults around.world
+count_at (drawing seat) around = around.world.dice.faults seat
+
+-- the call failed: its count rose, and the object's count is this
+abbrev pub IsFault : Call → Object → ℕ → Around → Around → Type 0
+IsFault call object count old new =
+    (object ≡ object_of call) × Rose (faults_at call old) (faults_at call new)
+    × (count ≡ count_at call new)
+
+-- ---- what steps did
+
+-- nothing was consumed, said, or asked of the world but what is left of
+pub record Stays (left : Left) (new : Around) : Type 0 where
+  pub file : new.world.file ≡ left.file
+  pub tapes : new.world.tapes.told ≡ left.tapes
+  pub links : new.world.links.told ≡ left.links
+  pub input : Keeps left.input new.input
+  pub dice : (seat : ℕ) → Keeps (left.dice seat) (new.world.dice.told seat)
+  pub asked : new.world.asked ≡ left.asked
+  pub said : new.said ≡ left.said
+
+abbrev pub left_of : Around → Left
+left_of around = record {
+  file = around.world.file;
+  tapes = around.world.tapes.told;
+  links = around.world.links.told;
+  input = around.input;
+  dice = around.world.dice.told;
+  asked = around.world.asked;
+  said = around.said;
+}
+
+-- from what is left the steps come to this point, and nothing was done but by them
+pub record Reaches {A : Type 0} (next : Steps A) (left : Left) (new : Around)
+    (point : Point A) : Type 0 where
+  pub end : Left
+  pub goes : Goes point end next left
+  pub stays : Stays end new
+
+-- what was handed out is back, and no count fell
+pub record AreHome {K V : Type 0} (old new : Objects K V) : Type 0 where
+  pub out : (key : K) → new.out key ≡ old.out key
+  pub later : (key : K) → old.faults key ≤ new.faults key
+
+-- the files are the same, all that was handed out is back, and no count fell
+pub record IsHome (old new : Around) : Type 0 where
+  pub files : KeepsFiles old.world new.world
+  pub dice : AreHome old.world.dice new.world.dice
+  pub tapes : AreHome old.world.tapes new.world.tapes
+  pub links : AreHome old.world.links new.world.links
+  pub input : old.faults ≤ new.faults
+
+-- how steps end: a fault stands only for the call that they come to, and want of memory for any, or
+-- between two
+abbrev pub Ends : {A : Type 0} → Steps A → Left → Around → Around → Result A Stop → Type 0
+Ends next left old new (Ok x) = Reaches next left new (gives x)
+Ends next left old new (Err (Words why)) = ⊥
+Ends next left old new (Err (Refused why)) = Reaches next left new (refuses why)
+Ends next left old new (Err (Fault object count)) =
+    (call : Call) × Reaches next left new (awaits call) × IsFault call object count old new
+Ends next left old new (Err NoMemory) =
+    ((call : Call) × Reaches next left new (awaits call)) ⊎ Reaches next left new amid

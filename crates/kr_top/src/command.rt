@@ -1,0 +1,173 @@
+//! The commands that are built.
+ghost use Rattle.std.specs.Prelude.{◌≡◌, ◌≤◌, Some, IfOk, IfSome, codes, length};
+ghost use Rattle.kr_base.specs.Limits.{path_limit};
+ghost use Rattle.kr_words.specs.Grammar.{texts};
+ghost use Rattle.kr_words.specs.Options.{value_of};
+ghost use Rattle.kr_words.specs.Rules.{IsCommand};
+ghost use Rattle.kr_top.specs.Command.{command_of, conversion_of, check_of};
+ghost use Rattle.kr_top.specs.inner.Phases.{IsReadAs, HasShortPath};
+
+use crate::refusal::{BadWords, Stop};
+use kr_base::{NoMemory, Text};
+use kr_words::{Verb, WordsNo, read_words};
+use std::alloc::Global;
+
+/// Which way an object goes.
+#[derive(Clone, Copy, Debug, PartialEq, Eq)]
+pub enum Direction {
+    /// Its data are sealed.
+    Encrypt,
+    /// Its stored value is read.
+    Decrypt,
+}
+
+/// What is to be done with an object.
+#[derive(Debug, Drop)]
+pub struct Conversion {
+    /// Which way it goes.
+    pub direction: Direction,
+    /// The name of the configuration file.
+    pub config: Text,
+    /// The resource of the object.
+    pub resource: Text,
+    /// The path that the object is stored at; it may be empty.
+    pub path: Text,
+}
+
+/// A command with what its words say.
+#[derive(Debug, Drop)]
+pub enum Command {
+    /// Encrypts or decrypts the input.
+    Convert(Conversion),
+    /// Shows a configuration.
+    Check {
+        /// The name of the configuration file.
+        config: Text,
+        /// The resource whose providers are shown; without one all entries are.
+        resource: Option<Text>,
+    },
+    /// Shows what the input, a stored value, says of itself.
+    Inspect,
+}
+
+/// Reads the words as a command.
+pub fn read_command(alloc: Global, words: &[String]) -> Result<Command, Stop>
+    ensures { IsReadAs (texts words.now) result }
+{
+    let words = match read_words(alloc, words) {
+        Ok(words) => words,
+        Err(WordsNo::Usage) => return Err(Stop::Words(BadWords::Usage)),
+        Err(WordsNo::Replicas) => return Err(Stop::Words(BadWords::Replicas)),
+        Err(WordsNo::Size) => return Err(Stop::Words(BadWords::Size)),
+        Err(WordsNo::NoMemory) => return Err(Stop::NoMemory),
+    };
+    let command = match command_of(alloc, &words) {
+        Ok(command) => command,
+        Err(_) => return Err(Stop::NoMemory),
+    };
+    match command {
+        Some(command) => Ok(command),
+        None => Err(Stop::Words(BadWords::Usage)),
+    }
+}
+
+/// The command of a verb with its options, where it is built.
+fn command_of(alloc: Global, words: &kr_words::Command) -> Result<Option<Command>, NoMemory>
+    requires { IsCommand words.now.verb words.now.options.0 }
+    ensures command { IfOk result
+        (λ command. command ≡ command_of words.now.verb words.now.options.0) }
+    ensures path { IfOk result HasShortPath }
+{
+    match words.verb {
+        Verb::Encrypt => conversion_of(alloc, Direction::Encrypt, words),
+        Verb::Decrypt => conversion_of(alloc, Direction::Decrypt, words),
+        Verb::Check => check_of(alloc, words),
+        Verb::Inspect => Ok(Some(Command::Inspect)),
+        _ => Ok(None),
+    }
+}
+
+/// The words of `encrypt` and `decrypt`.
+fn conversion_of(
+    alloc: Global,
+    direction: Direction,
+    words: &kr_words::Command,
+) -> Result<Option<Command>, NoMemory>
+    requires { IsCommand words.now.verb words.now.options.0 }
+    ensures command { IfOk result (λ command. command ≡ conversion_of direction
+        (value_of words.now.options.0 (codes "config"))
+        (value_of words.now.options.0 (codes "resource"))
+        (value_of words.now.options.0 (codes "path"))) }
+    ensures path { IfOk result HasShortPath }
+{
+    let config = value_of(alloc, words, "config")?;
+    let resource = value_of(alloc, words, "resource")?;
+    let path = path_of(alloc, words)?;
+    let Some(config) = config else {
+        return Ok(None);
+    };
+    let Some(resource) = resource else {
+        return Ok(None);
+    };
+    Ok(conversion_at(direction, config, resource, path))
+}
+
+/// A conversion of an object at a path, where there is one.
+fn conversion_at(
+    direction: Direction,
+    config: Text,
+    resource: Text,
+    path: Option<Text>,
+) -> Option<Command>
+    requires { IfSome path (λ path. length path ≤ path_limit) }
+    ensures command { result ≡ conversion_of direction (Some config) (Some resource) path }
+    ensures path { HasShortPath result }
+{
+    match path {
+        Some(path) => Some(Command::Convert(Conversion {
+            direction,
+            config,
+            resource,
+            path,
+        })),
+        None => None,
+    }
+}
+
+/// A copy of the path, which keeps its rule.
+fn path_of(alloc: Global, words: &kr_words::Command) -> Result<Option<Text>, NoMemory>
+    requires { IsCommand words.now.verb words.now.options.0 }
+    ensures value { IfOk result
+        (λ path. path ≡ value_of words.now.options.0 (codes "path")) }
+    ensures short { IfOk result (λ path. IfSome path (λ path. length path ≤ path_limit)) }
+{
+    value_of(alloc, words, "path")
+}
+
+/// The words of `check`.
+fn check_of(alloc: Global, words: &kr_words::Command) -> Result<Option<Command>, NoMemory>
+    ensures command { IfOk result (λ command. command ≡ check_of
+        (value_of words.now.options.0 (codes "config"))
+        (value_of words.now.options.0 (codes "resource"))) }
+    ensures path { IfOk result HasShortPath }
+{
+    let config = value_of(alloc, words, "config")?;
+    let resource = value_of(alloc, words, "resource")?;
+    match config {
+        Some(config) => Ok(Some(Command::Check { config, resource })),
+        None => Ok(None),
+    }
+}
+
+/// A copy of the first value at the name.
+fn value_of(alloc: Global, words: &kr_words::Command, name: &str) -> Result<Option<Text>, NoMemory>
+    ensures { IfOk result (λ value. value ≡ value_of words.now.options.0 name.now) }
+{
+    match words.value(name) {
+        Some(text) => match Text::copy(alloc, text) {
+            Ok(text) => Ok(Some(text)),
+            Err(_) => Err(NoMemory),
+        },
+        None => Ok(None),
+    }
+}
