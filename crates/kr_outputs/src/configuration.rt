@@ -1,0 +1,37 @@
+//! A published configuration, of which the output shows nothing.
+use crate::words::Wrong;
+use kr_base::{Bytes, List, MemDice, Shared};
+use kr_config::{Settings, read};
+use kr_kms::TablePlugin;
+use kr_provider::{Links, Published, publish};
+use std::alloc::Global;
+
+const FILE: &str = r#"{"apiVersion":"apiserver.config.k8s.io/v1","kind":"EncryptionConfiguration",
+"resources":[{"resources":["secrets"],"providers":[{"identity":{}}]}]}"#;
+
+pub fn published(alloc: Global) -> Result<Shared<Published>, Wrong> {
+    let settings = match read(alloc, FILE.as_bytes()) {
+        Ok(settings) => settings,
+        Err(_) => return Err(Wrong::Form),
+    };
+    match Shared::new(alloc, settings) {
+        Ok(settings) => publish_bare(alloc, settings),
+        Err(_) => Err(Wrong::Memory),
+    }
+}
+
+/// Publishes settings that name no plugin.
+fn publish_bare(alloc: Global, settings: Shared<Settings>) -> Result<Shared<Published>, Wrong> {
+    let mut links = Links::<TablePlugin>::new(alloc);
+    if !links.serve(settings.get()) {
+        return Err(Wrong::Form);
+    }
+    let mut dice = MemDice::new(Bytes::new(alloc), List::new(alloc));
+    match publish(alloc, settings, &mut links, &mut dice) {
+        Ok(published) => match Shared::new(alloc, published) {
+            Ok(shared) => Ok(shared),
+            Err(_) => Err(Wrong::Memory),
+        },
+        Err(_) => Err(Wrong::Memory),
+    }
+}

@@ -1,0 +1,89 @@
+//! The lines, of words parted by single spaces. What isn't of the form is answered by `line`.
+//!
+//!     fleet HEX                the fleet file; nothing happened yet
+//!     event SEAT DID | GAVE    an event of the worker, with its answer
+//!     reply TOLD               a reply of the worker at hand, the first one at the beginning
+//!     next                     the worker behind it is at hand
+//!     print                    prints the output
+//!     # TEXT                   says nothing
+use crate::answered::gave_of;
+use crate::asked::did_of;
+use crate::page::Page;
+use crate::told::told_of;
+use crate::words::{Wrong, bytes_of, number_of, two_words};
+use kr_rollout::Line;
+use kr_script::read_script;
+use std::alloc::{AllocError, Global};
+
+/// Takes the line up, and tells what is printed for it.
+pub fn answer(
+    alloc: Global,
+    current: &mut Option<Page>,
+    line: &str,
+) -> Result<Vec<u8>, AllocError> {
+    match act(alloc, current, line) {
+        Ok(text) => Ok(text),
+        Err(Wrong::Form) => b"line\n".to_vec(alloc),
+        Err(Wrong::Memory) => Err(AllocError),
+    }
+}
+
+fn act(alloc: Global, current: &mut Option<Page>, line: &str) -> Result<Vec<u8>, Wrong> {
+    let (key, rest) = match line.split_once(' ') {
+        Some(parts) => parts,
+        None => (line, ""),
+    };
+    match key {
+        "#" => Ok(Vec::new(alloc)),
+        "fleet" => {
+            *current = Some(begin(alloc, rest)?);
+            Ok(Vec::new(alloc))
+        }
+        _ => match current {
+            Some(page) => act_on(alloc, page, key, rest),
+            None => Err(Wrong::Form),
+        },
+    }
+}
+
+fn act_on(alloc: Global, page: &mut Page, key: &str, rest: &str) -> Result<Vec<u8>, Wrong> {
+    if key == "print" {
+        return page.print(alloc);
+    }
+    match key {
+        "event" => page.add_line(line_of(alloc, rest)?)?,
+        "reply" => page.add_reply(told_of(alloc, rest)?)?,
+        "next" => page.end_worker(alloc)?,
+        _ => return Err(Wrong::Form),
+    }
+    Ok(Vec::new(alloc))
+}
+
+/// `HEX`.
+fn begin(alloc: Global, rest: &str) -> Result<Page, Wrong> {
+    let file = bytes_of(alloc, rest)?;
+    match read_script(alloc, file.as_slice()) {
+        Ok(script) => Ok(Page::new(alloc, script)),
+        Err(_) => Err(Wrong::Form),
+    }
+}
+
+/// `SEAT DID | GAVE`.
+fn line_of(alloc: Global, rest: &str) -> Result<Line, Wrong> {
+    let (seat, rest) = two_words(rest)?;
+    let seat = number_of(seat)?;
+    let Some((did, gave)) = rest.split_once(" | ") else {
+        return Err(Wrong::Form);
+    };
+    let gave = gave_of(alloc, gave)?;
+    match did_of(alloc, did) {
+        Ok(did) => Ok(Line {
+            seat,
+            did,
+            held: None,
+            gave,
+            faults: 0,
+        }),
+        Err(why) => Err(why),
+    }
+}
