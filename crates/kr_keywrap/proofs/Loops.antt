@@ -63,8 +63,8 @@ module _ (plugin : Plugin) (a b c h i j : Option (List ℕ)) (pending all : List
     few = omega (arith, length-append before.lines ((byte ∷ bytes) ∷ []), before.size, few);
   }
 
-  pub served_done : (Rises : Type 0) → ServesLast plugin c i j all → count < lines_limit → Serves plugin a c h j Rises Done
-  served_done Rises last few = record {
+  pub served_done : (R Q : Type 0) → ServesLast plugin c i j all → count < lines_limit → Serves plugin a c h j R Q Done
+  served_done R Q last few = record {
     lines = before.lines;
     next = all;
     behind = [];
@@ -81,8 +81,8 @@ module _ (plugin : Plugin) (a b c h i j : Option (List ℕ)) (pending all : List
   }
 
   -- nothing is left where the source is at its end
-  pub served_end : (Rises : Type 0) → IsAtEnd c → length all ≡ 0 → Appends i j [] → count ≤ lines_limit → Serves plugin a c h j Rises Done
-  served_end Rises ends none wrote few = record {
+  pub served_end : (R Q : Type 0) → IsAtEnd c → length all ≡ 0 → Appends i j [] → count ≤ lines_limit → Serves plugin a c h j R Q Done
+  served_end R Q ends none wrote few = record {
     lines = before.lines;
     next = [];
     behind = [];
@@ -97,8 +97,9 @@ module _ (plugin : Plugin) (a b c h i j : Option (List ℕ)) (pending all : List
     );
   }
 
-  pub served_failed : (Rises Later : Type 0) → Fails plugin c i j all Rises → (Rises → Later) → count ≤ lines_limit → Serves plugin a c h j Later Failed
-  served_failed Rises Later fails later few = record {
+  pub served_failed : (R Q Source Sink : Type 0) → Fails plugin c i j all R Q → (R → Source) → (Q → Sink) → count ≤ lines_limit
+      → Serves plugin a c h j Source Sink Failed
+  served_failed R Q Source Sink fails source sink few = record {
     lines = before.lines;
     next = fails.next;
     behind = fails.behind;
@@ -106,34 +107,34 @@ module _ (plugin : Plugin) (a b c h i j : Option (List ℕ)) (pending all : List
     are_lines = are_lines few;
     unbroken = fails.unbroken;
     ends = (
-      later fails.rises,
       fails.short,
       elim fails.wrote [
-        | inl nothing ↦ inl (wrote_nothing nothing)
+        | inl nothing ↦ inl (source nothing.0, nothing.1, wrote_nothing nothing.2)
         | inr some ↦ inr (
-          some.0,
+          sink some.0,
+          some.1,
           (
-            some.1.0,
-            Appends-trans h i j (answers plugin before.lines) (take some.1.0 (answer plugin fails.next)) before.wrote some.1.1,
+            some.2.0,
+            Appends-trans h i j (answers plugin before.lines) (take some.2.0 (answer plugin fails.next)) before.wrote some.2.1,
           ),
         )
       ],
     );
   }
 
-  pub served_starved : (Rises : Type 0) → Starves i j all → count ≤ lines_limit → Serves plugin a c h j Rises NoMemory
-  served_starved Rises starves few = record {
+  pub served_starved : (R Q : Type 0) → Starves i j all → count ≤ lines_limit → Serves plugin a c h j R Q NoMemory
+  served_starved R Q starves few = record {
     lines = before.lines;
     next = starves.next;
     behind = starves.behind;
     took = took_parts starves.next starves.behind starves.is;
     are_lines = are_lines few;
     unbroken = starves.unbroken;
-    ends = (starves.short, wrote_nothing starves.wrote);
+    ends = (starves.short, starves.stops, wrote_nothing starves.wrote);
   }
 
-  pub served_long : (Rises : Type 0) → Passes i j all → count ≤ lines_limit → Serves plugin a c h j Rises TooLong
-  served_long Rises passes few = record {
+  pub served_long : (R Q : Type 0) → Passes i j all → count ≤ lines_limit → Serves plugin a c h j R Q TooLong
+  served_long R Q passes few = record {
     lines = before.lines;
     next = all;
     behind = [];
@@ -144,8 +145,8 @@ module _ (plugin : Plugin) (a b c h i j : Option (List ℕ)) (pending all : List
   }
 
   -- the source goes on behind the last line that is answered
-  pub served_many : (Rises : Type 0) → Appends i j [] → 0 < length all → count ≡ lines_limit → Serves plugin a c h j Rises TooLong
-  served_many Rises wrote some full = record {
+  pub served_many : (R Q : Type 0) → Appends i j [] → 0 < length all → count ≡ lines_limit → Serves plugin a c h j R Q TooLong
+  served_many R Q wrote some full = record {
     lines = before.lines;
     next = [];
     behind = all;

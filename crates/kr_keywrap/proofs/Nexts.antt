@@ -1,11 +1,9 @@
 -- What is made of the next line.
-use Rattle.std.proofs.Common.{◌≡◌, ◌==◌, ℕ, zero, suc, true, false, ◌+◌, ◌<◌, ◌≤◌, ◌⊎◌, inl, inr, List, [], ◌∷◌, ◌++◌, length, take, drop, Option, Some, None, Ok, Err, refl, sym, ap, subst, ◌∙◌, arith}
+use Rattle.std.proofs.Common.{◌≡◌, ◌==◌, ℕ, zero, suc, true, false, ◌+◌, ◌<◌, ◌≤◌, inl, inr, List, [], ◌∷◌, ◌++◌, length, take, drop, Option, Some, None, Ok, Err, refl, sym, ap, subst, ◌∙◌, arith}
 use Rattle.std.proofs.KnownBytes.{Appends-nil}
 use Rattle.std.specs.Io.KnownBytes.{Appends, IsAtEnd}
 use Rattle.std.proofs.lemmas.Bool.Decides.{Decides-eqb}
 use Rattle.std.proofs.lemmas.List.Elements.{All-nil}
-use Rattle.kr_base.proofs.Counting.{Rose-later}
-use Rattle.kr_base.specs.Faults.{Rose}
 use Rattle.kr_base.specs.Streams.{AppendsFront}
 use Rattle.std.proofs.lemmas.List.{append-nil, append_assoc, drop_more, length-take-le, nil_from_length, take-append-drop}
 use Rattle.std.proofs.lemmas.List.Concat.{flat_map-cons}
@@ -18,20 +16,19 @@ use Rattle.kr_keywrap.proofs.Lines.{grows_none, no_break, no_break_all}
 use Rattle.kr_keywrap.proofs.Loops.{goes_none, served_end, served_failed, served_long, served_starved}
 
 -- there is no line
-pub none_found : (plugin : Plugin) (left held : Option (List ℕ)) (all new : List ℕ) (R Rises : Type 0) (why : Served)
-    → Finds left all R (Err why) → (R → Rises) → ServesNext plugin left held held all new Rises (Err why)
-none_found plugin left held all new R Rises Done finds later = absurd finds
-none_found plugin left held all new R Rises Failed finds later = record {
-  rises = later finds.0;
+pub none_found : (plugin : Plugin) (left held : Option (List ℕ)) (all new : List ℕ) (R Q : Type 0) (why : Served)
+    → Finds left all R (Err why) → ServesNext plugin left held held all new R Q (Err why)
+none_found plugin left held all new R Q Done finds = absurd finds
+none_found plugin left held all new R Q Failed finds = record {
   next = all;
   behind = [];
   is = sym (append-nil all);
   unbroken = no_break_all all finds.1;
   short = finds.2;
-  wrote = inl (Appends-nil held);
+  wrote = inl (finds.0, refl, Appends-nil held);
 }
-none_found plugin left held all new R Rises NoMemory finds later = absurd finds
-none_found plugin left held all new R Rises TooLong finds later = record {
+none_found plugin left held all new R Q NoMemory finds = absurd finds
+none_found plugin left held all new R Q TooLong finds = record {
   unbroken = no_break_all all finds.0;
   long = finds.1;
   wrote = Appends-nil held;
@@ -71,28 +68,28 @@ pub answer_begun : (plugin : Plugin) (held_old held : Option (List ℕ)) (line b
 answer_begun plugin held_old held line bytes slice same is front =
     (front.0, subst (λ (l : List ℕ). Appends held_old held (take front.0 l)) (same ∙ is) front.2)
 
-pub last_failed : (plugin : Plugin) (left held_old held : Option (List ℕ)) (all new last : List ℕ) (R Q Rises : Type 0) (why : Served)
-    → Finds left all R (Ok None) → last ≡ all → WritesAnswer plugin last held_old held Q (Err why) → (Q → Rises)
-    → ServesNext plugin left held_old held all new Rises (Err why)
-last_failed plugin left held_old held all new last R Q Rises Done finds same writes later = absurd writes
-last_failed plugin left held_old held all new last R Q Rises Failed finds same writes later = record {
-  rises = later writes.0;
+pub last_failed : (plugin : Plugin) (left held_old held : Option (List ℕ)) (all new last : List ℕ) (R Q : Type 0) (why : Served)
+    → Finds left all R (Ok None) → last ≡ all → WritesAnswer plugin last held_old held Q (Err why)
+    → ServesNext plugin left held_old held all new R Q (Err why)
+last_failed plugin left held_old held all new last R Q Done finds same writes = absurd writes
+last_failed plugin left held_old held all new last R Q Failed finds same writes = record {
   next = last;
   behind = [];
   is = sym same ∙ sym (append-nil last);
   unbroken = subst HasNoBreak (sym same) (no_break_all all finds.1);
   short = omega (arith, ap length same, finds.2);
-  wrote = inr (inr (refl, finds.0), writes.1);
+  wrote = inr (writes.0, inr (refl, finds.0), writes.1);
 }
-last_failed plugin left held_old held all new last R Q Rises NoMemory finds same writes later = record {
+last_failed plugin left held_old held all new last R Q NoMemory finds same writes = record {
   next = last;
   behind = [];
   is = sym same ∙ sym (append-nil last);
   unbroken = subst HasNoBreak (sym same) (no_break_all all finds.1);
   short = omega (arith, ap length same, finds.2);
+  stops = inr refl;
   wrote = writes;
 }
-last_failed plugin left held_old held all new last R Q Rises TooLong finds same writes later = absurd writes
+last_failed plugin left held_old held all new last R Q TooLong finds same writes = absurd writes
 
 -- ---- a line with its LF
 
@@ -101,28 +98,28 @@ at_break : (all : List ℕ) (place : ℕ) → IsBreak all place → drop place a
 at_break all place is =
     drop_more all place 0 is.within ∙ ap (λ (byte : ℕ). byte ∷ drop (place + 1) all) is.found
 
-pub line_failed : (plugin : Plugin) (left held_old held : Option (List ℕ)) (all new line : List ℕ) (place : ℕ) (Q Rises : Type 0) (why : Served)
-    → IsBreak all place → place ≤ line_limit → line ≡ take place all → WritesAnswer plugin line held_old held Q (Err why) → (Q → Rises)
-    → ServesNext plugin left held_old held all new Rises (Err why)
-line_failed plugin left held_old held all new line place Q Rises Done is most at writes later = absurd writes
-line_failed plugin left held_old held all new line place Q Rises Failed is most at writes later = record {
-  rises = later writes.0;
+pub line_failed : (plugin : Plugin) (left held_old held : Option (List ℕ)) (all new line : List ℕ) (place : ℕ) (R Q : Type 0) (why : Served)
+    → IsBreak all place → place ≤ line_limit → line ≡ take place all → WritesAnswer plugin line held_old held Q (Err why)
+    → ServesNext plugin left held_old held all new R Q (Err why)
+line_failed plugin left held_old held all new line place R Q Done is most at writes = absurd writes
+line_failed plugin left held_old held all new line place R Q Failed is most at writes = record {
   next = line;
   behind = drop place all;
   is = sym (ap (λ (l : List ℕ). l ++ drop place all) at ∙ take-append-drop place all);
   unbroken = subst HasNoBreak (sym at) (no_break all place (omega (arith, is.within)) is.unbroken);
   short = omega (arith, ap length at, length-take-le place all (omega (arith, is.within)), most);
-  wrote = inr (inl (drop (place + 1) all, at_break all place is), writes.1);
+  wrote = inr (writes.0, inl (drop (place + 1) all, at_break all place is), writes.1);
 }
-line_failed plugin left held_old held all new line place Q Rises NoMemory is most at writes later = record {
+line_failed plugin left held_old held all new line place R Q NoMemory is most at writes = record {
   next = line;
   behind = drop place all;
   is = sym (ap (λ (l : List ℕ). l ++ drop place all) at ∙ take-append-drop place all);
   unbroken = subst HasNoBreak (sym at) (no_break all place (omega (arith, is.within)) is.unbroken);
   short = omega (arith, ap length at, length-take-le place all (omega (arith, is.within)), most);
+  stops = inl (drop (place + 1) all, at_break all place is);
   wrote = writes;
 }
-line_failed plugin left held_old held all new line place Q Rises TooLong is most at writes later = absurd writes
+line_failed plugin left held_old held all new line place R Q TooLong is most at writes = absurd writes
 
 pub line_served : (plugin : Plugin) (held_old held : Option (List ℕ)) (all new line : List ℕ) (place : ℕ)
     → IsBreak all place → place ≤ line_limit → line ≡ take place all → new ≡ drop (place + 1) all → Appends held_old held (answer plugin line)
@@ -140,54 +137,46 @@ line_served plugin held_old held all new line place is short at rest wrote =
 
 -- ---- the whole loop
 
-stopped : (plugin : Plugin) (a b c h i j : Option (List ℕ)) (pending all new : List ℕ) (count : ℕ) (R Later : Type 0) (why : Served)
-    → Goes plugin a b h i pending count → Grows b c pending all → ServesNext plugin c i j all new R (Err why) → (R → Later) → count ≤ lines_limit
-    → Serves plugin a c h j Later why
-stopped plugin a b c h i j pending all new count R Later Done before grows one later few = absurd one
-stopped plugin a b c h i j pending all new count R Later Failed before grows one later few =
-    served_failed plugin a b c h i j pending all count before grows R Later one later few
-stopped plugin a b c h i j pending all new count R Later NoMemory before grows one later few =
-    served_starved plugin a b c h i j pending all count before grows Later one few
-stopped plugin a b c h i j pending all new count R Later TooLong before grows one later few =
-    served_long plugin a b c h i j pending all count before grows Later one few
+stopped : (plugin : Plugin) (a b c h i j : Option (List ℕ)) (pending all new : List ℕ) (count : ℕ) (R Q Source Sink : Type 0) (why : Served)
+    → Goes plugin a b h i pending count → Grows b c pending all → ServesNext plugin c i j all new R Q (Err why) → (R → Source) → (Q → Sink)
+    → count ≤ lines_limit → Serves plugin a c h j Source Sink why
+stopped plugin a b c h i j pending all new count R Q Source Sink Done before grows one source sink few = absurd one
+stopped plugin a b c h i j pending all new count R Q Source Sink Failed before grows one source sink few =
+    served_failed plugin a b c h i j pending all count before grows R Q Source Sink one source sink few
+stopped plugin a b c h i j pending all new count R Q Source Sink NoMemory before grows one source sink few =
+    served_starved plugin a b c h i j pending all count before grows Source Sink one few
+stopped plugin a b c h i j pending all new count R Q Source Sink TooLong before grows one source sink few =
+    served_long plugin a b c h i j pending all count before grows Source Sink one few
 
-pub stops : (plugin : Plugin) (a b c h i j : Option (List ℕ)) (pending new : List ℕ) (count : ℕ) (R Later : Type 0) (why : Served)
-    → Goes plugin a b h i pending count → ServesOne plugin b c i j pending new R (Err why) → (R → Later) → count ≤ lines_limit
-    → Serves plugin a c h j Later why
-stops plugin a b c h i j pending new count R Later why before one later few =
-    stopped plugin a b c h i j pending one.all new count R Later why before one.grows one.serves later few
+pub stops : (plugin : Plugin) (a b c h i j : Option (List ℕ)) (pending new : List ℕ) (count : ℕ) (R Q Source Sink : Type 0) (why : Served)
+    → Goes plugin a b h i pending count → ServesOne plugin b c i j pending new R Q (Err why) → (R → Source) → (Q → Sink) → count ≤ lines_limit
+    → Serves plugin a c h j Source Sink why
+stops plugin a b c h i j pending new count R Q Source Sink why before one source sink few =
+    stopped plugin a b c h i j pending one.all new count R Q Source Sink why before one.grows one.serves source sink few
 
 -- the lines are all answered, and there is no further one
-pub stops_behind : (plugin : Plugin) (a b c h i : Option (List ℕ)) (pending all : List ℕ) (count : ℕ) (R Later : Type 0) (why : Served)
-    → Goes plugin a b h i pending count → Grows b c pending all → Finds c all R (Err why) → (R → Later) → count ≤ lines_limit
-    → Serves plugin a c h i Later why
-stops_behind plugin a b c h i pending all count R Later why before grows finds later few =
-    stopped plugin a b c h i i pending all all count R Later why before grows (none_found plugin c i all all R R why finds (λ r. r)) later few
+pub stops_behind : (plugin : Plugin) (a b c h i : Option (List ℕ)) (pending all : List ℕ) (count : ℕ) (R Source Sink : Type 0) (why : Served)
+    → Goes plugin a b h i pending count → Grows b c pending all → Finds c all R (Err why) → (R → Source) → count ≤ lines_limit
+    → Serves plugin a c h i Source Sink why
+stops_behind plugin a b c h i pending all count R Source Sink why before grows finds source few =
+    stopped plugin a b c h i i pending all all count R Sink Source Sink why before grows (none_found plugin c i all all R Sink why finds) source (λ s. s) few
 
 at_end : (left : Option (List ℕ)) (all : List ℕ) (R : Type 0) (found : Option ℕ) → Finds left all R (Ok found) → length all ≡ 0 → IsAtEnd left
 at_end left all R None finds none = finds.0
 at_end left all R (Some place) finds none = absurd (omega (arith, finds.0.within, none))
 
-pub ends_behind : (plugin : Plugin) (a b c h i : Option (List ℕ)) (pending all : List ℕ) (count : ℕ) (R Later : Type 0) (found : Option ℕ)
+pub ends_behind : (plugin : Plugin) (a b c h i : Option (List ℕ)) (pending all : List ℕ) (count : ℕ) (R Source Sink : Type 0) (found : Option ℕ)
     → Goes plugin a b h i pending count → Grows b c pending all → Finds c all R (Ok found) → length all ≡ 0 → count ≤ lines_limit
-    → Serves plugin a c h i Later Done
-ends_behind plugin a b c h i pending all count R Later found before grows finds none few =
-    served_end plugin a b c h i i pending all count before grows Later (at_end c all R found finds none) none (Appends-nil i) few
+    → Serves plugin a c h i Source Sink Done
+ends_behind plugin a b c h i pending all count R Source Sink found before grows finds none few =
+    served_end plugin a b c h i i pending all count before grows Source Sink (at_end c all R found finds none) none (Appends-nil i) few
 
--- ---- before the first line, and counts
+-- ---- before the first line
 
-pub nothing_starves : (plugin : Plugin) (left held : Option (List ℕ)) (Later : Type 0) → Serves plugin left left held held Later NoMemory
-nothing_starves plugin left held Later =
-    served_starved plugin left left left held held held [] [] 0 (goes_none plugin left held) (grows_none left []) Later
-    (record { next = []; behind = []; is = refl; unbroken = All-nil (λ (byte : ℕ). byte ≡ 0x0A → ⊥); short = omega arith; wrote = Appends-nil held }) (omega arith)
-
--- a count that rose in a step rose in the loop
-pub rises_later : (i j k u v w : ℕ) → i ≤ j → u ≤ v → Rose j k ⊎ Rose v w → Rose i k ⊎ Rose u w
-rises_later i j k u v w before behind (inl r) = inl (Rose-later i j k before r)
-rises_later i j k u v w before behind (inr r) = inr (Rose-later u v w behind r)
-
-pub source_rises : (i j k u v : ℕ) → i ≤ j → Rose j k → Rose i k ⊎ Rose u v
-source_rises i j k u v before r = inl (Rose-later i j k before r)
+pub nothing_starves : (plugin : Plugin) (left held : Option (List ℕ)) (Source Sink : Type 0) → Serves plugin left left held held Source Sink NoMemory
+nothing_starves plugin left held Source Sink =
+    served_starved plugin left left left held held held [] [] 0 (goes_none plugin left held) (grows_none left []) Source Sink
+    (record { next = []; behind = []; is = refl; unbroken = All-nil (λ (byte : ℕ). byte ≡ 0x0A → ⊥); short = omega arith; stops = inr refl; wrote = Appends-nil held }) (omega arith)
 
 -- ---- whether there are any
 

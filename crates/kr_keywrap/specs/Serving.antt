@@ -2,7 +2,6 @@
 use Rattle.std.specs.Prelude.{◌≡◌, ◌≢◌, ℕ, ◌+◌, ◌<◌, ◌≤◌, ◌⊎◌, List, [], ◌∷◌, ◌++◌, All, length, take, Option}
 use Rattle.std.specs.List.{flat_map}
 use Rattle.std.specs.Io.KnownBytes.{Appends, Consumes, IsAtEnd}
-use Rattle.kr_base.specs.Faults.{Rose}
 use Rattle.kr_keywrap.specs.Answer.{Plugin, answer}
 use Rattle.kr_keywrap.specs.declared.serving.Served.{Served}
 use Rattle.kr_keywrap.specs.declared.serving.Served.TheVariants.{Done, Failed, NoMemory, TooLong}
@@ -38,31 +37,35 @@ pub record AreLines (lines : List (List ℕ)) : Type 0 where
   pub short : All (λ line. length line ≤ line_limit) lines
   pub few : length lines ≤ lines_limit
 
--- the count of the source or that of the sink rose
-abbrev pub EitherRose : (source_old source sink_old sink : ℕ) → Type 0
-EitherRose source_old source sink_old sink = Rose source_old source ⊎ Rose sink_old sink
-
 -- the bytes are a whole line: an LF stands behind them, or the source's end
 abbrev pub IsWhole : List ℕ → Option (List ℕ) → Type 0
 IsWhole behind left =
     ((rest : List ℕ) × (behind ≡ 0x0A ∷ rest)) ⊎ ((behind ≡ []) × IsAtEnd left)
 
+-- nothing was taken behind the bytes, or an LF first
+abbrev pub StopsThere : List ℕ → Type 0
+StopsThere behind = ((rest : List ℕ) × (behind ≡ 0x0A ∷ rest)) ⊎ (behind ≡ [])
+
 -- how it ends after the answers of the lines, where `next` and `behind` were taken behind them.
--- At the end the last line is answered too. It ends by a fault only where a count rose; then a
--- prefix of the next line's answer may have been written. Otherwise no part of it was. A line that
--- is too long is told before a fault behind it.
+-- At the end the last line is answered too. It ends by a fault where the source's count rose, and
+-- then each whole line that was taken is answered; or where the sink's count rose, and then a
+-- prefix of the next line's answer may have been written. Otherwise no part of it was. So a line
+-- that is too long is told before a fault behind it.
 abbrev pub Ends : Plugin → (lines : List (List ℕ)) → (next behind : List ℕ)
-    → (left held_old held : Option (List ℕ)) → Type 0 → Served → Type 0
-Ends plugin lines next behind left held_old held Rises Done =
+    → (left held_old held : Option (List ℕ)) → (source_rises sink_rises : Type 0)
+    → Served → Type 0
+Ends plugin lines next behind left held_old held SourceRises SinkRises Done =
     (behind ≡ []) × IsAtEnd left × AreLines (lines ++ last_line next)
     × Appends held_old held (answers plugin (lines ++ last_line next))
-Ends plugin lines next behind left held_old held Rises Failed = Rises × (length next ≤ line_limit)
-    × (Appends held_old held (answers plugin lines)
-    ⊎ (IsWhole behind left
+Ends plugin lines next behind left held_old held SourceRises SinkRises Failed =
+    (length next ≤ line_limit)
+    × ((SourceRises × (behind ≡ []) × Appends held_old held (answers plugin lines))
+    ⊎ (SinkRises × IsWhole behind left
     × ((n : ℕ) × Appends held_old held (answers plugin lines ++ take n (answer plugin next)))))
-Ends plugin lines next behind left held_old held Rises NoMemory = (length next ≤ line_limit)
+Ends plugin lines next behind left held_old held SourceRises SinkRises NoMemory =
+    (length next ≤ line_limit) × StopsThere behind
     × Appends held_old held (answers plugin lines)
-Ends plugin lines next behind left held_old held Rises TooLong =
+Ends plugin lines next behind left held_old held SourceRises SinkRises TooLong =
     ((line_limit < length next)
     ⊎ ((length lines ≡ lines_limit) × (0 < length next + length behind)))
     × Appends held_old held (answers plugin lines)
@@ -70,14 +73,14 @@ Ends plugin lines next behind left held_old held Rises TooLong =
 -- what was taken of the source, in parts: the lines that were answered, with their LFs, the next
 -- bytes without an LF, and what stands behind them
 pub record Serves (plugin : Plugin) (left_old left held_old held : Option (List ℕ))
-    (Rises : Type 0) (served : Served) : Type 0 where
+    (SourceRises SinkRises : Type 0) (served : Served) : Type 0 where
   pub lines : List (List ℕ)
   pub next : List ℕ
   pub behind : List ℕ
   pub took : Consumes left_old left (text_of lines ++ (next ++ behind))
   pub are_lines : AreLines lines
   pub unbroken : HasNoBreak next
-  pub ends : Ends plugin lines next behind left held_old held Rises served
+  pub ends : Ends plugin lines next behind left held_old held SourceRises SinkRises served
 
 -- the exit status
 abbrev pub status_of : Served → ℕ

@@ -4,7 +4,7 @@ ghost use Rattle.kr_aes.specs.KeyExpansion.{IsKeyLength, IsSchedule};
 ghost use Rattle.kr_base.specs.Faults.{Rose};
 ghost use Rattle.kr_base.specs.Limits.{IsShort};
 ghost use Rattle.kr_keywrap.specs.Answer.{plugin_under};
-ghost use Rattle.kr_keywrap.specs.Serving.{EitherRose, Serves, status_of};
+ghost use Rattle.kr_keywrap.specs.Serving.{Serves, status_of};
 ghost use Rattle.kr_keywrap.specs.inner.Lines.{ServesOne, WritesAnswer, WritesLast};
 
 use crate::answer::answer;
@@ -57,7 +57,8 @@ pub fn serve<S: Source, K: Sink>(
     ensures served { (served : Served) × (result ≡ status_of served) × Serves
         (plugin_under kek.now key_id.now)
         (S.left source.old) (S.left source.new) (K.held sink.old) (K.held sink.new)
-        (EitherRose (S.count source.old) (S.count source.new) (K.count sink.old) (K.count sink.new))
+        (Rose (S.count source.old) (S.count source.new))
+        (Rose (K.count sink.old) (K.count sink.new))
         served }
     ensures source { S.count source.old ≤ S.count source.new }
     ensures sink { K.count sink.old ≤ K.count sink.new }
@@ -80,7 +81,8 @@ fn serve_lines<S: Source, K: Sink>(
     ensures served { Serves
         (record { words = words.now; rounds = rounds; key_id = key_id.now })
         (S.left source.old) (S.left source.new) (K.held sink.old) (K.held sink.new)
-        (EitherRose (S.count source.old) (S.count source.new) (K.count sink.old) (K.count sink.new))
+        (Rose (S.count source.old) (S.count source.new))
+        (Rose (K.count sink.old) (K.count sink.new))
         result }
     ensures source { S.count source.old ≤ S.count source.new }
     ensures sink { K.count sink.old ≤ K.count sink.new }
@@ -132,7 +134,8 @@ fn serve_next<S: Source, K: Sink>(
         (record { words = words.now; rounds = rounds; key_id = key_id.now })
         (S.left source.old) (S.left source.new) (K.held sink.old) (K.held sink.new)
         pending.old pending.new
-        (EitherRose (S.count source.old) (S.count source.new) (K.count sink.old) (K.count sink.new))
+        (Rose (S.count source.old) (S.count source.new))
+        (Rose (K.count sink.old) (K.count sink.new))
         result }
     ensures source { S.count source.old ≤ S.count source.new }
     ensures sink { K.count sink.old ≤ K.count sink.new }

@@ -2,7 +2,7 @@
 use Rattle.std.specs.Prelude.{◌≡◌, ◌≢◌, ℕ, ◌+◌, ◌<◌, ◌≤◌, ◌⊎◌, List, [], ◌∷◌, ◌++◌, All, length, take, slice_index, Option, Some, None, Result, Ok, Err}
 use Rattle.std.specs.Io.KnownBytes.{Appends, Consumes, IsAtEnd}
 use Rattle.kr_keywrap.specs.Answer.{Plugin, answer}
-use Rattle.kr_keywrap.specs.Serving.{HasNoBreak, IsWhole, answers, last_line, line_limit, text_of}
+use Rattle.kr_keywrap.specs.Serving.{HasNoBreak, IsWhole, StopsThere, answers, last_line, line_limit, text_of}
 use Rattle.kr_keywrap.specs.declared.serving.Next.{Next}
 use Rattle.kr_keywrap.specs.declared.serving.Next.TheVariants.{Answered, Ended}
 use Rattle.kr_keywrap.specs.declared.serving.Served.{Served}
@@ -84,15 +84,15 @@ pub record ServesLast (plugin : Plugin) (left held_old held : Option (List ℕ))
   pub wrote : Appends held_old held (answers plugin (last_line all))
 
 pub record Fails (plugin : Plugin) (left held_old held : Option (List ℕ)) (all : List ℕ)
-    (Rises : Type 0) : Type 0 where
-  pub rises : Rises
+    (SourceRises SinkRises : Type 0) : Type 0 where
   pub next : List ℕ
   pub behind : List ℕ
   pub is : all ≡ next ++ behind
   pub unbroken : HasNoBreak next
   pub short : length next ≤ line_limit
-  pub wrote : Appends held_old held []
-      ⊎ (IsWhole behind left × ((n : ℕ) × Appends held_old held (take n (answer plugin next))))
+  pub wrote : (SourceRises × (behind ≡ []) × Appends held_old held [])
+      ⊎ (SinkRises × IsWhole behind left
+      × ((n : ℕ) × Appends held_old held (take n (answer plugin next))))
 
 pub record Starves (held_old held : Option (List ℕ)) (all : List ℕ) : Type 0 where
   pub next : List ℕ
@@ -100,6 +100,7 @@ pub record Starves (held_old held : Option (List ℕ)) (all : List ℕ) : Type 0
   pub is : all ≡ next ++ behind
   pub unbroken : HasNoBreak next
   pub short : length next ≤ line_limit
+  pub stops : StopsThere behind
   pub wrote : Appends held_old held []
 
 pub record Passes (held_old held : Option (List ℕ)) (all : List ℕ) : Type 0 where
@@ -109,23 +110,26 @@ pub record Passes (held_old held : Option (List ℕ)) (all : List ℕ) : Type 0 
 
 -- a line was answered, or the source is at its end, or why not
 abbrev pub ServesNext : Plugin → (left held_old held : Option (List ℕ)) → (all new : List ℕ)
-    → Type 0 → Result Next Served → Type 0
-ServesNext plugin left held_old held all new Rises (Ok Answered) =
+    → (source_rises sink_rises : Type 0) → Result Next Served → Type 0
+ServesNext plugin left held_old held all new SourceRises SinkRises (Ok Answered) =
     ServesLine plugin held_old held all new
-ServesNext plugin left held_old held all new Rises (Ok Ended) =
+ServesNext plugin left held_old held all new SourceRises SinkRises (Ok Ended) =
     ServesLast plugin left held_old held all
-ServesNext plugin left held_old held all new Rises (Err Failed) =
-    Fails plugin left held_old held all Rises
-ServesNext plugin left held_old held all new Rises (Err NoMemory) = Starves held_old held all
-ServesNext plugin left held_old held all new Rises (Err TooLong) = Passes held_old held all
-ServesNext plugin left held_old held all new Rises (Err Done) = ⊥
+ServesNext plugin left held_old held all new SourceRises SinkRises (Err Failed) =
+    Fails plugin left held_old held all SourceRises SinkRises
+ServesNext plugin left held_old held all new SourceRises SinkRises (Err NoMemory) =
+    Starves held_old held all
+ServesNext plugin left held_old held all new SourceRises SinkRises (Err TooLong) =
+    Passes held_old held all
+ServesNext plugin left held_old held all new SourceRises SinkRises (Err Done) = ⊥
 
 -- the same with the bytes that were taken
 pub record ServesOne (plugin : Plugin) (left_old left held_old held : Option (List ℕ))
-    (old new : List ℕ) (Rises : Type 0) (result : Result Next Served) : Type 0 where
+    (old new : List ℕ) (SourceRises SinkRises : Type 0) (result : Result Next Served)
+    : Type 0 where
   pub all : List ℕ
   pub grows : Grows left_old left old all
-  pub serves : ServesNext plugin left held_old held all new Rises result
+  pub serves : ServesNext plugin left held_old held all new SourceRises SinkRises result
 
 -- so many lines were answered, and these bytes are pending
 pub record Goes (plugin : Plugin) (left_old left held_old held : Option (List ℕ))

@@ -1,4 +1,4 @@
-use Rattle.std.proofs.Common.{ℕ, ◌⊎◌, inl, inr, List, Option, Some, None, Ok, refl, subst, take, arith}
+use Rattle.std.proofs.Common.{ℕ, List, Option, Some, None, Ok, refl, subst, take, arith}
 use Rattle.kr_base.specs.Faults.{Rose}
 use Rattle.kr_keywrap.specs.Answer.{Plugin}
 use Rattle.kr_keywrap.specs.inner.Lines.{Finds}
@@ -14,7 +14,7 @@ returns-in-Err g c =
     let R : Type 0 = Rose (g.S.Source.count c.args.source.now) (g.S.Source.count c.next_line.new.source) in
     let Q : Type 0 = Rose (g.K.Sink.count c.args.sink.now) (g.K.Sink.count c.args.sink.now) in
     record {
-      serves = record { all = all; grows = c.in-Err.ensures.grows; serves = none_found plugin left held all all R (R ⊎ Q) c.in-Err.why c.in-Err.ensures.finds (λ r. inl r) };
+      serves = record { all = all; grows = c.in-Err.ensures.grows; serves = none_found plugin left held all all R Q c.in-Err.why c.in-Err.ensures.finds };
       source = c.in-Err.ensures.later;
       sink = omega arith;
     }
@@ -52,8 +52,8 @@ returns-in-Err-serve_line g c =
       serves = record {
         all = all;
         grows = c.in-Ok.ensures.grows;
-        serves = line_failed plugin left held (g.K.Sink.held c.serve_line.new.sink) all c.serve_line.new.pending (take c.in-Some.place all) c.in-Some.place Q (R ⊎ Q)
-            c.in-Err-serve_line.why finds.0 finds.1 refl c.in-Err-serve_line.ensures.writes (λ r. inr r);
+        serves = line_failed plugin left held (g.K.Sink.held c.serve_line.new.sink) all c.serve_line.new.pending (take c.in-Some.place all) c.in-Some.place R Q
+            c.in-Err-serve_line.why finds.0 finds.1 refl c.in-Err-serve_line.ensures.writes;
       };
       source = c.in-Ok.ensures.later;
       sink = c.in-Err-serve_line.ensures.sink;
@@ -91,8 +91,8 @@ returns-in-Err-serve_last g c =
       serves = record {
         all = all;
         grows = c.in-Ok.ensures.grows;
-        serves = last_failed plugin left held (g.K.Sink.held c.serve_last.new.sink) all all c.as_slice.result.now R Q (R ⊎ Q)
-            c.in-Err-serve_last.why finds c.as_slice.ensures.bytes c.in-Err-serve_last.ensures.writes (λ r. inr r);
+        serves = last_failed plugin left held (g.K.Sink.held c.serve_last.new.sink) all all c.as_slice.result.now R Q
+            c.in-Err-serve_last.why finds c.as_slice.ensures.bytes c.in-Err-serve_last.ensures.writes;
       };
       source = c.in-Ok.ensures.later;
       sink = c.in-Err-serve_last.ensures.sink;
