@@ -10,17 +10,20 @@ stored answers, crates/kr_cases/stdout, with what it makes of the stored cases; 
     | LINE                one more line of the file named last, with LF
     input CONTENT
     dice SEAT CONTENT     random bytes of a seat
-    fails OBJECT N N ..   which calls of the object fail, from 1: input, output, errors, files or dice:SEAT
+    tape NAME CONTENT     a tape of the world
+    fails OBJECT N N ..   which calls of the object fail, from 1: input, output, errors, files, dice:SEAT, reads:TAPE or
+                          writes:TAPE
     room N                bytes that the output has room for
     step N                bytes that a call of input, output and errors carries at most, 1 if not said
 
-`files` numbers the world's calls for a file or a random source in one row. Lines that are empty or begin with `#` say
+`files` numbers the world's calls for a file, a tape or a random source in one row. Lines that are empty or begin with `#` say
 nothing. In all texts a backslash begins what can't stand there: \\n, \\r, \\t, \\s and \\b are LF, CR, a tab, a space and a
 backslash, \\e is nothing, \\(HEX) is bytes in hex, \\(N*HEX) N times these.
 
 A line of the answer is NAME, and then: `status`; `output` and `errors` in hex, `-` for none, of more than 2,048 bytes their
 number and SHA-256; `left`, how many bytes of the input weren't taken; `faults` of input, output, errors and files; and for
-each seat how many random bytes are left and how often they failed, `out` where they didn't come back.
+each seat how many random bytes are left and how often they failed; for each tape its bytes and how often it failed; `out` where
+they didn't come back.
 """
 
 import hashlib
@@ -30,7 +33,7 @@ from pathlib import Path
 
 sys.dont_write_bytecode = True
 
-from reference.calls import Dice, Sink, Source, World, run
+from reference.calls import Dice, Sink, Source, Tape, World, run
 
 CRATE = Path(__file__).resolve().parent.parent / "crates" / "kr_cases"
 LETTERS = {"n": b"\n", "r": b"\r", "t": b"\t", "s": b" ", "b": b"\\", "e": b""}
@@ -54,7 +57,7 @@ def spelled(text):
 
 class Case:
     def __init__(self, name):
-        self.name, self.words, self.files, self.input, self.dice = name, [], [], b"", []
+        self.name, self.words, self.files, self.input, self.dice, self.tapes = name, [], [], b"", [], []
         self.fails, self.room, self.step = {}, ROOM, 1
 
     def add(self, key, rest):
@@ -70,6 +73,8 @@ class Case:
             self.input += spelled(rest)
         elif key == "dice":
             self.dice.append((int(front), spelled(behind)))
+        elif key == "tape":
+            self.tapes.append((spelled(front).decode(), spelled(behind)))
         elif key == "fails":
             self.fails.setdefault(front, set()).update(map(int, behind.split(" ")))
         elif key in ("room", "step"):
@@ -85,13 +90,15 @@ class Case:
         source = Source(self.input, self.fails_of("input"))
         output, errors = Sink("output", self.room, self.fails_of("output")), Sink("errors", ERRORS_ROOM, self.fails_of("errors"))
         dice = [(seat, Dice(seat, content, self.fails_of(f"dice:{seat}"))) for seat, content in self.dice]
-        world = World(self.files, dice, self.fails_of("files"))
+        tapes = [(name, Tape(content, self.fails_of(f"reads:{name}"), self.fails_of(f"writes:{name}"))) for name, content in self.tapes]
+        world = World(self.files, dice, tapes, self.fails_of("files"))
         if self.step != 1 and (source.fails or output.fails or errors.fails or self.room != ROOM):
             raise ValueError(f"{self.name}: only with one byte a call is it known which call fails")
         status = run(self.words, world, source, output, errors)
         line = f"{self.name} status={status} output={printed(output.held)} errors={printed(errors.held)}"
         line += f" left={len(source.content) - source.taken} faults=" + ":".join(str(it.faults) for it in (source, output, errors, world))
-        return line + "".join(f" dice:{seat}={len(it.content)}:{it.faults}" for seat, it in dice)
+        line += "".join(f" dice:{seat}={len(it.content)}:{it.faults}" for seat, it in dice)
+        return line + "".join(f" tape:{name}={printed(it.content)}:{it.faults + it.writes.faults}" for name, it in tapes)
 
 
 def printed(data):

@@ -66,8 +66,8 @@ def add_encrypt(book):
             encrypt(book, f"encrypt_{kind}_{secret}_{size}", f"secrets: {kind}:k={secret}", bytes(range(100, 100 + size)))
         encrypt(book, f"encrypt_{kind}_{secret}_1000", f"secrets: {kind}:k={secret}", bytes(1000))
     for command in ("encrypt", "decrypt"):
-        for place, text in (("first", "secrets: kms:p, identity"), ("last", "secrets: identity, kms:p"), ("elsewhere", f"{BARE} | *.*: kms:p")):
-            book.case(f"{command}_text_50_plugin_{place}", object_words(command), files(text), b"hello", ((0, IV),))
+        for place, text in (("first", "secrets: kms:p, identity"), ("last", "secrets: identity, kms:p"), ("elsewhere", f"{BARE} | *.*: kms:p"), ("least_of_two", "secrets: kms:q, kms:p"), ("second_of_two", f"{BARE} | a: kms:q | b: kms:p")):
+            book.case(f"{command}_text_44_plugin_{place}", object_words(command), files(text), b"hello", ((0, IV),))
 
 
 # ---- decrypt

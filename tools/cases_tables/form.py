@@ -65,7 +65,7 @@ class Book:
     def title(self, text):
         self.lines += ["", f"# ---- {text}", ""]
 
-    def case(self, name, words, files=(), data=b"", dice=None, fails=(), room=None, step=None):
+    def case(self, name, words, files=(), data=b"", dice=None, fails=(), room=None, step=None, tapes=()):
         """A case; `dice` are pairs of seats and bytes, `fails` pairs of objects and numbers."""
         if name in self.names:
             raise ValueError(f"two cases of one name: {name}")
@@ -80,6 +80,8 @@ class Book:
             add(f"input {spelled(data)}")
         for seat, content in dice or ():
             add(f"dice {seat} {spelled(content)}".rstrip(" "))
+        for tape, content in tapes:
+            add(f"tape {spell(tape, True)} {spelled(content)}".rstrip(" "))
         for item, numbers in fails:
             add(f"fails {item} {numbers}")
         if room is not None:

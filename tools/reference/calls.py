@@ -1,6 +1,6 @@
 """Whole calls: the outside in memory, and the steps of the commands."""
 
-from . import configuration
+from . import configuration, store
 from .values import Refused, inspected, printed, seal, unseal
 from .words import Usage, WordsLimit, command_of
 
@@ -83,12 +83,32 @@ class Dice(Numbered):
         return drawn
 
 
-class World(Numbered):
-    """Files by their names and random sources by their seats; the first of one name or seat counts."""
+class Tape(Numbered):
+    """A file that is read and written at places; reads and writes fail by numbers of their own."""
 
-    def __init__(self, files, dice, fails):
+    def __init__(self, content, reads, writes):
+        super().__init__("store", reads)
+        self.content, self.writes = content, Numbered("store", writes)
+
+    def load(self):
+        """The store in it: its length is asked for, and then it is read, which is one call where it is short."""
+        self.call()
+        if len(self.content) > store.MOST_STORE:
+            raise Stop(6, f"limit store {store.MOST_STORE}")
+        if self.content:
+            self.call()
+        try:
+            return store.read(self.content)
+        except store.Broken as no:
+            raise Stop(3, f"text {no.code} {no.place}") from None
+
+
+class World(Numbered):
+    """Files and tapes by their names and random sources by their seats; the first of one name or seat counts."""
+
+    def __init__(self, files, dice, tapes, fails):
         super().__init__("files", fails)
-        self.files, self.dice = files, dice
+        self.files, self.dice, self.tapes = files, dice, tapes
 
     def load(self, name, limit):
         self.call()
@@ -98,6 +118,13 @@ class World(Numbered):
         if len(content) > limit:
             raise Stop(6, f"limit config {limit}")
         return content
+
+    def tape(self, name):
+        self.call()
+        found = next((tape for other, tape in self.tapes if other == name), None)
+        if found is None:
+            raise Stop(3, "text 40 " + printed(name.encode()).decode())
+        return found
 
     def dice_of(self, seat):
         found = next((dice for other, dice in self.dice if other == seat), None)
@@ -135,10 +162,16 @@ def check(options, world, output):
 
 
 def settings_of_object(options, world):
-    """The settings of `encrypt` and `decrypt`, which serve no plugin yet."""
+    """The settings of `encrypt` and `decrypt`. The least name of a plugin without a program ends it; what plugins do isn't
+    here yet."""
     entries = load_settings(world, options["config"])
-    if any(provider[0] == "kms" for _, providers in entries for provider in providers):
-        raise Stop(3, "text 50 0 0")
+    named = {provider[1] for _, providers in entries for provider in providers if provider[0] == "kms"}
+    given = {value.partition("=")[0] for value in options.get("plugin", ())}
+    for name in sorted(named, key=str.encode):
+        if name not in given:
+            raise Stop(3, f"text 44 {name}")
+    if named:
+        raise NotImplementedError("a call with plugins")
     return entries
 
 
@@ -165,6 +198,12 @@ def inspect(source, output):
     return b""
 
 
+def list_rows(options, world, output):
+    _form, rows = world.tape(options["store"]).load()
+    output.write_all(store.listing(rows))
+    return b""
+
+
 def answer(words, world, source, output):
     """Does what the words ask for, and gives what is told on the errors."""
     try:
@@ -176,6 +215,8 @@ def answer(words, world, source, output):
     try:
         if command == "check":
             return check(options, world, output)
+        if command == "list":
+            return list_rows(options, world, output)
         if command == "inspect":
             return inspect(source, output)
         return (encrypt if command == "encrypt" else decrypt)(options, world, source, output)

@@ -5,6 +5,7 @@ use std::alloc::Global;
 use std::test::Fail;
 
 mod config;
+mod pages;
 mod values;
 mod yaml;
 
@@ -235,7 +236,7 @@ fn refuses_words_and_files(rt: HostRuntime) -> Result<(), Fail> {
         (
             "encrypt|--config|c.json|--resource|secrets|--path|",
             KMS,
-            "kmsrest: text 50 0 0\n",
+            "kmsrest: text 44 p\n",
             3,
         ),
     ];

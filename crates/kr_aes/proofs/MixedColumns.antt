@@ -7,17 +7,17 @@ use Rattle.kr_aes.proofs.Blocks.{IsBlock-state_of, cell-lt, slice_index-state_of
 use Rattle.kr_aes.proofs.Boxes.{place_of_cell, state_of_cells}
 use Rattle.kr_aes.proofs.Sums.{mixed_sum, mixed_sum-lt, sum4, unmixed_sum}
 
-cell-state_of : (s : ℕ → ℕ → ℕ) (row column : ℕ) → row < 4 → column < 4 → cell (state_of s) row column ≡ s row column
+pub cell-state_of : (s : ℕ → ℕ → ℕ) (row column : ℕ) → row < 4 → column < 4 → cell (state_of s) row column ≡ s row column
 cell-state_of s row column hr hc =
     let low : (row + 4 * column) % 4 ≡ row = omega arith in
     let high : (row + 4 * column) / 4 ≡ column = omega arith in
     slice_index-state_of s (row + 4 * column) (omega arith) ∙ (λ i. s (low i) (high i))
 
 -- the factors
-abbrev factors : List ℕ
+abbrev pub factors : List ℕ
 factors = 2 ∷ 3 ∷ 1 ∷ 1 ∷ []
 
-abbrev inverse_factors : List ℕ
+abbrev pub inverse_factors : List ℕ
 inverse_factors = 14 ∷ 11 ∷ 13 ∷ 9 ∷ []
 
 cell-mixed : (state : List ℕ) (row column : ℕ) → row < 4 → column < 4 → cell (matrix_product factors state) row column ≡ column_sum factors state row column

@@ -17,7 +17,7 @@ sum4-xor a b c d e f g h =
     rw (xor_interchange a e b f, xor_interchange (bit_xor a b) (bit_xor e f) c g, xor_interchange (bit_xor (bit_xor a b) c) (bit_xor (bit_xor e f) g) d h) refl
 
 -- rows and columns change places
-sum4-sum4 : (a b c d e f g h i j k l m n o p : ℕ)
+pub sum4-sum4 : (a b c d e f g h i j k l m n o p : ℕ)
     → sum4 (sum4 a b c d) (sum4 e f g h) (sum4 i j k l) (sum4 m n o p) ≡ sum4 (sum4 a e i m) (sum4 b f j n) (sum4 c g k o) (sum4 d h l p)
 unfolding sum4
 sum4-sum4 a b c d e f g h i j k l m n o p =
@@ -28,7 +28,7 @@ sum4-sum4 a b c d e f g h i j k l m n o p =
 pub sum4-same : {a b c d e f g h : ℕ} → a ≡ e → b ≡ f → c ≡ g → d ≡ h → sum4 a b c d ≡ sum4 e f g h
 sum4-same p q r s = λ i. sum4 (p i) (q i) (r i) (s i)
 
-sum4_alone : (x : ℕ) → sum4 x 0 0 0 ≡ x
+pub sum4_alone : (x : ℕ) → sum4 x 0 0 0 ≡ x
 unfolding sum4
 sum4_alone x = xor_zero_r (bit_xor (bit_xor x 0) 0) ∙ xor_zero_r (bit_xor x 0) ∙ xor_zero_r x
 
@@ -38,7 +38,7 @@ unfolding sum4
 sum4-turned a b c d =
     xor_comm (bit_xor (bit_xor a b) c) d ∙ sym (xor_assoc d (bit_xor a b) c) ∙ ap (λ (x : ℕ). bit_xor x c) (sym (xor_assoc d a b))
 
-product-sum4 : (k a b c d : ℕ) → product k (sum4 a b c d) ≡ sum4 (product k a) (product k b) (product k c) (product k d)
+pub product-sum4 : (k a b c d : ℕ) → product k (sum4 a b c d) ≡ sum4 (product k a) (product k b) (product k c) (product k d)
 unfolding sum4
 product-sum4 k a b c d =
     rw (product-xor k (bit_xor (bit_xor a b) c) d, product-xor k (bit_xor a b) c, product-xor k a b) refl

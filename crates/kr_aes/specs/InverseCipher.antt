@@ -45,6 +45,10 @@ abbrev pub InverseUndoesCipher : Type 0
 InverseUndoesCipher = (words : List ℕ) (rounds : Rounds) (block : List ℕ) → IsBlock block
     → inverse_cipher words rounds (cipher words rounds block) ≡ block
 
+abbrev pub CipherUndoesInverse : Type 0
+CipherUndoesInverse = (words : List ℕ) (rounds : Rounds) (block : List ℕ) → IsBlock block
+    → cipher words rounds (inverse_cipher words rounds block) ≡ block
+
 abbrev pub InverseGivesBlocks : Type 0
 InverseGivesBlocks = (words : List ℕ) (rounds : Rounds) (block : List ℕ)
     → IsBlock (inverse_cipher words rounds block)

@@ -3,7 +3,7 @@
 ghost use Rattle.kr_aes.specs.Cipher.{CipherGivesBlocks};
 ghost use Rattle.kr_aes.specs.EquivalentInverse.{EquivalentIsInverse};
 ghost use Rattle.kr_aes.specs.Field.{EachHasInverse, ProductDistributes};
-ghost use Rattle.kr_aes.specs.InverseCipher.{InverseGivesBlocks, InverseUndoesCipher};
+ghost use Rattle.kr_aes.specs.InverseCipher.{CipherUndoesInverse, InverseGivesBlocks, InverseUndoesCipher};
 ghost use Rattle.kr_aes.specs.KeyExpansion.{EachWordFollows};
 
 /// The product of a byte other than 0 and its inverse is 1.
@@ -34,6 +34,11 @@ pub fn block_of_inverse_cipher()
 /// The inverse cipher of a cipher is the block itself.
 pub fn inverse_of_cipher()
     ensures { InverseUndoesCipher }
+{}
+
+/// The cipher of an inverse cipher is the block itself.
+pub fn cipher_of_inverse()
+    ensures { CipherUndoesInverse }
 {}
 
 /// The equivalent inverse cipher under its schedule is the inverse cipher.

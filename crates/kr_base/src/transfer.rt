@@ -1,5 +1,5 @@
 //! Reading and writing whole contents.
-ghost use Rattle.std.specs.Prelude.{◌≡◌, ◌≤◌, ◌+◌, min, IsErrOf, OnOk, OnErr};
+ghost use Rattle.std.specs.Prelude.{◌≡◌, ◌≤◌, ◌+◌, min, [], IsErrOf, MatchResult, OnOk, OnErr};
 ghost use Rattle.std.specs.Io.KnownBytes.{Appends};
 ghost use Rattle.kr_base.specs.Faults.{Rose, IsCounted};
 ghost use Rattle.kr_base.specs.Streams.{ReadsWhole, AppendsFront};
@@ -11,6 +11,10 @@ use std::alloc::Global;
 
 /// How many bytes one read asks for at most.
 const PIECE: usize = 8192;
+
+/// For how many bytes there is room from the start, at most: a page that isn't touched costs
+/// nothing, and a vector that grows is made anew and copied.
+const ROOM: u64 = 4_194_304;
 
 /// How many bytes the next read asks for: one more than may come, so that a source above the limit
 /// shows itself.
@@ -24,13 +28,23 @@ fn next_ask(rest: u64) -> usize
     }
 }
 
+/// No bytes, with room for some.
+fn room_for(alloc: Global, limit: u64) -> Result<Vec<u8>, ReadNo>
+    ensures { MatchResult result (λ room. room.items ≡ []) (λ why. why ≡ ReadNo.NoMemory) }
+{
+    match Vec::with_capacity(alloc, limit.min(ROOM) as usize) {
+        Ok(room) => Ok(room),
+        Err(_) => Err(ReadNo::NoMemory),
+    }
+}
+
 /// Reads a source to its end. After a refusal the bytes that were taken are gone from it.
 pub fn read_all<S: Source>(alloc: Global, source: &mut S, limit: u64) -> Result<Bytes, ReadNo>
     ensures whole { ReadsWhole (S.left source.old) (S.left source.new) limit result }
     ensures later { S.count source.old ≤ S.count source.new }
     ensures failed { IsErrOf result ReadNo.Failed → Rose (S.count source.old) (S.count source.new) }
 {
-    let mut taken = Vec::new(alloc);
+    let mut taken = room_for(alloc, limit)?;
     let mut piece = [0u8; PIECE];
     for _ in 0..u64::MAX {
         let rest = limit - taken.len() as u64;

@@ -5,6 +5,7 @@ use crate::printing::{numbers_line, paths_line, verdict_line};
 use crate::wrong::{Wrong, number_of, two_words};
 use std::alloc::Global;
 
+/// Takes the line's words apart, and asks the play what they ask.
 pub fn ask(
     alloc: Global,
     named: &NamedSettings,

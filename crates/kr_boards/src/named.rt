@@ -11,6 +11,7 @@ pub struct NamedSettings {
 }
 
 impl NamedSettings {
+    /// None yet.
     pub fn new(alloc: Global) -> NamedSettings {
         NamedSettings {
             all: Vec::new(alloc),

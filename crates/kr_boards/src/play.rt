@@ -40,6 +40,7 @@ impl Model for Play {
 }
 
 impl Play {
+    /// A board with nothing live and no needs, with room for as many generations.
     pub fn new(alloc: Global, room: u32) -> Result<Play, Wrong> {
         Ok(Play {
             board: Board::new(alloc, room)?,
@@ -74,6 +75,7 @@ impl Play {
         }
     }
 
+    /// The need of the path, in place of the one it had.
     pub fn set_need(&mut self, path: &str, resource: &str, who: &Who) -> Result<(), Wrong> {
         match self.board.set_need(path, resource, who) {
             Ok(()) => Ok(()),
@@ -97,6 +99,7 @@ impl Play {
         Ok(())
     }
 
+    /// The path has no need any more.
     pub fn drop_need(&mut self, path: &str) {
         self.board.drop_need(path);
     }
@@ -110,10 +113,12 @@ impl Play {
         Ok(last)
     }
 
+    /// The numbers of what is live.
     pub fn live(&self) -> &[u32] {
         self.board.live()
     }
 
+    /// The paths whose needs are of the resource and the provider.
     pub fn paths(&self, resource: &str, who: &Who) -> Option<&PathSet> {
         self.board.paths(resource, who)
     }

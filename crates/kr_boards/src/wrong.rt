@@ -28,6 +28,7 @@ pub fn two_words(text: &str) -> Result<(&str, &str), Wrong> {
     }
 }
 
+/// The number that the text writes in digits.
 pub fn number_of(text: &str) -> Result<u32, Wrong> {
     match text.parse::<u32>() {
         Ok(number) => Ok(number),

@@ -1,8 +1,10 @@
 //! The one place that calls `run`.
-use crate::case::{Case, Object};
+use crate::case::{Case, Object, TapeCalls};
 use crate::streams::{SteppedSink, SteppedSource};
 use crate::world::FailingWorld;
-use kr_base::{Bytes, Dice, List, MemDice, MemSink, MemSource, NoMemory, Sink, Source, Text};
+use kr_base::{
+    Bytes, Dice, List, MemDice, MemSink, MemSource, MemTape, NoMemory, Sink, Source, Tape, Text,
+};
 use kr_kms::World;
 use kr_top::{MemWorld, run};
 use std::alloc::Global;
@@ -16,6 +18,7 @@ pub struct Left {
     /// How many bytes of the input weren't taken.
     pub input: usize,
     pub dice: List<DiceLeft>,
+    pub tapes: List<TapeLeft>,
     pub input_faults: u64,
     pub output_faults: u64,
     pub error_faults: u64,
@@ -27,6 +30,13 @@ pub struct Left {
 pub struct DiceLeft {
     pub seat: u32,
     pub home: Option<(usize, u64)>,
+}
+
+/// A tape: its bytes and how often it failed, or nothing where it isn't back.
+#[derive(Drop)]
+pub struct TapeLeft {
+    pub name: Text,
+    pub home: Option<(Bytes, u64)>,
 }
 
 /// Makes the case's call.
@@ -55,6 +65,7 @@ pub fn left_by(alloc: Global, case: &Case) -> Result<Left, NoMemory> {
         errors: Bytes::copy(alloc, errors.sink.bytes())?,
         input: input.source.bytes().len(),
         dice: dice_left(alloc, case, &world)?,
+        tapes: tapes_left(alloc, case, &world)?,
         input_faults: input.faults(),
         output_faults: output.faults(),
         error_faults: errors.faults(),
@@ -67,6 +78,28 @@ fn sink(alloc: Global, case: &Case, object: Object, room: usize) -> Result<Stepp
         sink: MemSink::new(Bytes::new(alloc), room, case.fails_of(alloc, object)?)?,
         step: case.step,
     })
+}
+
+/// The bytes that a tape has room for, beside those that it has.
+const TAPE_ROOM: usize = 4_194_304;
+
+fn tapes_of(alloc: Global, case: &Case) -> Result<List<(Text, MemTape)>, NoMemory> {
+    let mut all = List::new(alloc);
+    for (name, content) in &case.tapes {
+        let tape = tape_of(alloc, case, name.as_str(), content)?;
+        match all.push((Text::copy(alloc, name.as_str())?, tape)) {
+            Ok(()) => {}
+            Err(_) => return Err(NoMemory),
+        }
+    }
+    Ok(all)
+}
+
+fn tape_of(alloc: Global, case: &Case, name: &str, content: &[u8]) -> Result<MemTape, NoMemory> {
+    let room = content.len().saturating_add(TAPE_ROOM);
+    let reads = case.tape_fails_of(alloc, TapeCalls::Reads, name)?;
+    let writes = case.tape_fails_of(alloc, TapeCalls::Writes, name)?;
+    MemTape::new(Bytes::copy(alloc, content)?, room, reads, writes)
 }
 
 fn world_of(alloc: Global, case: &Case) -> Result<FailingWorld, NoMemory> {
@@ -92,7 +125,14 @@ fn world_of(alloc: Global, case: &Case) -> Result<FailingWorld, NoMemory> {
     }
     Ok(FailingWorld::new(
         alloc,
-        MemWorld::new(alloc, files, List::new(alloc), all, List::new(alloc), 0),
+        MemWorld::new(
+            alloc,
+            files,
+            tapes_of(alloc, case)?,
+            all,
+            List::new(alloc),
+            TAPE_ROOM,
+        ),
         case.fails_of(alloc, Object::Files)?,
     ))
 }
@@ -106,6 +146,27 @@ fn dice_left(alloc: Global, case: &Case, world: &FailingWorld) -> Result<List<Di
             None => None,
         };
         match all.push(DiceLeft { seat: *seat, home }) {
+            Ok(()) => {}
+            Err(_) => return Err(NoMemory),
+        }
+    }
+    Ok(all)
+}
+
+/// What is left of each tape of the case.
+fn tapes_left(
+    alloc: Global,
+    case: &Case,
+    world: &FailingWorld,
+) -> Result<List<TapeLeft>, NoMemory> {
+    let mut all = List::new(alloc);
+    for (name, _content) in &case.tapes {
+        let home = match world.tape_of(name.as_str()) {
+            Some(tape) => Some((Bytes::copy(alloc, tape.bytes())?, tape.faults())),
+            None => None,
+        };
+        let name = Text::copy(alloc, name.as_str())?;
+        match all.push(TapeLeft { name, home }) {
             Ok(()) => {}
             Err(_) => return Err(NoMemory),
         }

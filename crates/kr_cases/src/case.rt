@@ -24,7 +24,14 @@ pub enum Object {
     Dice(u32),
 }
 
-/// A call: its words, the named files, the input, and the random bytes of seats.
+/// A tape's calls: those that read it, or those that write it.
+#[derive(Clone, Copy, PartialEq, Eq)]
+pub enum TapeCalls {
+    Reads,
+    Writes,
+}
+
+/// A call: its words, the named files and tapes, the input, and the random bytes of seats.
 #[derive(Drop)]
 pub struct Case {
     pub name: String,
@@ -32,8 +39,12 @@ pub struct Case {
     pub files: Vec<(String, Vec<u8>)>,
     pub input: Vec<u8>,
     pub dice: Vec<(u32, Vec<u8>)>,
+    /// The tapes by their names.
+    pub tapes: Vec<(String, Vec<u8>)>,
     /// Which calls fail, by their numbers from 1.
     pub fails: Vec<(Object, u64)>,
+    /// The same of the tape of a name.
+    pub tape_fails: Vec<(TapeCalls, String, u64)>,
     /// How many bytes the output has room for.
     pub room: usize,
     /// How many bytes one call of input, output and errors carries at most.
@@ -52,7 +63,9 @@ impl Case {
             files: Vec::new(alloc),
             input: Vec::new(alloc),
             dice: Vec::new(alloc),
+            tapes: Vec::new(alloc),
             fails: Vec::new(alloc),
+            tape_fails: Vec::new(alloc),
             room: ROOM,
             step: 1,
         })
@@ -63,6 +76,25 @@ impl Case {
         let mut numbers = List::new(alloc);
         for (other, number) in &self.fails {
             if *other == object {
+                match numbers.push(*number) {
+                    Ok(()) => {}
+                    Err(_) => return Err(NoMemory),
+                }
+            }
+        }
+        Ok(numbers)
+    }
+
+    /// The numbers of such calls of the tape that fail.
+    pub fn tape_fails_of(
+        &self,
+        alloc: Global,
+        calls: TapeCalls,
+        name: &str,
+    ) -> Result<List<u64>, NoMemory> {
+        let mut numbers = List::new(alloc);
+        for (kind, other, number) in &self.tape_fails {
+            if *kind == calls && other.as_str() == name {
                 match numbers.push(*number) {
                     Ok(()) => {}
                     Err(_) => return Err(NoMemory),

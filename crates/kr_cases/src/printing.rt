@@ -28,6 +28,17 @@ pub fn line_of(alloc: Global, case: &Case, left: &Left) -> Result<String, AllocE
         };
         line.push_str(text.as_str())?;
     }
+    for tape in left.tapes.as_slice() {
+        let name = tape.name.as_str();
+        let text = match &tape.home {
+            Some((bytes, faults)) => {
+                let bytes = bytes_text(alloc, bytes.as_slice())?;
+                format!(in alloc; " tape:{name}={bytes}:{faults}")?
+            }
+            None => format!(in alloc; " tape:{name}=out")?,
+        };
+        line.push_str(text.as_str())?;
+    }
     Ok(line)
 }
 

@@ -1,5 +1,5 @@
 //! The lines of a case: a key, and behind a space what it says.
-use crate::case::{Case, Object, Wrong};
+use crate::case::{Case, Object, TapeCalls, Wrong};
 use crate::spelling::{add_bytes, bytes_of};
 use std::alloc::{AllocError, Global};
 
@@ -21,7 +21,8 @@ pub fn add(alloc: Global, current: &mut Option<Case>, line: &str) -> Result<(), 
         "|" => add_line(alloc, case, rest),
         "input" => add_bytes(alloc, &mut case.input, rest),
         "dice" => add_dice(alloc, case, rest),
-        "fails" => add_fails(case, rest),
+        "tape" => add_tape(alloc, case, rest),
+        "fails" => add_fails(alloc, case, rest),
         "room" => {
             case.room = size_of(rest)?;
             Ok(())
@@ -69,6 +70,17 @@ fn add_file(alloc: Global, case: &mut Case, rest: &str) -> Result<(), Wrong> {
     Ok(())
 }
 
+/// A tape's name and content.
+fn add_tape(alloc: Global, case: &mut Case, rest: &str) -> Result<(), Wrong> {
+    let (name, content) = match rest.split_once(' ') {
+        Some(parts) => parts,
+        None => (rest, ""),
+    };
+    let tape = (text_of(alloc, name)?, bytes_of(alloc, content)?);
+    case.tapes.push(tape).map_err(AllocError::from)?;
+    Ok(())
+}
+
 /// One more line of the file named last.
 fn add_line(alloc: Global, case: &mut Case, rest: &str) -> Result<(), Wrong> {
     let Some((_name, content)) = case.files.last_mut() else {
@@ -94,16 +106,40 @@ fn add_dice(alloc: Global, case: &mut Case, rest: &str) -> Result<(), Wrong> {
 }
 
 /// An object, and the numbers of its calls that fail.
-fn add_fails(case: &mut Case, rest: &str) -> Result<(), Wrong> {
+fn add_fails(alloc: Global, case: &mut Case, rest: &str) -> Result<(), Wrong> {
     let Some((name, numbers)) = rest.split_once(' ') else {
         return Err(Wrong::Form);
     };
+    if let Some(tape) = name.strip_prefix("reads:") {
+        return add_tape_fails(alloc, case, TapeCalls::Reads, tape, numbers);
+    }
+    if let Some(tape) = name.strip_prefix("writes:") {
+        return add_tape_fails(alloc, case, TapeCalls::Writes, tape, numbers);
+    }
     let object = object_of(name)?;
     for number in numbers.split(' ') {
         let Ok(number) = number.parse::<u64>() else {
             return Err(Wrong::Form);
         };
         case.fails.push((object, number)).map_err(AllocError::from)?;
+    }
+    Ok(())
+}
+
+/// The numbers of the calls of a tape that fail.
+fn add_tape_fails(
+    alloc: Global,
+    case: &mut Case,
+    calls: TapeCalls,
+    tape: &str,
+    numbers: &str,
+) -> Result<(), Wrong> {
+    for number in numbers.split(' ') {
+        let Ok(number) = number.parse::<u64>() else {
+            return Err(Wrong::Form);
+        };
+        let fails = (calls, text_of(alloc, tape)?, number);
+        case.tape_fails.push(fails).map_err(AllocError::from)?;
     }
     Ok(())
 }

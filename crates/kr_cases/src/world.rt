@@ -45,6 +45,11 @@ impl FailingWorld {
     pub fn dice_of(&self, seat: u32) -> Option<&MemDice> {
         self.inner.dice_of(seat)
     }
+
+    /// Lends the tape of the name, if it is there.
+    pub fn tape_of(&self, name: &str) -> Option<&MemTape> {
+        self.inner.tape_of(name)
+    }
 }
 
 impl World for FailingWorld {

@@ -1,3 +1,2 @@
 -- The lemmas that the answers cite.
-mod Lent
 mod Loaded

@@ -1,16 +1,16 @@
 -- What the world of the system tells.
 use Rattle.std.specs.Prelude.{ℕ, List, slice_index_or, Option, None}
-use Rattle.kr_kms.specs.MemWorld.{Shelved, objects_by}
+use Rattle.kr_kms.specs.MemWorld.{ShelfState, objects_by}
 use Rattle.kr_kms.specs.Outside.{Outside, same_name, same_link}
 use Rattle.kr_kms.specs.declared.file_faults.FileFaults.{FileFaults}
 
 -- the counts of tapes that came back, by their names, and the names of those that are out
 abbrev pub TapeCounts : Type 0
-TapeCounts = Shelved (List ℕ) (List ℕ × ℕ)
+TapeCounts = ShelfState (List ℕ) (List ℕ × ℕ)
 
 -- those of links, by seat and plugin
 abbrev pub LinkCounts : Type 0
-LinkCounts = Shelved (ℕ × List ℕ) ((ℕ × List ℕ) × ℕ)
+LinkCounts = ShelfState (ℕ × List ℕ) ((ℕ × List ℕ) × ℕ)
 
 abbrev pub key_of : {K : Type 0} → K × ℕ → K
 key_of entry = entry.0

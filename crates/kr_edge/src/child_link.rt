@@ -1,6 +1,7 @@
 //! A link to a plugin that is a child program.
 ghost use Rattle.std.specs.Prelude.{◌≡◌, ◌≤◌, None, IsErrOf, Err};
 ghost use Rattle.kr_base.specs.Faults.{Rose};
+ghost use Rattle.kr_base.specs.Numbering.{next_number};
 ghost use Rattle.kr_kms.specs.Truth.{untold};
 
 use crate::exchange::{AnswerRoom, Exchange};
@@ -42,7 +43,9 @@ pub fn take_ends(mut child: Child<SystemProcess>) -> Option<ChildEnds> {
             input,
             output,
         }),
-        _ => {
+        (input, output) => {
+            drop(input);
+            drop(output);
             end(child);
             None
         }
@@ -54,9 +57,11 @@ impl ChildEnds {
     pub fn close(self) {
         let ChildEnds {
             child,
-            input: _input,
-            output: _output,
+            input,
+            output,
         } = self;
+        drop(input);
+        drop(output);
         end(child);
     }
 }
@@ -97,16 +102,19 @@ impl ChildLink {
         let ChildLink {
             name: _name,
             child,
-            exchange: _exchange,
+            exchange,
             uid: _uid,
             faults,
         } = self;
+        drop(exchange);
         end(child);
         faults.count()
     }
 
     /// The number of the next request to wrap or to unwrap, from 1 up to the greatest number.
     fn next_uid(&mut self) -> u64
+        ensures next { result ≡ next_number self.old.uid }
+        ensures kept { self.new.uid ≡ result }
         ensures name { self.new.name ≡ self.old.name }
         ensures faults { self.new.faults ≡ self.old.faults }
     {
@@ -220,7 +228,8 @@ impl Kms for ChildLink {
     }
 }
 
-/// Ends a child and waits for it, which frees its number.
+/// Ends a child and waits for it, which frees its number. Our ends of its pipes are closed before,
+/// since one that may not be ended, as it is another user's, may end by itself at its input's end.
 fn end(mut child: Child<SystemProcess>) {
     let _ended = child.kill();
     let _status = child.wait();

@@ -10,17 +10,25 @@ const NOTHING: &str = "/dev/null";
 
 /// Makes sure that the descriptors 0, 1 and 2 are open, so that no store, random device or pipe
 /// takes the number of one that the program was started without, and gets its lines. What is opened
-/// for them stays open.
+/// for them stays open, the wrong way round: 0 can't be read, 1 and 2 can't be written to, so that
+/// a use of what was closed is still a fault, and neither an empty input nor a lost output.
 pub fn hold_standard_streams<R: Files<File = File>>(files: &R) -> io::Result<()> {
+    let first = OpenOptions::new().write(true).open(files, NOTHING)?;
+    match first.as_raw_fd() {
+        // The number of standard input.
+        0 => {
+            let _held = first.into_raw_fd();
+        }
+        // That of standard output or error, which what may only be read has to take.
+        1 | 2 => drop(first),
+        _ => return Ok(()),
+    }
     for _ in 0..3 {
-        let file = OpenOptions::new()
-            .read(true)
-            .write(true)
-            .open(files, NOTHING)?;
-        if file.as_raw_fd() > 2 {
+        let next = OpenOptions::new().read(true).open(files, NOTHING)?;
+        if next.as_raw_fd() > 2 {
             return Ok(());
         }
-        let _held = file.into_raw_fd();
+        let _held = next.into_raw_fd();
     }
     Ok(())
 }

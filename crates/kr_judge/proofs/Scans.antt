@@ -23,7 +23,7 @@ use Rattle.kr_judge.specs.declared.proposal.Proposal.{Proposal}
 use Rattle.kr_judge.specs.Boards.{AreByPath}
 use Rattle.kr_judge.specs.Providers.{same_who}
 use Rattle.kr_judge.specs.Scans.{is_for, paths_for, paths_with}
-use Rattle.kr_judge.specs.inner.Indexes.{AreSorted, AreApart, is_pair, need_of, needs_of, paths_of, labels_of, with_proposed, without_proposed, IsIndexed, NeedsState, proposed_need, seen}
+use Rattle.kr_judge.specs.inner.Indexes.{AreSorted, AreApart, is_pair, need_of, needs_of, paths_of, labels_of, with_proposed, without_proposed, IsIndexed, NeedsState, proposed_need, needs_view}
 use Rattle.kr_judge.proofs.Lists.{here, there, cases, one_truth}
 use Rattle.kr_judge.proofs.Members.{is_one, itself, its_own, and_true}
 use Rattle.kr_judge.proofs.Pairs.{label, path_lists, paths_here, label_set, label_last}
@@ -238,7 +238,7 @@ pub apart_same : (old new : List Pair) → AreApart (labels_of old) → labels_o
 apart_same old new apart same = subst AreApart (sym same) apart
 
 -- what is shown of a pair that is found
-pub kept_there : (es : Entries) (pairs : List Pair) (p : Option Proposal) (s : NeedsState) (resource : List ℕ) (who : Who) (place : ℕ) (own : Pair) → seen es pairs p ≡ s → IsIndexed es pairs p → AreApart (labels_of pairs)
+pub kept_there : (es : Entries) (pairs : List Pair) (p : Option Proposal) (s : NeedsState) (resource : List ℕ) (who : Who) (place : ℕ) (own : Pair) → needs_view es pairs p ≡ s → IsIndexed es pairs p → AreApart (labels_of pairs)
     → Some place ≡ position (is_pair resource who) pairs → own ≡ get_or pairs place own → own.paths ≡ paths_with s.proposal resource who s.needs
 kept_there es pairs p s resource who place own view ix apart found is =
     let there_it_is = found_place pairs resource who place (sym found) in

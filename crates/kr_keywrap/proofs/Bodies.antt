@@ -14,7 +14,7 @@ use Rattle.kr_aes.proofs.InverseRounds.{inverse_cipher-cipher}
 use Rattle.kr_keywrap.specs.declared.key_wrap.WrapNo.{WrapNo}
 use Rattle.kr_keywrap.specs.declared.key_wrap.WrapNo.TheVariants.{Length, Check}
 use Rattle.kr_keywrap.specs.KeyWrap.{IsKeyData, IsWrappable, Registers, before_steps, initial_value, is_wrappable, key_unwrap, key_wrap, steps_of, unwrap_step, unwrapped_steps, wrap_step, wrapped_steps}
-use Rattle.kr_keywrap.proofs.CipherBack.{cipher-inverse_cipher}
+use Rattle.kr_aes.proofs.CipherBack.{cipher-inverse_cipher}
 use Rattle.kr_keywrap.proofs.Halves.{AreBytes, bytes_of_number, first_half, length-to_be_bytes, number-lt, number_of_bytes, second_half}
 use Rattle.kr_keywrap.proofs.Steps.{IsSound, Keeps, Undoes, unwrap_step-kept, unwrap_step-wrap_step, wrap_step-kept, wrap_step-unwrap_step}
 

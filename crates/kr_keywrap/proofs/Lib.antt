@@ -1,5 +1,3 @@
-pub mod MixedBack
-pub mod CipherBack
 pub mod Pieces
 pub mod Halves
 pub mod Steps

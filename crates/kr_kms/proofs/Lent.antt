@@ -12,12 +12,12 @@ use Rattle.std.proofs.lemmas.List.Sums.{sum_by-remove, sum_by-append}
 use Rattle.std.proofs.lemmas.Option.{slice_get-get_or}
 use Rattle.std.proofs.lemmas.Slice.Eq.{bytes_eq-Decides}
 use Rattle.kr_kms.specs.Calls.{Link}
-use Rattle.kr_kms.specs.MemWorld.{Shelved, LinkShelf, link_key, place_of, objects_by}
+use Rattle.kr_kms.specs.MemWorld.{ShelfState, LinkShelf, link_key, place_of, objects_by}
 use Rattle.kr_kms.specs.Outside.{at_key, HandsOut, TakesBack, same_seat, same_name, same_link, link_at}
 
 -- ---- the first place of a test
 
-place_found : {X : Type 0} (p : X → Bool) (xs : List X) (i : ℕ) → position p xs ≡ Some i
+pub place_found : {X : Type 0} (p : X → Bool) (xs : List X) (i : ℕ) → position p xs ≡ Some i
     → find p xs ≡ slice_get xs i
 place_found p xs i e = find_at p xs ∙ ap (slice_get xs)
     (same (nat_lt (position_or_len p xs) (length xs)) (position_or_len p xs) e)
@@ -147,6 +147,13 @@ links_decide a b =
     both true q s t = t
     both false q s t = absurd (cc)
 
+-- the key stands at its place
+pub key_stands : {K : Type 0} (same : K → K → Bool)
+    → ((a b : K) → Decides (same a b) (a ≡ b)) → (out : List K) (at : ℕ) (key : K)
+    → position (λ o. same o key) out ≡ Some at → get_or out at key ≡ key
+key_stands same decides out at key place =
+    (decides (get_or out at key) key).0 (position-Some (λ o. same o key) out at key place).1
+
 -- ---- what is lent
 
 module _ {K T V : Type 0} (same : K → K → Bool) (key_of : T → K) (told : Option T → V)
@@ -161,14 +168,8 @@ module _ {K T V : Type 0} (same : K → K → Bool) (key_of : T → K) (told : O
       by true none = absurd (none refl)
       by false none = refl
 
-  -- the key stands at its place
-  pub keyed : (out : List K) (at : ℕ) (key : K) → position (λ o. same o key) out ≡ Some at
-      → get_or out at key ≡ key
-  keyed out at key place =
-      (decides (get_or out at key) key).0 (position-Some (λ o. same o key) out at key place).1
-
   -- the first of the key goes out
-  pub lent : (old new : Shelved K T) (at : ℕ) (key : K) (item : T)
+  pub lent : (old new : ShelfState K T) (at : ℕ) (key : K) (item : T)
       → place_of same key_of old.items key ≡ Some at → item ≡ get_or old.items at item
       → new ≡ record { items = remove old.items at; out = old.out ++ key ∷ [] }
       → HandsOut same (objects_by same key_of told count old)
@@ -191,7 +192,7 @@ module _ {K T V : Type 0} (same : K → K → Bool) (key_of : T → K) (told : O
       })
 
   -- a new one of the key goes out
-  pub made : (old new : Shelved K T) (key : K) → place_of same key_of old.items key ≡ None
+  pub made : (old new : ShelfState K T) (key : K) → place_of same key_of old.items key ≡ None
       → new ≡ record { items = old.items; out = old.out ++ key ∷ [] }
       → HandsOut same (objects_by same key_of told count old)
       (objects_by same key_of told count new) key 0
@@ -210,7 +211,7 @@ module _ {K T V : Type 0} (same : K → K → Bool) (key_of : T → K) (told : O
   returned_first items key item e =
       ap (λ q. cond q (Some item) (find (of_key key) items)) ((decides (key_of item) key).1 e)
 
-  pub returned : (old new : Shelved K T) (at : ℕ) (key : K) (item : T) → key_of item ≡ key
+  pub returned : (old new : ShelfState K T) (at : ℕ) (key : K) (item : T) → key_of item ≡ key
       → position (λ o. same o key) old.out ≡ Some at
       → new ≡ record { items = item ∷ old.items; out = remove old.out at }
       → TakesBack same (objects_by same key_of told count old)
@@ -225,7 +226,7 @@ module _ {K T V : Type 0} (same : K → K → Bool) (key_of : T → K) (told : O
       (objects_by same key_of told count s) key (count item)) (sym back) (record {
         count_is = ap (λ f. option_map_or count f 0) (returned_first old.items key item e);
         out = λ other. ap (λ k. count_by (λ o. same o other) (remove old.out at) + at_key same k 1 other)
-            (sym (keyed old.out at key place)) ∙ count-remove (λ o. same o other) old.out at key found.0;
+            (sym (key_stands same decides old.out at key place)) ∙ count-remove (λ o. same o other) old.out at key found.0;
         told = λ other n. ap told (stays other n);
         faults = λ other n. ap (λ f. option_map_or count f 0) (stays other n);
       })

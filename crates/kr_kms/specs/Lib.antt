@@ -2,6 +2,7 @@
 pub mod Cache
 pub mod Calls
 pub mod Health
+pub mod Laws
 pub mod Limits
 pub mod MemWorld
 pub mod Members

@@ -19,7 +19,7 @@ file_of files name = lookup (bytes_eq name) files
 -- ---- objects by their keys
 
 -- the objects that are here, and the keys of those that are out
-pub record Shelved (K T : Type 0) : Type 0 where
+pub record ShelfState (K T : Type 0) : Type 0 where
   pub items : List T
   pub out : List K
 
@@ -39,7 +39,7 @@ without_first same key_of items key =
 
 -- what the first object of a key tells and counts; how many of a key are out
 abbrev pub objects_by : {K T V : Type 0} → (same : K → K → Bool) (key_of : T → K)
-    (told : Option T → V) (count : T → ℕ) → Shelved K T → Objects K V
+    (told : Option T → V) (count : T → ℕ) → ShelfState K T → Objects K V
 objects_by same key_of told count shelf = record {
   told = λ key. told (first_of same key_of shelf.items key);
   faults = λ key. option_map_or count (first_of same key_of shelf.items key) 0;
@@ -49,13 +49,13 @@ objects_by same key_of told count shelf = record {
 -- ---- random sources, tapes and links
 
 abbrev pub DiceShelf : Type 0
-DiceShelf = Shelved ℕ (ℕ × InputState)
+DiceShelf = ShelfState ℕ (ℕ × InputState)
 
 abbrev pub TapeShelf : Type 0
-TapeShelf = Shelved (List ℕ) (List ℕ × TapeState)
+TapeShelf = ShelfState (List ℕ) (List ℕ × TapeState)
 
 abbrev pub LinkShelf : Type 0 → Type 0
-LinkShelf L = Shelved (ℕ × List ℕ) (ℕ × L)
+LinkShelf L = ShelfState (ℕ × List ℕ) (ℕ × L)
 
 abbrev pub seat_of : ℕ × InputState → ℕ
 seat_of entry = entry.0

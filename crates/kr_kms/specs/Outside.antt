@@ -72,14 +72,14 @@ Loads old new name limit (Err NoMemory) = ⊤
 -- ---- what it was asked for
 
 -- one more call was made
-abbrev pub noted : WorldCall → Option (List WorldCall) → Option (List WorldCall)
-noted call asked = option_map (λ calls. calls ++ call ∷ []) asked
+abbrev pub with_call : WorldCall → Option (List WorldCall) → Option (List WorldCall)
+with_call call asked = option_map (λ calls. calls ++ call ∷ []) asked
 
 -- the call was made, and no other; where there was no memory, perhaps not even this
 abbrev pub Notes : {T : Type 0} → Outside → Outside → WorldCall → Result T FileNo → Type 0
 Notes old new call (Err NoMemory) =
-    (new.asked ≡ old.asked) ⊎ (new.asked ≡ noted call old.asked)
-Notes old new call result = new.asked ≡ noted call old.asked
+    (new.asked ≡ old.asked) ⊎ (new.asked ≡ with_call call old.asked)
+Notes old new call result = new.asked ≡ with_call call old.asked
 
 -- ---- objects that are lent
 

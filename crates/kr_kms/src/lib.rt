@@ -7,6 +7,7 @@
 mod cache;
 mod file_faults;
 mod health;
+mod laws;
 mod mem_world;
 mod members;
 mod plugin;
@@ -20,6 +21,7 @@ mod world;
 pub use cache::SeedCache;
 pub use file_faults::FileFaults;
 pub use health::{Field, SeedNo, key_id_of};
+pub use laws::keys_are_told_apart;
 pub use mem_world::MemWorld;
 pub use plugin::{Kms, KmsNo, Status, Wrapped, is_within_limits};
 pub use replies::{Answered, Asked, Reply, ReplyNo, read_reply, reply_line};

@@ -16,9 +16,9 @@ pub struct Shelf<K, T> {
 
 impl<K, T> Model for Shelf<K, T> {
     ghost use Rattle.std.specs.Prelude.{◌+◌, ◌≤◌, vec_len, vec_capacity};
-    ghost use Rattle.kr_kms.specs.MemWorld.{Shelved};
+    ghost use Rattle.kr_kms.specs.MemWorld.{ShelfState};
 
-    ghost Value = { Shelved K T };
+    ghost Value = { ShelfState K T };
 
     ghost view = { λ shelf. record { items = shelf.items.items; out = shelf.out.items } };
 

@@ -43,11 +43,11 @@ reversed_bit (suc k) n a i lt = elim (cases_lt i k) [
 
 -- ---- bytes, the highest first
 
-joined : ℕ → (ℕ → ℕ) → ℕ
+pub joined : ℕ → (ℕ → ℕ) → ℕ
 joined zero byte = 0
 joined (suc k) byte = joined k byte * 2 ^ 8 + byte k
 
-joined_bit : (k : ℕ) (byte : ℕ → ℕ) → ((i : ℕ) → byte i < 256) → (j : ℕ) → j < 8 * k → bit_at (joined k byte) j ≡ bit_at (byte (k - 1 - j / 8)) (j % 8)
+pub joined_bit : (k : ℕ) (byte : ℕ → ℕ) → ((i : ℕ) → byte i < 256) → (j : ℕ) → j < 8 * k → bit_at (joined k byte) j ≡ bit_at (byte (k - 1 - j / 8)) (j % 8)
 unfolding joined
 joined_bit zero byte fits j lt = absurd (omega arith)
 joined_bit (suc k) byte fits j lt = elim (cases_lt j 8) [
@@ -91,7 +91,7 @@ reversed-lt (suc k) m n a lt =
     subst (λ (x : ℕ). reverse_bits_onto k (n / 2) (a * 2 + n % 2) < 2 ^ x) e
     (reversed-lt k (suc m) (n / 2) (a * 2 + n % 2) grown)
 
-joined_low_16 : (bytes : List ℕ)
+pub joined_low_16 : (bytes : List ℕ)
     → from_le_bytes w128 bytes ≡ joined 16 (λ k. slice_index bytes (15 - k))
 unfolding joined
 joined_low_16 bytes = omega arith
@@ -123,7 +123,7 @@ polynomial_of_mirrored block bytes p is e from fits =
 
 -- ---- and back
 
-low_byte : (x j : ℕ) → j < 8 → bit_at (x % 256) j ≡ bit_at x j
+pub low_byte : (x j : ℕ) → j < 8 → bit_at (x % 256) j ≡ bit_at x j
 low_byte x j lt =
     let split : x / 256 * 2 ^ 8 + x % 256 ≡ x = omega arith in
     sym (bit_at_cat_low (x / 256) 8 (x % 256) j lt) ∙ ap (λ (y : ℕ). bit_at y j) split

@@ -12,3 +12,4 @@ pub mod Streams
 pub mod Sealed
 pub mod BlockBits
 pub mod Mirrors
+pub mod BlockSums

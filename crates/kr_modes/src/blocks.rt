@@ -1,21 +1,27 @@
 //! Blocks of 16 bytes, taken from slices.
 
-ghost use Rattle.std.specs.Prelude.{◌≡◌, ◌≤◌, ◌+◌, ◌-◌, ◌*◌, ◌++◌, length, replicate};
+ghost use Rattle.std.specs.Prelude.{◌≡◌, ◌<◌, ◌≤◌, ◌+◌, ◌-◌, ◌*◌, ◌++◌, All, length, replicate};
 ghost use Rattle.std.specs.Fork.{slice_chunk};
 ghost use Rattle.kr_modes.specs.Blocks.{xor};
 
 /// The length of a block of AES in bytes.
 pub(crate) const BLOCK: usize = 16;
 
-/// Puts the exclusive or of both in the place of `block`.
+/// Puts the exclusive or of both in the place of `block`. It goes by one number and not byte by
+/// byte, since LLVM would load the bytes that a cipher just wrote as one vector, and wait for them.
 #[inline(always)]
 pub(crate) fn add(block: &mut [u8; BLOCK], other: &[u8; BLOCK])
     ensures { block.new ≡ xor block.old other.now }
 {
-    for (i, byte) in block.iter_mut().enumerate() {
-        *byte ^= other[i];
-    }
+    known(block);
+    known(other);
+    *block = (u128::from_le_bytes(*block) ^ u128::from_le_bytes(*other)).to_le_bytes();
 }
+
+/// Each byte is below 256. The function does nothing.
+pub(crate) fn known(bytes: &[u8])
+    ensures { All (λ byte. byte < 256) bytes.now }
+{}
 
 /// Block `index` of the bytes, which have it whole.
 #[inline(always)]

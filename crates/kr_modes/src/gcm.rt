@@ -85,6 +85,7 @@ fn is_same(tag: &[u8; TAG], other: &[u8]) -> bool
 }
 
 /// The cipher of J0, counted up `n` times.
+#[inline(always)]
 fn stream_block(words: &[u32; 60], rounds: Rounds, nonce: &[u8; NONCE], n: u32) -> [u8; BLOCK]
     requires schedule { IsSchedule words.now rounds }
     requires fits { n + 1 < 2 ^ 32 }
@@ -96,6 +97,7 @@ fn stream_block(words: &[u32; 60], rounds: Rounds, nonce: &[u8; NONCE], n: u32) 
 }
 
 /// J0, counted up `n` times.
+#[inline(always)]
 fn counter_block(nonce: &[u8; NONCE], n: u32) -> [u8; BLOCK]
     requires { n + 1 < 2 ^ 32 }
     ensures { result ≡ counter_block nonce.now n }

@@ -20,7 +20,7 @@ pub(crate) type Products = [u128; 512];
 pub(crate) fn polynomial(block: [u8; BLOCK]) -> u128
     ensures { result ≡ polynomial block }
 {
-    mirror::known(&block);
+    blocks::known(&block);
     let mut mirrored = block;
     mirror::mirror_all(&mut mirrored);
     u128::from_le_bytes(mirrored)

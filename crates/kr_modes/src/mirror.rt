@@ -1,6 +1,6 @@
 //! Bytes with their bits in the other order.
 
-ghost use Rattle.std.specs.Prelude.{◌≡◌, ◌<◌, All, map};
+ghost use Rattle.std.specs.Prelude.{◌≡◌, map};
 ghost use Rattle.std.specs.Int.{w8, reverse_bits};
 
 use crate::blocks::BLOCK;
@@ -31,11 +31,6 @@ fn mirror(byte: u8) -> u8
 {
     MIRROR[byte as usize]
 }
-
-/// Each byte is below 256. The function does nothing.
-pub(crate) fn known(bytes: &[u8])
-    ensures { All (λ byte. byte < 256) bytes.now }
-{}
 
 /// Puts each byte's mirror in its place.
 #[inline(always)]

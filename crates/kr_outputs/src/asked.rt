@@ -8,6 +8,7 @@ use kr_base::{Bytes, Text};
 use kr_rollout::Did;
 use std::alloc::Global;
 
+/// Reads what a seat did. A path, a resource and the hex stand as words, so none holds a space.
 pub fn did_of(alloc: Global, text: &str) -> Result<Did, Wrong> {
     if text == "letgo" {
         return Ok(Did::LetGo);

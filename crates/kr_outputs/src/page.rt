@@ -20,6 +20,7 @@ pub struct Page {
 }
 
 impl Page {
+    /// The script's output with no journal lines and no replies yet.
     pub fn new(alloc: Global, script: Script) -> Page {
         Page {
             script,
@@ -29,6 +30,7 @@ impl Page {
         }
     }
 
+    /// One more line at the journal's end.
     pub fn add_line(&mut self, line: Line) -> Result<(), Wrong> {
         match self.journal.push(line) {
             Ok(()) => Ok(()),
@@ -36,6 +38,7 @@ impl Page {
         }
     }
 
+    /// One more reply of the worker at hand.
     pub fn add_reply(&mut self, told: Told) -> Result<(), Wrong> {
         match self.told.push(told) {
             Ok(()) => Ok(()),
@@ -43,6 +46,7 @@ impl Page {
         }
     }
 
+    /// The worker at hand told all; what follows is the next one's, in the order of the file.
     pub fn end_worker(&mut self, alloc: Global) -> Result<(), Wrong> {
         let told = mem::replace(&mut self.told, List::new(alloc));
         match self.replies.push(told) {

@@ -32,6 +32,7 @@ const REFUSALS: [ValueNo; 15] = [
     ValueNo::SeedLength,
 ];
 
+/// Reads a reply; the number of a value is that of its refusal, from 1.
 pub fn told_of(alloc: Global, text: &str) -> Result<Told, Wrong> {
     match text.split_once(' ') {
         Some((word, rest)) => with_more(alloc, word, rest),

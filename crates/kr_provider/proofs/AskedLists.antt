@@ -188,6 +188,17 @@ place_named link name xs at x p is =
     (bytes_eq-Decides (link x).name name).0
     (ap (λ z. bytes_eq (link z).name name) is ∙ place.1)
 
+-- what the link at the place has
+pub place_has : {L : Type 0} (link : L → Link) (name : List ℕ) (Has : Link → Type 0) (xs : List L)
+    (at : ℕ) (x : L) → position (λ l. bytes_eq (link l).name name) xs ≡ Some at
+    → x ≡ get_or xs at x → Has (link x) → HasLinkWith link name Has xs
+place_has link name Has xs at x p is has = record {
+  it = x;
+  there = (at, (position-Some (λ l. bytes_eq (link l).name name) xs at x p).0, sym is);
+  named = place_named link name xs at x p is;
+  has = has;
+}
+
 pub asks_at : {L : Type 0} (link : L → Link) (name : List ℕ) (Asks : L → L
     → Type 0) (xs ys : List L)
     (at : ℕ) (x y : L) → position (λ l. bytes_eq (link l).name name) xs ≡ Some at

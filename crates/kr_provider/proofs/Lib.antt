@@ -15,12 +15,14 @@ pub mod SealedSizes
 pub mod OneReading
 mod Stacks
 mod Keys
-mod AskedLists
+pub mod AskedLists
 mod Makings
-mod NameOrder
+pub mod NameOrder
+pub mod PluginOrder
+pub mod InOrder
 pub mod PluginNames
 mod Unsealings
 mod ObjectSources
 mod SeedValues
-mod BenchLinks
+pub mod BenchLinks
 pub mod WithoutPlugins

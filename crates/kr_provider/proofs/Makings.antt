@@ -1,7 +1,7 @@
 -- Seeds that are made one after another, in the order of their plugins' names.
 use Rattle.std.proofs.Common.{◌≡◌, ℕ, zero, suc, ◌≤◌, Bool, true, false, List, [], ◌∷◌, ◌++◌, length, map, refl, sym, ◌∙◌, ap, subst, arith, Contains, inl, inr, append-nil, append_assoc}
 use Rattle.std.specs.Prelude.{◌⊎◌, not, Option, Some, None, Result, Ok, Err}
-use Rattle.std.specs.Io.KnownBytes.{Consumes}
+use Rattle.std.specs.Io.KnownBytes.{Consumes, Keeps}
 use Rattle.std.specs.List.Sorted.{IsStrictlySortedBy}
 use Rattle.std.proofs.KnownBytes.{Consumes-kept, Consumes-nil, Consumes-trans}
 use Rattle.std.proofs.lemmas.List.{map-append}
@@ -10,13 +10,13 @@ use Rattle.kr_config.specs.Kept.{Row, plugins_in}
 use Rattle.kr_config.specs.Nexts.{IsNextName, name_cmp}
 use Rattle.kr_kms.specs.Calls.{Link}
 use Rattle.kr_kms.specs.Health.{HasBreach}
-use Rattle.kr_kms.specs.Seeds.{IsSeedRow, MakesSeed}
+use Rattle.kr_kms.specs.Seeds.{DrawsSeed, IsSeedRow, MakesSeed}
 use Rattle.kr_kms.specs.Truth.{Truth, TellsOf, key_of}
 use Rattle.kr_kms.specs.declared.health.SeedNo.{SeedNo}
 use Rattle.kr_kms.specs.declared.health.SeedNo.TheVariants as seed
 use Rattle.kr_kms.specs.declared.seeds.SeedRow.{SeedRow}
 use Rattle.kr_provider.specs.AskedLinks.{AskedOnly, HasLinkWith}
-use Rattle.kr_provider.specs.Publishing.{AreSeedsOf, EndsAt, IsHealthy, Publishes, bytes_of_seeds, refusal_at}
+use Rattle.kr_provider.specs.Publishing.{AreSeedsOf, EndsAt, EndsWithin, IsHealthy, Publishes, bytes_of_seeds, refusal_at}
 use Rattle.kr_provider.specs.declared.refusal.PublishNo.{PublishNo}
 use Rattle.kr_provider.specs.declared.refusal.PublishNo.TheVariants.{PluginFailed, DiceFailed, Unhealthy, NoMemory}
 use Rattle.kr_provider.specs.inner.Making.{MakesAt, MakesOne}
@@ -152,40 +152,6 @@ bytes_more (first ∷ made) row = ap (λ l. first.seed ++ l) (bytes_more made ro
 
 module _ {L D : Type 0} (truth : Truth) (link : L → Link) (left : D → Option (List ℕ)) (count : D
     → ℕ) where
-  -- whatever the plugin answered, some bytes were drawn
-  drawn_by : (l m : Link) (dice after : D) (answer : Result SeedRow SeedNo)
-      → MakesSeed left count truth l dice answer m after
-      → (drawn : List ℕ) × Consumes (left dice) (left after) drawn
-  drawn_by l m dice after (Ok row) h = (row.seed, h.4)
-  drawn_by l m dice after (Err seed.Failed) h = either dice after h.1
-    where
-      either : (dice after : D) → (after ≡ dice)
-          ⊎ (HasBreach l None × ((drawn : List ℕ) × (length drawn ≡ 32)
-          × Consumes (left dice) (left after) drawn))
-          → (drawn : List ℕ) × Consumes (left dice) (left after) drawn
-      either dice after (inl e) = (
-        [],
-        subst (λ d. Consumes (left dice) (left d) []) (sym e)
-            (Consumes-nil (left dice)),
-      )
-      either dice after (inr d) = (d.1.0, d.1.2)
-  drawn_by l m dice after (Err seed.DiceFailed) h =
-      ([], Consumes-kept (left dice) (left dice) (left after) [] (Consumes-nil (left dice)) h.2)
-  drawn_by l m dice after (Err (seed.Unhealthy field text)) h =
-      ([], subst (λ d. Consumes (left dice) (left d) []) (sym h.1) (Consumes-nil (left dice)))
-  drawn_by l m dice after (Err seed.NoMemory) h = either dice after h
-    where
-      either : (dice after : D) → (after ≡ dice)
-          ⊎ (HasBreach l None × ((drawn : List ℕ) × (length drawn ≡ 32)
-          × Consumes (left dice) (left after) drawn))
-          → (drawn : List ℕ) × Consumes (left dice) (left after) drawn
-      either dice after (inl e) = (
-        [],
-        subst (λ d. Consumes (left dice) (left d) []) (sym e)
-            (Consumes-nil (left dice)),
-      )
-      either dice after (inr d) = (d.1.0, d.1.2)
-
   -- how far publishing has come
   pub record ComesTo (rows : List Row) (links : List L) (dice : D) (name : List ℕ)
       (made : List SeedRow) (mids : List L) (mid : D) : Type 0 where
@@ -246,6 +212,34 @@ module _ {L D : Type 0} (truth : Truth) (link : L → Link) (left : D → Option
     undrawn : after ≡ mid → Consumes (left mid) (left after) []
     undrawn e = subst (λ d. Consumes (left mid) (left d) []) (sym e) (Consumes-nil (left mid))
 
+    -- where the next plugin ended it, whatever that answered
+    within_by : (answer : Result SeedRow SeedNo) → IsNextName (plugins_in rows) name (Some next)
+        → ComesTo rows links dice name made mids mid
+        → (a : MakesOne truth link left count next mids mid answer news after)
+        → (after ≡ mid) ⊎ (HasBreach (link a.old) None × DrawsSeed left count mid after)
+        → EndsWithin truth link left count rows links dice after next
+    within_by answer n to a (inl e) = inl (ends_at [] n to (undrawn e))
+    within_by answer n to a (inr d) = inr (
+      d.1.0,
+      d.1.1,
+      ends_at d.1.0 n to d.1.2,
+      healthy_before None answer to a d.0,
+    )
+
+    still : Keeps (left mid) (left after) → Consumes (left mid) (left after) []
+    still k = Consumes-kept (left mid) (left mid) (left after) [] (Consumes-nil (left mid)) k
+
+    pub within : (answer : Result SeedRow SeedNo) → IsNextName (plugins_in rows) name (Some next)
+        → ComesTo rows links dice name made mids mid
+        → MakesOne truth link left count next mids mid answer news after
+        → EndsWithin truth link left count rows links dice after next
+    within (Ok row) n to a =
+        within_by (Ok row) n to a (inr (a.asks.0, (row.seed, a.asks.2.seed, a.asks.4)))
+    within (Err seed.Failed) n to a = within_by (Err seed.Failed) n to a a.asks.1
+    within (Err seed.DiceFailed) n to a = inl (ends_at [] n to (still a.asks.2))
+    within (Err (seed.Unhealthy field text)) n to a = inl (ends_at [] n to (undrawn a.asks.1))
+    within (Err seed.NoMemory) n to a = within_by (Err seed.NoMemory) n to a a.asks
+
     pub ends : (why : PublishNo) → IsNextName (plugins_in rows) name (Some next)
         → ComesTo rows links dice name made mids mid
         → MakesAt truth link left count next mids mid (Err why) news after
@@ -255,26 +249,10 @@ module _ {L D : Type 0} (truth : Truth) (link : L → Link) (left : D → Option
         (rose_at link next (λ old new. MakesSeed left count truth (link old) mid
         (Err seed.Failed) (link new) after) mids news a a.asks.0) in
         subst (λ m. Publishes truth link left count rows links dice
-        (Err (PluginFailed m)) news after) (sym is) (rose, at a.asks.1)
-      where
-        at : (after ≡ mid) ⊎ (HasBreach (link a.old) None
-            × ((drawn : List ℕ) × (length drawn ≡ 32) × Consumes (left mid) (left after) drawn))
-            → EndsAt truth link left count rows links dice after next []
-            ⊎ ((drawn : List ℕ) × (length drawn ≡ 32)
-            × EndsAt truth link left count rows links dice after next drawn
-            × HasLinkWith link next IsHealthy links)
-        at (inl e) = inl (ends_at [] n to (undrawn e))
-        at (inr d) = inr (
-          d.1.0,
-          d.1.1,
-          ends_at d.1.0 n to d.1.2,
-          healthy_before None
-              (Err seed.Failed) to a d.0,
-        )
+        (Err (PluginFailed m)) news after) (sym is) (rose, within (Err seed.Failed) n to a)
     ends DiceFailed n to a = (
       next,
-      ends_at [] n to (Consumes-kept (left mid) (left mid) (left after) []
-          (Consumes-nil (left mid)) a.asks.2),
+      ends_at [] n to (still a.asks.2),
       healthy_before None (Err seed.DiceFailed) to a a.asks.0,
       rose_from (count dice) (count mid) (count after) to.later a.asks.1,
     )
@@ -284,12 +262,7 @@ module _ {L D : Type 0} (truth : Truth) (link : L → Link) (left : D → Option
           ends_at [] n to (undrawn a.asks.1),
           healthy_before (Some (field, text)) (Err (seed.Unhealthy field text)) to a a.asks.0,
         )
-    ends NoMemory n to (answer, a) =
-        let d = drawn_by (link a.old) (link a.new) mid after answer a.asks in (
-          bytes_of_seeds made ++ d.0,
-          Consumes-trans (left dice) (left mid) (left after)
-              (bytes_of_seeds made) d.0 to.drawn d.1,
-        )
+    ends NoMemory n to (answer, a) = (next, within answer n to a)
 
     -- every answer asked the next plugin alone
     pub asked_next : (answer : Result SeedRow PublishNo)

@@ -1,54 +1,20 @@
 -- The reader of a value, by its place in the list.
 use Rattle.std.proofs.Common.{◌≡◌, ℕ, zero, suc, ◌<◌, ◌≤◌, Bool, true, false, List, [], ◌∷◌, length, get_or, Option, Some, None, Ok, refl, sym, ◌∙◌, ap, subst, arith}
 use Rattle.std.specs.Prelude.{◌&&◌, ◌||◌, cond, not, nat_eq, nat_lt, find, position, slice_get}
-use Rattle.std.specs.List.{position_or_len}
 use Rattle.std.proofs.lemmas.Bool.Decides.{nat_tests}
-use Rattle.std.proofs.lemmas.List.Folds.{find_at}
 use Rattle.std.proofs.lemmas.List.Quantifiers.{position-Some}
 use Rattle.std.proofs.lemmas.Option.{slice_get-get_or}
 use Rattle.kr_config.specs.declared.who.Who.{Who}
 use Rattle.kr_config.specs.declared.who.Who.TheVariants.{Identity, Aescbc, Aesgcm, Kms}
 use Rattle.kr_config.specs.Providers.{is_kms}
 use Rattle.kr_kms.specs.declared.seeds.SeedRow.{SeedRow}
+use Rattle.kr_kms.proofs.Lent.{no_place, place_found}
 use Rattle.kr_provider.specs.Envelopes.{Envelope}
 use Rattle.kr_envelope.specs.declared.object.EncryptedObject.{EncryptedObject}
 use Rattle.kr_provider.specs.Publication.{seed_of}
 use Rattle.kr_provider.specs.Readers.{body_by, is_reader, reader_in, reader_place, writer_of}
 use Rattle.kr_provider.specs.Reading.{is_current, is_rotated, is_stale}
 use Rattle.kr_provider.specs.inner.Sources.{IsReadBy}
-
--- a test finds what stands at its first place
-place_found : {X : Type 0} (p : X → Bool) (xs : List X) (i : ℕ) → position p xs ≡ Some i
-    → find p xs ≡ slice_get xs i
-place_found p xs i e = find_at p xs ∙ ap (slice_get xs)
-    (same (nat_lt (position_or_len p xs) (length xs)) (position_or_len p xs) e)
-  where
-    same : (b : Bool) (n : ℕ) → cond b (Some n) None ≡ Some i → n ≡ i
-    same true n e = cc
-    same false n e = absurd (cc)
-
-beyond : {X : Type 0} (xs : List X) (i : ℕ) → (i < length xs → ⊥) → slice_get xs i ≡ None
-beyond [] i n = refl
-beyond (x ∷ xs) zero n = absurd (n (omega arith))
-beyond (x ∷ xs) (suc i) n = beyond xs i (λ lt. n (omega (arith, lt)))
-
-pub no_place : {X : Type 0} (p : X → Bool) (xs : List X) → position p xs ≡ None → find p xs ≡ None
-no_place p xs e = find_at p xs ∙ beyond xs (position_or_len p xs)
-    (λ lt. within (position_or_len p xs) (length xs) lt
-    (outside (nat_lt (position_or_len p xs) (length xs)) (position_or_len p xs) e))
-  where
-    outside : (b : Bool) (n : ℕ) → cond b (Some n) None ≡ None → b ≡ false
-    outside true n e = absurd (cc)
-    outside false n e = refl
-
-    within : (n m : ℕ) → n < m → nat_lt n m ≡ false → ⊥
-    within n m lt f = grind (arith, nat_tests)
-
--- what stands there is found
-pub found_at : {X : Type 0} (p : X → Bool) (xs : List X) (at : ℕ) (x : X)
-    → position p xs ≡ Some at → x ≡ get_or xs at x → find p xs ≡ Some x
-found_at p xs at x e is = let found = position-Some p xs at x e in
-    place_found p xs at e ∙ slice_get-get_or xs at x found.0 ∙ ap (λ w. Some w) (sym is)
 
 pub reader_found : (list : List Who) (bytes : List ℕ) (place : ℕ) (who : Who)
     → reader_place list bytes ≡ Some place → who ≡ get_or list place who

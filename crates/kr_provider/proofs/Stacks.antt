@@ -193,10 +193,10 @@ holds secrets pages is h = record {
         ((Decides-eqb number _).1 (omega (arith, p, lt)))
 
 -- a stack of which nothing is taken
-pub IsStack-unused : (pages : KeyPages) → IsPool pages.pool → (n : ℕ)
+pub IsStack-free_pages : (pages : KeyPages) → IsPool pages.pool → (n : ℕ)
     → pages.pool.pages ≡ replicate n zero_page → pages.pool.free ≡ range_with_len 0 n
     → pages.out ≡ [] → IsStack pages
-IsStack-unused pages isp n p f o =
+IsStack-free_pages pages isp n p f o =
     let size = ap (λ (l : List (List ℕ)). length l) p ∙ length-replicate n zero_page in
     let long = ap (λ (l : List ℕ). length l) f ∙ length-range_with_len 0 n in
     let none : length pages.out ≡ 0 = ap (λ (l : List ℕ). length l) o in record {

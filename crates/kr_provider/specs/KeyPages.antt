@@ -41,8 +41,8 @@ abbrev pub words_out : KeyPages → List (List ℕ)
 words_out pages = map (λ number. words_of pages.pool number) pages.out
 
 -- so many pages, none of which is taken
-abbrev pub unused : ℕ → KeyPages
-unused size = record {
+abbrev pub free_pages : ℕ → KeyPages
+free_pages size = record {
   pool = record {
     pages = replicate size zero_page;
     free =

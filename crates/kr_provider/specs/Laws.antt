@@ -1,19 +1,23 @@
 -- What the definitions of sealing and reading promise together.
-use Rattle.std.specs.Prelude.{◌≡◌, ◌↔◌, ℕ, ◌-◌, ◌≤◌, ◌<◌, false, IsTrue, List, take, drop, length, All, Contains, Some, Result, Ok, ⊤}
+use Rattle.std.specs.Prelude.{◌≡◌, ◌↔◌, ℕ, ◌-◌, ◌≤◌, ◌<◌, false, true, IsTrue, List, take, drop, length, All, Contains, Option, Some, Result, Ok, ⊤}
 use Rattle.std.specs.List.{list_any}
+use Rattle.std.specs.Io.KnownBytes.{Consumes}
 use Rattle.kr_base.specs.Limits.{value_limit}
 use Rattle.kr_modes.specs.Gcm.{gcm_tag}
 use Rattle.kr_config.specs.declared.who.Who.{Who}
 use Rattle.kr_config.specs.declared.who.Who.TheVariants.{Identity, Aescbc, Aesgcm, Kms}
-use Rattle.kr_config.specs.Kept.{Row, keeps_providers}
+use Rattle.kr_config.specs.Kept.{Row, keeps_providers, plugins_in}
 use Rattle.kr_config.specs.Lists.{list_of}
 use Rattle.kr_config.specs.Providers.{is_kms}
 use Rattle.kr_kms.specs.declared.seeds.SeedRow.{SeedRow}
-use Rattle.kr_kms.specs.Calls.{Link}
+use Rattle.kr_kms.specs.Calls.{Link, IsSameLink}
 use Rattle.kr_kms.specs.Truth.{Opens, Truth}
+use Rattle.kr_provider.specs.AskedLinks.{AskedOnly, FaultRose}
 use Rattle.kr_provider.specs.Ciphers.{cipher_under}
 use Rattle.kr_provider.specs.Envelopes.{Envelope, object_of, unknown}
+use Rattle.kr_provider.specs.PluginOrder.{MakesBefore, MakesEach, plugin_order}
 use Rattle.kr_provider.specs.Publication.{Publication, IsPublished, SeedOpens, names_plugin, seed_of, writer_at}
+use Rattle.kr_provider.specs.Publishing.{AreSeedsOf, EndsAt, bytes_of_seeds}
 use Rattle.kr_provider.specs.Readers.{reader_in, body_by}
 use Rattle.kr_provider.specs.Reading.{Reading, data_of, refused, unopened, value_reading, HasReading, HasSomeReading, Unseals}
 use Rattle.kr_provider.specs.Unsealing.{UnsealsBy}
@@ -84,6 +88,29 @@ pub record UnsealsWithoutPlugin {L : Type 0} (truth : Truth) (link : L → Link)
       (olds news : List L) (result : Result Opened UnsealNo) → names_plugin rows ≡ false
       → UnsealsBy truth link seeds (list_of rows resource) path bytes olds result news
       → news ≡ olds
+
+-- publishing goes through the plugins by the order of their names: it makes the seeds of all, or
+-- those of the names before the one that ended it
+pub record PublishesInOrder {L D : Type 0} (truth : Truth) (link : L → Link)
+    (left : D → Option (List ℕ)) (count : D → ℕ) : Type 0 where
+  pub all : (rows : List Row) (links : List L) (dice after : D) (made : List SeedRow)
+      → AreSeedsOf truth link links (plugins_in rows) (λ name. true) made
+      → Consumes (left dice) (left after) (bytes_of_seeds made)
+      → MakesEach truth link links (plugin_order rows) made (left dice) (left after)
+  pub some : (rows : List Row) (links : List L) (dice after : D) (name drawn : List ℕ)
+      → EndsAt truth link left count rows links dice after name drawn
+      → MakesBefore truth link links (plugin_order rows) name drawn (left dice) (left after)
+
+-- links that were asked are those of before: what is known of one after some calls, where it goes
+-- by what stays, was known before them, and calls one after another are calls
+pub record LinksStay {L : Type 0} (link : L → Link) (names : List (List ℕ)) : Type 0 where
+  pub none : (links : List L) → AskedOnly link names links links
+  pub both : (olds mids news : List L) → AskedOnly link names olds mids
+      → AskedOnly link names mids news → AskedOnly link names olds news
+  pub twin : (olds news : List L) (new : L) → AskedOnly link names olds news → Contains news new
+      → (old : L) × Contains olds old × IsSameLink (link old) (link new)
+  pub rose : (name : List ℕ) (olds mids news : List L) → AskedOnly link names olds mids
+      → FaultRose link name mids news → FaultRose link name olds news
 
 -- what a value reads as by the truth it reads as with some unwrapped source
 abbrev pub ReadsSomehow : Type 0

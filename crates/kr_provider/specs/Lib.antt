@@ -7,6 +7,7 @@ pub mod Envelopes
 pub mod KeyPages
 pub mod Laws
 pub mod Names
+pub mod PluginOrder
 pub mod Publication
 pub mod Publishing
 pub mod Readers

@@ -52,7 +52,12 @@ module _ {L D : Type 0} (truth : Truth) (link : L → Link) (left : D → Option
         (λ other. is_lt (name_cmp other name)) made
     pub draws : Consumes (left dice) (left after) (bytes_of_seeds made ++ drawn)
 
-  -- a plugin fails at its status, where nothing was drawn for it, or when it wraps
+  -- it ended there at its status, where nothing was drawn for it, or when it wrapped what was drawn
+  abbrev pub EndsWithin : List Row → List L → D → D → List ℕ → Type 0
+  EndsWithin rows links dice after name = EndsAt rows links dice after name []
+      ⊎ ((drawn : List ℕ) × (length drawn ≡ 32)
+      × EndsAt rows links dice after name drawn × HasLinkWith link name IsHealthy links)
+
   abbrev pub Publishes : List Row → List L → D → Result Publication PublishNo → List L → D → Type 0
   Publishes rows links dice (Ok p) new after = (p.rows ≡ rows)
       × AreSeedsOf truth link links (plugins_in rows) (λ name. true) p.seeds
@@ -63,11 +68,11 @@ module _ {L D : Type 0} (truth : Truth) (link : L → Link) (left : D → Option
   Publishes rows links dice (Err DiceFailed) new after = (name : List ℕ)
       × EndsAt rows links dice after name [] × HasLinkWith link name IsHealthy links
       × Rose (count dice) (count after)
-  Publishes rows links dice (Err (PluginFailed name)) new after = FaultRose link name links new
-      × (EndsAt rows links dice after name [] ⊎ ((drawn : List ℕ) × (length drawn ≡ 32)
-      × EndsAt rows links dice after name drawn × HasLinkWith link name IsHealthy links))
+  Publishes rows links dice (Err (PluginFailed name)) new after =
+      FaultRose link name links new × EndsWithin rows links dice after name
+  -- memory may lack at any plugin
   Publishes rows links dice (Err NoMemory) new after =
-      (drawn : List ℕ) × Consumes (left dice) (left after) drawn
+      (name : List ℕ) × EndsWithin rows links dice after name
 
 -- a refusal of the plugin of this name
 abbrev pub refusal_at : List ℕ → SeedNo → PublishNo

@@ -1,7 +1,7 @@
 //! The configuration that a bench adopted last, and the pages of its keys.
 ghost use Rattle.std.specs.Prelude.{◌≡◌, ◌↔◌, ◌<◌, Some, None, length, IsErr, IsSome, IfOk, IfSome, OnOk, OnErr};
 ghost use Rattle.kr_config.specs.Kept.{keys_in};
-ghost use Rattle.kr_provider.specs.KeyPages.{HoldKeys, adopted_secrets, secrets_in, size_of, unused};
+ghost use Rattle.kr_provider.specs.KeyPages.{HoldKeys, adopted_secrets, secrets_in, size_of, free_pages};
 ghost use Rattle.kr_provider.specs.inner.Scan.{HasWords, IsAmong};
 
 use crate::adopted::{count_keys, keep_all, words_for};
@@ -37,7 +37,7 @@ impl Adoption {
     /// No configuration yet, and so many pages.
     pub(crate) fn new(alloc: Global, pages: u32) -> Result<Adoption, NoMemory>
         ensures { IfOk result
-            (λ adoption. adoption ≡ record { published = None; pages = unused pages }) }
+            (λ adoption. adoption ≡ record { published = None; pages = free_pages pages }) }
     {
         let pages = KeyPages::new(alloc, pages)?;
         Ok(Adoption {

@@ -3,7 +3,7 @@ ghost use Rattle.std.specs.Prelude.{◌≡◌, ◌↔◌, ◌≤◌, ◌<◌, []
 ghost use Rattle.kr_base.specs.Limits.{path_limit, value_limit};
 ghost use Rattle.kr_config.specs.Kept.{keys_in, plugins_in, rows_of};
 ghost use Rattle.kr_provider.specs.AskedLinks.{AskedOnly};
-ghost use Rattle.kr_provider.specs.KeyPages.{HoldKeys, adopted_secrets, size_of, unused};
+ghost use Rattle.kr_provider.specs.KeyPages.{HoldKeys, adopted_secrets, size_of, free_pages};
 ghost use Rattle.kr_provider.specs.Names.{HasLinks, names_of};
 ghost use Rattle.kr_provider.specs.Publication.{list_at, writer_at};
 ghost use Rattle.kr_provider.specs.Publishing.{Publishes, TellsKeyIdOf};
@@ -70,7 +70,7 @@ impl<L: Kms, D: Dice> Bench<L, D> {
           links = links;
           dice = dice;
           published = None;
-          pages = unused pages;
+          pages = free_pages pages;
           cache = record { rows = []; size = cache };
         }) }
         ensures returned { IfErr result (λ refused. (refused.1 ≡ links) × (refused.2 ≡ dice)) }

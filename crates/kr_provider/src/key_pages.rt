@@ -3,7 +3,7 @@
 ghost use Rattle.std.specs.Prelude.{◌≡◌, ◌+◌, ◌<◌, [], ◌∷◌, ◌++◌, length, slice_index_or, IfOk};
 ghost use Rattle.kr_aes.specs.KeyExpansion.{IsKeyLength, padded_schedule};
 ghost use Rattle.kr_pages.specs.Pool.{words_of};
-ghost use Rattle.kr_provider.specs.KeyPages.{words_out, size_of, unused};
+ghost use Rattle.kr_provider.specs.KeyPages.{words_out, size_of, free_pages};
 ghost use Rattle.kr_provider.specs.inner.Stack.{IsStack};
 
 use kr_aes::expand;
@@ -34,7 +34,7 @@ impl Model for KeyPages {
 impl KeyPages {
     /// So many pages, and the room to keep them.
     pub(crate) fn new(alloc: Global, size: u32) -> Result<KeyPages, NoMemory>
-        ensures unused { IfOk result (λ pages. pages ≡ unused size) }
+        ensures free_pages { IfOk result (λ pages. pages ≡ free_pages size) }
         ensures stack { IfOk result IsStack }
     {
         let Ok(pool) = Pages::new(alloc, size) else {

@@ -1,6 +1,8 @@
 //! Laws of the definitions, for a reader and for callers' proofs. The functions do nothing.
-ghost use Rattle.kr_provider.specs.Laws.{SealedReads, SealingReads, SealingIsSized, HasOneReading, ReadsWithoutPlugin, ReadsSomehow, ReadsUnderItsTag, UnsealsWithoutPlugin};
+ghost use Rattle.kr_provider.specs.Laws.{SealedReads, SealingReads, SealingIsSized, HasOneReading, ReadsWithoutPlugin, ReadsSomehow, ReadsUnderItsTag, UnsealsWithoutPlugin, PublishesInOrder, LinksStay};
+ghost use Rattle.std.specs.Prelude.{ℕ, List};
 
+use kr_base::Dice;
 use kr_kms::Kms;
 
 /// What a provider sealed reads as the data that were sealed.
@@ -41,4 +43,15 @@ pub fn some_reading()
 /// A value of aesgcm is data at the paths of its tag alone.
 pub fn tag_of_path()
     ensures { ReadsUnderItsTag }
+{}
+
+/// Publishing goes through the plugins by the order of their names.
+pub fn publishing_in_order<L: Kms, D: Dice>()
+    ensures { PublishesInOrder L.truth L.link D.left D.count }
+{}
+
+/// Links that were asked are those of before. Proofs that cite this law may cite the lemmas of
+/// `proofs/AskedLists`.
+pub fn asked_links<L: Kms>()
+    ensures { (names : List (List ℕ)) → LinksStay L.link names }
 {}

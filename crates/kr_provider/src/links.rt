@@ -7,7 +7,7 @@ ghost use Rattle.kr_kms.specs.Cache.{Fetches};
 ghost use Rattle.kr_kms.specs.Calls.{asked_key};
 ghost use Rattle.kr_kms.specs.Health.{TellsKeyId};
 ghost use Rattle.kr_kms.specs.Seeds.{MakesSeed};
-ghost use Rattle.kr_provider.specs.AskedLinks.{AsksOne};
+ghost use Rattle.kr_provider.specs.AskedLinks.{AsksOne, HasLinkWith};
 ghost use Rattle.kr_provider.specs.Names.{AreDistinct, HasLinks, names_of};
 ghost use Rattle.kr_provider.specs.inner.Scan.{is_served};
 
@@ -73,6 +73,21 @@ impl<L: Kms> Links<L> {
             (rows_of settings.now.entries.0) }
     {
         serve_entries(self.items.as_slice(), settings.entries.as_slice())
+    }
+
+    /// How often the link to the plugin of this name failed so far, up to the greatest number.
+    pub fn faults(&self, name: &str) -> u64
+        requires { Contains (names_of L.link self.now) name.now }
+        ensures { HasLinkWith L.link name.now (λ link. result ≡ link.count) self.now }
+    {
+        faults_in(self.items.as_slice(), name)
+    }
+
+    /// Tells what its type keeps: the names are distinct.
+    pub fn known(&self)
+        ensures { AreDistinct L.link self.now }
+    {
+        let _some = self.items.as_slice();
     }
 
     /// Takes the last link.
@@ -179,6 +194,17 @@ fn is_served<L: Kms>(links: &[L], who: &Who) -> bool
         Who::Aesgcm(_, _) => true,
         Who::Kms(name) => any_named(links, name.as_str()),
     }
+}
+
+/// How often the link to the plugin of this name failed so far.
+fn faults_in<L: Kms>(links: &[L], name: &str) -> u64
+    requires { Contains (names_of L.link links.now) name.now }
+    ensures { HasLinkWith L.link name.now (λ link. result ≡ link.count) links.now }
+{
+    let Some(at) = place_in(links, name) else {
+        unreachable!();
+    };
+    links[at].faults()
 }
 
 /// Where the link to the plugin of this name stands.

@@ -20,6 +20,7 @@ use Rattle.kr_rollout.specs.Openings.{first_rows, needs_of, generations_from, cu
 use Rattle.kr_rollout.specs.Fits.{AreFit, IsFit}
 use Rattle.kr_rollout.specs.Histories.{IsLegal}
 use Rattle.kr_rollout.specs.Starts.{opening_generations, MayStart, Boards}
+use Rattle.kr_rollout.specs.FitLaws.{BoardAtStart}
 use Rattle.kr_rollout.specs.inner.Rollouts.{RolloutState, opening_of, state_with, IsRollout, IsCore}
 
 -- ---- numbers
@@ -105,6 +106,9 @@ start_board o = ap (λ gs. record {
   room = room_of o;
 })
     (start_taken o)
+
+pub board_at_start : BoardAtStart
+board_at_start o made b = b.1 ∙ sym (start_board o)
 
 -- ---- what holds
 

@@ -24,7 +24,7 @@ use Rattle.kr_rollout.specs.inner.Rollouts.{KeepsBudgets}
 
 -- ---- what seats brought
 
-reloads_more : (own more : List Entry)
+pub reloads_more : (own more : List Entry)
     → reloads_in (own ++ more) ≡ reloads_in own + reloads_in more
 reloads_more [] more = omega arith
 reloads_more (e ∷ own) more = omega (arith, reloads_more own more)

@@ -291,7 +291,7 @@ nothing_held generations (Some n) l e =
     absurd (none-some (n, g.0.published) (sym e
     ∙ ap (λ o. with_published n (option_map (λ (x : Generation). x.published) o)) g.1))
 
-pair_parts : (generations : List Generation) (number : Option ℕ) (h : ℕ × Publication)
+pub pair_parts : (generations : List Generation) (number : Option ℕ) (h : ℕ × Publication)
     → number_with generations number ≡ Some h
     → (number ≡ Some h.0) × (published_at generations (Some h.0) ≡ Some h.1)
 pair_parts generations None h e = absurd (none-some h e)

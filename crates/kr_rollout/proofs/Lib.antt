@@ -31,3 +31,9 @@ pub mod WithoutPlugin
 pub mod HonestSeats
 pub mod NeedsLive
 pub mod Following
+pub mod HeldFacts
+pub mod FoundRules
+pub mod KeptHonest
+pub mod Causes
+pub mod HavingContent
+pub mod FullExact

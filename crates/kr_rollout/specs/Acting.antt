@@ -11,8 +11,8 @@ use Rattle.kr_rollout.specs.Steps.{IsStep}
 use Rattle.kr_rollout.specs.Callers.{Records}
 use Rattle.kr_rollout.specs.Cores.{CoreState}
 
--- the opening, the seat, the entries up to the seat's latest one, the seat's own, and how many it
--- may still add
+-- the opening, the seat, a front of the history that has all of the seat's entries so far, these,
+-- and how many it may still add
 pub record Caller : Type 0 where
   pub opening : Opening
   pub seat : ℕ

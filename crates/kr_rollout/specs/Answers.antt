@@ -39,36 +39,36 @@ FindsNext path Nothing st held = IsSome held
 FindsNext path gave st held = ⊥
 
 -- a row is written behind the others, or the store fails or is full
-abbrev pub Puts : Gave → State → Option ℕ → Type 0
-Puts (Written revision) st held = IsSome held × (revision ≡ length st.rows + 1)
-Puts StoreFailed st held = IsSome held
-Puts (StoreFull needed) st held = IsSome held
-Puts Nothing st held = IsSome held
-Puts gave st held = ⊥
+abbrev pub PutsRow : Gave → State → Option ℕ → Type 0
+PutsRow (Written revision) st held = IsSome held × (revision ≡ length st.rows + 1)
+PutsRow StoreFailed st held = IsSome held
+PutsRow (StoreFull needed) st held = IsSome held
+PutsRow Nothing st held = IsSome held
+PutsRow gave st held = ⊥
 
 -- a live row is deleted
-abbrev pub Deletes : List ℕ → Gave → State → Type 0
-Deletes path (Written revision) st = IsSome (live st.rows path) × (revision ≡ length st.rows + 1)
-Deletes path Absent st = live st.rows path ≡ None
-Deletes path StoreFailed st = ⊤
-Deletes path (StoreFull needed) st = ⊤
-Deletes path Nothing st = ⊤
-Deletes path gave st = ⊥
+abbrev pub DeletesRow : List ℕ → Gave → State → Type 0
+DeletesRow path (Written revision) st = IsSome (live st.rows path) × (revision ≡ length st.rows + 1)
+DeletesRow path Absent st = live st.rows path ≡ None
+DeletesRow path StoreFailed st = ⊤
+DeletesRow path (StoreFull needed) st = ⊤
+DeletesRow path Nothing st = ⊤
+DeletesRow path gave st = ⊥
 
 -- the path's last row is a put with this revision
 abbrev pub IsStill : List LogRow → List ℕ → ℕ → Type 0
 IsStill rows path revision = (row : Row) × IsLatestPut rows path revision row
 
 -- a row takes the place of the one with this revision, where that is still the path's last one
-abbrev pub Replaces : List ℕ → ℕ → Gave → State → Option ℕ → Type 0
-Replaces path revision (Written number) st held =
+abbrev pub ReplacesRow : List ℕ → ℕ → Gave → State → Option ℕ → Type 0
+ReplacesRow path revision (Written number) st held =
     IsSome held × IsStill st.rows path revision × (number ≡ length st.rows + 1)
-Replaces path revision (Changed last) st held =
+ReplacesRow path revision (Changed last) st held =
     IsSome held × (¬ IsStill st.rows path revision) × (last ≡ revision_of (latest st.rows path))
-Replaces path revision StoreFailed st held = IsSome held
-Replaces path revision (StoreFull needed) st held = IsSome held
-Replaces path revision Nothing st held = IsSome held
-Replaces path revision gave st held = ⊥
+ReplacesRow path revision StoreFailed st held = IsSome held
+ReplacesRow path revision (StoreFull needed) st held = IsSome held
+ReplacesRow path revision Nothing st held = IsSome held
+ReplacesRow path revision gave st held = ⊥
 
 -- the held generation is let go; this never wants memory
 abbrev pub LetsGo : Gave → Option ℕ → Type 0
@@ -130,9 +130,9 @@ abbrev pub IsAnswer : Did → Gave → State → (held : Option ℕ) → Type 0
 IsAnswer (Adopt replica) gave st held = Adopts replica gave st held
 IsAnswer (Fetch path) gave st held = Fetches path gave st held
 IsAnswer (After path) gave st held = FindsNext path gave st held
-IsAnswer (Put path resource plain) gave st held = Puts gave st held
-IsAnswer (Delete path) gave st held = Deletes path gave st
-IsAnswer (Replace path revision) gave st held = Replaces path revision gave st held
+IsAnswer (Put path resource plain) gave st held = PutsRow gave st held
+IsAnswer (Delete path) gave st held = DeletesRow path gave st
+IsAnswer (Replace path revision) gave st held = ReplacesRow path revision gave st held
 IsAnswer LetGo gave st held = LetsGo gave held
 IsAnswer (Reload replica p expect) gave st held = Reloads replica p expect gave st
 IsAnswer (Join replica p) gave st held = Joins replica p gave st

@@ -25,6 +25,11 @@ OneContent = (opens : Opens) (o : Opening) (history : List Entry) (path : List �
     (a b : Option Reading)
     → IsContent opens o history path a → IsContent opens o history path b → a ≡ b
 
+-- and it has one
+abbrev pub SomeContent : Type 0
+SomeContent = (opens : Opens) (o : Opening) (history : List Entry) (path : List ℕ)
+    → (content : Option Reading) × IsContent opens o history path content
+
 -- there is nothing exactly where no row is live
 abbrev pub NothingIsAbsent : Type 0
 NothingIsAbsent = (opens : Opens) (o : Opening) (history : List Entry) (path : List ℕ)

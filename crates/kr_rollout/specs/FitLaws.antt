@@ -1,5 +1,5 @@
 -- Laws of states that fit, and of what is refused so that they do.
-use Rattle.std.specs.Prelude.{◌≡◌, ◌≢◌, ◌↔◌, ℕ, ◌<◌, true, List, [], ◌∷◌, ◌++◌, length, Option, None, Some}
+use Rattle.std.specs.Prelude.{◌≡◌, ◌≢◌, ◌↔◌, ℕ, ◌<◌, true, List, [], ◌∷◌, ◌++◌, length, Option, None, Some, Ok}
 use Rattle.kr_store.specs.declared.rows.LogRow.{LogRow}
 use Rattle.kr_store.specs.declared.rows.Row as stored_row
 use Rattle.kr_store.specs.Rows.{live}
@@ -7,7 +7,7 @@ use Rattle.kr_config.specs.declared.who.Who.{Who}
 use Rattle.kr_config.specs.Lists.{list_of}
 use Rattle.kr_provider.specs.Readers.{is_reader, reader_in}
 use Rattle.kr_judge.specs.declared.need.Need.{Need}
-use Rattle.kr_judge.specs.Boards.{need_at}
+use Rattle.kr_judge.specs.Boards.{BoardState, need_at}
 use Rattle.kr_config.specs.Kept.{Row}
 use Rattle.kr_provider.specs.Publication.{Publication, IsPublished}
 use Rattle.kr_judge.specs.declared.verdict.Verdict.{Verdict}
@@ -21,11 +21,11 @@ use Rattle.kr_rollout.specs.declared.opening_board.StartNo.TheVariants.{NoMemory
 use Rattle.kr_base.specs.Lines.{of_seat}
 use Rattle.kr_rollout.specs.Entries.{published_at, seat_of}
 use Rattle.kr_rollout.specs.States.{current_of, verdict_on, IsLive}
-use Rattle.kr_rollout.specs.Openings.{settings_of, needs_of, first_of, start_of, HasNoStray, HasNoOtherSecret}
+use Rattle.kr_rollout.specs.Openings.{settings_of, needs_of, first_of, start_of, room_of, board, HasNoStray, HasNoOtherSecret}
 use Rattle.kr_rollout.specs.Fits.{IsFit}
 use Rattle.kr_rollout.specs.Histories.{state_of, IsLegal}
 use Rattle.kr_rollout.specs.Callers.{holding}
-use Rattle.kr_rollout.specs.Starts.{AllFit, MayStart, IsNoStart}
+use Rattle.kr_rollout.specs.Starts.{AllFit, Boards, MayStart, IsNoStart}
 use Rattle.kr_rollout.specs.Judgements.{with_configuration, IsJudged, judged_state, IsDone, AnswersFit}
 
 -- in a legal history the state fits
@@ -92,6 +92,12 @@ RefreshIsNotRefused = (o : Opening) (history : List Entry) (e : Entry) (replica 
     → published_at (state_of o history).generations (Some number) ≡ Some old
     → p.rows ≡ old.rows → e.line.gave ≢ Refused verdict
 
+-- the board that is made of an opening's rows and of its replicas' settings, with room for as many
+-- generations, is the one of the state that a core begins with
+abbrev pub BoardAtStart : Type 0
+BoardAtStart = (o : Opening) (made : BoardState)
+    → Boards o.rows (settings_of o.replicas) (room_of o) (Ok made) → made ≡ board o (start_of o)
+
 -- the settings of the replicas that are in fit exactly where the opening's state does
 abbrev pub OpeningFits : Type 0
 OpeningFits = (o : Opening) → AllFit (settings_of o.replicas) (needs_of (first_of o) o.rows)
@@ -107,3 +113,8 @@ StartsWhereItFits = (o : Opening) → MayStart o.rows (settings_of o.replicas)
 abbrev pub RefusalIsExact : Type 0
 RefusalIsExact = (rows : List LogRow) (replicas : List (Option (List Row))) (why : StartNo)
     → IsNoStart rows replicas why → MayStart rows replicas → why ≡ NoMemory
+
+-- the cause of a refused start is one alone, want of memory aside
+abbrev pub OneCause : Type 0
+OneCause = (rows : List LogRow) (replicas : List (Option (List Row))) (a b : StartNo)
+    → a ≢ NoMemory → b ≢ NoMemory → IsNoStart rows replicas a → IsNoStart rows replicas b → a ≡ b

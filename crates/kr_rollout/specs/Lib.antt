@@ -19,3 +19,5 @@ pub mod Honesty
 pub mod FitLaws
 pub mod ContentLaws
 pub mod CallerLaws
+pub mod CallLaws
+pub mod SizeLaws

@@ -8,9 +8,16 @@ use crate::event::Event;
 use kr_base::Spent;
 
 /// A caller of a core: one seat, alone or among others.
+///
+/// `Place` is for contracts alone: the core that it acts on, as what lends the core shows it.
 pub trait Acts {
-    /// What it knows: its opening, its seat, the journal up to its latest line, its own lines, and
-    /// how many it may still add.
+    type Place;
+
+    /// The core that each of its events is one of. Nothing that a caller does leaves it.
+    ghost place: { Self → Self.Place };
+
+    /// What it knows: its opening, its seat, a front of the journal that has all its lines so far,
+    /// these, and how many it may still add.
     ghost caller: { Self → Caller };
 
     /// Its seat.
@@ -29,5 +36,6 @@ pub trait Acts {
         ensures spent { IsErr result ↔ ((caller self.old).left ≡ 0) }
         ensures nothing { OnErr result (caller self.new ≡ caller self.old) }
         ensures acted { IfOk result
-            (λ answer. Acted (caller self.old) event answer (caller self.new)) };
+            (λ answer. Acted (caller self.old) event answer (caller self.new)) }
+        ensures place { place self.new ≡ place self.old };
 }

@@ -2,7 +2,7 @@
 ghost use Rattle.std.specs.Prelude.{◌≡◌, ◌<◌, ◌≤◌, ◌⊎◌, ◌↔◌, IsTrue, true, length, map, sum, IfErr};
 ghost use Rattle.kr_base.specs.Faults.{Rose};
 ghost use Rattle.kr_rollout.specs.Callers.{MayAsk};
-ghost use Rattle.kr_rollout.specs.Cores.{Applies};
+ghost use Rattle.kr_rollout.specs.Cores.{Applies, AllMay, AllApply};
 ghost use Rattle.kr_rollout.specs.Entries.{seat_of};
 ghost use Rattle.kr_rollout.specs.Histories.{IsLegal, state_of};
 ghost use Rattle.kr_base.specs.Lines.{of_seat};
@@ -94,6 +94,17 @@ impl<T: Tape> Core<T> {
         answer
     }
 
+    /// Makes the events of seats, one after the other.
+    pub fn apply_all(&mut self, events: Vec<(u32, Event)>)
+        requires may { AllMay self.old events.items }
+        ensures applied { AllApply self.old events.items self.new }
+    {
+        for asked in events {
+            let (seat, event) = asked;
+            forget(self.apply(seat, event));
+        }
+    }
+
     /// The journal's lines so far.
     #[tactic(auto, using(crate::proofs::Appending::lines_are))]
     pub fn journal(&self) -> &[Line]
@@ -142,3 +153,6 @@ impl<T: Tape> Core<T> {
         (rollout.close(), journal)
     }
 }
+
+/// Lets an answer go.
+fn forget(_answer: Answer) {}

@@ -1,5 +1,6 @@
 //! Laws of the definitions, for a reader and for callers' proofs. The functions do nothing.
 ghost use Rattle.kr_rollout.specs.Laws.{FrontIsLegal, HoldingIsHeld, FoundIsThere, UnfitIsUnfit};
+ghost use Rattle.kr_rollout.specs.SizeLaws.{FullIsExact};
 
 /// A replica that is named as unfit doesn't fit with the others, so a start is refused for that
 /// only where the opening doesn't fit.
@@ -20,4 +21,10 @@ pub fn holding_is_held()
 /// The row that a seat found last, by its own entries, is still that of its revision.
 pub fn found_is_there()
     ensures { FoundIsThere }
+{}
+
+/// An event that would write a row is answered that the store is full exactly where the file with
+/// that row passes the limit, and then with the file's size; want of memory aside.
+pub fn full_is_exact()
+    ensures { FullIsExact }
 {}

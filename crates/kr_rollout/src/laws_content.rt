@@ -1,9 +1,14 @@
 //! Laws of contents: what is found reads as the content. The functions do nothing.
-ghost use Rattle.kr_rollout.specs.ContentLaws.{OneContent, NothingIsAbsent, LiveReads, FoundIsLive, FoundReads, AbsentIsNothing, ReplacedIsLive, HonestByEntries, HonestBySeats, HonestWithoutPlugin, ContentWithoutPlugin};
+ghost use Rattle.kr_rollout.specs.ContentLaws.{OneContent, SomeContent, NothingIsAbsent, LiveReads, FoundIsLive, FoundReads, AbsentIsNothing, ReplacedIsLive, HonestByEntries, HonestBySeats, HonestWithoutPlugin, ContentWithoutPlugin};
 
 /// A path has one content alone.
 pub fn one_content()
     ensures { OneContent }
+{}
+
+/// A path has a content: each stored value has a reading.
+pub fn some_content()
+    ensures { SomeContent }
 {}
 
 /// There is nothing at a path exactly where no row of it is live.

@@ -1,5 +1,5 @@
 //! Laws of states that fit, and of what is refused so that they do. The functions do nothing.
-ghost use Rattle.kr_rollout.specs.FitLaws.{LegalFits, NeedsAreLive, LiveIsReadable, HoldingIsLive, VerdictIsExact, JudgedByFit, JudgedStateFollows, RefreshIsNotRefused, OpeningFits, StartsWhereItFits, RefusalIsExact};
+ghost use Rattle.kr_rollout.specs.FitLaws.{LegalFits, NeedsAreLive, LiveIsReadable, HoldingIsLive, VerdictIsExact, JudgedByFit, JudgedStateFollows, RefreshIsNotRefused, BoardAtStart, OpeningFits, StartsWhereItFits, RefusalIsExact, OneCause};
 
 /// In a legal history the state fits: all that is needed, and all that a live generation writes,
 /// is read by each live generation.
@@ -43,6 +43,12 @@ pub fn refresh_is_not_refused()
     ensures { RefreshIsNotRefused }
 {}
 
+/// What `board_of` makes of a store and of replicas' settings is the board of the core that begins
+/// with them, if there is room for as many generations.
+pub fn board_at_start()
+    ensures { BoardAtStart }
+{}
+
 /// The settings of the replicas that are in fit exactly where the opening's state does.
 pub fn opening_fits()
     ensures { OpeningFits }
@@ -57,4 +63,9 @@ pub fn starts_where_it_fits()
 /// Where a core may start its start is refused for want of memory alone.
 pub fn refusal_is_exact()
     ensures { RefusalIsExact }
+{}
+
+/// A start is refused for one cause alone, want of memory aside.
+pub fn one_cause()
+    ensures { OneCause }
 {}

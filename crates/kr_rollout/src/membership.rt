@@ -1,7 +1,7 @@
 //! Events that give replicas configurations, or take their current generations away.
 ghost use Rattle.std.specs.Prelude.{◌≡◌, ◌<◌, ◌↔◌, IsTrue, length};
 ghost use Rattle.kr_config.specs.Kept.{rows_of};
-ghost use Rattle.kr_rollout.specs.Answers.{IsExpected};
+ghost use Rattle.kr_rollout.specs.Answers.{HasExpected, IsExpected};
 ghost use Rattle.kr_rollout.specs.Openings.{room_of};
 ghost use Rattle.kr_rollout.specs.declared.event.Event.TheVariants as event;
 ghost use Rattle.kr_rollout.specs.inner.Membership.{with_generation};
@@ -9,7 +9,7 @@ ghost use Rattle.kr_rollout.specs.inner.Rollouts.{MayServe, Serves};
 
 use crate::answer::Answer;
 use crate::generation::Generation;
-use crate::judged::{Judged, judge};
+use crate::judgement::{Judgement, judge};
 use crate::line::{Did, Gave, Line};
 use crate::rollout::Rollout;
 use crate::writing::known;
@@ -29,7 +29,7 @@ fn is_expected(expect: Option<u32>, current: u32) -> bool
 
 impl<T: Tape> Rollout<T> {
     /// Gives a replica that is in another configuration, where its current generation is the
-    /// expected one. All that this needs is made before anything changes.
+    /// expected one.
     pub fn reload(
         &mut self,
         seat: u32,
@@ -61,6 +61,24 @@ impl<T: Tape> Rollout<T> {
             let line = self.line(seat, did, Gave::Moved { generation });
             return (Answer::Moved { generation }, line);
         }
+        self.reload_expected(seat, replica, published, expect)
+    }
+
+    /// The same, where that is so. All that this needs is made before anything changes.
+    fn reload_expected(
+        &mut self,
+        seat: u32,
+        replica: u32,
+        published: Shared<Published>,
+        expect: Option<u32>,
+    ) -> (Answer, Line)
+        requires seat_in { seat < length self.old.opening.reloads }
+        requires may { MayServe self.old seat (event.Reload replica published expect) }
+        requires expected { HasExpected self.old.state replica expect }
+        ensures { Serves self.old seat (event.Reload replica published expect)
+            result.0 result.1 self.new }
+    {
+        known(published.get());
         let judged = judge(self.alloc, &self.board, replica, &published);
         let did = Did::Reload {
             replica,
@@ -69,7 +87,7 @@ impl<T: Tape> Rollout<T> {
         };
         match judged {
             Ok(
-                Judged::Fits {
+                Judgement::Fits {
                     settings,
                     published,
                 },
@@ -78,7 +96,7 @@ impl<T: Tape> Rollout<T> {
                 let line = self.line(seat, did, Gave::Reloaded { generation });
                 return (Answer::Reloaded { generation }, line);
             }
-            Ok(Judged::Refused { told, kept }) => {
+            Ok(Judgement::Refused { told, kept }) => {
                 let line = self.line(seat, did, Gave::Refused(kept));
                 return (Answer::Refused(told), line);
             }
@@ -107,7 +125,7 @@ impl<T: Tape> Rollout<T> {
         let did = Did::Join { replica, published };
         match judged {
             Ok(
-                Judged::Fits {
+                Judgement::Fits {
                     settings,
                     published,
                 },
@@ -116,7 +134,7 @@ impl<T: Tape> Rollout<T> {
                 let line = self.line(seat, did, Gave::Joined { generation });
                 return (Answer::Joined { generation }, line);
             }
-            Ok(Judged::Refused { told, kept }) => {
+            Ok(Judgement::Refused { told, kept }) => {
                 let line = self.line(seat, did, Gave::Refused(kept));
                 return (Answer::Refused(told), line);
             }

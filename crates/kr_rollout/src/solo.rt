@@ -53,6 +53,10 @@ impl<T: Tape> Solo<T> {
 impl<T: Tape> Acts for Solo<T> {
     ghost use Rattle.kr_rollout.specs.Acting.{Caller};
 
+    type Place = ();
+
+    ghost place = { λ (solo : Caller). tt };
+
     ghost caller = { λ (solo : Caller). solo };
 
     fn seat(&self) -> u32 {

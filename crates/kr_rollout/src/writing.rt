@@ -1,5 +1,6 @@
 //! Events that write to the store.
-ghost use Rattle.std.specs.Prelude.{◌≡◌, ◌<◌, ◌≤◌, length, None};
+ghost use Rattle.std.specs.Prelude.{◌≡◌, ◌<◌, ◌≤◌, length, None, Some, IsSome};
+ghost use Rattle.kr_judge.specs.declared.need.Need.{Need};
 ghost use Rattle.kr_provider.specs.Publication.{IsPublished, list_at};
 ghost use Rattle.kr_provider.specs.Readers.{writer_of};
 ghost use Rattle.kr_base.specs.Rules.{IsPath, IsResource};
@@ -23,6 +24,18 @@ use kr_judge::Board;
 use kr_provider::Published;
 use kr_provider::laws::size_of_sealing;
 use kr_store::{Check, PutNo, Store};
+
+/// Keeps the proposed need where the row was written, and else lets it go.
+fn settle(board: &mut Board, wrote: &Result<u64, PutNo>)
+    requires { IsSome board.old.proposal }
+    ensures { (need : Need) → board.old.proposal ≡ Some need → board.new
+        ≡ record board.old { needs = needs_with wrote.now need board.old.needs; proposal = None } }
+{
+    match wrote {
+        Ok(_) => board.settle(true),
+        Err(_) => board.settle(false),
+    }
+}
 
 /// Puts a value that needs the provider. The need is proposed before the row is written, so that it
 /// is settled without memory.
@@ -50,16 +63,9 @@ fn put_value<T: Tape>(
         Ok(()) => {}
         Err(NoMemory) => return Err(PutNo::NoMemory),
     }
-    match store.put(path, resource, stored, store_check(who)) {
-        Ok(revision) => {
-            board.settle(true);
-            Ok(revision)
-        }
-        Err(why) => {
-            board.settle(false);
-            Err(why)
-        }
-    }
+    let wrote = store.put(path, resource, stored, store_check(who));
+    settle(board, &wrote);
+    wrote
 }
 
 /// Puts a value that needs the provider in the place of the row with this revision, where that is
@@ -87,16 +93,9 @@ fn replace_value<T: Tape>(
         Ok(()) => {}
         Err(NoMemory) => return Err(PutNo::NoMemory),
     }
-    match store.replace_if(path, revision, stored, store_check(who)) {
-        Ok(revision) => {
-            board.settle(true);
-            Ok(revision)
-        }
-        Err(why) => {
-            board.settle(false);
-            Err(why)
-        }
-    }
+    let wrote = store.replace_if(path, revision, stored, store_check(who));
+    settle(board, &wrote);
+    wrote
 }
 
 /// Deletes the path's live row.

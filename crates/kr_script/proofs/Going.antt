@@ -12,7 +12,7 @@ use Rattle.kr_script.specs.declared.line_no.LineNo.TheVariants as line_no
 use Rattle.kr_script.specs.Fleets.{Fleet}
 use Rattle.kr_script.specs.Rows.{words_of}
 use Rattle.kr_script.specs.inner.Drafts.{Draft}
-use Rattle.kr_script.specs.inner.Reading.{at_line, row_step, goes_on, finished, answer}
+use Rattle.kr_script.specs.inner.Reading.{at_line, row_step, goes_on, fleet_at_end, answer}
 use Rattle.kr_script.specs.inner.Reading.{Gives, Moves}
 
 -- the next line
@@ -69,6 +69,6 @@ reading_stops whole n d new ls line text more why T inv split same utf8 moved =
 
 pub reading_ends : (whole : Result Fleet ScriptNo) (n : ℕ) (d : Draft) (ls : List (List ℕ))
     (result : Result Script ScriptNo) → answer n d ls ≡ whole → ls ≡ []
-    → Gives (finished n d) result → Gives whole result
+    → Gives (fleet_at_end n d) result → Gives whole result
 reading_ends whole n d ls result inv none given =
     subst (λ w. Gives w result) (sym (ap (answer n d) none) ∙ inv) given

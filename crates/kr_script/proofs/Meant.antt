@@ -28,9 +28,9 @@ use Rattle.kr_script.specs.Rules.{worker_limit, is_worker, is_line}
 use Rattle.kr_script.specs.Meanings.{Say, IsBegun, IsNone, Passes, HasReplicas}
 use Rattle.kr_script.specs.Meanings.{HasWorkers, HasData, LinesMean, Means, ReadsScript}
 use Rattle.kr_script.specs.inner.Drafts.{Draft, start, fleet_in, workers_in, statement_of, step}
-use Rattle.kr_script.specs.inner.Drafts.{with_statement, with_line, new_worker, passes, taken}
+use Rattle.kr_script.specs.inner.Drafts.{with_statement, with_line, new_worker, passes, draft_within}
 use Rattle.kr_script.specs.inner.Drafts.{step_by}
-use Rattle.kr_script.specs.inner.Reading.{goes_on, finished, answer, at_line, Gives}
+use Rattle.kr_script.specs.inner.Reading.{goes_on, fleet_at_end, answer, at_line, Gives}
 use Rattle.kr_base.specs.Rules.{is_name}
 use Rattle.kr_script.proofs.Lists.{then_some, or_none, any_parts, any_one, none_some}
 use Rattle.kr_script.proofs.Nexts.{MayCome, reads_next}
@@ -430,7 +430,7 @@ spoken_line text line more n d (Some st) read s number utf8 spoke rest =
 
     by : (limit : Option LineNo) → Left limit (fleet_in (with_statement d st))
         → LinesMean (text ++ line ∷ more)
-        (goes_on n (taken d st limit) (λ e. answer (n + 1) e more))
+        (goes_on n (draft_within d st limit) (λ e. answer (n + 1) e more))
     by None left = rest (with_statement d st)
         (record { utf8 = texts; ran = ran; within = left })
     by (Some why) left = stopped text line more d n (fleet_in (with_statement d st)) why s
@@ -458,7 +458,7 @@ line_by text line more n d true true utf8 spoke s number rest =
 lines_mean : (text more : Text) (n : ℕ) (d : Draft) → Stood text d → n ≡ length text + 1
     → LinesMean (text ++ more) (answer n d more)
 lines_mean text [] n d s number =
-    subst (λ (l : Text). LinesMean l (finished n d)) (sym (append-nil text))
+    subst (λ (l : Text). LinesMean l (fleet_at_end n d)) (sym (append-nil text))
     (ends_by text d n (is_some d.last) refl s number)
 lines_mean text (line ∷ more) n d s number =
     line_by text line more n d (is_utf8 line) (is_spoken (words_of line)) refl refl s number

@@ -26,7 +26,7 @@ use Rattle.kr_script.specs.Meanings.{Say, IsBegun, IsNone, HasReplicas}
 use Rattle.kr_script.specs.Meanings.{HasWorkers, HasData, LinesMean}
 use Rattle.kr_script.specs.Laws.{OneMeaning, SomeMeaning}
 use Rattle.kr_script.specs.inner.Drafts.{Draft, start, fleet_in, workers_in, statement_of, step}
-use Rattle.kr_script.specs.inner.Drafts.{with_statement, with_line, new_worker, passes, taken}
+use Rattle.kr_script.specs.inner.Drafts.{with_statement, with_line, new_worker, passes, draft_within}
 use Rattle.kr_script.specs.inner.Drafts.{step_by}
 use Rattle.kr_script.specs.inner.Reading.{row_step, line_step, goes_on, answer, at_line}
 use Rattle.kr_script.proofs.Lists.{then_some, any_parts, none_some}
@@ -112,7 +112,7 @@ step_is : (d : Draft) (line : List ℕ) (st : Statement) → is_utf8 line ≡ tr
 step_is d line st utf8 spoke read free =
     ap (λ b. if b then row_step d (words_of line) else Err line_no.Form) utf8
     ∙ ap (λ b. if b then step d (words_of line) else Ok d) spoke
-    ∙ ap (step_by d) read ∙ ap (taken d st) free
+    ∙ ap (step_by d) read ∙ ap (draft_within d st) free
 
 stays : (d : Draft) (line : List ℕ) → is_utf8 line ≡ true → is_spoken (words_of line) ≡ false
     → line_step d line ≡ Ok d
@@ -261,7 +261,7 @@ limit_stops front line d fleet limit s say past only =
     reaches = complete (rows_of (front ++ line ∷ [])) fleet say.written say.rules
 
     by_limit : (st : Statement) → fleet_in (with_statement d st) ≡ fleet → (o : Option LineNo)
-        → Left o (fleet_in (with_statement d st)) → taken d st o ≡ Err limit
+        → Left o (fleet_in (with_statement d st)) → draft_within d st o ≡ Err limit
     by_limit st same None left = absurd (past (subst IsWithin same left))
     by_limit st same (Some why) left =
         ap (λ w. Err w) (only why (subst (Left (Some why)) same left))

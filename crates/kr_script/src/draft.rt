@@ -38,8 +38,8 @@ impl Draft {
     ghost use Rattle.kr_script.specs.inner.Drafts.{Draft as Seen, draft_of, start, knows_replica};
     ghost use Rattle.kr_script.specs.inner.Drafts.{knows_worker, may_be_replica, replica_in};
     ghost use Rattle.kr_script.specs.inner.Drafts.{may_be_worker, worker_in, line_of_worker};
-    ghost use Rattle.kr_script.specs.inner.Drafts.{said_by, workers_in, passes, taken};
-    ghost use Rattle.kr_script.specs.inner.Reading.{Finds, Moves, Closes, Gives, finished, row_step};
+    ghost use Rattle.kr_script.specs.inner.Drafts.{said_by, workers_in, passes, draft_within};
+    ghost use Rattle.kr_script.specs.inner.Reading.{Finds, Moves, Closes, Gives, fleet_at_end, row_step};
 
     pub fn new(alloc: Global) -> Draft
         ensures { draft_of result ≡ start }
@@ -167,7 +167,7 @@ impl Draft {
 
     /// Takes a statement up, unless it passes a limit.
     fn take(&mut self, alloc: Global, statement: Statement) -> Result<(), LineNo>
-        ensures { Moves (taken (draft_of self.old) statement
+        ensures { Moves (draft_within (draft_of self.old) statement
             (passes (draft_of self.old) statement)) (draft_of self.new) result }
     {
         match statement {
@@ -182,7 +182,7 @@ impl Draft {
     }
 
     fn add_replica(&mut self, name: Text, file: Text) -> Result<(), LineNo>
-        ensures { Moves (taken (draft_of self.old) (Replica name file)
+        ensures { Moves (draft_within (draft_of self.old) (Replica name file)
             (passes (draft_of self.old) (Replica name file))) (draft_of self.new) result }
     {
         if self.replicas.as_slice().len() >= REPLICA_LIMIT {
@@ -195,7 +195,7 @@ impl Draft {
     }
 
     fn add_worker(&mut self, alloc: Global, name: Text, replica: u32) -> Result<(), LineNo>
-        ensures { Moves (taken (draft_of self.old) (Worker name replica)
+        ensures { Moves (draft_within (draft_of self.old) (Worker name replica)
             (passes (draft_of self.old) (Worker name replica))) (draft_of self.new) result }
     {
         self.close_last()?;
@@ -224,7 +224,7 @@ impl Draft {
     }
 
     fn add_line(&mut self, line: ScriptLine) -> Result<(), LineNo>
-        ensures { Moves (taken (draft_of self.old) (Line line)
+        ensures { Moves (draft_within (draft_of self.old) (Line line)
             (passes (draft_of self.old) (Line line))) (draft_of self.new) result }
     {
         if line.is_long() {
@@ -241,7 +241,7 @@ impl Draft {
 
     /// The whole script, where the file has so many lines, and one.
     pub fn finish(mut self, line: u64) -> Result<Script, ScriptNo>
-        ensures { Gives (finished line (draft_of self)) result }
+        ensures { Gives (fleet_at_end line (draft_of self)) result }
     {
         if self.last.is_none() {
             return Err(ScriptNo::Breach { line });

@@ -1,28 +1,28 @@
 -- How each phase ends its steps, and how a command goes on from one phase to the next.
-use Rattle.std.proofs.Common.{◌≡◌, ◌≢◌, ℕ, ◌≤◌, List, Option, None, Some, Result, Ok, Err, refl, sym, ◌∙◌, ap, subst, inl, inr, arith}
-use Rattle.std.specs.Prelude.{Bool, true, false, ◌==◌, if◌then◌else◌}
-use Rattle.std.proofs.lemmas.Bool.Decides.{Decides-eqb}
+use Rattle.std.proofs.Common.{◌≡◌, ℕ, ◌≤◌, List, Option, None, Some, Result, Ok, Err, refl, sym, ◌∙◌, ap, subst, inl, inr, arith}
 use Rattle.std.specs.Io.KnownBytes.{Keeps, Consumes}
 use Rattle.std.proofs.KnownBytes.{Keeps-refl}
 use Rattle.kr_base.specs.Faults.{Rose}
 use Rattle.kr_base.specs.Streams.{TakesAtMost}
 use Rattle.kr_base.specs.Told.{Agrees}
 use Rattle.kr_base.proofs.Counting.{Rose-later}
-use Rattle.kr_kms.specs.Outside.{Outside, Objects, noted, same_seat, IsLater, KeepsFiles, KeepsObjects}
+use Rattle.kr_kms.specs.Outside.{Outside, Objects, file_faults, with_call, same_seat, IsLater, KeepsFiles, KeepsObjects}
 use Rattle.kr_kms.specs.declared.file_faults.FileFaults.{FileFaults}
 use Rattle.kr_kms.specs.declared.world.WorldCall.{WorldCall}
-use Rattle.kr_kms.specs.declared.world.WorldCall.TheVariants.{File, RandomSource}
-use Rattle.kr_config.specs.Kept.{Row}
+use Rattle.kr_kms.specs.declared.world.WorldCall.TheVariants.{File, Link, RandomSource}
+use Rattle.kr_kms.proofs.Lent.{seats_decide}
 use Rattle.kr_config.specs.declared.settings.Settings.{Settings}
-use Rattle.kr_top.specs.Around.{Around, with_world, with_told_input, with_lent, with_lent_dice, left_of, faults_at, Stays, Reaches, AreHome, IsHome, Ends}
-use Rattle.kr_top.specs.Commands.{by_result, configuration, served, show, input_of, limit_of, long_input}
-use Rattle.kr_top.specs.Configuration.{Entries, without_plugin}
-use Rattle.kr_top.specs.Steps.{Steps, load, take_input, borrow_dice, draw, note, find, refuse, give, and_then, Call, loading, reading, opening, drawing, Point, awaits, amid, refuses, gives, Left, with_input, with_asked, IsAt, Goes}
-use Rattle.kr_top.specs.inner.Phases.{Does, Lent, Returned, AskedUnless, AskedFor, rows_in, IsFileRead, Configures, NoDice, TakesInput, Yields, shown_as}
+use Rattle.kr_top.specs.Around.{Around, with_world, with_told_input, with_lent, with_lent_dice, left_of, faults_at, Stays, Reaches, AreHome, IsHome, Ends, count_at}
+use Rattle.kr_top.specs.Commands.{by_result, configuration, show, input_of, limit_of, long_input}
+use Rattle.kr_top.specs.Configuration.{Entries}
+use Rattle.kr_top.specs.Steps.{Steps, load, take_input, borrow_dice, borrow_tape, read_tape, draw, note, find, refuse, give, and_then, Call, loading, reading, opening, lending, scanning, drawing, Point, awaits, amid, refuses, gives, Left, with_input, with_asked, IsAt, Goes, borrow_link, ask_status, wrap, unwrap, linking, asking, object_of}
+use Rattle.kr_top.specs.inner.Phases.{Does, AskedUnless, AskedFor, rows_in, IsFileRead, Configures, TakesInput, Yields, shown_as, DiceLoan, DiceReturn, LendsNothing}
 use Rattle.kr_top.specs.declared.command.Direction.{Direction}
+use Rattle.kr_top.specs.declared.refusal.Object.TheVariants.{Files}
 use Rattle.kr_top.specs.declared.refusal.Refusal.{Refusal}
 use Rattle.kr_top.specs.declared.refusal.Stop.{Stop}
 use Rattle.kr_top.specs.declared.refusal.Stop.TheVariants.{Words, Refused, Fault, NoMemory}
+use Rattle.kr_top.proofs.Lending.{AreSeen, home_same, lent_seen, seen_same, back_is}
 
 pub reach : {A : Type 0} {next : Steps A} {left : Left} {new : Around} {point : Point A} (end : Left)
     → Goes point end next left → Stays end new → Reaches next left new point
@@ -30,6 +30,7 @@ reach end goes stays = record { end = end; goes = goes; stays = stays }
 
 pub stays_refl : (a : Around) → Stays (left_of a) a
 stays_refl a = record {
+  truth = refl;
   file = refl;
   tapes = refl;
   links = refl;
@@ -38,6 +39,10 @@ stays_refl a = record {
   asked = refl;
   said = refl;
 }
+
+-- steps that give nothing
+abbrev pub nothing : Steps (Unit {0})
+nothing = give tt
 
 -- ---- from one phase to the next
 
@@ -72,9 +77,37 @@ module _ {A B : Type 0} (point : Point B) (last : Left) (others : A → Steps B)
       inr (inl (land (awaits (opening seat)) at f))
   further p end f (borrow_dice seat next) left (inr (inr goes)) =
       inr (inr (further p end f next _ goes))
+  further p end f (borrow_tape name make absent next) left (inl at) = inl (land amid at f)
+  further p end f (borrow_tape name make absent next) left (inr (inl at)) =
+      inr (inl (land (awaits (lending name)) at f))
+  further p end f (borrow_tape name make absent next) left (inr (inr (inl (may, agrees, at)))) =
+      inr (inr (inl (may, agrees, land (refuses absent) at f)))
+  further p end f (borrow_tape name make absent next) left (inr (inr (inr (may, goes)))) =
+      inr (inr (inr (may, further p end f next _ goes)))
+  further p end f (read_tape object name next) left (inl at) =
+      inl (land (awaits (scanning object name)) at f)
+  further p end f (read_tape object name next) left (inr (bytes, agrees, goes)) =
+      inr (bytes, agrees, further p end f (next bytes) left goes)
   further p end f (draw seat size next) left (inl at) = inl (land (awaits (drawing seat)) at f)
   further p end f (draw seat size next) left (inr (bytes, rest, c, fits, goes)) =
       inr (bytes, rest, c, fits, further p end f (next bytes) _ goes)
+  further p end f (borrow_link seat plugin program next) left (inl at) = inl (land amid at f)
+  further p end f (borrow_link seat plugin program next) left (inr (inl at)) =
+      inr (inl (land (awaits (linking seat plugin)) at f))
+  further p end f (borrow_link seat plugin program next) left (inr (inr goes)) =
+      inr (inr (further p end f next _ goes))
+  further p end f (ask_status seat plugin next) left (inl at) =
+      inl (land (awaits (asking seat plugin)) at f)
+  further p end f (ask_status seat plugin next) left (inr (status, agrees, goes)) =
+      inr (status, agrees, further p end f (next status) left goes)
+  further p end f (wrap seat plugin plain next) left (inl at) =
+      inl (land (awaits (asking seat plugin)) at f)
+  further p end f (wrap seat plugin plain next) left (inr (wrapped, tells, within, goes)) =
+      inr (wrapped, tells, within, further p end f (next wrapped) left goes)
+  further p end f (unwrap seat key next) left (inl at) =
+      inl (land (awaits (asking seat key.name)) at f)
+  further p end f (unwrap seat key next) left (inr (bytes, tells, goes)) =
+      inr (bytes, tells, further p end f (next bytes) left goes)
   further p end f (note text next) left goes = further p end f next _ goes
   further p end f (find D P next) left (inl at) = inl (land amid at f)
   further p end f (find D P next) left (inr (d, is, goes)) =
@@ -96,7 +129,7 @@ later_trans p q = record {
   links = omega (arith, p.links, q.links);
 }
 
-home_trans : {a b c : Around} → IsHome a b → IsHome b c → IsHome a c
+pub home_trans : {a b c : Around} → IsHome a b → IsHome b c → IsHome a c
 home_trans p q = record {
   files = record {
     file = q.files.file ∙ p.files.file;
@@ -115,7 +148,11 @@ earlier : {old mid : Around} (new : Around) (call : Call) → IsHome old mid
 earlier new (loading name) h r = Rose-later _ _ _ h.files.later.loads r
 earlier new reading h r = Rose-later _ _ _ h.input r
 earlier new (opening seat) h r = Rose-later _ _ _ h.files.later.dice r
+earlier new (lending name) h r = Rose-later _ _ _ h.files.later.tapes r
+earlier new (scanning object name) h r = Rose-later _ _ _ (h.tapes.later name) r
 earlier new (drawing seat) h r = Rose-later _ _ _ (h.dice.later seat) r
+earlier new (linking seat plugin) h r = Rose-later _ _ _ h.files.later.links r
+earlier new (asking seat plugin) h r = Rose-later _ _ _ (h.links.later (seat, plugin)) r
 
 module _ {A B : Type 0} (first : Steps A) (others : A → Steps B) where
   onward : {left : Left} {mid new : Around} {p : Point A} {point : Point B}
@@ -180,12 +217,6 @@ consumes_by bytes (Some x) (Some y) (Some z) k h = sym k ∙ h
 
 -- ---- phases that ask for nothing
 
-pub home_same : {K V : Type 0} {a b : Objects K V} → b ≡ a → AreHome a b
-home_same e = record {
-  out = λ key. ap (λ o. o.out key) e;
-  later = λ key. omega (arith, ap (λ o. o.faults key) e);
-}
-
 pub files_same : (world : Outside) → KeepsFiles world world
 files_same world = record {
   file = refl;
@@ -223,28 +254,17 @@ shows Is a result is =
       ends = λ left s. shows_at Is {left = left} {a = a} result is s;
     }
 
-abbrev by_point : {A : Type 0} → Result A Refusal → Point A
+abbrev pub by_point : {A : Type 0} → Result A Refusal → Point A
 by_point (Ok x) = gives x
 by_point (Err why) = refuses why
 
-by_goes : {A : Type 0} (r : Result A Refusal) (left : Left)
+pub by_goes : {A : Type 0} (r : Result A Refusal) (left : Left)
     → Goes (by_point r) left (by_result r) left
 by_goes (Ok x) left = (refl, refl)
 by_goes (Err why) left = (refl, refl)
 
-abbrev pub as_stop : Entries → Result (List Row) Stop
-as_stop (Ok rows) = Ok rows
-as_stop (Err why) = Err (Refused why)
-
-decides : (read : Entries) (a : Around) → Does (by_result read) a a (as_stop read)
-decides (Ok rows) a =
-    record { home = home_refl a; ends = λ left s. reach left (refl, refl) s }
-decides (Err why) a =
-    record { home = home_refl a; ends = λ left s. reach left (refl, refl) s }
-
-pub serves : (rows : List Row) (read : Entries) → without_plugin rows ≡ read → (a : Around)
-    → Does (served rows) a a (as_stop read)
-serves rows read is a = subst (λ r. Does (by_result r) a a (as_stop read)) (sym is) (decides read a)
+pub given : {A : Type 0} (x : A) (a : Around) → Does (give x) a a (Ok x)
+given x a = record { home = home_refl a; ends = λ left s. reach left (refl, refl) s }
 
 -- ---- the input
 
@@ -253,6 +273,7 @@ module _ (limit : ℕ) (long : Refusal) (old new : Option (List ℕ)) (before co
   taken : {left : Left} → Stays left (with_told_input old before a)
       → Stays (with_input new left) (with_told_input new count a)
   taken s = record {
+    truth = s.truth;
     file = s.file;
     tapes = s.tapes;
     links = s.links;
@@ -313,7 +334,7 @@ takes_in {old} {new} {before} {count} wanted result a is t later =
 
 -- a call that was made, whatever came of it
 pub asked_for : {T : Type 0} {new : Option (List WorldCall)} (old : Option (List WorldCall)) (call : WorldCall)
-    (result : Result T Stop) → new ≡ noted call old → AskedFor old new call result
+    (result : Result T Stop) → new ≡ with_call call old → AskedFor old new call result
 asked_for old call (Ok x) e = e
 asked_for old call (Err (Words why)) e = e
 asked_for old call (Err (Refused why)) e = e
@@ -322,7 +343,7 @@ asked_for old call (Err NoMemory) e = inr e
 
 module _ {old new : Outside} (files : KeepsFiles old new) (objects : KeepsObjects old new)
     (a : Around) where
-  asked_home : IsHome (with_world old a) (with_world new a)
+  pub asked_home : IsHome (with_world old a) (with_world new a)
   asked_home = record {
     files = files;
     dice = home_same objects.dice;
@@ -334,6 +355,7 @@ module _ {old new : Outside} (files : KeepsFiles old new) (objects : KeepsObject
   stays_asked : {left : Left} (asked : Option (List WorldCall)) → Stays left (with_world old a)
       → new.asked ≡ asked → Stays (record left { asked = asked }) (with_world new a)
   stays_asked {left} asked s made = record {
+    truth = s.truth;
     file = files.file ∙ s.file;
     tapes = ap (λ o. o.told) objects.tapes ∙ s.tapes;
     links = ap (λ o. o.told) objects.links ∙ s.links;
@@ -344,19 +366,19 @@ module _ {old new : Outside} (files : KeepsFiles old new) (objects : KeepsObject
     said = s.said;
   }
 
-  stays_noted : {left : Left} (call : WorldCall) → Stays left (with_world old a)
-      → new.asked ≡ noted call old.asked → Stays (with_asked call left) (with_world new a)
-  stays_noted call s made = stays_asked _ s (made ∙ ap (noted call) s.asked)
+  pub stays_noted : {left : Left} (call : WorldCall) → Stays left (with_world old a)
+      → new.asked ≡ with_call call old.asked → Stays (with_asked call left) (with_world new a)
+  stays_noted call s made = stays_asked _ s (made ∙ ap (with_call call) s.asked)
 
   -- memory lacked before the call
-  unasked : {A : Type 0} {next : Steps A} {left : Left} → Stays left (with_world old a)
+  pub unasked : {A : Type 0} {next : Steps A} {left : Left} → Stays left (with_world old a)
       → new.asked ≡ old.asked → Goes amid left next left
       → Reaches next left (with_world new a) amid
   unasked {left = left} s made goes = reach left goes (stays_asked left.asked s (made ∙ s.asked))
 
   -- what was read of a file
   passes : {name : List ℕ} {left : Left} (read : Entries) → Stays left (with_world old a)
-      → IsFileRead old name read → new.asked ≡ noted (File name) old.asked
+      → IsFileRead old name read → new.asked ≡ with_call (File name) old.asked
       → Reaches (configuration name) left (with_world new a) (by_point read)
   passes {name = name} {left} read s (file, agrees, is) made =
       let now : Left = with_asked (File name) left in
@@ -368,7 +390,7 @@ module _ {old new : Outside} (files : KeepsFiles old new) (objects : KeepsObject
       (stays_noted (File name) s made)
 
   not_loaded : (name : List ℕ) {left : Left} → Stays left (with_world old a)
-      → new.asked ≡ noted (File name) old.asked
+      → new.asked ≡ with_call (File name) old.asked
       → Reaches (configuration name) left (with_world new a) (awaits (loading name))
   not_loaded name {left} s made =
       reach (with_asked (File name) left) (inr (inl (refl, refl))) (stays_noted (File name) s made)
@@ -390,122 +412,134 @@ module _ {old new : Outside} (files : KeepsFiles old new) (objects : KeepsObject
   configures name result c q =
       record { home = asked_home; ends = λ left s. configures_at name result s c q }
 
-  not_opened_at : (seat : ℕ) {A : Type 0} {next : Steps A} {left : Left}
-      → Stays left (with_world old a) → new.asked ≡ noted (RandomSource seat) old.asked
-      → Reaches (borrow_dice seat next) left (with_world new a) (awaits (opening seat))
-  not_opened_at seat {left = left} s made =
-      reach (with_asked (RandomSource seat) left) (inr (inl (refl, refl)))
-      (stays_noted (RandomSource seat) s made)
+  -- what was asked for wasn't handed out
+  module _ (asked : WorldCall) {A : Type 0} (step : Steps A) (call : Call)
+      (object_is : object_of call ≡ Files)
+      (faults_are : (b : Around) → count_at call b ≡ file_faults b.world)
+      (awaited : (left : Left) → Goes (awaits call) (with_asked asked left) step left)
+      (lacked : (left : Left) → Goes amid left step left) where
+    not_lent_at : {left : Left} → Stays left (with_world old a)
+        → new.asked ≡ with_call asked old.asked
+        → Reaches step left (with_world new a) (awaits call)
+    not_lent_at {left} s made =
+        reach (with_asked asked left) (awaited left) (stays_noted asked s made)
 
-  pub not_opened : (seat : ℕ) {A : Type 0} {next : Steps A} (stop : Stop) → NoDice old new stop
+    not_lent : (stop : Stop)
+        → LendsNothing (faults_at call (with_world old a)) (faults_at call (with_world new a))
+        (file_faults new) stop
+        → AskedUnless old.asked new.asked asked stop
+        → Does step (with_world old a) (with_world new a) (Err stop)
+    not_lent (Words why) n q = absurd n
+    not_lent (Refused why) n q = absurd n
+    not_lent (Fault object count) n q = record {
+      home = asked_home;
+      ends = λ left s. (
+        call,
+        not_lent_at s q,
+        (n.0 ∙ sym object_is, n.1, n.2 ∙ sym (faults_are (with_world new a))),
+      );
+    }
+    not_lent NoMemory n (inl q) =
+        record { home = asked_home; ends = λ left s. inr (unasked s q (lacked left)) }
+    not_lent NoMemory n (inr q) =
+        record { home = asked_home; ends = λ left s. inl (call, not_lent_at s q) }
+
+  pub not_opened : (seat : ℕ) {A : Type 0} {next : Steps A} (stop : Stop)
+      → LendsNothing old.faults.dice new.faults.dice (file_faults new) stop
       → AskedUnless old.asked new.asked (RandomSource seat) stop
       → Does (borrow_dice seat next) (with_world old a) (with_world new a) (Err stop)
-  not_opened seat (Words why) n q = absurd n
-  not_opened seat (Refused why) n q = absurd n
-  not_opened seat (Fault object count) n q =
-      record { home = asked_home; ends = λ left s. (opening seat, not_opened_at seat s q, n) }
-  not_opened seat NoMemory n (inl q) =
-      record { home = asked_home; ends = λ left s. inr (unasked s q (inl (refl, refl))) }
-  not_opened seat NoMemory n (inr q) =
-      record { home = asked_home; ends = λ left s. inl (opening seat, not_opened_at seat s q) }
+  not_opened seat {next = next} stop n q = not_lent (RandomSource seat) (borrow_dice seat next)
+      (opening seat) refl (λ b. refl) (λ left. inr (inl (refl, refl))) (λ left. inl (refl, refl))
+      stop n q
 
--- ---- a random source that is borrowed and comes back
+  pub not_linked : (seat : ℕ) (plugin program : List ℕ) {A : Type 0} {next : Steps A} (stop : Stop)
+      → LendsNothing old.faults.links new.faults.links (file_faults new) stop
+      → AskedUnless old.asked new.asked (Link seat plugin program) stop
+      → Does (borrow_link seat plugin program next) (with_world old a) (with_world new a)
+      (Err stop)
+  not_linked seat plugin program {next = next} stop n q =
+      not_lent (Link seat plugin program) (borrow_link seat plugin program next)
+      (linking seat plugin) refl (λ b. refl) (λ left. inr (inl (refl, refl)))
+      (λ left. inl (refl, refl)) stop n q
 
-by_bool : {B : Type 0} (P : B → Type 0) (q : Bool) (x y : B) → (q ≡ true → P x)
-    → (q ≡ false → P y) → P (if q then x else y)
-by_bool P true x y h k = h refl
-by_bool P false x y h k = k refl
+-- ---- what is borrowed, and comes back
 
--- at the seat, and at each other
-by_seat : {B : Type 0} (P : B → Type 0) (seat other : ℕ) (x y : B) → (seat ≡ other → P x)
-    → (other ≢ seat → P y) → P (if seat == other then x else y)
-by_seat P seat other x y h k = by_bool P (seat == other) x y
-    (λ t. h ((Decides-eqb seat other).0 t))
-    (λ f. k (λ e. absurd (let t : true ≡ false = sym ((Decides-eqb seat other).1 (sym e)) ∙ f
-    in cc)))
+-- the world after this call, in which what is out is seen as if it were at home: it is as it was
+pub record IsSeen (call : WorldCall) (old new : Outside) : Type 0 where
+  pub files : KeepsFiles old new
+  pub asked : new.asked ≡ with_call call old.asked
+  pub dice : AreSeen old.dice new.dice
+  pub tapes : AreSeen old.tapes new.tapes
+  pub links : AreSeen old.links new.links
 
--- steps that give nothing
-abbrev nothing : Steps (Unit {0})
-nothing = give tt
-
-opened : (seat : ℕ) {old out : Outside} {left : Option (List ℕ)} {count : ℕ}
-    → Lent seat old out left count → (a : Around)
-    → Does (borrow_dice seat nothing) (with_world old a)
-    (with_lent_dice seat left count (with_world out a)) (Ok tt)
-opened seat {old} {out} {left} {count} h a = record {
-  home = record {
-    files = record { file = h.files.file; later = h.files.later };
-    dice = record {
-      out = λ other. omega (arith, h.out.out other);
-      later = λ other. by_seat (λ n. old.dice.faults other ≤ n) seat other count
-          (out.dice.faults other)
-          (λ e. omega (arith, h.out.count_is, ap (λ s. old.dice.faults s) e))
-          (λ n. omega (arith, h.out.faults other n));
+module _ {call : WorldCall} {old new : Outside} (seen : IsSeen call old new) (a : Around)
+    {step : Steps (Unit {0})}
+    (goes : (left : Left) → Goes (gives tt) (with_asked call left) step left) where
+  pub borrowed : Does step (with_world old a) (with_world new a) (Ok tt)
+  borrowed = record {
+    home = record {
+      files = seen.files;
+      dice = seen.dice.home;
+      tapes = seen.tapes.home;
+      links = seen.links.home;
+      input = omega arith;
     };
-    tapes = home_same h.tapes;
-    links = home_same h.links;
-    input = omega arith;
-  };
-  ends = λ l s. reach (with_asked (RandomSource seat) l) (inr (inr (refl, refl))) (record {
-    file = h.files.file ∙ s.file;
-    tapes = ap (λ o. o.told) h.tapes ∙ s.tapes;
-    links = ap (λ o. o.told) h.links ∙ s.links;
-    input = s.input;
-    dice = λ other. by_seat (λ b. Keeps (l.dice other) b) seat other left (out.dice.told other)
-        (λ e. subst (λ b. Keeps (l.dice other) b)
-        (ap (λ n. old.dice.told n) (sym e) ∙ sym h.left_is) (s.dice other))
-        (λ n. subst (λ b. Keeps (l.dice other) b) (sym (h.out.told other n)) (s.dice other));
-    asked = h.asked ∙ ap (noted (RandomSource seat)) s.asked;
-    said = s.said;
-  });
+    ends = λ l s. reach (with_asked call l) (goes l) (record {
+      truth = s.truth;
+      file = seen.files.file ∙ s.file;
+      tapes = seen.tapes.told ∙ s.tapes;
+      links = seen.links.told ∙ s.links;
+      input = s.input;
+      dice = λ seat. subst (λ told. Keeps (l.dice seat) (told seat)) (sym seen.dice.told)
+          (s.dice seat);
+      asked = seen.asked ∙ ap (with_call call) s.asked;
+      said = s.said;
+    });
+  }
+
+-- a world is another where each part is
+pub one_world : {x y : Outside} → y.file ≡ x.file → y.faults ≡ x.faults → y.asked ≡ x.asked
+    → x.dice ≡ y.dice → x.tapes ≡ y.tapes → x.links ≡ y.links → x ≡ y
+one_world file faults asked dice tapes links = λ i. record {
+  file = sym file i;
+  asked = sym asked i;
+  faults = sym faults i;
+  dice = dice i;
+  tapes = tapes i;
+  links = links i;
 }
 
--- what is lent stands as what came back
-module _ (seat : ℕ) {out new : Outside} {left : Option (List ℕ)} {count : ℕ}
-    (h : Returned seat out new left count) (a : Around) where
-  told_back : (other : ℕ)
-      → (with_lent same_seat seat left count out.dice).told other ≡ new.dice.told other
-  told_back other = by_seat (λ b. b ≡ new.dice.told other) seat other left (out.dice.told other)
-      (λ e. sym h.left_is ∙ ap (λ n. new.dice.told n) e) (λ n. sym (h.home.told other n))
+-- ---- a random source
 
-  faults_back : (other : ℕ)
-      → (with_lent same_seat seat left count out.dice).faults other ≡ new.dice.faults other
-  faults_back other = by_seat (λ b. b ≡ new.dice.faults other) seat other count
-      (out.dice.faults other) (λ e. sym h.home.count_is ∙ ap (λ n. new.dice.faults n) e)
-      (λ n. sym (h.home.faults other n))
+-- the world while a random source of the seat is out
+abbrev pub dice_seen : ℕ → Option (List ℕ) → ℕ → Outside → Outside
+dice_seen seat left count world =
+    record world { dice = with_lent same_seat seat left count world.dice }
 
-  out_back : (other : ℕ)
-      → (with_lent same_seat seat left count out.dice).out other ≡ new.dice.out other
-  out_back other = omega (arith, h.home.out other)
+lent_dice : (seat : ℕ) {old out : Outside} {left : Option (List ℕ)} {count : ℕ}
+    → DiceLoan seat old out left count → IsSeen (RandomSource seat) old (dice_seen seat left count out)
+lent_dice seat h = record {
+  files = record { file = h.files.file; later = h.files.later };
+  asked = h.asked;
+  dice = lent_seen same_seat seats_decide h.out h.left_is;
+  tapes = seen_same h.tapes;
+  links = seen_same h.links;
+}
 
-  dice_back : with_lent same_seat seat left count out.dice ≡ new.dice
-  dice_back = λ i. record {
-    told = λ other. told_back other i;
-    faults = λ other. faults_back other i;
-    out = λ other. out_back other i;
-  }
+dice_back : (seat : ℕ) {out new : Outside} {left : Option (List ℕ)} {count : ℕ}
+    → DiceReturn seat out new left count → dice_seen seat left count out ≡ new
+dice_back seat h =
+    one_world h.file h.faults h.asked (back_is same_seat seats_decide h.home h.left_is) (sym h.tapes) (sym h.links)
 
-  came_back : with_lent_dice seat left count (with_world out a) ≡ with_world new a
-  came_back = λ i. record a {
-    world = record {
-      file = sym h.file i;
-      asked = sym h.asked i;
-      faults = sym h.faults i;
-      dice = dice_back i;
-      tapes = sym h.tapes i;
-      links = sym h.links i;
-    };
-  }
-
-module _ (seat : ℕ) {old out new : Outside} {given back : Option (List ℕ)} {first count : ℕ}
-    (lent : Lent seat old out given first) (returned : Returned seat out new back count)
-    (a : Around) where
-  pub lends : {B : Type 0} {next : Steps B} {result : Result B Stop}
-      → ((b : Around) → Does next (with_lent_dice seat given first b)
-      (with_lent_dice seat back count b) result)
-      → Does (borrow_dice seat next) (with_world old a) (with_world new a) result
-  lends {next = next} {result} works =
-      subst (λ b. Does (borrow_dice seat next) (with_world old a) b result)
-      (came_back seat returned a)
-      (goes_on (borrow_dice seat nothing) (λ u. next) tt
-      (opened seat lent a) (works (with_world out a)))
+-- it is borrowed for what follows, and comes back
+pub lends : (seat : ℕ) {old out mid new : Outside} {given back : Option (List ℕ)}
+    {first count : ℕ} (a : Around) {B : Type 0} {next : Steps B} {result : Result B Stop}
+    → DiceLoan seat old out given first → DiceReturn seat mid new back count
+    → Does next (with_lent_dice seat given first (with_world out a))
+    (with_lent_dice seat back count (with_world mid a)) result
+    → Does (borrow_dice seat next) (with_world old a) (with_world new a) result
+lends seat {old} a {next = next} {result} lent returned works =
+    subst (λ w. Does (borrow_dice seat next) (with_world old a) (with_world w a) result)
+    (dice_back seat returned)
+    (goes_on (borrow_dice seat nothing) (λ u. next) tt
+    (borrowed (lent_dice seat lent) a (λ l. inr (inr (refl, refl)))) works)

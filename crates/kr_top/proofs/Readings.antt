@@ -10,7 +10,7 @@ use Rattle.kr_top.specs.Around.{Around, left_of, IsHome, IsFault, faults_at, cou
 use Rattle.kr_top.specs.Command.{Asks, AskBadly}
 use Rattle.kr_top.specs.Commands.{steps}
 use Rattle.kr_top.specs.Message.{status_of, status_of_done, status_of_configuration, status_of_refusal, line_of, fault_line}
-use Rattle.kr_top.specs.Steps.{Call, loading, reading, opening, drawing, object_of, Point, refuses, gives}
+use Rattle.kr_top.specs.Steps.{Call, loading, reading, opening, lending, scanning, drawing, object_of, Point, refuses, gives, linking, asking}
 use Rattle.kr_top.specs.Ran.{Receipt, IsIdle, Reports, IsUntouched, StopsAtOnce, Did, Comes, Writes, Answers, Tells, FailsAt, FailsToWrite, Readings}
 use Rattle.kr_top.specs.declared.command.Command.{Command}
 use Rattle.kr_top.specs.declared.refusal.BadWords.{BadWords}
@@ -18,7 +18,7 @@ use Rattle.kr_top.specs.declared.refusal.BadWords.TheVariants.{Usage, Replicas, 
 use Rattle.kr_top.specs.declared.refusal.Object.{Object}
 use Rattle.kr_top.specs.declared.refusal.Object.TheVariants.{Output}
 use Rattle.kr_top.specs.declared.refusal.Refusal.{Refusal}
-use Rattle.kr_top.specs.declared.refusal.Refusal.TheVariants.{Absent, Configuration, NotServed, Limit, Value, Placed}
+use Rattle.kr_top.specs.declared.refusal.Refusal.TheVariants.{Absent, Configuration, Limit, Value, Placed, Broken, NoPlugin, Unhealthy}
 use Rattle.kr_top.specs.declared.refusal.Stop.{Stop}
 use Rattle.kr_top.specs.declared.refusal.Stop.TheVariants.{Words, Refused, Fault, NoMemory}
 use Rattle.kr_top.specs.declared.refusal.Done.{Done}
@@ -40,10 +40,12 @@ status_of_why (config.Limit counted) = inr (inr refl)
 status_in : (why : Refusal) → Statuses (status_of_refusal why)
 status_in (Absent name) = inr (inl refl)
 status_in (Configuration why) = status_of_why why
-status_in NotServed = inr (inl refl)
+status_in (NoPlugin name) = inr (inl refl)
+status_in (Unhealthy name field text) = inr (inl refl)
 status_in (Limit which) = inr (inr refl)
 status_in (Value number) = inl refl
 status_in (Placed number at) = inl refl
+status_in (Broken why) = inr (inl refl)
 
 done_zero : (done : Done) → status_of_done done ≡ 0
 done_zero Silent = refl
@@ -54,14 +56,18 @@ done_zero Stale = refl
 
 -- a sum rises with a part, as far as it goes
 sum_rose : (loads tapes dice links l t d k : ℕ) → loads ≤ l → tapes ≤ t → dice ≤ d → links ≤ k
-    → Rose loads l ⊎ Rose dice d
+    → Rose loads l ⊎ Rose tapes t ⊎ Rose dice d ⊎ Rose links k
     → Rose (min (loads + tapes + dice + links) (2 ^ 64 - 1)) (min (l + t + d + k) (2 ^ 64 - 1))
 sum_rose loads tapes dice links l t d k a b c e (inl r) = grind arith
-sum_rose loads tapes dice links l t d k a b c e (inr r) = grind arith
+sum_rose loads tapes dice links l t d k a b c e (inr (inl r)) = grind arith
+sum_rose loads tapes dice links l t d k a b c e (inr (inr (inl r))) = grind arith
+sum_rose loads tapes dice links l t d k a b c e (inr (inr (inr r))) = grind arith
 
 file_rose : {old new : Around} → IsHome old new
     → Rose old.world.faults.loads new.world.faults.loads
+    ⊎ Rose old.world.faults.tapes new.world.faults.tapes
     ⊎ Rose old.world.faults.dice new.world.faults.dice
+    ⊎ Rose old.world.faults.links new.world.faults.links
     → Rose (file_faults old.world) (file_faults new.world)
 file_rose {old} {new} h r =
     sum_rose old.world.faults.loads old.world.faults.tapes old.world.faults.dice
@@ -74,8 +80,12 @@ object_rose : {old new : Around} (call : Call) → IsHome old new
     → Rose (faults_at call old) (faults_at call new) → Rose (count_at call old) (count_at call new)
 object_rose (loading name) h r = file_rose h (inl r)
 object_rose reading h r = r
-object_rose (opening seat) h r = file_rose h (inr r)
+object_rose (opening seat) h r = file_rose h (inr (inr (inl r)))
+object_rose (lending name) h r = file_rose h (inr (inl r))
+object_rose (scanning object name) h r = r
 object_rose (drawing seat) h r = r
+object_rose (linking seat plugin) h r = file_rose h (inr (inr (inr r)))
+object_rose (asking seat plugin) h r = r
 
 whole_front : (old new : Option (List ℕ)) (value : List ℕ) → Appends old new value
     → AppendsFront old new value

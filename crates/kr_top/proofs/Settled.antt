@@ -1,6 +1,9 @@
 -- What each command's steps find is one thing, and what they draw decides nothing but the value.
-use Rattle.std.proofs.Common.{◌≡◌, ℕ, zero, suc, List, [], length, Bool, true, false, Option, None, Some, Ok, Err, refl, sym, ◌∙◌, ap, subst, inl, inr, arith}
-use Rattle.std.specs.Prelude.{codes, Result, IsSome, is_some, nat_lt, if◌then◌else◌}
+use Rattle.std.proofs.Common.{◌≡◌, ℕ, zero, suc, List, [], ◌∷◌, length, map, Bool, true, false, Option, None, Some, Ok, Err, Contains, refl, sym, ◌∙◌, ap, subst, inl, inr, arith}
+use Rattle.std.specs.Prelude.{codes, cond, not, ◌||◌, Result, IsSome, is_some, nat_lt, if◌then◌else◌}
+use Rattle.std.specs.List.{list_any}
+use Rattle.std.specs.Option.{option_map}
+use Rattle.std.specs.Str.{bytes_eq}
 use Rattle.kr_base.specs.Limits.{data_limit}
 use Rattle.std.specs.Result.{result_map_both}
 use Rattle.kr_config.specs.Kept.{Row}
@@ -16,25 +19,39 @@ use Rattle.kr_envelope.specs.declared.object.ObjectNo.{ObjectNo}
 use Rattle.kr_envelope.specs.declared.object.ObjectNo.TheVariants as object
 use Rattle.kr_envelope.proofs.OneReading.{one_reading}
 use Rattle.kr_envelope.proofs.Prefixing.{one_prefix, prefix_marked}
-use Rattle.kr_provider.specs.Envelopes.{unknown}
-use Rattle.kr_provider.specs.Reading.{Reading, data_of, refused, unopened, value_reading, is_stale}
-use Rattle.kr_provider.specs.Readers.{writer_of}
+use Rattle.kr_config.specs.Providers.{is_kms}
+use Rattle.kr_kms.specs.Health.{breach_in}
+use Rattle.kr_kms.specs.declared.health.Field.{Field}
+use Rattle.kr_kms.specs.declared.plugin.Wrapped.{Wrapped}
+use Rattle.kr_kms.specs.declared.seeds.SeedRow.{SeedRow}
+use Rattle.kr_kms.specs.declared.world.WorldCall.TheVariants.{File}
+use Rattle.kr_provider.specs.Envelopes.{Envelope}
+use Rattle.kr_provider.specs.PluginOrder.{in_order, plugin_order}
+use Rattle.kr_provider.specs.Publication.{seed_of}
+use Rattle.kr_provider.specs.Reading.{Reading, data_of, refused, unopened, value_reading, is_rotated, is_stale}
+use Rattle.kr_provider.specs.Readers.{is_reader, reader_in, writer_of}
+use Rattle.kr_provider.proofs.Lists.{no_names}
+use Rattle.kr_provider.proofs.OneReading.{IsNoPlugin, any_envelope, no_plugin}
+use Rattle.kr_provider.proofs.WithoutPlugins.{none_listed}
 use Rattle.kr_provider.specs.Sealing.{draw_size, sealed_by}
-use Rattle.kr_top.specs.Commands.{by_result, value_steps, draw_some, reading_steps, working_by, converting, steps}
-use Rattle.kr_top.specs.Configuration.{IsConfiguration, without_plugin}
+use Rattle.kr_top.specs.Commands.{by_result, value_steps, draw_some, input_of, linking_programs, opening, read_with, reading_steps, unsealing, working, working_by, converting, steps}
+use Rattle.kr_top.specs.Configuration.{IsConfiguration}
 use Rattle.kr_top.specs.Inspect.{Inspects, ShowsBody, ShowsObject}
-use Rattle.kr_top.specs.Steps.{Steps, and_then, Left}
-use Rattle.kr_top.specs.Texts.{line, numbered}
+use Rattle.kr_top.specs.Plugins.{borrow_links, make_seeds, programs_of, seed_row, unless_breach, wrap_seed}
+use Rattle.kr_top.specs.Steps.{Steps, load, take_input, borrow_dice, borrow_tape, read_tape, draw, borrow_link, ask_status, wrap, unwrap, note, find, refuse, give, and_then, Left, with_asked, with_dice}
+use Rattle.kr_top.specs.Texts.{line, word_and_number}
 use Rattle.kr_top.specs.declared.command.Command.{Command}
-use Rattle.kr_top.specs.declared.command.Command.TheVariants.{Convert, Check, Inspect}
+use Rattle.kr_top.specs.declared.command.Command.TheVariants.{Convert, Check, Inspect, Rows}
 use Rattle.kr_top.specs.declared.command.Conversion.{Conversion}
 use Rattle.kr_top.specs.declared.command.Direction.{Direction}
 use Rattle.kr_top.specs.declared.command.Direction.TheVariants.{Encrypt, Decrypt}
+use Rattle.kr_top.specs.declared.programs.Program.{Program}
 use Rattle.kr_top.specs.declared.refusal.Refusal.{Refusal}
 use Rattle.kr_top.specs.declared.refusal.Refusal.TheVariants.{Configuration}
 use Rattle.kr_top.specs.declared.refusal.Outcome.{Outcome}
 use Rattle.kr_top.specs.Around.{Around, left_of}
-use Rattle.kr_top.specs.Ran.{IsTelling}
+use Rattle.kr_top.specs.Ran.{IsTelling, ArePluginsTold}
+use Rattle.kr_top.proofs.Listed.{one_stored, one_shown}
 use Rattle.kr_top.proofs.OnePoint.{IsSettled}
 
 settled_result : {A : Type 0} (left right : Left) (r : Result A Refusal) (next : A → Steps Outcome)
@@ -93,7 +110,7 @@ one_body Kms name body a b (r, x, h) (s, y, k) = elim (one_reading body r s x y)
 one_inspection : (bytes : List ℕ) (a b : Result (List ℕ) Refusal) → Inspects bytes a
     → Inspects bytes b → a ≡ b
 one_inspection bytes a b (Plain c, s, h) (Plain d, t, k) =
-    h ∙ ap (λ x. Ok (line (numbered (codes "plain") (length x)))) (s.1 ∙ sym t.1) ∙ sym k
+    h ∙ ap (λ x. Ok (line (word_and_number (codes "plain") (length x)))) (s.1 ∙ sym t.1) ∙ sym k
 one_inspection bytes a b (Plain c, s, h) (Known kind name body, t, k) =
     absurd (s.0 (prefix_marked kind name.now bytes (body.now, t.1)))
 one_inspection bytes a b (Plain c, s, h) (Strange, t, k) = absurd (s.0 t.0)
@@ -112,21 +129,52 @@ one_inspection bytes a b (Strange, s, h) (Known kind name body, t, k) =
     absurd (s.1 kind name.now t.0 (body.now, t.1))
 one_inspection bytes a b (Strange, s, h) (Strange, t, k) = h ∙ sym k
 
--- ---- encrypt and decrypt: the value alone depends on what was drawn
+-- ---- encrypt and decrypt: the value alone depends on what was drawn and wrapped
 
 alike_within : (long : Bool) (x y : Option (List ℕ)) → is_some x ≡ is_some y
     → is_some (if long then None else x) ≡ is_some (if long then None else y)
 alike_within true x y same = refl
 alike_within false x y same = same
 
-one_seal : (who : Who) (path plain a b : List ℕ)
-    → is_some (sealed_by [] who path plain a) ≡ is_some (sealed_by [] who path plain b)
-one_seal who.Identity path plain a b = refl
-one_seal (who.Aescbc name secret) path plain a b =
+abbrev names_made : List SeedRow → List (List ℕ)
+names_made seeds = map (λ row. row.name) seeds
+
+either : {A : Type 0} (p q : Bool) (x y : A) (r s : Option A) → p ≡ q → is_some r ≡ is_some s
+    → is_some (cond p (Some x) r) ≡ is_some (cond q (Some y) s)
+either true true x y r s e f = refl
+either true false x y r s e f = absurd cc
+either false true x y r s e f = absurd cc
+either false false x y r s e f = f
+
+-- seeds of the same plugins have one of a plugin, or none
+same_seeds : (name : List ℕ) (a b : List SeedRow) → names_made a ≡ names_made b
+    → is_some (seed_of name a) ≡ is_some (seed_of name b)
+same_seeds name [] [] e = refl
+same_seeds name [] (y ∷ b) e = absurd cc
+same_seeds name (x ∷ a) [] e = absurd cc
+same_seeds name (x ∷ a) (y ∷ b) e =
+    let first : x.name ≡ y.name = cc in
+    either (bytes_eq x.name name) (bytes_eq y.name name) x y (seed_of name a) (seed_of name b)
+    (ap (λ n. bytes_eq n name) first) (same_seeds name a b cc)
+
+some_mapped : {A B : Type 0} (f g : A → B) (x y : Option A) → is_some x ≡ is_some y
+    → is_some (option_map f x) ≡ is_some (option_map g y)
+some_mapped f g (Some x) (Some y) e = refl
+some_mapped f g (Some x) None e = absurd cc
+some_mapped f g None (Some y) e = absurd cc
+some_mapped f g None None e = refl
+
+one_seal : (writer : Who) (a b : List SeedRow) (path plain x y : List ℕ)
+    → names_made a ≡ names_made b
+    → is_some (sealed_by a writer path plain x) ≡ is_some (sealed_by b writer path plain y)
+one_seal who.Identity a b path plain x y same = refl
+one_seal (who.Aescbc name secret) a b path plain x y same =
     alike_within (nat_lt data_limit (length plain)) _ _ refl
-one_seal (who.Aesgcm name secret) path plain a b =
+one_seal (who.Aesgcm name secret) a b path plain x y same =
     alike_within (nat_lt data_limit (length plain)) _ _ refl
-one_seal (who.Kms name) path plain a b = refl
+one_seal (who.Kms name) a b path plain x y same =
+    alike_within (nat_lt data_limit (length plain)) _ _
+    (some_mapped _ _ (seed_of name a) (seed_of name b) (same_seeds name a b same))
 
 settled_value : (left right : Left) (x y : Option (List ℕ)) → is_some x ≡ is_some y
     → IsSettled (value_steps x) (value_steps y) left right
@@ -135,13 +183,13 @@ settled_value left right (Some x) None same = absurd cc
 settled_value left right None (Some y) same = absurd cc
 settled_value left right None None same = refl
 
-settled_draw : (left right : Left) (size : ℕ) (sealed : List ℕ → Option (List ℕ))
-    → ((a b : List ℕ) → is_some (sealed a) ≡ is_some (sealed b))
+settled_draw : (left right : Left) (size : ℕ) (sealed other : List ℕ → Option (List ℕ))
+    → ((x y : List ℕ) → is_some (sealed x) ≡ is_some (other y))
     → IsSettled (draw_some size (λ d. value_steps (sealed d)))
-    (draw_some size (λ d. value_steps (sealed d))) left right
-settled_draw left right zero sealed same = settled_value left right _ _ (same [] [])
-settled_draw left right (suc more) sealed same =
-    λ a b ra rb. settled_value _ _ (sealed a) (sealed b) (same a b)
+    (draw_some size (λ d. value_steps (other d))) left right
+settled_draw left right zero sealed other same = settled_value left right _ _ (same [] [])
+settled_draw left right (suc more) sealed other same =
+    λ x y rx ry. settled_value _ _ (sealed x) (other y) (same x y)
 
 settled_reading : (left right : Left) (reading : Reading) (stale : Bool)
     → IsSettled (reading_steps reading stale) (reading_steps reading stale) left right
@@ -149,41 +197,213 @@ settled_reading left right (data_of plain) stale = refl
 settled_reading left right (refused number) stale = refl
 settled_reading left right unopened stale = λ a b. absurd a
 
-settled_working : (left right : Left) (direction : Direction) (list : List Who)
-    (path bytes : List ℕ)
-    → IsSettled (working_by direction list path bytes) (working_by direction list path bytes)
-    left right
-settled_working left right Encrypt list path bytes =
-    settled_draw left right (draw_size (writer_of list)) (sealed_by [] (writer_of list) path bytes)
-    (one_seal (writer_of list) path bytes)
-settled_working left right Decrypt list path bytes =
-    settled_reading left right (value_reading unknown list path bytes)
-    (is_stale unknown [] list bytes)
+-- ---- a list without plugins
 
-settled_converting : (left : Left) (words : Conversion) → IsSome (left.file words.config)
-    → IsSome left.input → IsSettled (converting words) (converting words) left left
-settled_converting left words told input = (
-  told,
-  refl,
-  λ file a b x y. settled_by _ _ a b _ (one_configuration words.config file a b x y) (λ rows.
-      settled_result _ _ (without_plugin rows) _ (λ rows. (
+no_opening : (seeds : List SeedRow) (reader : Option Who) (object : Result EncryptedObject ObjectNo)
+    (next : Option (List ℕ) → Steps Outcome) → IsNoPlugin reader
+    → opening seeds reader object next ≡ next None
+no_opening seeds None object next n = refl
+no_opening seeds (Some who.Identity) object next n = refl
+no_opening seeds (Some (who.Aescbc name secret)) object next n = refl
+no_opening seeds (Some (who.Aesgcm name secret)) object next n = refl
+no_opening seeds (Some (who.Kms name)) object next n = absurd (cc)
+
+-- without seeds a plugin's value is rotated, whatever it is
+rotated_alike : (a b : Envelope) (writer : Who) → is_rotated a [] writer ≡ is_rotated b [] writer
+rotated_alike a b who.Identity = refl
+rotated_alike a b (who.Aescbc name secret) = refl
+rotated_alike a b (who.Aesgcm name secret) = refl
+rotated_alike a b (who.Kms name) = refl
+
+settled_unsealing : (left right : Left) (list : List Who) (path bytes : List ℕ)
+    → list_any is_kms list ≡ false
+    → IsSettled (unsealing [] list path bytes) (unsealing [] list path bytes) left right
+settled_unsealing left right list path bytes none = λ a b h k.
+    let reader = reader_in list bytes in
+    let no : IsNoPlugin reader = no_plugin list bytes none in
+    let x : Envelope = record { object = a; source = None } in
+    let y : Envelope = record { object = b; source = None } in
+    let reads = any_envelope reader path bytes x y no in
+    let stale = ap (λ q. not (is_reader bytes (writer_of list)) || q)
+    (rotated_alike x y (writer_of list)) in
+    subst (λ steps. IsSettled steps (opening [] reader b (read_with [] list path bytes b))
+    left right) (sym (no_opening [] reader a (read_with [] list path bytes a) no))
+    (subst (λ steps. IsSettled (read_with [] list path bytes a None) steps left right)
+    (sym (no_opening [] reader b (read_with [] list path bytes b) no))
+    (subst (λ r. IsSettled (read_with [] list path bytes a None)
+    (reading_steps r (is_stale y [] list bytes)) left right) reads
+    (subst (λ q. IsSettled (read_with [] list path bytes a None)
+    (reading_steps (value_reading x list path bytes) q) left right) stale
+    (settled_reading left right (value_reading x list path bytes) (is_stale x [] list bytes)))))
+
+-- ---- links and seeds
+
+settled_links : (programs : List Program) (next : Steps Outcome) (left right : Left)
+    → right.links ≡ left.links
+    → ((l r : Left) → l.links ≡ left.links → r.links ≡ left.links → IsSettled next next l r)
+    → IsSettled (borrow_links programs next) (borrow_links programs next) left right
+settled_links [] next left right same f = f left right refl same
+settled_links (program ∷ programs) next left right same f =
+    settled_links programs next _ _ same f
+
+-- what follows the first two follows the second of them
+regroup : {A B C : Type 0} (first : Steps A) (f : A → Steps B) (g : B → Steps C)
+    → and_then (and_then first f) g ≡ and_then first (λ x. and_then (f x) g)
+regroup (load name next) f g = λ i. load name (λ bytes. regroup (next bytes) f g i)
+regroup (take_input limit long next) f g =
+    λ i. take_input limit long (λ bytes. regroup (next bytes) f g i)
+regroup (borrow_dice seat next) f g = λ i. borrow_dice seat (regroup next f g i)
+regroup (borrow_tape name make absent next) f g =
+    λ i. borrow_tape name make absent (regroup next f g i)
+regroup (read_tape object name next) f g =
+    λ i. read_tape object name (λ bytes. regroup (next bytes) f g i)
+regroup (draw seat size next) f g = λ i. draw seat size (λ bytes. regroup (next bytes) f g i)
+regroup (borrow_link seat plugin program next) f g =
+    λ i. borrow_link seat plugin program (regroup next f g i)
+regroup (ask_status seat plugin next) f g =
+    λ i. ask_status seat plugin (λ status. regroup (next status) f g i)
+regroup (wrap seat plugin plain next) f g =
+    λ i. wrap seat plugin plain (λ wrapped. regroup (next wrapped) f g i)
+regroup (unwrap seat key next) f g = λ i. unwrap seat key (λ bytes. regroup (next bytes) f g i)
+regroup (note text next) f g = λ i. note text (regroup next f g i)
+regroup (find B P next) f g = λ i. find B P (λ b. regroup (next b) f g i)
+regroup (refuse why) f g = refl
+regroup (give x) f g = refl
+
+abbrev more_seeds : List (List ℕ) → SeedRow → Steps (List SeedRow)
+more_seeds names row = and_then (make_seeds names) (λ rows. give (row ∷ rows))
+
+settled_seeds : (names : List (List ℕ)) (left right : Left) → right.links ≡ left.links
+    → ((plugin : List ℕ) → Contains names plugin → IsSome (left.links (0, plugin)))
+    → (next more : List SeedRow → Steps Outcome)
+    → ((a b : List SeedRow) (l r : Left) → names_made a ≡ names → names_made b ≡ names
+    → IsSettled (next a) (more b) l r)
+    → IsSettled (and_then (make_seeds names) next) (and_then (make_seeds names) more) left right
+settled_seeds [] left right same told next more f = f [] [] left right refl refl
+settled_seeds (name ∷ names) left right same told next more f = (
+  told name (0, omega arith, refl),
+  ap (λ t. t (0, name)) same,
+  λ status. by_breach (λ x y rx ry u v. settled_seeds names _ _ same
+      (λ plugin c. told plugin (suc c.0, omega (arith, c.1), c.2))
+      (λ rows. next (seed_row name x u ∷ rows)) (λ rows. more (seed_row name y v ∷ rows))
+      (λ a b l r g h. f (seed_row name x u ∷ a) (seed_row name y v ∷ b) l r
+      (ap (λ n. name ∷ n) g) (ap (λ n. name ∷ n) h))) (breach_in status),
+)
+  where
+    after : (a b : SeedRow) (l r : Left)
+        → IsSettled (and_then (make_seeds names) (λ rows. next (a ∷ rows)))
+        (and_then (make_seeds names) (λ rows. more (b ∷ rows))) l r
+        → IsSettled (and_then (more_seeds names a) next) (and_then (more_seeds names b) more) l r
+    after a b l r s =
+        subst (λ steps. IsSettled steps (and_then (more_seeds names b) more) l r)
+        (sym (regroup (make_seeds names) (λ rows. give (a ∷ rows)) next))
+        (subst (λ steps. IsSettled (and_then (make_seeds names) (λ rows. next (a ∷ rows))) steps
+        l r) (sym (regroup (make_seeds names) (λ rows. give (b ∷ rows)) more)) s)
+
+    by_breach : ((x y : List ℕ) (rx ry : Option (List ℕ)) (u v : Wrapped)
+        → IsSettled (and_then (make_seeds names) (λ rows. next (seed_row name x u ∷ rows)))
+        (and_then (make_seeds names) (λ rows. more (seed_row name y v ∷ rows)))
+        (with_dice 0 rx left) (with_dice 0 ry right))
+        → (breach : Option (Field × List ℕ)) → IsSettled
+        (and_then (and_then (unless_breach name breach (wrap_seed name)) (more_seeds names)) next)
+        (and_then (and_then (unless_breach name breach (wrap_seed name)) (more_seeds names)) more)
+        left right
+    by_breach others (Some breach) = refl
+    by_breach others None = λ x y rx ry. λ u v within short.
+        after (seed_row name x u) (seed_row name y v) (with_dice 0 rx left) (with_dice 0 ry right)
+        (others x y rx ry u v)
+
+-- ---- together
+
+settled_working : (left right : Left) (old : Around) (direction : Direction)
+    (resource path bytes : List ℕ) (rows : List Row) → left.links ≡ old.world.links.told
+    → right.links ≡ old.world.links.told → ArePluginsTold direction old rows
+    → IsSettled (working direction resource path rows bytes)
+    (working direction resource path rows bytes) left right
+settled_working left right old Encrypt resource path bytes rows x y told = λ u v h k.
+    settled_seeds (plugin_order rows) left right (y ∙ sym x)
+    (λ plugin c. subst (λ t. IsSome (t (0, plugin))) (sym x) (told plugin c))
+    (working_by Encrypt resource path rows bytes) (working_by Encrypt resource path rows bytes)
+    (λ a b l r e f. λ u v h k. settled_draw l r (draw_size (writer_of (list_of rows resource)))
+    (sealed_by a (writer_of (list_of rows resource)) path bytes)
+    (sealed_by b (writer_of (list_of rows resource)) path bytes)
+    (λ p q. one_seal (writer_of (list_of rows resource)) a b path bytes p q (e ∙ sym f)))
+settled_working left right old Decrypt resource path bytes rows x y told = λ u v h k.
+    let none : plugin_order rows ≡ [] = ap in_order (no_names rows told) in
+    subst (λ names. IsSettled
+    (and_then (make_seeds names) (working_by Decrypt resource path rows bytes))
+    (and_then (make_seeds names) (working_by Decrypt resource path rows bytes)) left right)
+    (sym none)
+    (settled_unsealing left right (list_of rows resource) path bytes
+    (none_listed rows resource told))
+
+-- with the programs of these entries' plugins
+abbrev linked_steps : Conversion → List Row → List Program → Steps Outcome
+linked_steps words rows programs = and_then (input_of words.direction) (λ bytes.
+    borrow_dice 0 (borrow_links programs
+    (working words.direction words.resource words.path rows bytes)))
+
+abbrev configured : Conversion → List Row → Steps Outcome
+configured words rows =
+    and_then (linking_programs words.options rows) (linked_steps words rows)
+
+module _ (old : Around) (words : Conversion) (input : IsSome old.input) where
+  abbrev now : Left
+  now = with_asked (File words.config) (left_of old)
+
+  settled_rows : (rows : List Row) → ArePluginsTold words.direction old rows
+      → IsSettled (configured words rows) (configured words rows) now now
+  settled_rows rows told = λ u v h k.
+      settled_result now now (programs_of words.options (plugin_order rows))
+      (linked_steps words rows) (λ programs. (
         refl,
         refl,
         input,
         refl,
-        λ bytes rest u v t w. settled_working _ _ words.direction (list_of rows words.resource)
-            words.path bytes,
-      ))),
+        λ bytes rest. settled_links programs (working words.direction words.resource words.path
+            rows bytes) _ _ refl (λ l r x y. settled_working l r old
+            words.direction words.resource words.path bytes rows x y told),
+      ))
+
+  by_rows : (a : Result (List Row) Refusal)
+      → ((rows : List Row) → a ≡ Ok rows → ArePluginsTold words.direction old rows)
+      → IsSettled (and_then (by_result a) (configured words))
+      (and_then (by_result a) (configured words)) now now
+  by_rows (Ok rows) told = settled_rows rows (told rows refl)
+  by_rows (Err why) told = refl
+
+settled_converting : (old : Around) (words : Conversion) → IsTelling (Convert words) old
+    → IsSettled (converting words) (converting words) (left_of old) (left_of old)
+settled_converting old words (told, input, plugins) = (
+  told,
+  refl,
+  λ file agrees a b x y. subst (λ r. IsSettled (and_then (by_result a) (configured words))
+      (and_then (by_result r) (configured words)) (now old words input) (now old words input))
+      (one_configuration words.config file a b x y)
+      (by_rows old words input a (λ rows is. plugins file rows
+      (subst (IsConfiguration words.config file) is x) agrees)),
 )
 
 pub settled : (command : Command) (old : Around) → IsTelling command old
     → IsSettled (steps command) (steps command) (left_of old) (left_of old)
-settled (Convert words) old (told, input) = settled_converting _ words told input
+settled (Convert words) old tells = settled_converting old words tells
 settled (Check config resource) old told = (
   told,
   refl,
-  λ file a b x y. settled_by _ _ a b _ (one_configuration config file a b x y) (λ rows.
+  λ file agrees a b x y. settled_by _ _ a b _ (one_configuration config file a b x y) (λ rows.
       λ c d h k. settled_by _ _ c d _ (h ∙ sym k) (λ text. refl)),
+)
+settled (Rows store) old told = (
+  told,
+  refl,
+  refl,
+  refl,
+  (
+    told,
+    refl,
+    λ bytes a b x y. settled_by _ _ a b _ (one_stored bytes a b x y) (λ stored.
+        λ c d h k. settled_by _ _ c d _ (one_shown stored.rows c d h k) (λ text. refl)),
+  ),
 )
 settled Inspect old input = (
   refl,

@@ -1,23 +1,30 @@
 -- What is around a command, and how its steps end there.
-use Rattle.std.specs.Prelude.{◌≡◌, ℕ, ◌-◌, ◌≤◌, ◌⊎◌, Bool, List, [], Option, Result, Ok, Err, if◌then◌else◌}
+use Rattle.std.specs.Prelude.{◌≡◌, ℕ, ◌-◌, ◌≤◌, ◌⊎◌, Bool, List, [], Option, Some, Result, Ok, Err, if◌then◌else◌, ◌∷◌}
 use Rattle.std.specs.Io.KnownBytes.{Keeps}
+use Rattle.std.specs.Option.{option_map}
 use Rattle.kr_base.specs.Faults.{Rose}
-use Rattle.kr_kms.specs.Outside.{Outside, Objects, KeepsFiles, file_faults, at_key, same_seat}
-use Rattle.kr_top.specs.Steps.{Steps, Call, loading, reading, opening, drawing, object_of, Point, awaits, amid, refuses, gives, Left, Goes}
+use Rattle.kr_kms.specs.Outside.{Outside, Objects, KeepsFiles, file_faults, at_key, same_seat, same_name, same_link}
+use Rattle.kr_top.specs.Steps.{Steps, Call, loading, reading, opening, lending, scanning, drawing, object_of, Point, awaits, amid, refuses, gives, Left, Goes, linking, asking}
+use Rattle.kr_kms.specs.Calls.{Link}
+use Rattle.kr_kms.specs.Truth.{Truth}
+use Rattle.kr_kms.specs.declared.plugin.Status.{Status}
 use Rattle.kr_top.specs.declared.refusal.Object.{Object}
 use Rattle.kr_top.specs.declared.refusal.Stop.{Stop}
 use Rattle.kr_top.specs.declared.refusal.Stop.TheVariants.{Words, Refused, Fault, NoMemory}
 
--- what is around a command: the world and the input, with what they tell and their counts of
--- faults; and what is to be written in place of a value
+-- what is around a command: the truth of the plugins that the world links to; the world and the
+-- input, with what they tell and their counts of faults; and what is to be written in place of a
+-- value
 pub record Around : Type 0 where
+  pub truth : Truth
   pub world : Outside
   pub input : Option (List ℕ)
   pub faults : ℕ
   pub said : List ℕ
 
-abbrev pub around : Outside → Option (List ℕ) → ℕ → Around
-around world input faults = record { world = world; input = input; faults = faults; said = [] }
+abbrev pub around : Truth → Outside → Option (List ℕ) → ℕ → Around
+around truth world input faults =
+    record { truth = truth; world = world; input = input; faults = faults; said = [] }
 
 -- ---- its parts
 
@@ -43,6 +50,28 @@ with_lent_dice seat left faults a = record a {
   };
 }
 
+abbrev pub with_lent_tape : List ℕ → Option (List ℕ) → ℕ → Around → Around
+with_lent_tape name told faults a = record a {
+  world = record a.world {
+    tapes = with_lent same_name name (option_map Some told) faults a.world.tapes;
+  };
+}
+
+-- some links of the seat
+abbrev pub lent_links : {L : Type 0} → (L → Link) → ℕ → List L
+    → Objects (ℕ × List ℕ) (Option Status) → Objects (ℕ × List ℕ) (Option Status)
+lent_links link seat [] objects = objects
+lent_links link seat (first ∷ more) objects =
+    with_lent same_link (seat, (link first).name) (link first).status (link first).count
+    (lent_links link seat more objects)
+
+abbrev pub with_lent_links : {L : Type 0} → (L → Link) → ℕ → List L → Around → Around
+with_lent_links link seat links a = record a {
+  world = record a.world {
+    links = lent_links link seat links a.world.links;
+  };
+}
+
 -- ---- faults
 
 -- the faults of a kind of call
@@ -50,14 +79,22 @@ abbrev pub faults_at : Call → Around → ℕ
 faults_at (loading name) around = around.world.faults.loads
 faults_at reading around = around.faults
 faults_at (opening seat) around = around.world.faults.dice
+faults_at (lending name) around = around.world.faults.tapes
+faults_at (scanning object name) around = around.world.tapes.faults name
 faults_at (drawing seat) around = around.world.dice.faults seat
+faults_at (linking seat plugin) around = around.world.faults.links
+faults_at (asking seat plugin) around = around.world.links.faults (seat, plugin)
 
 -- the faults of its object
 abbrev pub count_at : Call → Around → ℕ
 count_at (loading name) around = file_faults around.world
 count_at reading around = around.faults
 count_at (opening seat) around = file_faults around.world
+count_at (lending name) around = file_faults around.world
+count_at (scanning object name) around = around.world.tapes.faults name
 count_at (drawing seat) around = around.world.dice.faults seat
+count_at (linking seat plugin) around = file_faults around.world
+count_at (asking seat plugin) around = around.world.links.faults (seat, plugin)
 
 -- the call failed: its count rose, and the object's count is this
 abbrev pub IsFault : Call → Object → ℕ → Around → Around → Type 0
@@ -69,6 +106,7 @@ IsFault call object count old new =
 
 -- nothing was consumed, said, or asked of the world but what is left of
 pub record Stays (left : Left) (new : Around) : Type 0 where
+  pub truth : new.truth ≡ left.truth
   pub file : new.world.file ≡ left.file
   pub tapes : new.world.tapes.told ≡ left.tapes
   pub links : new.world.links.told ≡ left.links
@@ -79,6 +117,7 @@ pub record Stays (left : Left) (new : Around) : Type 0 where
 
 abbrev pub left_of : Around → Left
 left_of around = record {
+  truth = around.truth;
   file = around.world.file;
   tapes = around.world.tapes.told;
   links = around.world.links.told;

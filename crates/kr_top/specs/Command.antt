@@ -5,39 +5,47 @@ use Rattle.kr_words.specs.Options.{value_of}
 use Rattle.kr_words.specs.declared.command.Verb.{Verb}
 use Rattle.kr_words.specs.declared.command.Verb.TheVariants as verbs
 use Rattle.kr_top.specs.declared.command.Command.{Command}
-use Rattle.kr_top.specs.declared.command.Command.TheVariants.{Convert, Check, Inspect}
+use Rattle.kr_top.specs.declared.command.Command.TheVariants.{Convert, Check, Inspect, Rows}
 use Rattle.kr_top.specs.declared.command.Direction.{Direction}
 use Rattle.kr_top.specs.declared.command.Direction.TheVariants.{Encrypt, Decrypt}
 use Rattle.kr_top.specs.declared.refusal.BadWords.{BadWords}
 use Rattle.kr_top.specs.declared.refusal.BadWords.TheVariants.{Usage, Replicas, Size}
 
--- a command of an object wants all three options
-abbrev pub conversion_of : Direction → (config resource path : Option (List ℕ)) → Option Command
-conversion_of direction None resource path = None
-conversion_of direction (Some config) None path = None
-conversion_of direction (Some config) (Some resource) None = None
-conversion_of direction (Some config) (Some resource) (Some path) = Some (Convert (record {
-  direction = direction;
-  config = config;
-  resource = resource;
-  path = path;
-}))
+-- a command of an object wants three of the options; more of them name programs
+abbrev pub conversion_of : Direction → (options : List (List ℕ × List ℕ))
+    → (config resource path : Option (List ℕ)) → Option Command
+conversion_of direction options None resource path = None
+conversion_of direction options (Some config) None path = None
+conversion_of direction options (Some config) (Some resource) None = None
+conversion_of direction options (Some config) (Some resource) (Some path) =
+    Some (Convert (record {
+      direction = direction;
+      config = config;
+      resource = resource;
+      path = path;
+      options = options;
+    }))
 
 abbrev pub check_of : (config resource : Option (List ℕ)) → Option Command
 check_of None resource = None
 check_of (Some config) resource = Some (Check config resource)
 
+abbrev pub listing_of : (store : Option (List ℕ)) → Option Command
+listing_of None = None
+listing_of (Some store) = Some (Rows store)
+
 -- the command of a verb with its options, where it is built
 abbrev pub command_of : Verb → List (List ℕ × List ℕ) → Option Command
 command_of verbs.Encrypt options =
-    conversion_of Encrypt (value_of options (codes "config")) (value_of options (codes "resource"))
-    (value_of options (codes "path"))
+    conversion_of Encrypt options (value_of options (codes "config"))
+    (value_of options (codes "resource")) (value_of options (codes "path"))
 command_of verbs.Decrypt options =
-    conversion_of Decrypt (value_of options (codes "config")) (value_of options (codes "resource"))
-    (value_of options (codes "path"))
+    conversion_of Decrypt options (value_of options (codes "config"))
+    (value_of options (codes "resource")) (value_of options (codes "path"))
 command_of verbs.Check options =
     check_of (value_of options (codes "config")) (value_of options (codes "resource"))
 command_of verbs.Inspect options = Some Inspect
+command_of verbs.Rows options = listing_of (value_of options (codes "store"))
 command_of other options = None
 
 -- the words mean the command, and no limit of the command line is passed

@@ -1,25 +1,41 @@
 -- The steps of each command, and the phases that they are made of.
-use Rattle.std.specs.Prelude.{◌≡◌, ℕ, zero, suc, Bool, List, [], Option, Some, None, Result, Ok, Err, ⊤, if◌then◌else◌}
+use Rattle.std.specs.Prelude.{◌≡◌, ℕ, zero, suc, Bool, false, List, [], Option, Some, None, Result, Ok, Err, ⊤, if◌then◌else◌}
 use Rattle.kr_base.specs.Limits.{data_limit, value_limit}
 use Rattle.kr_config.specs.Kept.{Row}
 use Rattle.kr_config.specs.Lists.{list_of}
 use Rattle.kr_config.specs.declared.who.Who.{Who}
-use Rattle.kr_provider.specs.Envelopes.{unknown}
+use Rattle.kr_config.specs.declared.who.Who.TheVariants.{Kms}
+use Rattle.kr_envelope.specs.declared.object.EncryptedObject.{EncryptedObject}
+use Rattle.kr_envelope.specs.declared.object.ObjectNo.{ObjectNo}
+use Rattle.kr_kms.specs.Cache.{key_eq}
+use Rattle.kr_kms.specs.Truth.{key_of}
+use Rattle.kr_kms.specs.declared.seeds.SeedKey.{SeedKey}
+use Rattle.kr_kms.specs.declared.seeds.SeedRow.{SeedRow}
+use Rattle.kr_provider.specs.Envelopes.{Envelope, HasObject, seed_key}
+use Rattle.kr_provider.specs.PluginOrder.{plugin_order}
+use Rattle.kr_provider.specs.Publication.{seed_of}
 use Rattle.kr_provider.specs.Reading.{Reading, data_of, refused, unopened, value_reading, is_stale}
-use Rattle.kr_provider.specs.Readers.{writer_of}
+use Rattle.kr_provider.specs.Readers.{reader_in, writer_of}
 use Rattle.kr_provider.specs.Sealing.{draw_size, sealed_by}
 use Rattle.kr_provider.specs.declared.refusal.ValueNo.TheVariants.{LooksEncrypted}
 use Rattle.kr_top.specs.Check.{listing}
-use Rattle.kr_top.specs.Configuration.{Entries, IsConfiguration, without_plugin}
+use Rattle.kr_top.specs.Configuration.{Entries, IsConfiguration}
 use Rattle.kr_top.specs.Inspect.{Inspects}
-use Rattle.kr_top.specs.Steps.{Steps, load, take_input, borrow_dice, draw, find, refuse, give, and_then}
+use Rattle.kr_top.specs.RowLines.{ShowsRows}
+use Rattle.kr_top.specs.StoreFiles.{Stored, IsStored}
+use Rattle.kr_top.specs.Steps.{Steps, load, take_input, borrow_dice, borrow_tape, read_tape, draw, find, refuse, give, and_then, unwrap}
+use Rattle.kr_top.specs.Plugins.{borrow_links, make_seeds, programs_of}
 use Rattle.kr_top.specs.declared.command.Command.{Command}
-use Rattle.kr_top.specs.declared.command.Command.TheVariants.{Convert, Check, Inspect}
+use Rattle.kr_top.specs.declared.command.Command.TheVariants.{Convert, Check, Inspect, Rows}
 use Rattle.kr_top.specs.declared.command.Conversion.{Conversion}
 use Rattle.kr_top.specs.declared.command.Direction.{Direction}
 use Rattle.kr_top.specs.declared.command.Direction.TheVariants.{Encrypt, Decrypt}
+use Rattle.kr_top.specs.Texts.{visible}
+use Rattle.kr_top.specs.declared.refusal.Object.{Object}
+use Rattle.kr_top.specs.declared.refusal.Object.TheVariants.{Store}
+use Rattle.kr_top.specs.declared.programs.Program.{Program}
 use Rattle.kr_top.specs.declared.refusal.Refusal.{Refusal}
-use Rattle.kr_top.specs.declared.refusal.Refusal.TheVariants.{Limit, Value}
+use Rattle.kr_top.specs.declared.refusal.Refusal.TheVariants.{Absent, Limit, Value}
 use Rattle.kr_top.specs.declared.refusal.Limit.TheVariants as limit
 use Rattle.kr_top.specs.declared.refusal.Done.{Done}
 use Rattle.kr_top.specs.declared.refusal.Done.TheVariants.{Silent, Fresh, Stale}
@@ -39,9 +55,14 @@ by_result (Err why) = refuse why
 abbrev pub configuration : List ℕ → Steps (List Row)
 configuration name = load name (λ bytes. find Entries (IsConfiguration name bytes) by_result)
 
--- one that is served
-abbrev pub served : List Row → Steps (List Row)
-served rows = by_result (without_plugin rows)
+-- the store on a tape that is lent
+abbrev pub stored_on : Object → List ℕ → Steps Stored
+stored_on object name =
+    read_tape object name (λ bytes. find (Result Stored Refusal) (IsStored bytes) by_result)
+
+-- the tape of a name, for these steps
+abbrev pub tape_for : {A : Type 0} → List ℕ → (make : Bool) → Steps A → Steps A
+tape_for name make next = borrow_tape name make (Absent (visible name)) next
 
 -- these steps, where there is memory for what they need
 abbrev pub with_memory : {A : Type 0} → Steps A → Steps A
@@ -68,34 +89,66 @@ abbrev pub draw_some : ℕ → (List ℕ → Steps Outcome) → Steps Outcome
 draw_some zero next = next []
 draw_some (suc more) next = draw 0 (suc more) next
 
-abbrev pub sealing : Who → (path plain : List ℕ) → Steps Outcome
-sealing who path plain =
-    draw_some (draw_size who) (λ drawn. value_steps (sealed_by [] who path plain drawn))
+abbrev pub sealing : List SeedRow → Who → (path plain : List ℕ) → Steps Outcome
+sealing seeds who path plain = with_memory
+    (draw_some (draw_size who) (λ drawn. value_steps (sealed_by seeds who path plain drawn)))
 
 -- ---- decrypt: the data, and whether the value is stale
 
 abbrev pub freshness : Bool → Done
 freshness stale = if stale then Stale else Fresh
 
--- without a plugin no value stays unopened
+-- a value whose source was unwrapped, or that has none, doesn't stay unopened
 abbrev pub reading_steps : Reading → Bool → Steps Outcome
 reading_steps (data_of plain) stale = give (record { bytes = plain; done = freshness stale })
 reading_steps (refused why) stale = refuse (Value why)
 reading_steps unopened stale = never
 
-abbrev pub unsealing : List Who → (path bytes : List ℕ) → Steps Outcome
-unsealing list path bytes =
-    reading_steps (value_reading unknown list path bytes) (is_stale unknown [] list bytes)
+-- the published seed, where the source is its own
+abbrev pub published_source : Option SeedRow → SeedKey → Option (List ℕ)
+published_source None key = None
+published_source (Some row) key = if key_eq (key_of row) key then Some row.seed else None
+
+-- else the plugin unwraps the source
+abbrev pub source_steps : Option (List ℕ) → SeedKey → (Option (List ℕ) → Steps Outcome)
+    → Steps Outcome
+source_steps (Some seed) key next = next (Some seed)
+source_steps None key next = unwrap 0 key (λ source. next (Some source))
+
+-- only the object of a plugin's value has a source
+abbrev pub opening : List SeedRow → Option Who → Result EncryptedObject ObjectNo
+    → (Option (List ℕ) → Steps Outcome) → Steps Outcome
+opening seeds (Some (Kms name)) (Ok object) next =
+    source_steps (published_source (seed_of name seeds) (seed_key name object))
+    (seed_key name object) next
+opening seeds reader object next = next None
+
+-- the value with this object, once its source is there
+abbrev pub read_with : List SeedRow → List Who → (path bytes : List ℕ)
+    → Result EncryptedObject ObjectNo → Option (List ℕ) → Steps Outcome
+read_with seeds list path bytes object source =
+    let envelope : Envelope = record { object = object; source = source } in
+    reading_steps (value_reading envelope list path bytes) (is_stale envelope seeds list bytes)
+
+abbrev pub unsealing : List SeedRow → List Who → (path bytes : List ℕ) → Steps Outcome
+unsealing seeds list path bytes =
+    find (Result EncryptedObject ObjectNo) (HasObject (reader_in list bytes) bytes)
+    (λ object. opening seeds (reader_in list bytes) object
+    (read_with seeds list path bytes object))
 
 -- ---- both of these go one way
 
-abbrev pub working_by : Direction → List Who → (path bytes : List ℕ) → Steps Outcome
-working_by Encrypt list path bytes = sealing (writer_of list) path bytes
-working_by Decrypt list path bytes = unsealing list path bytes
+abbrev pub working_by : Direction → (resource path : List ℕ) → List Row → List ℕ → List SeedRow
+    → Steps Outcome
+working_by Encrypt resource path rows bytes seeds =
+    sealing seeds (writer_of (list_of rows resource)) path bytes
+working_by Decrypt resource path rows bytes seeds =
+    unsealing seeds (list_of rows resource) path bytes
 
+-- each plugin's seed is made before
 abbrev pub working : Direction → (resource path : List ℕ) → List Row → List ℕ → Steps Outcome
-working direction resource path rows bytes =
-    with_memory (working_by direction (list_of rows resource) path bytes)
+working direction resource path rows bytes = with_memory
+    (and_then (make_seeds (plugin_order rows)) (working_by direction resource path rows bytes))
 
 -- the most bytes of the input: of an object's data, or of a stored value
 abbrev pub limit_of : Direction → ℕ
@@ -109,12 +162,22 @@ long_input Decrypt = Limit limit.Value
 abbrev pub input_of : Direction → Steps (List ℕ)
 input_of direction = take_input (limit_of direction) (long_input direction) give
 
+-- the programs of its plugins, which the options give
+abbrev pub linking_programs : List (List ℕ × List ℕ) → List Row → Steps (List Program)
+linking_programs options rows = with_memory (by_result (programs_of options (plugin_order rows)))
+
 abbrev pub converting : Conversion → Steps Outcome
 converting words =
     and_then (configuration words.config) (λ rows.
-    and_then (served rows) (λ rows.
+    and_then (linking_programs words.options rows) (λ programs.
     and_then (input_of words.direction) (λ bytes.
-    borrow_dice 0 (working words.direction words.resource words.path rows bytes))))
+    borrow_dice 0 (borrow_links programs
+    (working words.direction words.resource words.path rows bytes)))))
+
+-- ---- list
+
+abbrev pub listing_on : List ℕ → Steps Outcome
+listing_on name = and_then (stored_on Store name) (λ stored. show (ShowsRows stored.rows))
 
 -- ---- the commands
 
@@ -122,4 +185,5 @@ abbrev pub steps : Command → Steps Outcome
 steps (Convert words) = converting words
 steps (Check config resource) =
     and_then (configuration config) (λ rows. show (λ shown. shown ≡ Ok (listing rows resource)))
+steps (Rows store) = tape_for store false (listing_on store)
 steps Inspect = and_then (input_of Decrypt) (λ bytes. show (Inspects bytes))

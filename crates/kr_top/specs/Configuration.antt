@@ -1,14 +1,13 @@
 -- The configuration in a file.
-use Rattle.std.specs.Prelude.{◌≡◌, ℕ, ◌<◌, ◌≤◌, ◌⊎◌, List, length, Option, None, Some, Result, Ok, Err, if◌then◌else◌}
+use Rattle.std.specs.Prelude.{◌≡◌, ℕ, ◌<◌, ◌≤◌, ◌⊎◌, List, length, Option, None, Some, Result, Err}
 use Rattle.std.specs.Result.{result_map_both}
 use Rattle.kr_base.specs.Limits.{config_limit}
 use Rattle.kr_config.specs.Kept.{Row}
 use Rattle.kr_config.specs.Meanings.{Means}
 use Rattle.kr_config.specs.declared.refusal.ConfigNo.{ConfigNo}
-use Rattle.kr_provider.specs.Publication.{names_plugin}
 use Rattle.kr_top.specs.Texts.{visible}
 use Rattle.kr_top.specs.declared.refusal.Refusal.{Refusal}
-use Rattle.kr_top.specs.declared.refusal.Refusal.TheVariants.{Absent, Configuration, NotServed, Limit}
+use Rattle.kr_top.specs.declared.refusal.Refusal.TheVariants.{Absent, Configuration, Limit}
 use Rattle.kr_top.specs.declared.refusal.Limit.TheVariants.{Config}
 
 -- the entries of a configuration, or why there are none
@@ -23,7 +22,3 @@ IsConfiguration name (Some bytes) read =
     ((config_limit < length bytes) × (read ≡ Err (Limit Config)))
     ⊎ ((length bytes ≤ config_limit) × (rows : Result (List Row) ConfigNo) × Means bytes rows
     × (read ≡ result_map_both (λ r. r) Configuration rows))
-
--- one that names a plugin isn't served
-abbrev pub without_plugin : List Row → Entries
-without_plugin rows = if names_plugin rows then Err NotServed else Ok rows

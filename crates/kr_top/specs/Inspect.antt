@@ -11,7 +11,7 @@ use Rattle.kr_envelope.specs.declared.object.EncryptedObject.{EncryptedObject}
 use Rattle.kr_envelope.specs.declared.object.ObjectNo.{ObjectNo}
 use Rattle.kr_envelope.specs.declared.object.ObjectNo.TheVariants.{Wire, KeyId, Source, Annotations, SourceType, NoData, NotUtf8, NoMemory}
 use Rattle.kr_provider.specs.declared.refusal.ValueNo.TheVariants as value
-use Rattle.kr_top.specs.Texts.{line, numbered, visible}
+use Rattle.kr_top.specs.Texts.{line, word_and_number, visible}
 use Rattle.kr_top.specs.declared.refusal.Refusal.{Refusal}
 use Rattle.kr_top.specs.declared.refusal.Refusal.TheVariants.{Value, Placed}
 
@@ -22,19 +22,19 @@ kind_text Kms = codes "kms"
 
 -- the kind, the name, and how long the body is
 abbrev pub tag_line : Kind → (name body : List ℕ) → List ℕ
-tag_line kind name body = line (kind_text kind ++ (codes " " ++ numbered name (length body)))
+tag_line kind name body = line (kind_text kind ++ (codes " " ++ word_and_number name (length body)))
 
 abbrev pub annotation_line : List ℕ × List ℕ → List ℕ
 annotation_line pair =
-    line (codes "annotation " ++ numbered (visible pair.0) (length pair.1))
+    line (codes "annotation " ++ word_and_number (visible pair.0) (length pair.1))
 
 abbrev pub object_lines : EncryptedObject → List ℕ
 object_lines object =
     line (codes "key-id " ++ visible object.key_id)
-    ++ (line (numbered (codes "source") (length object.source))
+    ++ (line (word_and_number (codes "source") (length object.source))
     ++ (concat (map annotation_line object.annotations)
-    ++ (line (numbered (codes "type") (number_of object.kind))
-    ++ line (numbered (codes "data") (length object.encrypted)))))
+    ++ (line (word_and_number (codes "type") (number_of object.kind))
+    ++ line (word_and_number (codes "data") (length object.encrypted)))))
 
 -- why bytes are no object; a breach of the wire format and of UTF-8 has its place
 abbrev pub object_refusal : ObjectNo → Option Refusal
@@ -64,7 +64,7 @@ ShowsBody Kms name body shown =
 -- a value by its prefix; one that begins as a prefix does and has none is refusal 12
 abbrev pub ShowsSplit : Tagged → Result (List ℕ) Refusal → Type 0
 ShowsSplit (Plain content) shown =
-    shown ≡ Ok (line (numbered (codes "plain") (length content.now)))
+    shown ≡ Ok (line (word_and_number (codes "plain") (length content.now)))
 ShowsSplit (Known kind name body) shown = ShowsBody kind name.now body.now shown
 ShowsSplit Strange shown = shown ≡ Err (Value value.NoProvider)
 

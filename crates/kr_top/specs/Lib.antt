@@ -6,7 +6,10 @@ pub mod Commands
 pub mod Configuration
 pub mod Inspect
 pub mod Message
+pub mod Plugins
 pub mod Ran
+pub mod RowLines
 pub mod Steps
+pub mod StoreFiles
 pub mod Texts
 pub mod inner

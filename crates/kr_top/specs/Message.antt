@@ -1,19 +1,23 @@
 -- What a command says at its end: its status, and its line on the errors sink.
 use Rattle.std.specs.Prelude.{ℕ, List, [], ◌++◌, codes, decimal, Result, Ok, Err}
-use Rattle.kr_base.specs.Limits.{config_limit, data_limit, value_limit}
+use Rattle.kr_base.specs.Limits.{config_limit, data_limit, value_limit, store_limit}
 use Rattle.kr_words.specs.Grammar.{replica_limit, size_limit}
 use Rattle.kr_config.specs.declared.refusal.ConfigNo.{ConfigNo}
 use Rattle.kr_config.specs.declared.refusal.ConfigNo.TheVariants as config
 use Rattle.kr_config.specs.declared.refusal.Counted.{Counted}
 use Rattle.kr_config.specs.declared.refusal.Counted.TheVariants.{Entries, Patterns, Keys, Plugins}
 use Rattle.kr_config.specs.Refusals.{limit_of, code_of, first_number, second_number}
+use Rattle.kr_kms.specs.declared.health.Field.{Field}
+use Rattle.kr_kms.specs.declared.health.Field.TheVariants.{Version, Healthz, KeyId}
 use Rattle.kr_provider.specs.Refusals.{number_of, name_of}
 use Rattle.kr_top.specs.declared.refusal.Object.{Object}
-use Rattle.kr_top.specs.declared.refusal.Object.TheVariants.{Input, Output, Files, Dice}
+use Rattle.kr_top.specs.declared.refusal.Object.TheVariants.{Input, Output, Files, Dice, Store, Plugin}
 use Rattle.kr_top.specs.declared.refusal.Refusal.{Refusal}
-use Rattle.kr_top.specs.declared.refusal.Refusal.TheVariants.{Absent, Configuration, NotServed, Limit, Value, Placed}
+use Rattle.kr_top.specs.declared.refusal.Refusal.TheVariants.{Absent, Configuration, Limit, Value, Placed, Broken, NoPlugin, Unhealthy}
 use Rattle.kr_top.specs.declared.refusal.Limit as limits
 use Rattle.kr_top.specs.declared.refusal.Limit.TheVariants as limit
+use Rattle.kr_top.specs.declared.refusal.Breach.{Breach}
+use Rattle.kr_top.specs.declared.refusal.Breach.TheVariants as breach
 use Rattle.kr_top.specs.declared.refusal.BadWords.{BadWords}
 use Rattle.kr_top.specs.declared.refusal.BadWords.TheVariants.{Usage, Replicas, Size}
 use Rattle.kr_top.specs.declared.refusal.Stop.{Stop}
@@ -40,10 +44,12 @@ status_of_configuration (config.Limit counted) = 6
 abbrev pub status_of_refusal : Refusal → ℕ
 status_of_refusal (Absent name) = 3
 status_of_refusal (Configuration why) = status_of_configuration why
-status_of_refusal NotServed = 3
+status_of_refusal (NoPlugin name) = 3
+status_of_refusal (Unhealthy name field text) = 3
 status_of_refusal (Limit which) = 6
 status_of_refusal (Value why) = 1
 status_of_refusal (Placed why at) = 1
+status_of_refusal (Broken why) = 3
 
 abbrev pub status_of : Result Done Stop → ℕ
 status_of (Ok done) = status_of_done done
@@ -85,28 +91,57 @@ abbrev pub limit_text : limits.Limit → List ℕ
 limit_text limit.Config = codes "config"
 limit_text limit.Data = codes "data"
 limit_text limit.Value = codes "value"
+limit_text limit.Store = codes "store"
 
 abbrev pub limit_size : limits.Limit → ℕ
 limit_size limit.Config = config_limit
 limit_size limit.Data = data_limit
 limit_size limit.Value = value_limit
+limit_size limit.Store = store_limit
+
+-- the code of what a store's file breaks, and its place
+abbrev pub broken_code : Breach → List ℕ
+broken_code breach.Magic = codes "41"
+broken_code (breach.Torn at) = codes "42"
+broken_code (breach.BadRow at) = codes "43"
+broken_code (breach.Order at) = codes "46"
+
+abbrev pub place_of : Breach → ℕ
+place_of breach.Magic = 0
+place_of (breach.Torn at) = at
+place_of (breach.BadRow at) = at
+place_of (breach.Order at) = at
+
+-- a field of a plugin's status
+abbrev pub field_text : Field → List ℕ
+field_text Version = codes "version"
+field_text Healthz = codes "healthz"
+field_text KeyId = codes "key_id"
+
+abbrev pub unhealthy_line : (name field text : List ℕ) → List ℕ
+unhealthy_line name field text = codes "kmsrest: text 45 " ++ (name
+    ++ (codes " " ++ (field ++ (codes " " ++ (text ++ codes "\n")))))
 
 abbrev pub refusal_line : Refusal → List ℕ
 refusal_line (Absent name) = codes "kmsrest: text 40 " ++ (name ++ codes "\n")
 refusal_line (Configuration why) = configuration_line why
-refusal_line NotServed = codes "kmsrest: text 50 0 0\n"
+refusal_line (NoPlugin name) = codes "kmsrest: text 44 " ++ (name ++ codes "\n")
+refusal_line (Unhealthy name field text) = unhealthy_line name (field_text field) text
 refusal_line (Limit which) = limit_line (limit_text which) (limit_size which)
 refusal_line (Value why) = codes "kmsrest: refused " ++ (decimal (number_of why)
     ++ (codes " " ++ (name_of why ++ codes "\n")))
 refusal_line (Placed why at) =
     codes "kmsrest: refused " ++ (decimal (number_of why)
     ++ (codes " " ++ (name_of why ++ (codes " " ++ (decimal at ++ codes "\n")))))
+refusal_line (Broken why) = counted_line (codes "kmsrest: text ") (broken_code why) (place_of why)
 
 abbrev pub object_text : Object → List ℕ
 object_text Input = codes "input"
 object_text Output = codes "output"
 object_text Files = codes "files"
+object_text Store = codes "store"
 object_text (Dice seat) = codes "dice " ++ decimal seat
+object_text (Plugin name) = codes "plugin " ++ name
 
 abbrev pub fault_line : Object → ℕ → List ℕ
 fault_line object count = counted_line (codes "kmsrest: fault ") (object_text object) count

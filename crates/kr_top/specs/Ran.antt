@@ -1,15 +1,22 @@
 -- What a call of `run` did: one relation for all commands, and what follows from it for readers.
-use Rattle.std.specs.Prelude.{◌≡◌, ℕ, ◌≤◌, ◌⊎◌, List, [], ◌∷◌, Option, None, Some, IsSome, Result, Ok, Err, ⊤}
+use Rattle.std.specs.Prelude.{◌≡◌, ℕ, ◌≤◌, ◌⊎◌, false, List, [], ◌∷◌, Contains, Option, None, Some, IsSome, Result, Ok, Err, ⊤}
 use Rattle.std.specs.Io.KnownBytes.{Appends}
 use Rattle.kr_base.specs.Faults.{Rose}
 use Rattle.kr_base.specs.Streams.{AppendsFront}
+use Rattle.kr_base.specs.Told.{Agrees}
+use Rattle.kr_config.specs.Kept.{Row}
+use Rattle.kr_provider.specs.PluginOrder.{plugin_order}
+use Rattle.kr_provider.specs.Publication.{names_plugin}
 use Rattle.kr_top.specs.Around.{Around, left_of, faults_at, count_at, Reaches, IsHome, Ends}
 use Rattle.kr_top.specs.Command.{Asks, AskNothing, AskReplicas, AskSize, AskBadly}
 use Rattle.kr_top.specs.Commands.{steps}
+use Rattle.kr_top.specs.Configuration.{IsConfiguration}
 use Rattle.kr_top.specs.Message.{status_of, status_of_done, status_of_refusal, line_of, refusal_line, fault_line, done_line}
 use Rattle.kr_top.specs.Steps.{Call, object_of, Point, awaits, refuses, gives, Left, Goes}
 use Rattle.kr_top.specs.declared.command.Command.{Command}
-use Rattle.kr_top.specs.declared.command.Command.TheVariants.{Convert, Check, Inspect}
+use Rattle.kr_top.specs.declared.command.Command.TheVariants.{Convert, Check, Inspect, Rows}
+use Rattle.kr_top.specs.declared.command.Direction.{Direction}
+use Rattle.kr_top.specs.declared.command.Direction.TheVariants.{Encrypt, Decrypt}
 use Rattle.kr_top.specs.declared.refusal.Object.TheVariants.{Output}
 use Rattle.kr_top.specs.declared.refusal.Refusal.{Refusal}
 use Rattle.kr_top.specs.declared.refusal.Stop.{Stop}
@@ -157,13 +164,24 @@ IsRefused words old new output errors status =
     ⊎ GivesWith words old new output errors status
     ⊎ ((status ≡ 6) × (AskReplicas words ⊎ AskSize words) × IsUntouched old new output)
 
--- what the command touches of the files and the input is told
+-- what a conversion touches of the plugins that these entries name is told: their statuses; as the
+-- key id is told nowhere that a seed is wrapped with, `decrypt` touches none
+abbrev pub ArePluginsTold : Direction → Around → List Row → Type 0
+ArePluginsTold Encrypt old rows = (plugin : List ℕ) → Contains (plugin_order rows) plugin
+    → IsSome (old.world.links.told (0, plugin))
+ArePluginsTold Decrypt old rows = names_plugin rows ≡ false
+
+-- what the command touches of the files, the tapes, the input and the plugins is told
 abbrev pub IsTelling : Command → Around → Type 0
 IsTelling (Convert words) old = IsSome (old.world.file words.config) × IsSome old.input
+    × ((file : Option (List ℕ)) (rows : List Row) → IsConfiguration words.config file (Ok rows)
+    → Agrees (old.world.file words.config) file → ArePluginsTold words.direction old rows)
 IsTelling (Check config resource) old = IsSome (old.world.file config)
 IsTelling Inspect old = IsSome old.input
+IsTelling (Rows store) old = IsSome (old.world.tapes.told store)
 
--- the steps of a command over the told files and input, and some drawn bytes, come to this point
+-- the steps of a command over the told files, tapes and input, and some drawn bytes, come to this
+-- point
 abbrev pub WouldCome : Command → Around → Point Outcome → Type 0
 WouldCome command old point = (end : Left) × Goes point end (steps command) (left_of old)
 

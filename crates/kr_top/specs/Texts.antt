@@ -5,8 +5,8 @@ abbrev pub line : List ℕ → List ℕ
 line text = text ++ codes "\n"
 
 -- a word, and a number behind it
-abbrev pub numbered : List ℕ → ℕ → List ℕ
-numbered word n = word ++ (codes " " ++ decimal n)
+abbrev pub word_and_number : List ℕ → ℕ → List ℕ
+word_and_number word n = word ++ (codes " " ++ decimal n)
 
 -- a foreign text is printed with `?` for each byte outside 20 to 7E hex
 abbrev pub visible_byte : ℕ → ℕ

@@ -13,6 +13,7 @@ use crate::inspect::inspect;
 use crate::message::tell;
 use crate::phases::write_output;
 use crate::refusal::{Done, Outcome, Stop};
+use crate::rows::list;
 use kr_base::{Sink, Source};
 use kr_kms::World;
 use std::alloc::Global;
@@ -30,14 +31,18 @@ pub fn run<W: World, I: Source, O: Sink, E: Sink>(
     errors: &mut E,
 ) -> u8
     ensures ran { Ran (texts words.now)
-        (around (W.told world.old) (I.left input.old) (I.count input.old))
-        (around (W.told world.new) (I.left input.new) (I.count input.new))
+        (around W.Link.truth (W.told world.old) (I.left input.old)
+        (I.count input.old))
+        (around W.Link.truth (W.told world.new) (I.left input.new)
+        (I.count input.new))
         (receipt (O.held output.old) (O.held output.new) (O.count output.old) (O.count output.new))
         (receipt (E.held errors.old) (E.held errors.new) (E.count errors.old) (E.count errors.new))
         result }
     ensures readings { Readings (texts words.now)
-        (around (W.told world.old) (I.left input.old) (I.count input.old))
-        (around (W.told world.new) (I.left input.new) (I.count input.new))
+        (around W.Link.truth (W.told world.old) (I.left input.old)
+        (I.count input.old))
+        (around W.Link.truth (W.told world.new) (I.left input.new)
+        (I.count input.new))
         (receipt (O.held output.old) (O.held output.new) (O.count output.old) (O.count output.new))
         (receipt (E.held errors.old) (E.held errors.new) (E.count errors.old) (E.count errors.new))
         result }
@@ -55,8 +60,10 @@ fn answer<W: World, I: Source, O: Sink>(
     output: &mut O,
 ) -> Result<Done, Stop>
     ensures answers { Answers (texts words.now)
-        (around (W.told world.old) (I.left input.old) (I.count input.old))
-        (around (W.told world.new) (I.left input.new) (I.count input.new))
+        (around W.Link.truth (W.told world.old) (I.left input.old)
+        (I.count input.old))
+        (around W.Link.truth (W.told world.new) (I.left input.new)
+        (I.count input.new))
         (receipt (O.held output.old) (O.held output.new) (O.count output.old) (O.count output.new))
         result }
     ensures later { O.count output.old ≤ O.count output.new }
@@ -78,13 +85,16 @@ fn perform<W: World, I: Source>(
 ) -> Result<Outcome, Stop>
     requires path { HasShortPath (Some command.now) }
     ensures { Does (steps command.now)
-        (around (W.told world.old) (I.left input.old) (I.count input.old))
-        (around (W.told world.new) (I.left input.new) (I.count input.new))
+        (around W.Link.truth (W.told world.old) (I.left input.old)
+        (I.count input.old))
+        (around W.Link.truth (W.told world.new) (I.left input.new)
+        (I.count input.new))
         result }
 {
     match command {
         Command::Convert(words) => convert(alloc, words, world, input),
         Command::Check { config, resource } => check(alloc, config.as_str(), resource, world),
         Command::Inspect => inspect(alloc, input),
+        Command::Rows { store } => list(alloc, store.as_str(), world),
     }
 }

@@ -4,9 +4,10 @@ ghost use Rattle.kr_base.specs.Limits.{path_limit};
 ghost use Rattle.kr_words.specs.Grammar.{texts};
 ghost use Rattle.kr_words.specs.Options.{value_of};
 ghost use Rattle.kr_words.specs.Rules.{IsCommand};
-ghost use Rattle.kr_top.specs.Command.{command_of, conversion_of, check_of};
+ghost use Rattle.kr_top.specs.Command.{command_of, conversion_of, check_of, listing_of};
 ghost use Rattle.kr_top.specs.inner.Phases.{IsReadAs, HasShortPath};
 
+use crate::options::Options;
 use crate::refusal::{BadWords, Stop};
 use kr_base::{NoMemory, Text};
 use kr_words::{Verb, WordsNo, read_words};
@@ -32,6 +33,8 @@ pub struct Conversion {
     pub resource: Text,
     /// The path that the object is stored at; it may be empty.
     pub path: Text,
+    /// All options of the words, which give the programs of plugins.
+    pub options: Options,
 }
 
 /// A command with what its words say.
@@ -48,6 +51,11 @@ pub enum Command {
     },
     /// Shows what the input, a stored value, says of itself.
     Inspect,
+    /// Lists the rows of a store.
+    Rows {
+        /// The name of the store's file.
+        store: Text,
+    },
 }
 
 /// Reads the words as a command.
@@ -61,7 +69,7 @@ pub fn read_command(alloc: Global, words: &[String]) -> Result<Command, Stop>
         Err(WordsNo::Size) => return Err(Stop::Words(BadWords::Size)),
         Err(WordsNo::NoMemory) => return Err(Stop::NoMemory),
     };
-    let command = match command_of(alloc, &words) {
+    let command = match command_of(alloc, words) {
         Ok(command) => command,
         Err(_) => return Err(Stop::NoMemory),
     };
@@ -72,17 +80,17 @@ pub fn read_command(alloc: Global, words: &[String]) -> Result<Command, Stop>
 }
 
 /// The command of a verb with its options, where it is built.
-fn command_of(alloc: Global, words: &kr_words::Command) -> Result<Option<Command>, NoMemory>
-    requires { IsCommand words.now.verb words.now.options.0 }
-    ensures command { IfOk result
-        (λ command. command ≡ command_of words.now.verb words.now.options.0) }
+fn command_of(alloc: Global, words: kr_words::Command) -> Result<Option<Command>, NoMemory>
+    requires { IsCommand words.verb words.options.0 }
+    ensures command { IfOk result (λ command. command ≡ command_of words.verb words.options.0) }
     ensures path { IfOk result HasShortPath }
 {
     match words.verb {
         Verb::Encrypt => conversion_of(alloc, Direction::Encrypt, words),
         Verb::Decrypt => conversion_of(alloc, Direction::Decrypt, words),
-        Verb::Check => check_of(alloc, words),
+        Verb::Check => check_of(alloc, &words),
         Verb::Inspect => Ok(Some(Command::Inspect)),
+        Verb::Rows => listing_of(alloc, &words),
         _ => Ok(None),
     }
 }
@@ -91,25 +99,25 @@ fn command_of(alloc: Global, words: &kr_words::Command) -> Result<Option<Command
 fn conversion_of(
     alloc: Global,
     direction: Direction,
-    words: &kr_words::Command,
+    words: kr_words::Command,
 ) -> Result<Option<Command>, NoMemory>
-    requires { IsCommand words.now.verb words.now.options.0 }
-    ensures command { IfOk result (λ command. command ≡ conversion_of direction
-        (value_of words.now.options.0 (codes "config"))
-        (value_of words.now.options.0 (codes "resource"))
-        (value_of words.now.options.0 (codes "path"))) }
+    requires { IsCommand words.verb words.options.0 }
+    ensures command { IfOk result (λ command. command ≡ conversion_of direction words.options.0
+        (value_of words.options.0 (codes "config"))
+        (value_of words.options.0 (codes "resource"))
+        (value_of words.options.0 (codes "path"))) }
     ensures path { IfOk result HasShortPath }
 {
-    let config = value_of(alloc, words, "config")?;
-    let resource = value_of(alloc, words, "resource")?;
-    let path = path_of(alloc, words)?;
+    let config = value_of(alloc, &words, "config")?;
+    let resource = value_of(alloc, &words, "resource")?;
+    let path = path_of(alloc, &words)?;
     let Some(config) = config else {
         return Ok(None);
     };
     let Some(resource) = resource else {
         return Ok(None);
     };
-    Ok(conversion_at(direction, config, resource, path))
+    Ok(conversion_at(direction, config, resource, path, Options::new(words)))
 }
 
 /// A conversion of an object at a path, where there is one.
@@ -118,9 +126,11 @@ fn conversion_at(
     config: Text,
     resource: Text,
     path: Option<Text>,
+    options: Options,
 ) -> Option<Command>
     requires { IfSome path (λ path. length path ≤ path_limit) }
-    ensures command { result ≡ conversion_of direction (Some config) (Some resource) path }
+    ensures command { result
+        ≡ conversion_of direction options (Some config) (Some resource) path }
     ensures path { HasShortPath result }
 {
     match path {
@@ -129,6 +139,7 @@ fn conversion_at(
             config,
             resource,
             path,
+            options,
         })),
         None => None,
     }
@@ -155,6 +166,18 @@ fn check_of(alloc: Global, words: &kr_words::Command) -> Result<Option<Command>,
     let resource = value_of(alloc, words, "resource")?;
     match config {
         Some(config) => Ok(Some(Command::Check { config, resource })),
+        None => Ok(None),
+    }
+}
+
+/// The words of `list`.
+fn listing_of(alloc: Global, words: &kr_words::Command) -> Result<Option<Command>, NoMemory>
+    ensures command { IfOk result (λ command. command ≡ listing_of
+        (value_of words.now.options.0 (codes "store"))) }
+    ensures path { IfOk result HasShortPath }
+{
+    match value_of(alloc, words, "store")? {
+        Some(store) => Ok(Some(Command::Rows { store })),
         None => Ok(None),
     }
 }

@@ -1,4 +1,5 @@
-//! `encrypt` and `decrypt`: configuration, input, random source, seal or unseal.
+//! `encrypt` and `decrypt`: configuration, programs of its plugins, input, random source, links,
+//! publish, seal or unseal.
 ghost use Rattle.std.specs.Prelude.{◌≤◌, length};
 ghost use Rattle.kr_base.specs.Limits.{path_limit};
 ghost use Rattle.kr_top.specs.Around.{around};
@@ -6,7 +7,8 @@ ghost use Rattle.kr_top.specs.Commands.{converting};
 ghost use Rattle.kr_top.specs.inner.Phases.{Does};
 
 use crate::command::Conversion;
-use crate::phases::{configure, serve, take_input};
+use crate::phases::{configure, take_input};
+use crate::programs::programs_of;
 use crate::refusal::{Outcome, Stop};
 use crate::work::make;
 use kr_base::Source;
@@ -22,21 +24,30 @@ pub fn convert<W: World, I: Source>(
 ) -> Result<Outcome, Stop>
     requires path { length words.now.path ≤ path_limit }
     ensures { Does (converting words.now)
-        (around (W.told world.old) (I.left input.old) (I.count input.old))
-        (around (W.told world.new) (I.left input.new) (I.count input.new))
+        (around W.Link.truth (W.told world.old) (I.left input.old)
+        (I.count input.old))
+        (around W.Link.truth (W.told world.new) (I.left input.new)
+        (I.count input.new))
         result }
 {
     let settings = match configure(alloc, world, words.config.as_str()) {
         Ok(settings) => settings,
         Err(stop) => return Err(stop),
     };
-    let settings = match serve(settings) {
-        Ok(settings) => settings,
+    let programs = match programs_of(alloc, &words.options, &settings) {
+        Ok(programs) => programs,
         Err(stop) => return Err(stop),
     };
     let bytes = match take_input(alloc, input, words.direction) {
         Ok(bytes) => bytes,
         Err(stop) => return Err(stop),
     };
-    make(alloc, words, settings, world, bytes.as_slice())
+    make(
+        alloc,
+        words,
+        settings,
+        programs.as_slice(),
+        world,
+        bytes.as_slice(),
+    )
 }

@@ -6,7 +6,7 @@ ghost use Rattle.kr_top.specs.Around.{Around, with_told_input};
 ghost use Rattle.kr_top.specs.Commands.{steps};
 ghost use Rattle.kr_top.specs.Inspect.{kind_text, tag_line, annotation_line, object_lines, object_refusal};
 ghost use Rattle.kr_top.specs.Inspect.{Inspects, ShowsBody};
-ghost use Rattle.kr_top.specs.Texts.{line, numbered, visible};
+ghost use Rattle.kr_top.specs.Texts.{line, word_and_number, visible};
 ghost use Rattle.kr_top.specs.inner.Phases.{Does, Yields};
 
 use crate::command::{Command, Direction};
@@ -91,7 +91,8 @@ fn object_refusal(why: ObjectNo) -> Refusal
     }
 }
 
-fn kind_text(kind: Kind) -> &'static str
+/// A kind of provider as it is printed.
+pub fn kind_text(kind: Kind) -> &'static str
     ensures { result.now ≡ kind_text kind }
 {
     match kind {
@@ -160,7 +161,7 @@ fn add_annotation(text: &mut Vec<u8>, key: &str, value: &[u8]) -> Result<(), NoM
 /// Adds a line of a foreign text and a number.
 fn add_visible_count(text: &mut Vec<u8>, foreign: &str, number: usize) -> Result<(), NoMemory>
     ensures { IfOk result (λ done. text.new.items
-        ≡ text.old.items ++ line (numbered (visible foreign.now) number)) }
+        ≡ text.old.items ++ line (word_and_number (visible foreign.now) number)) }
 {
     add_visible(text, foreign)?;
     add_size(text, number)
@@ -169,7 +170,7 @@ fn add_visible_count(text: &mut Vec<u8>, foreign: &str, number: usize) -> Result
 /// Adds a line of a word and a number.
 fn add_count(text: &mut Vec<u8>, word: &str, number: usize) -> Result<(), NoMemory>
     ensures { IfOk result (λ done. text.new.items
-        ≡ text.old.items ++ line (numbered word.now number)) }
+        ≡ text.old.items ++ line (word_and_number word.now number)) }
 {
     add(text, word)?;
     add_size(text, number)

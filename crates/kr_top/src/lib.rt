@@ -1,6 +1,7 @@
 //! The commands of kmsrest over any world, input and outputs.
 #![tactic(auto)]
 
+mod bench;
 mod call;
 mod check;
 mod command;
@@ -8,8 +9,14 @@ mod convert;
 mod inspect;
 mod listing;
 mod message;
+mod options;
 mod phases;
+mod programs;
+mod publication;
 mod refusal;
+mod row_lines;
+mod rows;
+mod stores;
 mod text;
 mod work;
 

@@ -1,14 +1,15 @@
 //! What a command says at its end.
 ghost use Rattle.std.specs.Prelude.{◌≡◌, ◌≤◌};
 ghost use Rattle.kr_top.specs.Message.{status_of, status_of_words, status_of_configuration, status_of_refusal, status_of_done};
-ghost use Rattle.kr_top.specs.Message.{words_line, limit_line, limit_text, limit_size, refusal_line, done_line, counted_text, counted_line, breach_line, configuration_line, fault_line, line_of};
+ghost use Rattle.kr_top.specs.Message.{words_line, limit_line, limit_text, limit_size, refusal_line, done_line, counted_text, counted_line, broken_code, place_of, breach_line, configuration_line, fault_line, line_of, field_text, unhealthy_line};
 ghost use Rattle.kr_top.specs.Ran.{receipt, Tells};
 ghost use Rattle.kr_top.specs.inner.Phases.{whole, Says};
 
-use crate::refusal::{BadWords, Done, Limit, Object, Refusal, Stop};
+use crate::refusal::{BadWords, Breach, Done, Limit, Object, Refusal, Stop};
 use itoa::Buffer;
-use kr_base::{CONFIG_LIMIT, DATA_LIMIT, Failed, Sink, VALUE_LIMIT, write_all};
+use kr_base::{CONFIG_LIMIT, DATA_LIMIT, Failed, STORE_LIMIT, Sink, Text, VALUE_LIMIT, write_all};
 use kr_config::{ConfigNo, Counted};
+use kr_kms::Field;
 use kr_provider::ValueNo;
 
 fn status_of_words(why: BadWords) -> u8
@@ -48,7 +49,9 @@ fn status_of_refusal(why: &Refusal) -> u8
         Refusal::Value(_) => 1,
         Refusal::Placed(_, _) => 1,
         Refusal::Absent(_) => 3,
-        Refusal::NotServed => 3,
+        Refusal::Broken(_) => 3,
+        Refusal::NoPlugin(_) => 3,
+        Refusal::Unhealthy(_, _, _) => 3,
         Refusal::Configuration(why) => status_of_configuration(*why),
         Refusal::Limit(_) => 6,
     }
@@ -90,7 +93,7 @@ fn write_line<E: Sink>(errors: &mut E, answer: &Result<Done, Stop>) -> Result<()
         Ok(done) => write_text(errors, done_line(*done)),
         Err(Stop::Words(why)) => write_words(errors, *why),
         Err(Stop::Refused(why)) => write_refusal(errors, why),
-        Err(Stop::Fault(object, count)) => write_fault(errors, *object, *count),
+        Err(Stop::Fault(object, count)) => write_fault(errors, object, *count),
         Err(Stop::NoMemory) => write_text(errors, "kmsrest: memory\n"),
     }
 }
@@ -125,10 +128,42 @@ fn write_refusal<E: Sink>(errors: &mut E, why: &Refusal) -> Result<(), Failed>
     match why {
         Refusal::Absent(name) => write_each(errors, &["kmsrest: text 40 ", name.as_str(), "\n"]),
         Refusal::Configuration(why) => write_configuration(errors, *why),
-        Refusal::NotServed => write_text(errors, "kmsrest: text 50 0 0\n"),
+        Refusal::NoPlugin(name) => write_each(errors, &["kmsrest: text 44 ", name.as_str(), "\n"]),
+        Refusal::Unhealthy(name, field, text) => {
+            write_unhealthy(errors, name.as_str(), field_text(*field), text.as_str())
+        }
         Refusal::Limit(which) => write_limit(errors, limit_text(*which), limit_size(*which)),
         Refusal::Value(why) => write_value(errors, *why),
         Refusal::Placed(why, at) => write_placed(errors, *why, *at),
+        Refusal::Broken(why) => write_broken(errors, *why),
+    }
+}
+
+/// Writes the line of an unhealthy plugin.
+fn write_unhealthy<'a, E: Sink>(
+    errors: &mut E,
+    name: &'a str,
+    field: &'a str,
+    text: &'a str,
+) -> Result<(), Failed>
+    ensures { Says (receipt (E.held errors.old) (E.held errors.new)
+        (E.count errors.old) (E.count errors.new))
+        (unhealthy_line name.now field.now text.now) result }
+{
+    write_each(
+        errors,
+        &["kmsrest: text 45 ", name, " ", field, " ", text, "\n"],
+    )
+}
+
+/// A field of a plugin's status.
+fn field_text(field: Field) -> &'static str
+    ensures { result.now ≡ field_text field }
+{
+    match field {
+        Field::Version => "version",
+        Field::Healthz => "healthz",
+        Field::KeyId => "key_id",
     }
 }
 
@@ -148,6 +183,7 @@ fn limit_text(which: Limit) -> &'static str
         Limit::Config => "config",
         Limit::Data => "data",
         Limit::Value => "value",
+        Limit::Store => "store",
     }
 }
 
@@ -158,6 +194,7 @@ fn limit_size(which: Limit) -> u64
         Limit::Config => CONFIG_LIMIT,
         Limit::Data => DATA_LIMIT,
         Limit::Value => VALUE_LIMIT,
+        Limit::Store => STORE_LIMIT,
     }
 }
 
@@ -197,6 +234,37 @@ fn write_placed<E: Sink>(errors: &mut E, why: ValueNo, at: u64) -> Result<(), Fa
             "\n",
         ],
     )
+}
+
+/// Writes the line of what a store's file breaks.
+fn write_broken<E: Sink>(errors: &mut E, why: Breach) -> Result<(), Failed>
+    ensures { Says (receipt (E.held errors.old) (E.held errors.new)
+        (E.count errors.old) (E.count errors.new))
+        (refusal_line (Refusal.Broken why)) result }
+{
+    write_counted(errors, "kmsrest: text ", broken_code(why), place_of(why))
+}
+
+fn broken_code(why: Breach) -> &'static str
+    ensures { result.now ≡ broken_code why }
+{
+    match why {
+        Breach::Magic => "41",
+        Breach::Torn(_) => "42",
+        Breach::BadRow(_) => "43",
+        Breach::Order(_) => "46",
+    }
+}
+
+fn place_of(why: Breach) -> u64
+    ensures { result ≡ place_of why }
+{
+    match why {
+        Breach::Magic => 0,
+        Breach::Torn(at) => at,
+        Breach::BadRow(at) => at,
+        Breach::Order(at) => at,
+    }
 }
 
 /// Writes the line of what a configuration breaks.
@@ -246,16 +314,18 @@ fn counted_text(counted: Counted) -> &'static str
     }
 }
 
-fn write_fault<E: Sink>(errors: &mut E, object: Object, count: u64) -> Result<(), Failed>
+fn write_fault<E: Sink>(errors: &mut E, object: &Object, count: u64) -> Result<(), Failed>
     ensures { Says (receipt (E.held errors.old) (E.held errors.new)
         (E.count errors.old) (E.count errors.new))
-        (fault_line object count) result }
+        (fault_line object.now count) result }
 {
     match object {
         Object::Input => write_counted(errors, "kmsrest: fault ", "input", count),
         Object::Output => write_counted(errors, "kmsrest: fault ", "output", count),
         Object::Files => write_counted(errors, "kmsrest: fault ", "files", count),
-        Object::Dice(seat) => write_dice_fault(errors, seat, count),
+        Object::Store => write_counted(errors, "kmsrest: fault ", "store", count),
+        Object::Dice(seat) => write_dice_fault(errors, *seat, count),
+        Object::Plugin(name) => write_plugin_fault(errors, name, count),
     }
 }
 
@@ -267,6 +337,14 @@ fn write_dice_fault<E: Sink>(errors: &mut E, seat: u32, count: u64) -> Result<()
     let mut buffer = Buffer::new();
     let seat = buffer.format(seat);
     write_counted(errors, "kmsrest: fault dice ", seat, count)
+}
+
+fn write_plugin_fault<E: Sink>(errors: &mut E, name: &Text, count: u64) -> Result<(), Failed>
+    ensures { Says (receipt (E.held errors.old) (E.held errors.new)
+        (E.count errors.old) (E.count errors.new))
+        (fault_line (Object.Plugin name.now) count) result }
+{
+    write_counted(errors, "kmsrest: fault plugin ", name.as_str(), count)
 }
 
 /// Writes some words, one that tells of what, and a number.

@@ -1,13 +1,11 @@
 //! The phases that commands are made of.
-ghost use Rattle.std.specs.Prelude.{◌≡◌, ◌<◌, ◌≤◌, false, length, [], IfOk, IfErr, OnErr};
-ghost use Rattle.kr_config.specs.Kept.{rows_of};
-ghost use Rattle.kr_provider.specs.Publication.{names_plugin};
-ghost use Rattle.kr_kms.specs.Outside.{KeepsFiles, KeepsObjects};
+ghost use Rattle.std.specs.Prelude.{◌≡◌, ◌<◌, ◌≤◌, length, [], IfOk, IfErr, OnErr};
+ghost use Rattle.kr_kms.specs.Outside.{KeepsFiles, KeepsObjects, file_faults};
 ghost use Rattle.kr_kms.specs.declared.world.WorldCall.{WorldCall};
 ghost use Rattle.kr_top.specs.Around.{Around, with_told_input, with_world};
-ghost use Rattle.kr_top.specs.Commands.{configuration, served, input_of, limit_of};
+ghost use Rattle.kr_top.specs.Commands.{configuration, input_of, limit_of};
 ghost use Rattle.kr_top.specs.Ran.{receipt, Writes};
-ghost use Rattle.kr_top.specs.inner.Phases.{Does, Lent, Returned, AskedFor, Configures, ReadsRows, TakesInput, NoDice, rows_in, shown_as};
+ghost use Rattle.kr_top.specs.inner.Phases.{Does, DiceLoan, DiceReturn, LinkLoan, LinkReturn, AskedFor, Configures, ReadsRows, TakesInput, LendsNothing, rows_in, shown_as};
 
 use crate::command::Direction;
 use crate::refusal::{Done, Limit, Object, Outcome, Refusal, Stop};
@@ -17,7 +15,6 @@ use kr_base::{
 };
 use kr_config::{ConfigErr, Settings, read};
 use kr_kms::{FileNo, World};
-use kr_provider::names_plugin;
 use std::alloc::Global;
 
 /// The configuration in a file.
@@ -62,18 +59,6 @@ fn read_settings(alloc: Global, bytes: &[u8]) -> Result<Settings, Stop>
     }
 }
 
-/// A configuration that is served: one that names no plugin.
-pub fn serve(settings: Settings) -> Result<Settings, Stop>
-    ensures does { (a : Around) → Does (served (rows_of settings.entries.0)) a a (rows_in result) }
-    ensures no_plugin { IfOk result
-        (λ settings. names_plugin (rows_of settings.entries.0) ≡ false) }
-{
-    if names_plugin(&settings) {
-        return Err(Stop::Refused(Refusal::NotServed));
-    }
-    Ok(settings)
-}
-
 /// Takes the input: an object's data, or a stored value.
 pub fn take_input<I: Source>(
     alloc: Global,
@@ -108,10 +93,11 @@ fn take<I: Source>(alloc: Global, input: &mut I, limit: u64, long: Refusal) -> R
 
 /// Asks the world for the random source of the seat.
 pub fn open_dice<W: World>(alloc: Global, world: &mut W, seat: u32) -> Result<W::Rand, Stop>
-    ensures lent { IfOk result (λ dice. Lent seat (W.told world.old) (W.told world.new)
+    ensures lent { IfOk result (λ dice. DiceLoan seat (W.told world.old) (W.told world.new)
         (W.Rand.left dice) (W.Rand.count dice)) }
     ensures objects { OnErr result (KeepsObjects (W.told world.old) (W.told world.new)) }
-    ensures why { IfErr result (NoDice (W.told world.old) (W.told world.new)) }
+    ensures why { IfErr result (LendsNothing (W.told world.old).faults.dice
+        (W.told world.new).faults.dice (file_faults (W.told world.new))) }
     ensures asked { AskedFor (W.told world.old).asked (W.told world.new).asked
         (WorldCall.RandomSource seat) result }
     ensures files { KeepsFiles (W.told world.old) (W.told world.new) }
@@ -128,10 +114,44 @@ pub fn open_dice<W: World>(alloc: Global, world: &mut W, seat: u32) -> Result<W:
 /// Gives the random source of the seat back.
 pub fn close_dice<W: World>(world: &mut W, seat: u32, dice: W::Rand)
     requires out { 0 < (W.told world.old).dice.out seat }
-    ensures { Returned seat (W.told world.old) (W.told world.new) (W.Rand.left dice)
+    ensures { DiceReturn seat (W.told world.old) (W.told world.new) (W.Rand.left dice)
         (W.Rand.count dice) }
 {
     world.back_dice(seat, dice);
+}
+
+/// Asks the world for a link of the seat to the plugin, which the program is.
+pub fn open_link<W: World>(
+    alloc: Global,
+    world: &mut W,
+    seat: u32,
+    plugin: &str,
+    program: &str,
+) -> Result<W::Link, Stop>
+    ensures lent { IfOk result (λ link. LinkLoan seat plugin.now program.now (W.told world.old)
+        (W.told world.new) (W.Link.link link)) }
+    ensures objects { OnErr result (KeepsObjects (W.told world.old) (W.told world.new)) }
+    ensures why { IfErr result (LendsNothing (W.told world.old).faults.links
+        (W.told world.new).faults.links (file_faults (W.told world.new))) }
+    ensures asked { AskedFor (W.told world.old).asked (W.told world.new).asked
+        (WorldCall.Link seat plugin.now program.now) result }
+    ensures files { KeepsFiles (W.told world.old) (W.told world.new) }
+{
+    match world.link(alloc, seat, plugin, program) {
+        Ok(link) => Ok(link),
+        Err(FileNo::Failed) => Err(Stop::Fault(Object::Files, world.faults())),
+        Err(FileNo::NoMemory) => Err(Stop::NoMemory),
+        Err(FileNo::Absent) => unreachable!(),
+        Err(FileNo::TooLong) => unreachable!(),
+    }
+}
+
+/// Gives a link of the seat back.
+pub fn close_link<W: World>(world: &mut W, seat: u32, link: W::Link)
+    requires out { 0 < (W.told world.old).links.out (seat, (W.Link.link link).name) }
+    ensures { LinkReturn seat (W.told world.old) (W.told world.new) (W.Link.link link) }
+{
+    world.back_link(seat, link);
 }
 
 /// What a command makes of a text.

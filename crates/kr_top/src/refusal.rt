@@ -2,10 +2,11 @@
 
 use kr_base::{Bytes, Text};
 use kr_config::ConfigNo;
+use kr_kms::Field;
 use kr_provider::ValueNo;
 
 /// An object of the outside, as a fault's line names it.
-#[derive(Clone, Copy, Debug, PartialEq, Eq)]
+#[derive(Debug, Drop, PartialEq, Eq)]
 pub enum Object {
     /// The input.
     Input,
@@ -13,8 +14,12 @@ pub enum Object {
     Output,
     /// The files of the world.
     Files,
+    /// The tape of the store.
+    Store,
     /// The random source of a seat.
     Dice(u32),
+    /// The plugin of a name.
+    Plugin(Text),
 }
 
 /// Why the words stop before a step.
@@ -37,6 +42,21 @@ pub enum Limit {
     Data,
     /// That of a stored value: 2,162,688.
     Value,
+    /// That of a store's file: 67,108,864.
+    Store,
+}
+
+/// What the bytes of a store's file break first; the place is that of the row that breaks it.
+#[derive(Clone, Copy, Debug, PartialEq, Eq)]
+pub enum Breach {
+    /// The first bytes name no format.
+    Magic,
+    /// The file ends inside a row.
+    Torn(u64),
+    /// A row breaks a rule.
+    BadRow(u64),
+    /// A row has another revision than its own.
+    Order(u64),
 }
 
 /// Why a step of a command refuses what it saw.
@@ -46,14 +66,18 @@ pub enum Refusal {
     Absent(Text),
     /// The configuration breaks a rule or passes a limit.
     Configuration(ConfigNo),
-    /// The configuration names a plugin.
-    NotServed,
+    /// The configuration names this plugin, for which the words give no program.
+    NoPlugin(Text),
+    /// The plugin of this name is unhealthy by this field, which says this text, as it is printed.
+    Unhealthy(Text, Field, Text),
     /// More bytes than this limit.
     Limit(Limit),
     /// The data can't be sealed or the value can't be read.
     Value(ValueNo),
     /// The same of a value that is inspected, with the place of the breach in its body.
     Placed(ValueNo, u64),
+    /// The file of a store is none.
+    Broken(Breach),
 }
 
 /// Why a command wasn't done.

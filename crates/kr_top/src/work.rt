@@ -1,214 +1,179 @@
-//! Seals or unseals by a bench of one configuration.
-ghost use Rattle.std.specs.Prelude.{◌≡◌, ◌≤◌, length, [], false, Some, IfOk, IsSome, IfSome, MatchResult};
+//! Borrows a random source, and a link to each plugin, for what is made of the input.
+ghost use Rattle.std.specs.Prelude.{◌≡◌, ◌≢◌, ◌≤◌, ℕ, List, ◌∷◌, ◌++◌, length, map, [], MatchOption};
 ghost use Rattle.kr_base.specs.Limits.{path_limit};
 ghost use Rattle.kr_config.specs.Kept.{rows_of};
-ghost use Rattle.kr_provider.specs.Publication.{names_plugin};
-ghost use Rattle.kr_top.specs.Around.{Around, with_world, with_lent_dice};
-ghost use Rattle.kr_top.specs.Commands.{freshness, working, limit_of};
+ghost use Rattle.kr_provider.specs.Names.{names_of};
+ghost use Rattle.kr_provider.specs.PluginOrder.{plugin_order};
+ghost use Rattle.kr_top.specs.Around.{Around, with_world, with_lent_dice, with_lent_links};
+ghost use Rattle.kr_top.specs.Commands.{working, limit_of};
+ghost use Rattle.kr_top.specs.Plugins.{borrow_links};
 ghost use Rattle.kr_top.specs.Steps.{borrow_dice};
-ghost use Rattle.kr_top.specs.inner.Phases.{Does, seal_outcome, unseal_outcome};
+ghost use Rattle.kr_top.specs.inner.Phases.{Does};
 
-use crate::command::{Conversion, Direction};
-use crate::phases::{close_dice, open_dice};
-use crate::refusal::{Done, Object, Outcome, Refusal, Stop};
-use kr_base::{Bytes, Dice, Shared};
+use crate::bench::{adopted, work};
+use crate::command::Conversion;
+use crate::phases::{close_dice, close_link, open_dice, open_link};
+use crate::programs::Program;
+use crate::publication::publish_by;
+use crate::refusal::{Outcome, Stop};
+use kr_base::{Dice, Shared};
 use kr_config::Settings;
 use kr_kms::{Kms, World};
-use kr_provider::{Bench, Links, Opened, Published, SealNo, UnsealNo, ValueNo, publish};
+use kr_provider::Links;
 use std::alloc::Global;
 
-/// How many keys a bench holds expanded, and how many unwrapped seeds.
-const PAGES: u32 = 64;
-
-const CACHE: u32 = 64;
-
-/// Borrows the random source of seat 0 for what is made of the bytes by these settings.
+/// Borrows the random source of seat 0, and a link of it to each plugin, for what is made of the
+/// bytes by these settings.
 pub fn make<W: World>(
     alloc: Global,
     words: &Conversion,
     settings: Settings,
+    programs: &[Program],
     world: &mut W,
     bytes: &[u8],
 ) -> Result<Outcome, Stop>
-    requires no_plugin { names_plugin (rows_of settings.entries.0) ≡ false }
+    requires programs { map (λ program. program.plugin) programs.now
+        ≡ plugin_order (rows_of settings.entries.0) }
     requires path { length words.now.path ≤ path_limit }
     requires fits { length bytes.now ≤ limit_of words.now.direction }
-    ensures { (a : Around) → Does
-        (borrow_dice 0 (working words.now.direction words.now.resource words.now.path
-        (rows_of settings.entries.0) bytes.now))
+    ensures { (a : Around) → a.truth ≡ W.Link.truth → Does
+        (borrow_dice 0 (borrow_links programs.now (working words.now.direction words.now.resource
+        words.now.path (rows_of settings.entries.0) bytes.now)))
         (with_world (W.told world.old) a) (with_world (W.told world.new) a) result }
 {
     let dice = match open_dice(alloc, world, 0) {
         Ok(dice) => dice,
         Err(stop) => return Err(stop),
     };
-    let (made, dice) = make_by::<W::Link, W::Rand>(
-        alloc,
-        words.direction,
-        settings,
-        dice,
-        words.resource.as_str(),
-        words.path.as_str(),
-        bytes,
+    let links = Links::<W::Link>::new(alloc);
+    let (made, links, dice) = make_linked(
+        alloc, words, settings, programs, world, links, dice, bytes,
     );
+    links.end();
     close_dice(world, 0, dice);
     made
 }
 
-/// What a bench of these settings makes of the bytes. The random source comes back.
-fn make_by<L: Kms, D: Dice>(
+/// Borrows a link to each of the plugins, behind the links that are there, and gives it back.
+fn make_linked<W: World>(
     alloc: Global,
-    direction: Direction,
+    words: &Conversion,
     settings: Settings,
-    dice: D,
-    resource: &str,
-    path: &str,
+    programs: &[Program],
+    world: &mut W,
+    mut links: Links<W::Link>,
+    dice: W::Rand,
     bytes: &[u8],
-) -> (Result<Outcome, Stop>, D)
-    requires no_plugin { names_plugin (rows_of settings.entries.0) ≡ false }
-    requires path { length path.now ≤ path_limit }
-    requires fits { length bytes.now ≤ limit_of direction }
-    ensures { (a : Around) → Does
-        (working direction resource.now path.now (rows_of settings.entries.0) bytes.now)
-        (with_lent_dice 0 (D.left dice) (D.count dice) a)
-        (with_lent_dice 0 (D.left result.1) (D.count result.1) a) result.0 }
+) -> (Result<Outcome, Stop>, Links<W::Link>, W::Rand)
+    requires programs { names_of W.Link.link links
+        ++ map (λ program. program.plugin) programs.now
+        ≡ plugin_order (rows_of settings.entries.0) }
+    requires path { length words.now.path ≤ path_limit }
+    requires fits { length bytes.now ≤ limit_of words.now.direction }
+    ensures made { (a : Around) → a.truth ≡ W.Link.truth → Does
+        (borrow_links programs.now (working words.now.direction words.now.resource
+        words.now.path (rows_of settings.entries.0) bytes.now))
+        (with_lent_links W.Link.link 0 links
+        (with_lent_dice 0 (W.Rand.left dice) (W.Rand.count dice)
+        (with_world (W.told world.old) a)))
+        (with_lent_links W.Link.link 0 result.1
+        (with_lent_dice 0 (W.Rand.left result.2) (W.Rand.count result.2)
+        (with_world (W.told world.new) a)))
+        result.0 }
+    ensures names { names_of W.Link.link result.1 ≡ names_of W.Link.link links }
+    ensures dice { (W.told world.new).dice ≡ (W.told world.old).dice }
+    ensures out { (key : ℕ × List ℕ)
+        → (W.told world.new).links.out key ≡ (W.told world.old).links.out key }
 {
-    let bench = match adopted::<L, D>(alloc, settings, dice) {
-        Ok(bench) => bench,
-        Err(dice) => return (Err(Stop::NoMemory), dice),
+    let Some((program, more)) = first_of(programs) else {
+        return make_by(alloc, words, settings, links, dice, bytes);
     };
-    let (made, links, dice) = work(alloc, direction, bench, resource, path, bytes);
-    links.end();
-    (made, dice)
+    let link = match open_link(
+        alloc,
+        world,
+        0,
+        program.plugin.as_str(),
+        program.file.as_str(),
+    ) {
+        Ok(link) => link,
+        Err(stop) => return (Err(stop), links, dice),
+    };
+    match links.add(link) {
+        Ok(()) => {}
+        Err((_, link)) => {
+            close_link(world, 0, link);
+            return (Err(Stop::NoMemory), links, dice);
+        }
+    }
+    let (made, mut links, dice) = make_linked(
+        alloc, words, settings, more, world, links, dice, bytes,
+    );
+    let link = take_last(&mut links);
+    close_link(world, 0, link);
+    (made, links, dice)
 }
 
-/// A bench that adopted these settings; where there is no memory, the random source comes back.
-fn adopted<L: Kms, D: Dice>(
+/// The last of some links.
+fn take_last<L: Kms>(links: &mut Links<L>) -> L
+    requires { names_of L.link links.old ≢ [] }
+    ensures { links.old ≡ links.new ++ result ∷ [] }
+{
+    let last = links.take();
+    let Some(link) = last else { unreachable!() };
+    link
+}
+
+/// The first of programs, and the others.
+fn first_of(programs: &[Program]) -> Option<(&Program, &[Program])>
+    ensures { MatchOption result (programs.now ≡ [])
+        (λ parts. programs.now ≡ parts.0.now ∷ parts.1.now) }
+{
+    match programs {
+        [program, more @ ..] => Some((program, more)),
+        [] => None,
+    }
+}
+
+/// What a bench of these settings makes of the bytes. The links and the random source come back.
+fn make_by<L: Kms, D: Dice>(
     alloc: Global,
+    words: &Conversion,
     settings: Settings,
+    mut links: Links<L>,
     mut dice: D,
-) -> Result<Bench<L, D>, D>
-    requires no_plugin { names_plugin (rows_of settings.entries.0) ≡ false }
-    ensures published { IfOk result (λ bench. bench.published
-        ≡ Some (record { rows = rows_of settings.entries.0; seeds = [] })) }
-    ensures links { IfOk result (λ bench. bench.links ≡ []) }
-    ensures dice { MatchResult result (λ bench. bench.dice ≡ dice) (λ back. back ≡ dice) }
+    bytes: &[u8],
+) -> (Result<Outcome, Stop>, Links<L>, D)
+    requires links { names_of L.link links ≡ plugin_order (rows_of settings.entries.0) }
+    requires path { length words.now.path ≤ path_limit }
+    requires fits { length bytes.now ≤ limit_of words.now.direction }
+    ensures made { (a : Around) → a.truth ≡ L.truth → Does
+        (working words.now.direction words.now.resource words.now.path
+        (rows_of settings.entries.0) bytes.now)
+        (with_lent_links L.link 0 links (with_lent_dice 0 (D.left dice) (D.count dice) a))
+        (with_lent_links L.link 0 result.1
+        (with_lent_dice 0 (D.left result.2) (D.count result.2) a))
+        result.0 }
+    ensures names { names_of L.link result.1 ≡ names_of L.link links }
 {
     let settings = match Shared::new(alloc, settings) {
         Ok(settings) => settings,
-        Err(_) => return Err(dice),
+        Err(_) => return (Err(Stop::NoMemory), links, dice),
     };
-    let mut links = Links::<L>::new(alloc);
-    let published = publish_bare(alloc, settings, &mut links, &mut dice);
-    let published = match Shared::new(alloc, published) {
+    let published = match publish_by(alloc, settings, &mut links, &mut dice) {
         Ok(published) => published,
-        Err(_) => {
-            links.end();
-            return Err(dice);
-        }
+        Err(stop) => return (Err(stop), links, dice),
     };
-    let mut bench = match Bench::new(alloc, links, dice, PAGES, CACHE) {
+    links.known();
+    let bench = match adopted(alloc, published, links, dice) {
         Ok(bench) => bench,
-        Err((_, links, dice)) => {
-            links.end();
-            return Err(dice);
-        }
+        Err((links, dice)) => return (Err(Stop::NoMemory), links, dice),
     };
-    let Ok(()) = bench.adopt(published) else {
-        unreachable!();
-    };
-    Ok(bench)
-}
-
-/// Publishes settings that name no plugin, which asks nothing and draws nothing.
-fn publish_bare<L: Kms, D: Dice>(
-    alloc: Global,
-    settings: Shared<Settings>,
-    links: &mut Links<L>,
-    dice: &mut D,
-) -> Published
-    requires no_plugin { names_plugin (rows_of settings.entries.0) ≡ false }
-    ensures published { result ≡ record { rows = rows_of settings.entries.0; seeds = [] } }
-    ensures links { links.new ≡ links.old }
-    ensures dice { dice.new ≡ dice.old }
-{
-    match publish(alloc, settings, links, dice) {
-        Ok(published) => published,
-        Err(_) => unreachable!(),
-    }
-}
-
-/// What a bench that adopted a configuration makes of the bytes. Its links and its random source
-/// come back.
-fn work<L: Kms, D: Dice>(
-    alloc: Global,
-    direction: Direction,
-    mut bench: Bench<L, D>,
-    resource: &str,
-    path: &str,
-    bytes: &[u8],
-) -> (Result<Outcome, Stop>, Links<L>, D)
-    requires adopted { IsSome bench.published }
-    requires bare { IfSome bench.published (λ p. p.seeds ≡ []) }
-    requires no_plugin { IfSome bench.published (λ p. names_plugin p.rows ≡ false) }
-    requires path { length path.now ≤ path_limit }
-    requires fits { length bytes.now ≤ limit_of direction }
-    ensures made { (a : Around) → IfSome bench.published (λ p. Does
-        (working direction resource.now path.now p.rows bytes.now)
-        (with_lent_dice 0 (D.left bench.dice) (D.count bench.dice) a)
-        (with_lent_dice 0 (D.left result.2) (D.count result.2) a) result.0) }
-    ensures links { result.1 ≡ bench.links }
-{
-    match direction {
-        Direction::Encrypt => {
-            let sealed = bench.seal(alloc, resource, path, bytes);
-            let (links, dice) = bench.close();
-            let faults = dice.faults();
-            (seal_outcome(sealed, faults), links, dice)
-        }
-        Direction::Decrypt => {
-            let opened = bench.unseal(alloc, resource, path, bytes);
-            let (links, dice) = bench.close();
-            (unseal_outcome(opened), links, dice)
-        }
-    }
-}
-
-/// What a bench sealed, as a command says it, by the faults of its random source.
-fn seal_outcome(sealed: Result<Bytes, SealNo>, faults: u64) -> Result<Outcome, Stop>
-    ensures { result ≡ seal_outcome faults sealed }
-{
-    match sealed {
-        Ok(bytes) => Ok(Outcome {
-            bytes,
-            done: Done::Silent,
-        }),
-        Err(SealNo::LooksEncrypted) => Err(Stop::Refused(Refusal::Value(ValueNo::LooksEncrypted))),
-        Err(SealNo::TooLarge { length: _length }) => {
-            Err(Stop::Refused(Refusal::Value(ValueNo::TooLarge)))
-        }
-        Err(SealNo::DiceFailed) => Err(Stop::Fault(Object::Dice(0), faults)),
-        Err(SealNo::NoMemory) => Err(Stop::NoMemory),
-    }
-}
-
-/// What a bench read, as a command says it.
-fn unseal_outcome(opened: Result<Opened, UnsealNo>) -> Result<Outcome, Stop>
-    ensures { result ≡ unseal_outcome opened }
-{
-    match opened {
-        Ok(Opened { plain, stale }) => Ok(Outcome {
-            bytes: plain,
-            done: freshness(stale),
-        }),
-        Err(UnsealNo::Refused(why)) => Err(Stop::Refused(Refusal::Value(why))),
-        Err(UnsealNo::PluginFailed { name: _name }) => Err(Stop::Refused(Refusal::NotServed)),
-        Err(UnsealNo::NoMemory) => Err(Stop::NoMemory),
-    }
-}
-
-fn freshness(stale: bool) -> Done
-    ensures { result ≡ freshness stale }
-{
-    if stale { Done::Stale } else { Done::Fresh }
+    work(
+        alloc,
+        words.direction,
+        bench,
+        words.resource.as_str(),
+        words.path.as_str(),
+        bytes,
+    )
 }

@@ -3,7 +3,7 @@ use Rattle.std.proofs.Common.{◌≡◌, ℕ, ◌≤◌, ◌⊎◌, List, [], �
 use Rattle.std.proofs.Common.{false, IsTrue, ◌↔◌, leb}
 use Rattle.std.proofs.lemmas.Bool.{leb-true, le-leb}
 use Rattle.kr_words.specs.declared.command.Verb.{Verb}
-use Rattle.kr_words.specs.Names.{text_of, required, IsRepeatable}
+use Rattle.kr_words.specs.Names.{text_of, required_options, IsRepeatable}
 use Rattle.kr_words.specs.Options.{count_of}
 use Rattle.kr_words.specs.Rules.{IsOption, HaveTwoNames, IsCommand}
 use Rattle.kr_words.specs.declared.name.OptionName.{OptionName}
@@ -36,7 +36,7 @@ or_few P b n m is no_p e = (
 
 pub joins : {verb : Verb} {options : List (List ℕ × List ℕ)}
     → All (IsOption verb (count_of options (text_of Replica))) options
-    → All (λ name. 1 ≤ count_of options (text_of name)) (required verb)
+    → All (λ name. 1 ≤ count_of options (text_of name)) (required_options verb)
     → ((name : OptionName) → IsRepeatable name ⊎ (count_of options (text_of name) ≤ 1))
     → AllPairs HaveTwoNames options → IsCommand verb options
 joins each whole once plugins =

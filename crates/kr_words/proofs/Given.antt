@@ -5,7 +5,7 @@ use Rattle.kr_words.specs.declared.command.Verb.{Verb}
 use Rattle.kr_words.specs.declared.command.Verb.TheVariants.{Judge, Gen}
 use Rattle.kr_words.specs.declared.name.OptionName.{OptionName}
 use Rattle.kr_words.specs.declared.name.OptionName.TheVariants.{Reload, Seed, Size}
-use Rattle.kr_words.specs.Names.{text_of, required}
+use Rattle.kr_words.specs.Names.{text_of, required_options}
 use Rattle.kr_words.specs.Numerals.{IsDecimal}
 use Rattle.kr_words.specs.Options.{value_of}
 use Rattle.kr_words.specs.Rules.{IsReload, IsCommand, after_equals}
@@ -19,12 +19,12 @@ both P (Some v) s p = p
 
 -- the value at a required option, by its rule
 given : (P : List ℕ → Type 0) (options : List (List ℕ × List ℕ)) (verb wanted : Verb)
-    (name : OptionName) → IsCommand verb options → verb ≡ wanted → Contains (required wanted) name
+    (name : OptionName) → IsCommand verb options → verb ≡ wanted → Contains (required_options wanted) name
     → IfSome (value_of options (text_of name)) P → IsSomeAnd (value_of options (text_of name)) P
 given P options verb wanted name command e has rule =
     both P (value_of options (text_of name))
     (value_some {verb = verb} {options = options} name command
-    (subst (λ v. Contains (required v) name) (sym e) has)) rule
+    (subst (λ v. Contains (required_options v) name) (sym e) has)) rule
 
 some_number : (o : Option (List ℕ)) (r : Option ℕ) (most : ℕ) → most < 2 ^ 64
     → MatchOption r ((n : ℕ) → IsSomeAnd o (λ t. IsDecimal t n) → 2 ^ 64 ≤ n)

@@ -13,7 +13,7 @@ use Rattle.kr_words.specs.declared.name.OptionName.{OptionName}
 use Rattle.kr_words.specs.declared.name.OptionName.TheVariants.{Config, Resource, Path, Plugin}
 use Rattle.kr_words.specs.declared.name.OptionName.TheVariants.{Store, Replica, Reload, File, Seed}
 use Rattle.kr_words.specs.declared.name.OptionName.TheVariants.{Size}
-use Rattle.kr_words.specs.Names.{text_of, required}
+use Rattle.kr_words.specs.Names.{text_of, required_options}
 use Rattle.kr_words.specs.Options.{is_named, value_of, count_of}
 use Rattle.kr_words.specs.Rules.{IsValue, IsOption, IsCommand}
 
@@ -93,8 +93,8 @@ counted_some name (option ∷ options) h =
 
 -- a command has a value at each name that it requires
 pub value_some : {verb : Verb} {options : List (List ℕ × List ℕ)} (name : OptionName)
-    → IsCommand verb options → Contains (required verb) name
+    → IsCommand verb options → Contains (required_options verb) name
     → IsSome (value_of options (text_of name))
 value_some {verb} {options} name m has =
     counted_some (text_of name) options
-    (All-contains (λ n. 1 ≤ count_of options (text_of n)) (required verb) name m.whole has)
+    (All-contains (λ n. 1 ≤ count_of options (text_of n)) (required_options verb) name m.whole has)

@@ -36,18 +36,18 @@ text_of Seed = codes "seed"
 text_of Size = codes "size"
 
 -- the options that a command must have
-abbrev pub required : Verb → List OptionName
-required Encrypt = Config ∷ Resource ∷ Path ∷ []
-required Decrypt = Config ∷ Resource ∷ Path ∷ []
-required Check = Config ∷ []
-required Inspect = []
-required Put = Config ∷ Store ∷ Resource ∷ Path ∷ []
-required Get = Config ∷ Store ∷ Path ∷ []
-required Rows = Store ∷ []
-required Judge = Store ∷ Replica ∷ Reload ∷ []
-required Rewrite = Config ∷ Store ∷ []
-required Fleet = File ∷ Store ∷ []
-required Gen = Seed ∷ Size ∷ Store ∷ []
+abbrev pub required_options : Verb → List OptionName
+required_options Encrypt = Config ∷ Resource ∷ Path ∷ []
+required_options Decrypt = Config ∷ Resource ∷ Path ∷ []
+required_options Check = Config ∷ []
+required_options Inspect = []
+required_options Put = Config ∷ Store ∷ Resource ∷ Path ∷ []
+required_options Get = Config ∷ Store ∷ Path ∷ []
+required_options Rows = Store ∷ []
+required_options Judge = Store ∷ Replica ∷ Reload ∷ []
+required_options Rewrite = Config ∷ Store ∷ []
+required_options Fleet = File ∷ Store ∷ []
+required_options Gen = Seed ∷ Size ∷ Store ∷ []
 
 -- the options that it may have besides
 abbrev pub optional : Verb → List OptionName

@@ -9,7 +9,7 @@ use Rattle.kr_words.specs.declared.name.OptionName.{OptionName}
 use Rattle.kr_words.specs.declared.name.OptionName.TheVariants.{Config, Resource, Path, Plugin}
 use Rattle.kr_words.specs.declared.name.OptionName.TheVariants.{Store, Replica, Reload, File, Seed}
 use Rattle.kr_words.specs.declared.name.OptionName.TheVariants.{Size}
-use Rattle.kr_words.specs.Names.{text_of, required, optional, IsRepeatable}
+use Rattle.kr_words.specs.Names.{text_of, required_options, optional, IsRepeatable}
 use Rattle.kr_words.specs.Options.{count_of}
 use Rattle.kr_words.specs.Numerals.{IsDecimal}
 
@@ -51,7 +51,7 @@ IsValue verb replicas Size value = (n : ℕ) × IsDecimal value n × (1 ≤ n)
 abbrev pub IsOption : Verb → ℕ → List ℕ × List ℕ → Type 0
 IsOption verb replicas option =
     (name : OptionName) × (option.0 ≡ text_of name)
-    × (Contains (required verb) name ⊎ Contains (optional verb) name)
+    × (Contains (required_options verb) name ⊎ Contains (optional verb) name)
     × IsValue verb replicas name option.1
 
 -- two plugins have two names
@@ -63,6 +63,6 @@ HaveTwoNames a b =
 -- that it must have is missing, only plugins and replicas repeat, and no two plugins have one name.
 pub record IsCommand (verb : Verb) (options : List (List ℕ × List ℕ)) : Type 0 where
   pub each : All (IsOption verb (count_of options (text_of Replica))) options
-  pub whole : All (λ name. 1 ≤ count_of options (text_of name)) (required verb)
+  pub whole : All (λ name. 1 ≤ count_of options (text_of name)) (required_options verb)
   pub once : (name : OptionName) → IsRepeatable name ⊎ (count_of options (text_of name) ≤ 1)
   pub plugins : AllPairs HaveTwoNames options

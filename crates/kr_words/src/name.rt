@@ -1,6 +1,6 @@
 //! The commands and the names of their options.
 ghost use Rattle.std.specs.Prelude.{◌≡◌, ◌↔◌, ◌⊎◌, ℕ, IsTrue, MatchOption, Contains};
-ghost use Rattle.kr_words.specs.Names.{word_of, text_of, required, optional, IsRepeatable};
+ghost use Rattle.kr_words.specs.Names.{word_of, text_of, required_options, optional, IsRepeatable};
 
 use crate::command::Verb;
 
@@ -116,7 +116,7 @@ impl OptionName {
 impl Verb {
     /// The options that the command must have.
     pub fn required(self) -> &'static [OptionName]
-        ensures { result.now ≡ required self }
+        ensures { result.now ≡ required_options self }
     {
         match self {
             Verb::Encrypt | Verb::Decrypt => {
@@ -154,7 +154,7 @@ impl Verb {
     /// Whether the option is one of the command's.
     pub fn takes(self, name: OptionName) -> bool
         ensures { IsTrue result
-            ↔ (Contains (required self) name ⊎ Contains (optional self) name) }
+            ↔ (Contains (required_options self) name ⊎ Contains (optional self) name) }
     {
         self.required().contains(&name) || self.optional().contains(&name)
     }

@@ -1,6 +1,6 @@
 //! The rules for the options of a command.
 ghost use Rattle.std.specs.Prelude.{◌≡◌, ◌↔◌, ◌⊎◌, ◌≤◌, ◌<◌, ℕ, IsTrue, Contains, All, AllPairs};
-ghost use Rattle.kr_words.specs.Names.{text_of, required, optional, IsRepeatable};
+ghost use Rattle.kr_words.specs.Names.{text_of, required_options, optional, IsRepeatable};
 ghost use Rattle.kr_words.specs.Options.{count_of};
 ghost use Rattle.kr_words.specs.Rules.{before_equals, IsPlugin, IsReload, MayHaveEmptyPath};
 ghost use Rattle.kr_words.specs.Rules.{IsValue, IsOption, HaveTwoNames, IsCommand};
@@ -101,7 +101,7 @@ fn is_below(number: &str, limit: usize) -> bool
 /// Whether no required option is missing.
 fn are_whole(verb: Verb, options: &[(Text, Text)]) -> bool
     ensures { IsTrue result
-        ↔ All (λ name. 1 ≤ count_of options.now (text_of name)) (required verb) }
+        ↔ All (λ name. 1 ≤ count_of options.now (text_of name)) (required_options verb) }
 {
     verb.required()
         .iter()

@@ -108,8 +108,8 @@ abbrev pub IsMoved : (List (List ℕ) → List (List ℕ)) → (own place : ℕ)
 IsMoved change own place old new = MovesUnless (own == place) change own old new
 
 -- what is seen of the places and the pairs
-abbrev pub seen : List (List ℕ × ℕ) → List Pair → Option Proposal → NeedsState
-seen entries pairs proposal = record {
+abbrev pub needs_view : List (List ℕ × ℕ) → List Pair → Option Proposal → NeedsState
+needs_view entries pairs proposal = record {
   needs = needs_of (labels_of pairs) (without_proposed proposal entries);
   proposal = proposed_need (labels_of pairs) proposal;
 }

@@ -235,13 +235,13 @@ passes draft (statement.Worker name replica) =
     if nat_lt (length (workers_in draft)) worker_limit then None else Some line_no.Workers
 passes draft (statement.Line line) = if is_long line then Some line_no.TooLarge else None
 
-abbrev pub taken : Draft → Statement → Option LineNo → Result Draft LineNo
-taken draft said None = Ok (with_statement draft said)
-taken draft said (Some why) = Err why
+abbrev pub draft_within : Draft → Statement → Option LineNo → Result Draft LineNo
+draft_within draft said None = Ok (with_statement draft said)
+draft_within draft said (Some why) = Err why
 
 abbrev pub step_by : Draft → Option Statement → Result Draft LineNo
 step_by draft None = Err line_no.Form
-step_by draft (Some said) = taken draft said (passes draft said)
+step_by draft (Some said) = draft_within draft said (passes draft said)
 
 abbrev pub step : Draft → Row → Result Draft LineNo
 step draft row = step_by draft (statement_of draft row)

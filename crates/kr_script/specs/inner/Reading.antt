@@ -38,13 +38,13 @@ abbrev pub goes_on : ℕ → Result Draft LineNo → (Draft → Result Fleet Scr
 goes_on number (Ok draft) rest = rest draft
 goes_on number (Err why) rest = Err (at_line number why)
 
-abbrev pub finished : ℕ → Draft → Result Fleet ScriptNo
-finished number draft =
+abbrev pub fleet_at_end : ℕ → Draft → Result Fleet ScriptNo
+fleet_at_end number draft =
     if is_some draft.last then Ok (fleet_in draft) else Err (Breach number)
 
 -- what the lines from this number on come to, behind what was said so far
 abbrev pub answer : ℕ → Draft → List (List ℕ) → Result Fleet ScriptNo
-answer number draft [] = finished number draft
+answer number draft [] = fleet_at_end number draft
 answer number draft (line ∷ lines) =
     goes_on number (line_step draft line) (λ next. answer (number + 1) next lines)
 

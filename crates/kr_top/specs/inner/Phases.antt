@@ -7,31 +7,27 @@ use Rattle.kr_base.specs.Faults.{Rose, IsCounted}
 use Rattle.kr_base.specs.Limits.{path_limit}
 use Rattle.kr_base.specs.Told.{Agrees}
 use Rattle.kr_base.specs.Streams.{AppendsFront, TakesAtMost}
-use Rattle.kr_kms.specs.Outside.{Outside, noted, file_faults, same_seat, KeepsFiles, HandsOut, TakesBack}
+use Rattle.kr_kms.specs.Calls.{Link}
+use Rattle.kr_kms.specs.Outside.{Outside, with_call, file_faults, same_seat, same_link, link_at, KeepsFiles, HandsOut, TakesBack}
 use Rattle.kr_kms.specs.declared.world.WorldCall.{WorldCall}
+use Rattle.kr_kms.specs.declared.world.WorldCall.TheVariants as calls
 use Rattle.kr_kms.specs.declared.world.WorldCall.TheVariants.{RandomSource}
 use Rattle.kr_config.specs.Kept.{Row, rows_of}
 use Rattle.kr_config.specs.declared.settings.Settings.{Settings}
 use Rattle.kr_config.specs.Meanings.{Means}
 use Rattle.kr_config.specs.declared.refusal.ConfigNo.{ConfigNo}
-use Rattle.kr_provider.specs.declared.refusal.Opened.{Opened}
-use Rattle.kr_provider.specs.declared.refusal.SealNo.{SealNo}
-use Rattle.kr_provider.specs.declared.refusal.SealNo.TheVariants as seal
-use Rattle.kr_provider.specs.declared.refusal.UnsealNo.{UnsealNo}
-use Rattle.kr_provider.specs.declared.refusal.UnsealNo.TheVariants as unseal
-use Rattle.kr_provider.specs.declared.refusal.ValueNo.TheVariants as value
 use Rattle.kr_top.specs.Around.{Around, Stays, IsHome, Ends}
 use Rattle.kr_top.specs.Command.{Asks, AskBadly}
-use Rattle.kr_top.specs.Commands.{silently, freshness}
+use Rattle.kr_top.specs.Commands.{silently}
 use Rattle.kr_top.specs.Configuration.{Entries, IsConfiguration}
 use Rattle.kr_top.specs.Ran.{Receipt}
 use Rattle.kr_top.specs.Steps.{Steps, Left}
 use Rattle.kr_top.specs.declared.command.Command.{Command}
-use Rattle.kr_top.specs.declared.command.Command.TheVariants.{Convert, Check, Inspect}
+use Rattle.kr_top.specs.declared.command.Command.TheVariants.{Convert, Check, Inspect, Rows}
 use Rattle.kr_top.specs.declared.refusal.Object.TheVariants.{Input, Files, Dice}
 use Rattle.kr_top.specs.declared.refusal.Outcome.{Outcome}
 use Rattle.kr_top.specs.declared.refusal.Refusal.{Refusal}
-use Rattle.kr_top.specs.declared.refusal.Refusal.TheVariants.{Configuration, NotServed, Value}
+use Rattle.kr_top.specs.declared.refusal.Refusal.TheVariants.{Configuration}
 use Rattle.kr_top.specs.declared.refusal.Stop.{Stop}
 use Rattle.kr_top.specs.declared.refusal.Stop.TheVariants.{Words, Refused, Fault, NoMemory}
 
@@ -50,6 +46,7 @@ HasShortPath None = ⊤
 HasShortPath (Some (Convert words)) = length words.path ≤ path_limit
 HasShortPath (Some (Check config resource)) = ⊤
 HasShortPath (Some Inspect) = ⊤
+HasShortPath (Some (Rows store)) = ⊤
 
 -- the words ask for the command, or stop the call
 abbrev pub IsReadAs : List (List ℕ) → Result Command Stop → Type 0
@@ -62,12 +59,12 @@ IsReadAs words result = ⊥
 
 -- the call was made on the world, and no other; where there was no memory, perhaps not even this
 abbrev pub AskedUnless : (old new : Option (List WorldCall)) → WorldCall → Stop → Type 0
-AskedUnless old new call NoMemory = (new ≡ old) ⊎ (new ≡ noted call old)
-AskedUnless old new call why = new ≡ noted call old
+AskedUnless old new call NoMemory = (new ≡ old) ⊎ (new ≡ with_call call old)
+AskedUnless old new call why = new ≡ with_call call old
 
 abbrev pub AskedFor : {T : Type 0} → (old new : Option (List WorldCall)) → WorldCall
     → Result T Stop → Type 0
-AskedFor old new call (Ok x) = new ≡ noted call old
+AskedFor old new call (Ok x) = new ≡ with_call call old
 AskedFor old new call (Err why) = AskedUnless old new call why
 
 -- the settings that the bytes mean, or the breach
@@ -97,24 +94,24 @@ Configures old new name (Err (Fault object count)) =
 Configures old new name (Err NoMemory) = ⊤
 Configures old new name result = ⊥
 
--- why no random source was handed out
-abbrev pub NoDice : Outside → Outside → Stop → Type 0
-NoDice old new (Fault object count) =
-    (object ≡ Files) × Rose old.faults.dice new.faults.dice × (count ≡ file_faults new)
-NoDice old new NoMemory = ⊤
-NoDice old new why = ⊥
+-- why nothing was handed out: the count of faults of such calls rose; that of all files is this
+abbrev pub LendsNothing : (old new count : ℕ) → Stop → Type 0
+LendsNothing old new count (Fault object n) = (object ≡ Files) × Rose old new × (n ≡ count)
+LendsNothing old new count NoMemory = ⊤
+LendsNothing old new count why = ⊥
 
 -- the random source of the seat was handed out, and nothing else done but the call noted
-pub record Lent (seat : ℕ) (old new : Outside) (left : Option (List ℕ)) (count : ℕ) : Type 0 where
+pub record DiceLoan (seat : ℕ) (old new : Outside) (left : Option (List ℕ)) (count : ℕ)
+    : Type 0 where
   pub out : HandsOut same_seat old.dice new.dice seat count
   pub left_is : left ≡ old.dice.told seat
   pub files : KeepsFiles old new
-  pub asked : new.asked ≡ noted (RandomSource seat) old.asked
+  pub asked : new.asked ≡ with_call (RandomSource seat) old.asked
   pub tapes : new.tapes ≡ old.tapes
   pub links : new.links ≡ old.links
 
 -- it came back, and nothing else was done
-pub record Returned (seat : ℕ) (old new : Outside) (left : Option (List ℕ)) (count : ℕ)
+pub record DiceReturn (seat : ℕ) (old new : Outside) (left : Option (List ℕ)) (count : ℕ)
     : Type 0 where
   pub home : TakesBack same_seat old.dice new.dice seat count
   pub left_is : new.dice.told seat ≡ left
@@ -123,6 +120,26 @@ pub record Returned (seat : ℕ) (old new : Outside) (left : Option (List ℕ)) 
   pub asked : new.asked ≡ old.asked
   pub tapes : new.tapes ≡ old.tapes
   pub links : new.links ≡ old.links
+
+-- the link of the seat to the plugin was handed out, and nothing else done but the call noted
+pub record LinkLoan (seat : ℕ) (plugin program : List ℕ) (old new : Outside) (link : Link)
+    : Type 0 where
+  pub out : HandsOut same_link old.links new.links (seat, plugin) link.count
+  pub link_is : link ≡ link_at old.links seat plugin
+  pub files : KeepsFiles old new
+  pub asked : new.asked ≡ with_call (calls.Link seat plugin program) old.asked
+  pub tapes : new.tapes ≡ old.tapes
+  pub dice : new.dice ≡ old.dice
+
+-- it came back, and nothing else was done
+pub record LinkReturn (seat : ℕ) (old new : Outside) (link : Link) : Type 0 where
+  pub home : TakesBack same_link old.links new.links (seat, link.name) link.count
+  pub status_is : new.links.told (seat, link.name) ≡ link.status
+  pub file : new.file ≡ old.file
+  pub faults : new.faults ≡ old.faults
+  pub asked : new.asked ≡ old.asked
+  pub tapes : new.tapes ≡ old.tapes
+  pub dice : new.dice ≡ old.dice
 
 -- ---- the input
 
@@ -137,23 +154,6 @@ TakesInput limit long old new before count (Err (Fault object n)) =
     (object ≡ Input) × Rose before count × (n ≡ count) × TakesAtMost old new limit
 TakesInput limit long old new before count (Err NoMemory) = TakesAtMost old new limit
 TakesInput limit long old new before count result = ⊥
-
--- ---- a bench
-
--- what a bench answers, as a command says it; data above the limit don't come to a bench, and
--- without a plugin none fails
-abbrev pub seal_outcome : ℕ → Result (List ℕ) SealNo → Result Outcome Stop
-seal_outcome faults (Ok value) = Ok (silently value)
-seal_outcome faults (Err seal.LooksEncrypted) = Err (Refused (Value value.LooksEncrypted))
-seal_outcome faults (Err (seal.TooLarge size)) = Err (Refused (Value value.TooLarge))
-seal_outcome faults (Err seal.DiceFailed) = Err (Fault (Dice 0) faults)
-seal_outcome faults (Err seal.NoMemory) = Err NoMemory
-
-abbrev pub unseal_outcome : Result Opened UnsealNo → Result Outcome Stop
-unseal_outcome (Ok opened) = Ok (record { bytes = opened.plain; done = freshness opened.stale })
-unseal_outcome (Err (unseal.Refused why)) = Err (Refused (Value why))
-unseal_outcome (Err (unseal.PluginFailed name)) = Err (Refused NotServed)
-unseal_outcome (Err unseal.NoMemory) = Err NoMemory
 
 -- ---- texts
 

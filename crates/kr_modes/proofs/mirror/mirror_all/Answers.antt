@@ -1,4 +1,4 @@
-use Rattle.std.proofs.Common.{length, ◌≡◌, map, sym, ◌∙◌, arith}
+use Rattle.std.proofs.Common.{map, sym, ◌∙◌, arith}
 use Rattle.std.specs.Int.{w8, reverse_bits}
 use Rattle.std.proofs.lemmas.List.{ext_get_or, get_or-map, length-map}
 use Rattle.kr_modes.proofs.mirror.mirror_all.Goals as goal

@@ -1,10 +1,10 @@
 -- `make_seeds`: each turn makes the seed of the next name.
 use Rattle.std.proofs.Common.{◌++◌, ◌∷◌, [], ℕ, List, arith, refl, sym, subst, ap, length}
+use Rattle.std.specs.Prelude.{Ok}
 use Rattle.kr_config.specs.Kept.{plugins_in, rows_of}
-use Rattle.kr_provider.specs.Publishing.{bytes_of_seeds}
 use Rattle.kr_provider.proofs.AskedLists.{links_stay}
 use Rattle.kr_provider.proofs.Lists.{no_names}
-use Rattle.kr_provider.proofs.Makings.{ComesTo, all_made, asked_next, begins_at, ends, goes_on}
+use Rattle.kr_provider.proofs.Makings.{ComesTo, all_made, asked_next, begins_at, ends, goes_on, within}
 use Rattle.kr_provider.proofs.NameOrder.{count_falls}
 use Rattle.kr_provider.proofs.PluginNames.{names_some}
 use Rattle.kr_provider.proofs.making.make_seeds.Goals as goal
@@ -48,12 +48,12 @@ returns-in-Err-clause-none g c = λ e. absurd (omega (
 
 pub returns-in-Err-push-clause-made : goal.returns-in-Err-push-clause-made
 returns-in-Err-push-clause-made g c = (
-  bytes_of_seeds (c.loop-name.made.0 ++ c.in-Ok.row ∷ []),
-  (goes_on g.L.Kms.truth g.L.Kms.link g.D.Dice.left g.D.Dice.count
+  c.in-Some.name.now,
+  within g.L.Kms.truth g.L.Kms.link g.D.Dice.left g.D.Dice.count
       (rows_of c.args.settings.now.entries.0) c.args.links.now c.args.dice.now c.loop-name.after.now
       c.in-Some.name.now c.loop-name.made.0 c.loop-name.links c.make_one.new.links c.loop-name.dice
-      c.make_one.new.dice c.in-Ok.row c.in-Some.ensures c.loop-name.invariant.0
-      c.make_one.ensures.later c.in-Ok.ensures.made).drawn,
+      c.make_one.new.dice (Ok c.in-Ok.row) c.in-Some.ensures c.loop-name.invariant.0
+      c.in-Ok.ensures.made,
 )
 
 pub returns-in-Err-push-clause-asked : goal.returns-in-Err-push-clause-asked

@@ -2,7 +2,7 @@
 use Rattle.std.proofs.Common.{sym}
 use Rattle.std.specs.Str.{bytes_eq}
 use Rattle.kr_kms.specs.declared.seeds.SeedRow.{SeedRow}
-use Rattle.kr_provider.proofs.Places.{found_at, no_place}
+use Rattle.kr_kms.proofs.Lent.{found_at, no_place}
 use Rattle.kr_provider.proofs.seeds.seed_of.Goals as goal
 
 pub returns-in-Some : goal.returns-in-Some

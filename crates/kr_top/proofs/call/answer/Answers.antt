@@ -19,7 +19,7 @@ returns-in-Err-clause-answers g c =
     inl (at_once _ c.in-Err.stop c.in-Err.ensures, (refl, (refl, refl)))
 
 pub returns-clause-answers : goal.returns-clause-answers
-returns-clause-answers g c = let old = around (g.W.World.told c.args.world.now)
+returns-clause-answers g c = let old = around g.W.Link.Kms.truth (g.W.World.told c.args.world.now)
     (g.I.Source.left c.args.input.now) (g.I.Source.count c.args.input.now) in inr (
       c.perform-made.result,
       record {

@@ -3,7 +3,7 @@ use Rattle.kr_top.specs.Around.{Around, around}
 use Rattle.kr_top.specs.Commands.{steps}
 use Rattle.kr_top.specs.inner.Phases.{Does, HasShortPath}
 use Rattle.kr_top.specs.declared.command.Command.{Command}
-use Rattle.kr_top.specs.declared.command.Command.TheVariants.{Check}
+use Rattle.kr_top.specs.declared.command.Command.TheVariants.{Check, Rows}
 use Rattle.kr_top.specs.declared.refusal.Outcome.{Outcome}
 use Rattle.kr_top.specs.declared.refusal.Stop.{Stop}
 use Rattle.kr_top.proofs.call.perform.Goals as goal
@@ -22,10 +22,16 @@ returns-in-Convert g c = does_by (sym c.in-Convert.is) c.convert.ensures
 pub returns-in-Check : goal.returns-in-Check
 returns-in-Check g c = does_by
     (ap (λ name. Check name c.in-Check.resource) c.as_str.ensures ∙ sym c.in-Check.is)
-    (c.check.ensures (around (g.W.World.told c.args.world.now) (g.I.Source.left c.args.input.now)
+    (c.check.ensures (around g.W.Link.Kms.truth (g.W.World.told c.args.world.now) (g.I.Source.left c.args.input.now)
     (g.I.Source.count c.args.input.now)))
 
 pub returns-in-Inspect : goal.returns-in-Inspect
 returns-in-Inspect g c = does_by (sym c.in-Inspect.is)
-    (c.inspect.ensures (around (g.W.World.told c.args.world.now)
+    (c.inspect.ensures (around g.W.Link.Kms.truth (g.W.World.told c.args.world.now)
+    (g.I.Source.left c.args.input.now) (g.I.Source.count c.args.input.now)))
+
+pub returns-in-Rows : goal.returns-in-Rows
+returns-in-Rows g c = does_by
+    (ap (λ name. Rows name) c.as_str-in-Rows.ensures ∙ sym c.in-Rows.is)
+    (c.list.ensures (around g.W.Link.Kms.truth (g.W.World.told c.args.world.now)
     (g.I.Source.left c.args.input.now) (g.I.Source.count c.args.input.now)))

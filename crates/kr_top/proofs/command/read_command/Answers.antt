@@ -13,6 +13,6 @@ returns-in-Some c = (
   subst HasShortPath c.in-Some.is c.in-Ok-command_of.ensures.path,
 )
 
-pub returns : goal.returns
-returns c =
+pub returns-in-None : goal.returns-in-None
+returns-in-None c =
     asks_nothing _ c.in-Ok.ensures.0 c.in-Ok-command_of.ensures.command c.in-None.is

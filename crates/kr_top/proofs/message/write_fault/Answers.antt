@@ -14,3 +14,11 @@ returns-in-Output g c = says_by (ap (λ o. fault_line o c.args.count) (sym c.in-
 pub returns-in-Files : goal.returns-in-Files
 returns-in-Files g c = says_by (ap (λ o. fault_line o c.args.count) (sym c.in-Files.is))
     c.write_counted-in-Files.ensures
+
+pub returns-in-Store : goal.returns-in-Store
+returns-in-Store g c = says_by (ap (λ o. fault_line o c.args.count) (sym c.in-Store.is))
+    c.write_counted-in-Store.ensures
+
+pub returns-in-Plugin : goal.returns-in-Plugin
+returns-in-Plugin g c = says_by (ap (λ o. fault_line o c.args.count) (sym c.in-Plugin.is))
+    c.write_plugin_fault.ensures

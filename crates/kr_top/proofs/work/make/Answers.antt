@@ -1,23 +1,32 @@
-use Rattle.std.proofs.Common.{arith}
+use Rattle.std.proofs.Common.{◌≡◌, ◌++◌, ◌<◌, arith, ap, subst, sym, ◌∙◌}
 use Rattle.kr_config.specs.Kept.{rows_of}
-use Rattle.kr_top.specs.Commands.{working}
-use Rattle.kr_top.proofs.Goes.{not_opened, lends, by_bytes}
+use Rattle.kr_provider.specs.Names.{names_of}
+use Rattle.kr_provider.specs.PluginOrder.{plugin_order}
+use Rattle.kr_top.proofs.Goes.{not_opened, lends}
+use Rattle.kr_top.proofs.Linked.{none_named, without_links}
+use Rattle.kr_top.proofs.NamedPrograms.{names_in}
 use Rattle.kr_top.proofs.work.make.Goals as goal
 
 pub returns-in-Err : goal.returns-in-Err
-returns-in-Err g c a = not_opened c.in-Err.ensures.files c.in-Err.ensures.objects a 0 c.in-Err.stop
+returns-in-Err g c a t = not_opened c.in-Err.ensures.files c.in-Err.ensures.objects a 0 c.in-Err.stop
     c.in-Err.ensures.why c.in-Err.ensures.asked
 
+pub make_linked-made-requires-clause-programs : goal.make_linked-made-requires-clause-programs
+make_linked-made-requires-clause-programs g c κs within =
+    subst (λ l. names_of g.W.Link.Kms.link l ++ names_in c.args.programs.now
+    ≡ plugin_order (rows_of c.args.settings.entries.0)) (sym c.new-links.ensures)
+    c.requires.programs
+
+pub end-requires : goal.end-requires
+end-requires g c = none_named g.W.Link.Kms.link c.make_linked-made.result.1
+    (c.make_linked-made.ensures.names ∙ ap (names_of g.W.Link.Kms.link) c.new-links.ensures)
+
 pub close_dice-requires-clause-out : goal.close_dice-requires-clause-out
-close_dice-requires-clause-out g c = omega (arith, c.in-Ok.ensures.lent.out.out 0)
+close_dice-requires-clause-out g c κs within = subst (λ d. 0 < d.out 0)
+    (sym c.make_linked-made.ensures.dice) (omega (arith, c.in-Ok.ensures.lent.out.out 0))
 
 pub returns : goal.returns
-returns g c a =
-    let words = c.args.words.now in
-    let rows = rows_of c.args.settings.entries.0 in
-    let bytes = c.args.bytes.now in
-    lends 0 c.in-Ok.ensures.lent c.close_dice.ensures a
-    (λ b. by_bytes (λ path. working words.direction words.resource path rows bytes)
-    c.as_str-2.ensures
-    (by_bytes (λ resource. working words.direction resource c.as_str-2.result.now rows bytes)
-    c.as_str.ensures (c.make_by-made.ensures b)))
+returns g c a t = lends 0 a c.in-Ok.ensures.lent c.close_dice.ensures
+    (without_links g.W.Link.Kms.link c.new-links.result c.make_linked-made.result.1
+    c.new-links.ensures c.make_linked-made.ensures.names
+    (c.make_linked-made.ensures.made a t))

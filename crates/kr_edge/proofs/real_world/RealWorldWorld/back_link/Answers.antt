@@ -4,7 +4,7 @@ use Rattle.std.specs.Prelude.{position}
 use Rattle.std.specs.List.{remove}
 use Rattle.kr_kms.specs.Outside.{same_link}
 use Rattle.kr_edge.specs.RealWorld.{key_of, count_of}
-use Rattle.kr_edge.proofs.Lent.{key_stands, no_place, none_counted, returned, links_decide}
+use Rattle.kr_kms.proofs.Lent.{key_stands, no_place, none_counted, returned, links_decide}
 use Rattle.kr_edge.proofs.real_world.RealWorldWorld.back_link.Goals as goal
 
 pub unreachable-requires : goal.unreachable-requires

@@ -5,7 +5,7 @@ use Rattle.std.specs.Option.{option_map_or}
 use Rattle.kr_kms.specs.MemWorld.{objects_by, place_of}
 use Rattle.kr_kms.specs.Outside.{HandsOut, same_link}
 use Rattle.kr_edge.specs.RealWorld.{key_of, count_of}
-use Rattle.kr_edge.proofs.Lent.{found_at, lent, links_decide, made, no_place}
+use Rattle.kr_kms.proofs.Lent.{found_at, lent, links_decide, made, no_place}
 use Rattle.kr_edge.proofs.real_world.RealWorldWorld.link.Goals as goal
 
 pub returns-in-Ok-lend-clause-ok : goal.returns-in-Ok-lend-clause-ok

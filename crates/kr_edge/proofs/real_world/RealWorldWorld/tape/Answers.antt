@@ -5,7 +5,7 @@ use Rattle.std.specs.List.{remove}
 use Rattle.kr_kms.specs.MemWorld.{objects_by, place_of}
 use Rattle.kr_kms.specs.Outside.{HandsOut, same_name}
 use Rattle.kr_edge.specs.RealWorld.{key_of, count_of}
-use Rattle.kr_edge.proofs.Lent.{lent, made, names_decide, none_out}
+use Rattle.kr_kms.proofs.Lent.{lent, made, names_decide, none_out}
 use Rattle.kr_edge.proofs.real_world.RealWorldWorld.tape.Goals as goal
 
 pub returns-in-Ok-lend-clause-ok : goal.returns-in-Ok-lend-clause-ok

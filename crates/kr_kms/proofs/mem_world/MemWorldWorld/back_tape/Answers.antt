@@ -5,7 +5,7 @@ use Rattle.std.specs.List.{remove}
 use Rattle.kr_base.specs.InMemory.{faults_of}
 use Rattle.kr_kms.specs.MemWorld.{TapeShelf, first_tape, name_of}
 use Rattle.kr_kms.specs.Outside.{same_name}
-use Rattle.kr_kms.proofs.Lent.{keyed, no_place, none_counted, returned, returned_first, names_decide}
+use Rattle.kr_kms.proofs.Lent.{key_stands, no_place, none_counted, returned, returned_first, names_decide}
 use Rattle.kr_kms.proofs.mem_world.MemWorldWorld.back_tape.Goals as goal
 
 pub unreachable-requires : goal.unreachable-requires
@@ -26,8 +26,7 @@ returns-clause-put g c =
     sym (c.in-Some.ensures.first ∙ ap (λ l. position (λ o. same_name o name) l) c.out.ensures) in
     ap (λ (s : TapeShelf). s.items) (c.put_back_by.ensures name)
     ∙ ap (λ n. (n, c.args.tape) ∷ old.items)
-    (keyed same_name name_of (λ first. Some (option_map (λ entry. entry.1.bytes) first))
-    (λ entry. faults_of entry.1) names_decide old.out c.in-Some.at name place)
+    (key_stands same_name names_decide old.out c.in-Some.at name place)
 
 pub returns-clause-back : goal.returns-clause-back
 returns-clause-back g c =
@@ -36,8 +35,7 @@ returns-clause-back g c =
     let at = c.in-Some.at in
     let place : position (λ o. same_name o name) old.out ≡ Some at =
     sym (c.in-Some.ensures.first ∙ ap (λ l. position (λ o. same_name o name) l) c.out.ensures) in
-    let named = keyed same_name name_of (λ first. Some (option_map (λ entry. entry.1.bytes) first))
-    (λ entry. faults_of entry.1) names_decide old.out at name place in
+    let named = key_stands same_name names_decide old.out at name place in
     let back : c.put_back_by.new.self
     ≡ record { items = (name, c.args.tape) ∷ old.items; out = remove old.out at } =
     c.put_back_by.ensures name ∙ (λ i. record {

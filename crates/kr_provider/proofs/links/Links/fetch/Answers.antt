@@ -7,7 +7,7 @@ use Rattle.kr_kms.specs.Cache.{Fetches}
 use Rattle.kr_provider.specs.AskedLinks.{AsksOne}
 use Rattle.kr_provider.specs.Names.{names_of}
 use Rattle.kr_provider.proofs.AskedLists.{asked_alone, asks_at, distinct_stay, place_named, place_there}
-use Rattle.kr_provider.proofs.Places.{no_place}
+use Rattle.kr_kms.proofs.Lent.{no_place}
 use Rattle.kr_provider.proofs.links.Links.fetch.Goals as goal
 
 pub unreachable-requires : goal.unreachable-requires

@@ -2,7 +2,7 @@ use Rattle.std.proofs.Common.{◌≡◌, None, sym, subst, ◌∙◌, arith}
 use Rattle.kr_provider.specs.Publication.{Publication, IsPublished}
 use Rattle.kr_rollout.specs.declared.event.Event.TheVariants as event
 use Rattle.kr_rollout.specs.States.{number_at}
-use Rattle.kr_rollout.specs.inner.Membership.{IsJudged}
+use Rattle.kr_rollout.specs.inner.Membership.{IsJudgement}
 use Rattle.kr_rollout.specs.inner.Rollouts.{RolloutState, MayServe}
 use Rattle.kr_rollout.proofs.Keeping.{read_number}
 use Rattle.kr_rollout.proofs.Reloading.{joined_at}
@@ -16,7 +16,7 @@ returns-in-Ok-Fits g c =
     let is : number_at c.self.inside.current.items c.args.replica ≡ None =
     read_number c.self.inside.current.items c.args.replica c.index.result.now
     (omega (arith, may.0, c.self.invariant.0.replicas)) c.index.ensures ∙ c.in_default.is in
-    let judged = subst (λ x. IsJudged c.self.inside.board c.args.replica c.args.published x)
+    let judged = subst (λ x. IsJudgement c.self.inside.board c.args.replica c.args.published x)
     c.in-Ok-Fits.field-0-is c.in-Ok-Fits.ensures in
     joined_at _ c.args.self.now c.take_up-generation.new.self c.self.inside.board c.args.seat
     c.args.replica c.take_up-generation.result c.args.published c.in-Ok-Fits.published

@@ -1,28 +1,19 @@
 use Rattle.std.proofs.Common.{◌≡◌, Some, sym, subst, ◌∙◌, arith}
-use Rattle.kr_provider.specs.Publication.{Publication, IsPublished}
+use Rattle.kr_rollout.specs.Answers.{HasExpected}
 use Rattle.kr_rollout.specs.declared.event.Event.TheVariants as event
 use Rattle.kr_rollout.specs.States.{number_at}
-use Rattle.kr_rollout.specs.inner.Membership.{IsJudged}
 use Rattle.kr_rollout.specs.inner.Rollouts.{RolloutState, MayServe}
 use Rattle.kr_rollout.proofs.Keeping.{read_number}
-use Rattle.kr_rollout.proofs.Reloading.{reloaded_at}
 use Rattle.kr_rollout.proofs.rollout.Rollout.reload.Goals as goal
 
-pub returns-in-Ok-Fits : goal.returns-in-Ok-Fits
-returns-in-Ok-Fits g c =
+pub reload_expected-requires-clause-expected : goal.reload_expected-requires-clause-expected
+reload_expected-requires-clause-expected g c =
     let may = subst (λ (x : RolloutState). MayServe x c.args.seat
     (event.Reload c.args.replica c.args.published c.args.expect))
     (sym c.self.view_is) c.requires.may in
     let is : number_at c.self.inside.current.items c.args.replica ≡ Some c.in-Some.generation =
     read_number c.self.inside.current.items c.args.replica c.index.result.now
     (omega (arith, may.0, c.self.invariant.0.replicas)) c.index.ensures ∙ c.in-Some.is in
-    let judged = subst (λ x. IsJudged c.self.inside.board c.args.replica c.args.published x)
-    c.in-Ok-Fits.field-0-is c.in-Ok-Fits.ensures in
-    reloaded_at _ c.args.self.now c.take_up-generation.new.self c.self.inside.board c.args.seat
-    c.args.replica c.take_up-generation.result c.args.published c.in-Ok-Fits.published
-    c.line-line-in-Ok-Fits.result c.self.invariant.0 c.self.view_is c.requires.seat_in
-    (subst (λ (x : Publication). IsPublished x) c.get.ensures c.known.ensures) judged.0
-    c.take_up-generation.ensures.number judged.2 c.take_up-generation.ensures.taken
-    c.args.expect c.requires.may
+    subst (λ (x : RolloutState). HasExpected x.state c.args.replica c.args.expect)
+    c.self.view_is
     (c.in-Some.generation, is, c.is_expected.ensures.0 c.if-not-is_expected.false)
-    c.line-line-in-Ok-Fits.ensures

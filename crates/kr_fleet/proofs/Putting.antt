@@ -1,0 +1,129 @@
+-- What `write` seals and puts.
+use Rattle.std.proofs.Common.{◌≡◌, inl, inr, ℕ, List, Option, None, Some, Result, Ok, Err, refl, sym, subst}
+use Rattle.std.specs.Prelude.{IfSome}
+use Rattle.kr_provider.specs.Publication.{Publication, writer_at}
+use Rattle.kr_provider.specs.Sealing.{Seals, IsSealing}
+use Rattle.kr_provider.specs.declared.refusal.SealNo.{SealNo}
+use Rattle.kr_provider.specs.declared.refusal.SealNo.TheVariants as sealing
+use Rattle.kr_rollout.specs.declared.answer.Answer.{Answer}
+use Rattle.kr_rollout.specs.declared.answer.Answer.TheVariants as answer
+use Rattle.kr_rollout.specs.declared.event.Event.TheVariants as event
+use Rattle.kr_rollout.specs.Acting.{Caller, Acted}
+use Rattle.kr_rollout.specs.declared.call.CallNo.{CallNo}
+use Rattle.kr_rollout.specs.declared.call.CallNo.TheVariants as refusal
+use Rattle.kr_fleet.specs.Calls.{AddsNothing, LetsGo}
+use Rattle.kr_fleet.specs.WriteCalls.{IsWrite, Puts}
+use Rattle.kr_fleet.specs.inner.Answering.{PutsBy}
+use Rattle.kr_fleet.specs.inner.Stages.{seal_refusal}
+
+module _ {D : Type 0} (left : D → Option (List ℕ)) (count : D → ℕ)
+    (resource path plain : List ℕ) (p : Publication) (old new : Caller) (dice after : D) where
+  pub put_answered : (stored : List ℕ) (given : Answer) (result : Result ℕ CallNo)
+      → Seals left count p.seeds (writer_at p resource) path plain dice after (Ok stored)
+      → IsSealing p resource path plain stored
+      → Acted old (event.Put path resource plain stored) given new → PutsBy given result
+      → Puts left count resource path plain p old dice result new after
+  put_answered stored (answer.Adopted number q) result s t a d = absurd d
+  put_answered stored (answer.Gone other) result s t a d = absurd d
+  put_answered stored (answer.Found row) result s t a d = absurd d
+  put_answered stored answer.Absent result s t a d = absurd d
+  put_answered stored (answer.Written revision) result s t a d =
+      subst (λ r. Puts left count resource path plain p old dice r new after) (sym d)
+      (record { stored = stored; seals = s; sealing = t; put = a })
+  put_answered stored (answer.Changed revision) result s t a d = absurd d
+  put_answered stored answer.StoreFailed result s t a d =
+      subst (λ r. Puts left count resource path plain p old dice r new after) (sym d)
+      (record { stored = stored; seals = s; sealing = t; put = a })
+  put_answered stored (answer.StoreFull needed) result s t a d =
+      subst (λ r. Puts left count resource path plain p old dice r new after) (sym d)
+      (record { stored = stored; seals = s; sealing = t; put = a })
+  put_answered stored answer.Released result s t a d = absurd d
+  put_answered stored (answer.Reloaded number) result s t a d = absurd d
+  put_answered stored (answer.Joined number) result s t a d = absurd d
+  put_answered stored (answer.Refused verdict) result s t a d = absurd d
+  put_answered stored (answer.Moved number) result s t a d = absurd d
+  put_answered stored (answer.Present number) result s t a d = absurd d
+  put_answered stored (answer.Departed number) result s t a d = absurd d
+  put_answered stored answer.NoMemory result s t a d =
+      subst (λ r. Puts left count resource path plain p old dice r new after) (sym d)
+      (inr (record { stored = stored; seals = s; sealing = t; put = a }))
+
+  pub put_in_vain : (stored : List ℕ)
+      → Seals left count p.seeds (writer_at p resource) path plain dice after (Ok stored)
+      → AddsNothing old new
+      → Puts left count resource path plain p old dice (Err refusal.Spent) new after
+  put_in_vain stored s n = record { stored = stored; seals = s; nothing = n }
+
+  pub put_refused : (why : SealNo)
+      → Seals left count p.seeds (writer_at p resource) path plain dice after (Err why)
+      → new ≡ old
+      → Puts left count resource path plain p old dice (Err (seal_refusal why)) new after
+  put_refused sealing.LooksEncrypted s same = (s, same)
+  put_refused (sealing.TooLarge size) s same = ((refl, s.1, s.2), same)
+  put_refused sealing.DiceFailed s same = (s, same)
+  put_refused sealing.NoMemory s same = inl (s, same)
+
+-- the stages of a call, one behind another
+pub writes_held : {D : Type 0} (left : D → Option (List ℕ)) (count : D → ℕ)
+    (resource path own_resource own_path plain : List ℕ) (replica : ℕ)
+    (old adopted acted new : Caller) (dice lent after : D) (held : ℕ × Publication)
+    (published : Option Publication) (done result : Result ℕ CallNo)
+    → own_resource ≡ resource → own_path ≡ path → lent ≡ dice → published ≡ Some held.1
+    → Acted old (event.Adopt replica) (answer.Adopted held.0 held.1) adopted
+    → IfSome published (λ p. Puts left count own_resource own_path plain p adopted lent done acted
+    after)
+    → LetsGo acted done result new
+    → IsWrite left count resource path plain replica old dice result new after
+writes_held left count resource path own_resource own_path plain replica old adopted acted new dice
+    lent after held published done result r_is p_is same is a f g =
+    inr (record {
+      number = held.0;
+      p = held.1;
+      adopted = adopted;
+      done = done;
+      acted = acted;
+      adopts = a;
+      does = subst (λ d. Puts left count resource path plain held.1 adopted d done acted after)
+          same (subst (λ q. Puts left count resource q plain held.1 adopted lent done acted after)
+          p_is (subst (λ q. Puts left count q own_path plain held.1 adopted lent done acted after)
+          r_is (subst (λ o. IfSome o (λ p. Puts left count own_resource own_path plain p adopted
+          lent done acted after)) is f)));
+      lets_go = g;
+    })
+
+-- by the configuration that the bench adopted
+pub put_stays : {D : Type 0} (left : D → Option (List ℕ)) (count : D → ℕ)
+    (resource path plain : List ℕ) (published : Option Publication) (old : Caller) (dice after : D)
+    (why : SealNo) (refused : CallNo) → refused ≡ seal_refusal why
+    → IfSome published (λ p. Seals left count p.seeds (writer_at p resource) path plain dice after
+    (Err why))
+    → IfSome published (λ p. Puts left count resource path plain p old dice (Err refused) old
+    after)
+put_stays left count resource path plain None old dice after why refused e s = tt
+put_stays left count resource path plain (Some p) old dice after why refused e s =
+    subst (λ r. Puts left count resource path plain p old dice (Err r) old after) (sym e)
+    (put_refused left count resource path plain p old old dice after why s refl)
+
+pub put_done : {D : Type 0} (left : D → Option (List ℕ)) (count : D → ℕ)
+    (resource path plain stored : List ℕ) (published : Option Publication) (old new : Caller)
+    (dice after : D) (given : Answer) (result : Result ℕ CallNo)
+    → IfSome published (λ p. Seals left count p.seeds (writer_at p resource) path plain dice after
+    (Ok stored))
+    → IfSome published (λ p. IsSealing p resource path plain stored)
+    → Acted old (event.Put path resource plain stored) given new → PutsBy given result
+    → IfSome published (λ p. Puts left count resource path plain p old dice result new after)
+put_done left count resource path plain stored None old new dice after given result s t a d = tt
+put_done left count resource path plain stored (Some p) old new dice after given result s t a d =
+    put_answered left count resource path plain p old new dice after stored given result s t a d
+
+pub put_spent : {D : Type 0} (left : D → Option (List ℕ)) (count : D → ℕ)
+    (resource path plain stored : List ℕ) (published : Option Publication) (old new : Caller)
+    (dice after : D)
+    → IfSome published (λ p. Seals left count p.seeds (writer_at p resource) path plain dice after
+    (Ok stored))
+    → AddsNothing old new
+    → IfSome published (λ p. Puts left count resource path plain p old dice
+    (Err refusal.Spent) new after)
+put_spent left count resource path plain stored None old new dice after s n = tt
+put_spent left count resource path plain stored (Some p) old new dice after s n =
+    put_in_vain left count resource path plain p old new dice after stored s n

@@ -1,0 +1,211 @@
+-- What `refresh` brings, and that it is never refused.
+use Rattle.std.specs.Prelude.{Contains}
+use Rattle.std.proofs.Common.{◌≡◌, inr, ℕ, Bool, true, List, ◌++◌, Option, None, Some, Result, Ok, Err, refl, sym, ap, subst, ◌∙◌}
+use Rattle.std.proofs.lemmas.Option.{none-some}
+use Rattle.kr_config.specs.Kept.{Row, plugins_in}
+use Rattle.kr_kms.specs.Calls.{Link}
+use Rattle.kr_kms.specs.Truth.{Truth}
+use Rattle.kr_kms.specs.declared.seeds.SeedRow.{SeedRow}
+use Rattle.kr_provider.specs.AskedLinks.{AskedOnly}
+use Rattle.kr_provider.specs.Publication.{IsPublished, Publication}
+use Rattle.kr_provider.specs.Publishing.{Publishes}
+use Rattle.kr_judge.specs.declared.verdict.Verdict.{Verdict}
+use Rattle.kr_rollout.specs.declared.answer.Answer.{Answer}
+use Rattle.kr_rollout.specs.declared.answer.Answer.TheVariants as answer
+use Rattle.kr_rollout.specs.declared.event.Event.TheVariants as event
+use Rattle.kr_rollout.specs.declared.generation.Generation.{Generation}
+use Rattle.kr_rollout.specs.Acting.{Caller, Acted, IsCaller}
+use Rattle.kr_rollout.specs.Answers.{IsAnswer, Reloads}
+use Rattle.kr_rollout.specs.Callers.{gave_of, holding, number_with, with_published}
+use Rattle.kr_rollout.specs.Entries.{published_at}
+use Rattle.kr_rollout.specs.Histories.{state_of}
+use Rattle.kr_rollout.specs.States.{held_by}
+use Rattle.kr_rollout.proofs.Holdings.{holding_of}
+use Rattle.kr_rollout.proofs.Judging.{refresh_is_not_refused}
+use Rattle.kr_rollout.specs.declared.call.CallNo.{CallNo}
+use Rattle.kr_fleet.specs.declared.outcome.Loaded.{Loaded}
+use Rattle.kr_fleet.specs.LoadCalls.{BringsBy, IsKeyChanged, Refreshes, plugin_names, reload_of}
+use Rattle.kr_fleet.specs.inner.Answering.{ReloadsBy}
+use Rattle.kr_fleet.specs.inner.Stages.{ComparesKeys, SharesPublished}
+use Rattle.kr_provider.proofs.AskedLists.{asked_then}
+use Rattle.kr_fleet.proofs.Asked.{asked_among}
+use Rattle.kr_fleet.proofs.Bringing.{not_shared}
+use Rattle.kr_fleet.proofs.Nexts.{front_own, legal_now}
+
+-- ---- the generation that is held
+
+abbrev first_part : Option (ℕ × Publication) → ℕ
+first_part None = 0
+first_part (Some held) = held.0
+
+abbrev second_part : Option (ℕ × Publication) → Option Publication
+second_part None = None
+second_part (Some held) = Some held.1
+
+held_published : (generations : List Generation) (x : Option ℕ) (number : ℕ) (p : Publication)
+    → number_with generations x ≡ Some (number, p)
+    → published_at generations (Some number) ≡ Some p
+held_published generations None number p e = absurd (none-some (number, p) e)
+held_published generations (Some m) number p e =
+    by (published_at generations (Some m)) refl e
+  where
+    by : (y : Option Publication) → published_at generations (Some m) ≡ y
+        → with_published m y ≡ Some (number, p) → published_at generations (Some number) ≡ Some p
+    by None is same = absurd (none-some (number, p) same)
+    by (Some q) is same = subst (λ n. published_at generations (Some n) ≡ Some p)
+        (ap first_part same) (is ∙ ap second_part same)
+
+module _ (old new : Caller) (replica number : ℕ) (p q : Publication) (given : Answer)
+    (a : Acted old (event.Reload replica q (Some number)) given new) where
+  reload_step : Reloads replica q (Some number) (gave_of given)
+      (state_of old.opening (old.seen ++ a.others))
+  reload_step =
+      let st = state_of old.opening (old.seen ++ a.others) in
+      let held = a.entry.line.held in
+      subst (λ d. IsAnswer d (gave_of given) st held) a.records.did_is
+      (subst (λ g. IsAnswer a.entry.line.did g st held) a.records.gave_is a.step.answer)
+
+-- the settings of the generation that is held, where the replica has it still, are never refused
+pub not_refused : (old new : Caller) (replica number : ℕ) (p q : Publication) (verdict : Verdict)
+    → IsCaller old → holding old.mine ≡ Some (number, p) → q.rows ≡ p.rows
+    → Acted old (event.Reload replica q (Some number)) (answer.Refused verdict) new → ⊥
+not_refused old new replica number p q verdict k held rows a =
+    let asked = event.Reload replica q (Some number) in
+    let given = answer.Refused verdict in
+    let front = old.seen ++ a.others in
+    let st = state_of old.opening front in
+    let s = reload_step old new replica number p q given a in
+    let at = sym (holding_of old.opening front old.seat a.legal k.seat_in)
+    ∙ ap holding (front_own old new asked given a k) ∙ held in
+    refresh_is_not_refused old.opening front a.entry replica number q p (Some number) verdict
+    (legal_now old new asked given a) a.records.did_is (s.0.1 ∙ ap Some (sym s.0.2))
+    (held_published st.generations (held_by st old.seat) number p at) rows a.records.gave_is
+
+-- ---- what is answered
+
+module _ {L D : Type 0} (truth : Truth) (link : L → Link) (left : D → Option (List ℕ))
+    (count : D → ℕ) (replica number : ℕ) (p : Publication) (old new : Caller)
+    (olds asked news : List L) (dice after : D)
+    (links : AskedOnly link (plugin_names p.seeds) olds asked)
+    (changed : IsKeyChanged link olds p.seeds) where
+  pub renew_answered : (q : Publication) (given : Answer) (result : Result Loaded CallNo)
+      → IsCaller old → holding old.mine ≡ Some (number, p)
+      → Publishes truth link left count p.rows asked dice (Ok q) news after
+      → Acted old (event.Reload replica q (Some number)) given new → ReloadsBy given result
+      → Refreshes truth link left count replica number p old olds dice result new news after
+  renew_answered q (answer.Adopted n r) result k held w a d = absurd d
+  renew_answered q (answer.Gone other) result k held w a d =
+      let step = reload_step old new replica number p q (answer.Gone other) a in
+      subst (λ r. Refreshes truth link left count replica number p old olds dice r new
+      news after) (sym d) (inr (record {
+        asked = asked;
+        links = links;
+        changed = changed;
+        brought = record {
+          p = q;
+          publishes = w;
+          brought = subst
+              (λ r. Acted old (event.Reload replica q (Some number)) (answer.Gone r) new) step.0 a;
+        };
+      }))
+  renew_answered q (answer.Found row) result k held w a d = absurd d
+  renew_answered q answer.Absent result k held w a d = absurd d
+  renew_answered q (answer.Written revision) result k held w a d = absurd d
+  renew_answered q (answer.Changed revision) result k held w a d = absurd d
+  renew_answered q answer.StoreFailed result k held w a d = absurd d
+  renew_answered q (answer.StoreFull needed) result k held w a d = absurd d
+  renew_answered q answer.Released result k held w a d = absurd d
+  renew_answered q (answer.Reloaded made) result k held w a d =
+      subst (λ r. Refreshes truth link left count replica number p old olds dice r new
+      news after) (sym d) (record {
+        asked = asked;
+        links = links;
+        changed = changed;
+        brought = record { p = q; publishes = w; brought = a };
+      })
+  renew_answered q (answer.Joined made) result k held w a d = absurd d
+  renew_answered q (answer.Refused verdict) result k held w a d =
+      absurd (not_refused old new replica number p q verdict k held w.0 a)
+  renew_answered q (answer.Moved current) result k held w a d =
+      subst (λ r. Refreshes truth link left count replica number p old olds dice r new
+      news after) (sym d) (record {
+        asked = asked;
+        links = links;
+        changed = changed;
+        brought = record { p = q; publishes = w; brought = a };
+      })
+  renew_answered q (answer.Present n) result k held w a d = absurd d
+  renew_answered q (answer.Departed n) result k held w a d = absurd d
+  renew_answered q answer.NoMemory result k held w a d =
+      subst (λ r. Refreshes truth link left count replica number p old olds dice r new
+      news after) (sym d) (inr (record {
+        asked = asked;
+        links = links;
+        changed = changed;
+        brought = inr (inr (record { p = q; publishes = w; brought = a }));
+      }))
+
+  pub renew_stopped : (why : CallNo)
+      → BringsBy truth link left count p.rows (reload_of replica (Some number)) replica old asked
+      dice why new news after
+      → Refreshes truth link left count replica number p old olds dice (Err why) new news after
+  renew_stopped why b =
+      inr (record { asked = asked; links = links; changed = changed; brought = b })
+
+-- ---- behind a comparison of key ids
+
+-- none was asked but the plugins of the configuration
+pub compared_asks : {L : Type 0} (link : L → Link) (p : Publication) (seeds : List SeedRow)
+    (olds mids : List L) → seeds ≡ p.seeds → AskedOnly link (plugin_names seeds) olds mids
+    → AskedOnly link (plugin_names p.seeds) olds mids
+compared_asks link p seeds olds mids same a =
+    subst (λ s. AskedOnly link (plugin_names s) olds mids) same a
+
+pub renewed_asks : {L : Type 0} (link : L → Link) (p : Publication) (seeds : List SeedRow)
+    (rows : List Row) (olds mids news : List L) → IsPublished p → seeds ≡ p.seeds
+    → rows ≡ p.rows → AskedOnly link (plugin_names seeds) olds mids
+    → AskedOnly link (plugins_in rows) mids news → AskedOnly link (plugin_names p.seeds) olds news
+renewed_asks link p seeds rows olds mids news k same rows_are a b =
+    asked_then link (plugin_names p.seeds) olds mids news
+    (compared_asks link p seeds olds mids same a)
+    (asked_among link (plugins_in rows) (plugin_names p.seeds) mids news
+    (λ name c. (k.names name).1 (subst (λ r. Contains (plugins_in r) name) rows_are c)) b)
+
+-- a key has changed, of the seeds of a configuration whose settings are then published
+module _ {L D : Type 0} (truth : Truth) (link : L → Link) (left : D → Option (List ℕ))
+    (count : D → ℕ) (replica number : ℕ) (p : Publication) (old new : Caller)
+    (olds mids news : List L) (dice between after : D) (seeds : List SeedRow) (rows : List Row)
+    (seeds_are : seeds ≡ p.seeds) (rows_are : rows ≡ p.rows) (dice_is : between ≡ dice)
+    (asked : AskedOnly link (plugin_names seeds) olds mids) (changed : Bool)
+    (is : changed ≡ true) (compares : ComparesKeys link seeds olds (Ok changed) mids) where
+  asked_of : AskedOnly link (plugin_names p.seeds) olds mids
+  asked_of = compared_asks link p seeds olds mids seeds_are asked
+
+  changed_then : IsKeyChanged link olds p.seeds
+  changed_then = subst (λ s. IsKeyChanged link olds s) seeds_are
+      (subst (λ b. ComparesKeys link seeds olds (Ok b) mids) is compares)
+
+  published_then : (result : Result Publication CallNo)
+      → SharesPublished truth link left count rows mids between result news after
+      → SharesPublished truth link left count p.rows mids dice result news after
+  published_then result w =
+      subst (λ d. SharesPublished truth link left count p.rows mids d result news after) dice_is
+      (subst (λ r. SharesPublished truth link left count r mids between result news after)
+      rows_are w)
+
+  pub unpublished : (why : CallNo) → new ≡ old
+      → SharesPublished truth link left count rows mids between (Err why) news after
+      → Refreshes truth link left count replica number p old olds dice (Err why) new news after
+  unpublished why same w = renew_stopped truth link left count replica number p old new olds mids
+      news dice after asked_of changed_then why
+      (not_shared truth link left count p.rows old new mids news dice after
+      (reload_of replica (Some number)) replica why same (published_then (Err why) w))
+
+  pub published : (q : Publication) (given : Answer) (result : Result Loaded CallNo)
+      → IsCaller old → holding old.mine ≡ Some (number, p)
+      → SharesPublished truth link left count rows mids between (Ok q) news after
+      → Acted old (event.Reload replica q (Some number)) given new → ReloadsBy given result
+      → Refreshes truth link left count replica number p old olds dice result new news after
+  published q given result k held w a d = renew_answered truth link left count replica number p
+      old new olds mids news dice after asked_of changed_then q given result k held
+      (published_then (Ok q) w) a d

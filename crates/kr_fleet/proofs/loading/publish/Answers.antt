@@ -1,0 +1,20 @@
+-- `publish`: what was published is shared, or isn't.
+use Rattle.std.proofs.Common.{Ok, inl, inr, refl, subst, sym}
+use Rattle.kr_config.specs.Kept.{rows_of}
+use Rattle.kr_provider.specs.Publishing.{Publishes}
+use Rattle.kr_fleet.proofs.loading.publish.Goals as goal
+
+pub returns-in-Err-clause-published : goal.returns-in-Err-clause-published
+returns-in-Err-clause-published g c =
+    inl (c.in-Err.why, c.publish_refusal.ensures, c.in-Err.ensures.published)
+
+pub returns-in-Ok-new-clause-published : goal.returns-in-Ok-new-clause-published
+returns-in-Ok-new-clause-published g c = subst
+    (λ p. Publishes g.L.Kms.truth g.L.Kms.link g.D.Dice.left g.D.Dice.count
+    (rows_of c.args.settings.entries.0) c.args.bench.now.links c.args.bench.now.dice (Ok p)
+    c.publish.new.self.links c.publish.new.self.dice)
+    (sym c.in-Ok-new.ensures.ok) c.in-Ok.ensures.published
+
+pub returns-in-Err-new-clause-published : goal.returns-in-Err-new-clause-published
+returns-in-Err-new-clause-published g c =
+    inr (c.in-Ok.published, refl, c.in-Ok.ensures.published)

@@ -1,0 +1,79 @@
+-- `reload`: what was published is brought.
+use Rattle.std.proofs.Common.{None, refl, subst, sym, ◌∙◌}
+use Rattle.kr_config.specs.Kept.{rows_of}
+use Rattle.kr_provider.specs.Names.{names_of}
+use Rattle.kr_rollout.specs.Openings.{NamesAmong}
+use Rattle.kr_fleet.specs.LoadCalls.{reload_of}
+use Rattle.kr_fleet.proofs.Bringing.{in_vain, keeps_reload, not_shared, reload_answered, reload_holds, seeds_tell}
+use Rattle.kr_fleet.proofs.Nexts.{serves}
+use Rattle.kr_fleet.proofs.Spending.{none_spends, reload_spends}
+use Rattle.kr_fleet.proofs.loading.reload.Goals as goal
+
+pub publish-requires : goal.publish-requires
+publish-requires g c = record {
+  links = serves (g.A.Acts.caller c.args.acts.now).opening.names
+      (names_of g.L.Kms.link c.args.bench.now.links) (rows_of c.args.settings.entries.0)
+      c.requires.links c.requires.names;
+}
+
+pub returns-in-Err-clause-reloads : goal.returns-in-Err-clause-reloads
+returns-in-Err-clause-reloads g c = not_shared g.L.Kms.truth g.L.Kms.link
+    g.D.Dice.left g.D.Dice.count (rows_of c.args.settings.entries.0)
+    (g.A.Acts.caller c.args.acts.now) (g.A.Acts.caller c.args.acts.now)
+    c.args.bench.now.links
+    c.publish.new.bench.links c.args.bench.now.dice c.publish.new.bench.dice
+    (reload_of c.args.replica None) c.args.replica c.in-Err.why refl c.in-Err.ensures.published
+
+pub act-requires : goal.act-requires
+act-requires g c = record {
+  seat_in = c.known.ensures.seat_in;
+  allowed = (
+    c.requires.replica,
+    subst (NamesAmong (g.A.Acts.caller c.args.acts.now).opening.names)
+        (sym c.in-Ok.ensures.published.0) c.requires.names,
+    c.requires.room,
+  );
+}
+
+pub returns-in-Ok-act-clause-reloads : goal.returns-in-Ok-act-clause-reloads
+returns-in-Ok-act-clause-reloads g c = reload_answered g.L.Kms.truth g.L.Kms.link
+    g.D.Dice.left g.D.Dice.count (rows_of c.args.settings.entries.0)
+    (g.A.Acts.caller c.args.acts.now) (g.A.Acts.caller c.act.new.self)
+    c.args.bench.now.links
+    c.publish.new.bench.links c.args.bench.now.dice c.publish.new.bench.dice
+    c.args.replica c.in-Ok.published c.in-Ok-act.answer c.reloaded.result
+    c.in-Ok.ensures.published c.in-Ok-act.ensures.acted c.reloaded.ensures
+
+pub returns-in-Ok-act-clause-honest : goal.returns-in-Ok-act-clause-honest
+returns-in-Ok-act-clause-honest g c = λ told. keeps_reload g.L.Kms.truth.opens
+    (g.A.Acts.caller c.args.acts.now) (g.A.Acts.caller c.act.new.self) c.args.replica
+    c.in-Ok.published None c.in-Ok-act.answer
+    (seeds_tell g.L.Kms.truth g.L.Kms.link g.D.Dice.left g.D.Dice.count
+    (rows_of c.args.settings.entries.0)
+    c.in-Ok.published c.args.bench.now.links
+    c.publish.new.bench.links c.args.bench.now.dice c.publish.new.bench.dice
+    c.in-Ok.ensures.published told) c.in-Ok-act.ensures.acted
+
+pub returns-in-Ok-act-clause-idle : goal.returns-in-Ok-act-clause-idle
+returns-in-Ok-act-clause-idle g c = reload_holds (g.A.Acts.caller c.args.acts.now)
+    (g.A.Acts.caller c.act.new.self) c.args.replica c.in-Ok.published None
+    c.in-Ok-act.answer c.in-Ok-act.ensures.acted ∙ c.requires.idle
+
+pub returns-in-Err-act-clause-reloads : goal.returns-in-Err-act-clause-reloads
+returns-in-Err-act-clause-reloads g c = in_vain g.L.Kms.truth g.L.Kms.link
+    g.D.Dice.left g.D.Dice.count (rows_of c.args.settings.entries.0)
+    (g.A.Acts.caller c.args.acts.now) (g.A.Acts.caller c.act.new.self)
+    c.args.bench.now.links
+    c.publish.new.bench.links c.args.bench.now.dice c.publish.new.bench.dice
+    (reload_of c.args.replica None) c.args.replica c.in-Ok.published
+    (record { spent = c.in-Err-act.ensures.spent.0 refl; same = c.in-Err-act.ensures.nothing })
+    c.in-Ok.ensures.published
+
+pub returns-in-Ok-act-clause-budget : goal.returns-in-Ok-act-clause-budget
+returns-in-Ok-act-clause-budget g c = reload_spends (g.A.Acts.caller c.args.acts.now)
+    (g.A.Acts.caller c.act.new.self) c.args.replica c.in-Ok.published None
+    c.in-Ok-act.answer c.in-Ok-act.ensures.acted
+
+pub returns-in-Err-act-clause-budget : goal.returns-in-Err-act-clause-budget
+returns-in-Err-act-clause-budget g c = none_spends (g.A.Acts.caller c.args.acts.now)
+    (g.A.Acts.caller c.act.new.self) c.in-Err-act.ensures.nothing

@@ -1,0 +1,100 @@
+-- `read`: its stages, one behind another.
+use Rattle.std.proofs.Common.{Err, ap, inl, refl, subst, sym, ◌∙◌}
+use Rattle.kr_base.specs.Rules.{IsPath}
+use Rattle.kr_provider.proofs.AskedLists.{asked_none}
+use Rattle.kr_provider.specs.AskedLinks.{AskedOnly}
+use Rattle.kr_provider.specs.KeyPages.{size_of}
+use Rattle.kr_provider.specs.Names.{names_of}
+use Rattle.kr_fleet.proofs.Finding.{read_content, reads_held}
+use Rattle.kr_fleet.proofs.Single.{some_there}
+use Rattle.kr_fleet.proofs.Keeping.{keeps_both}
+use Rattle.kr_fleet.proofs.Nexts.{serves}
+use Rattle.kr_fleet.proofs.reading.read.Goals as goal
+
+pub returns-in_default-clause-reads : goal.returns-in_default-clause-reads
+returns-in_default-clause-reads g c = inl (inl refl, refl)
+
+pub returns-in_default-clause-asked : goal.returns-in_default-clause-asked
+returns-in_default-clause-asked g c = asked_none g.L.Kms.link
+    (names_of g.L.Kms.link c.args.bench.now.links) c.args.bench.now.links
+
+pub returns-in-Err-clause-reads : goal.returns-in-Err-clause-reads
+returns-in-Err-clause-reads g c = inl (c.in-Err.ensures.adopts, refl)
+
+pub returns-in-Err-clause-content : goal.returns-in-Err-clause-content
+returns-in-Err-clause-content g c = read_content g.L.Kms.truth g.L.Kms.link c.args.path.now
+    c.args.replica (g.A.Acts.caller c.args.acts.now) (g.A.Acts.caller c.adopt.new.acts)
+    c.args.bench.now.links c.args.bench.now.links (Err c.in-Err.why) c.known.ensures
+    (inl (c.in-Err.ensures.adopts, refl))
+
+pub returns-in-Err-clause-asked : goal.returns-in-Err-clause-asked
+returns-in-Err-clause-asked g c = asked_none g.L.Kms.link
+    (names_of g.L.Kms.link c.args.bench.now.links) c.args.bench.now.links
+
+pub take_up-requires-clause-links : goal.take_up-requires-clause-links
+take_up-requires-clause-links g c = serves (g.A.Acts.caller c.args.acts.now).opening.names
+    (names_of g.L.Kms.link c.args.bench.now.links) c.in-Ok-adopt.held.1.rows c.requires.links
+    c.in-Ok-adopt.ensures.known.0.1
+
+pub find-found-requires-clause-path : goal.find-found-requires-clause-path
+find-found-requires-clause-path g c = subst IsPath (sym c.in-Ok.ensures) c.requires.path
+
+pub find-found-requires-clause-held : goal.find-found-requires-clause-held
+find-found-requires-clause-held g c = record {
+  number = c.in-Ok-adopt.held.0;
+  p = c.in-Ok-adopt.held.1;
+  adopted = ap (λ b. b.published) c.take_up.ensures.taken;
+  held = c.in-Ok-adopt.ensures.known.1;
+}
+
+pub let_go-requires : goal.let_go-requires
+let_go-requires g c =
+    record { holds = some_there _ _ (c.find-found.ensures.holds ∙ c.in-Ok-adopt.ensures.known.1) }
+
+pub returns-clause-reads : goal.returns-clause-reads
+returns-clause-reads g c = reads_held g.L.Kms.truth g.L.Kms.link c.args.path.now c.in-Ok.copy
+    c.args.replica (g.A.Acts.caller c.args.acts.now) (g.A.Acts.caller c.adopt.new.acts)
+    (g.A.Acts.caller c.find-found.new.acts) (g.A.Acts.caller c.let_go.new.acts)
+    c.args.bench.now.links c.take_up.new.bench.links c.find-found.new.bench.links
+    c.in-Ok-adopt.held c.take_up.new.bench.published c.find-found.result c.let_go.result
+    c.in-Ok.ensures (ap (λ b. b.links) c.take_up.ensures.taken)
+    (ap (λ b. b.published) c.take_up.ensures.taken) c.in-Ok-adopt.ensures.adopts
+    c.find-found.ensures.finds c.let_go.ensures.lets_go
+
+pub returns-clause-content : goal.returns-clause-content
+returns-clause-content g c = read_content g.L.Kms.truth g.L.Kms.link c.args.path.now
+    c.args.replica (g.A.Acts.caller c.args.acts.now) (g.A.Acts.caller c.let_go.new.acts)
+    c.args.bench.now.links c.find-found.new.bench.links c.let_go.result c.known.ensures
+    (reads_held g.L.Kms.truth g.L.Kms.link c.args.path.now c.in-Ok.copy
+    c.args.replica (g.A.Acts.caller c.args.acts.now) (g.A.Acts.caller c.adopt.new.acts)
+    (g.A.Acts.caller c.find-found.new.acts) (g.A.Acts.caller c.let_go.new.acts)
+    c.args.bench.now.links c.take_up.new.bench.links c.find-found.new.bench.links
+    c.in-Ok-adopt.held c.take_up.new.bench.published c.find-found.result c.let_go.result
+    c.in-Ok.ensures (ap (λ b. b.links) c.take_up.ensures.taken)
+    (ap (λ b. b.published) c.take_up.ensures.taken) c.in-Ok-adopt.ensures.adopts
+    c.find-found.ensures.finds c.let_go.ensures.lets_go)
+
+pub returns-clause-honest : goal.returns-clause-honest
+returns-clause-honest g c = keeps_both (g.A.Acts.caller c.args.acts.now)
+    (g.A.Acts.caller c.find-found.new.acts) (g.A.Acts.caller c.let_go.new.acts)
+    (keeps_both (g.A.Acts.caller c.args.acts.now) (g.A.Acts.caller c.adopt.new.acts)
+    (g.A.Acts.caller c.find-found.new.acts) c.in-Ok-adopt.ensures.honest
+    c.find-found.ensures.honest)
+    c.let_go.ensures.honest
+
+pub returns-clause-asked : goal.returns-clause-asked
+returns-clause-asked g c = subst
+    (λ l. AskedOnly g.L.Kms.link (names_of g.L.Kms.link l) l c.find-found.new.bench.links)
+    (ap (λ b. b.links) c.take_up.ensures.taken) c.find-found.ensures.asked
+
+pub returns-clause-dice : goal.returns-clause-dice
+returns-clause-dice g c =
+    ap (λ b. b.dice) c.find-found.ensures.kept ∙ ap (λ b. b.dice) c.take_up.ensures.taken
+
+pub returns-clause-pages : goal.returns-clause-pages
+returns-clause-pages g c =
+    ap (λ b. size_of b.pages) c.find-found.ensures.kept ∙ c.take_up.ensures.pages
+
+pub returns-clause-place : goal.returns-clause-place
+returns-clause-place g c =
+    c.let_go.ensures.place ∙ c.find-found.ensures.place ∙ c.in-Ok-adopt.ensures.place

@@ -1,0 +1,115 @@
+-- `renew`: key ids are compared, then the settings are published and brought.
+use Rattle.std.proofs.Common.{List, ap, refl, subst, sym, ◌∙◌}
+use Rattle.std.specs.Prelude.{Contains}
+use Rattle.kr_config.specs.Kept.{Row, plugins_in, rows_of}
+use Rattle.kr_kms.specs.declared.seeds.SeedRow.{SeedRow}
+use Rattle.kr_rollout.specs.Openings.{NamesAmong}
+use Rattle.kr_provider.proofs.AskedLists.{names_stay}
+use Rattle.kr_fleet.specs.LoadCalls.{plugin_names}
+use Rattle.kr_fleet.proofs.Bringing.{keeps_reload, reload_holds, seeds_tell}
+use Rattle.kr_fleet.proofs.Renewed.{compared_asks, published, renewed_asks, unpublished}
+use Rattle.kr_fleet.proofs.Spending.{reload_spends}
+use Rattle.kr_fleet.proofs.refreshing.renew.Goals as goal
+
+pub has_changed-requires : goal.has_changed-requires
+has_changed-requires g c = record {
+  links = λ name there. c.requires.links name ((c.known.ensures.names name).0
+      (subst (λ (s : List SeedRow). Contains (plugin_names s) name) c.seeds_of.ensures
+      there));
+}
+
+pub returns-in-Err-clause-asked : goal.returns-in-Err-clause-asked
+returns-in-Err-clause-asked g c = compared_asks g.L.Kms.link c.args.published.now
+    c.seeds_of.result.now c.args.bench.now.links c.has_changed.new.bench.links c.seeds_of.ensures
+    c.has_changed.ensures.asked
+
+pub returns-then-not-changed-clause-asked : goal.returns-then-not-changed-clause-asked
+returns-then-not-changed-clause-asked g c = compared_asks g.L.Kms.link c.args.published.now
+    c.seeds_of.result.now c.args.bench.now.links c.has_changed.new.bench.links c.seeds_of.ensures
+    c.has_changed.ensures.asked
+
+pub returns-in_default-clause-asked : goal.returns-in_default-clause-asked
+returns-in_default-clause-asked g c = compared_asks g.L.Kms.link c.args.published.now
+    c.seeds_of.result.now c.args.bench.now.links c.has_changed.new.bench.links c.seeds_of.ensures
+    c.has_changed.ensures.asked
+
+pub publish-requires : goal.publish-requires
+publish-requires g c = record {
+  links = λ name there. subst (λ names. Contains names name)
+      (sym (names_stay g.L.Kms.link (plugin_names c.seeds_of.result.now)
+      c.args.bench.now.links c.has_changed.new.bench.links c.in-Ok.ensures.asked))
+      (c.requires.links name (subst (λ (rows : List Row). Contains (plugins_in rows) name)
+      c.in-Ok-settings_of.ensures there));
+}
+
+pub returns-in-Err-publish-clause-refreshes : goal.returns-in-Err-publish-clause-refreshes
+returns-in-Err-publish-clause-refreshes g c = unpublished g.L.Kms.truth g.L.Kms.link
+    g.D.Dice.left g.D.Dice.count c.args.replica c.args.generation c.args.published.now
+    (g.A.Acts.caller c.args.acts.now) (g.A.Acts.caller c.args.acts.now) c.args.bench.now.links
+    c.has_changed.new.bench.links c.publish.new.bench.links c.args.bench.now.dice
+    c.has_changed.new.bench.dice c.publish.new.bench.dice c.seeds_of.result.now
+    (rows_of c.in-Ok-settings_of.settings.entries.0) c.seeds_of.ensures
+    c.in-Ok-settings_of.ensures (ap (λ b. b.dice) c.in-Ok.ensures.kept) c.in-Ok.ensures.asked
+    c.in-Ok.changed c.if-not-changed.false c.in-Ok.ensures.compares c.in-Err-publish.why refl
+    c.in-Err-publish.ensures.published
+
+pub returns-in-Err-publish-clause-asked : goal.returns-in-Err-publish-clause-asked
+returns-in-Err-publish-clause-asked g c = renewed_asks g.L.Kms.link c.args.published.now
+    c.seeds_of.result.now (rows_of c.in-Ok-settings_of.settings.entries.0) c.args.bench.now.links
+    c.has_changed.new.bench.links c.publish.new.bench.links c.known.ensures c.seeds_of.ensures
+    c.in-Ok-settings_of.ensures c.in-Ok.ensures.asked c.publish.ensures.asked
+
+pub act-requires : goal.act-requires
+act-requires g c = record {
+  seat_in = c.known-2.ensures.seat_in;
+  allowed = (
+    c.requires.replica,
+    subst (NamesAmong (g.A.Acts.caller c.args.acts.now).opening.names)
+        (sym (c.in-Ok-publish.ensures.published.0 ∙ c.in-Ok-settings_of.ensures))
+        c.requires.names,
+    c.requires.room,
+  );
+}
+
+pub returns-in-Ok-act-clause-refreshes : goal.returns-in-Ok-act-clause-refreshes
+returns-in-Ok-act-clause-refreshes g c = published g.L.Kms.truth g.L.Kms.link
+    g.D.Dice.left g.D.Dice.count c.args.replica c.args.generation c.args.published.now
+    (g.A.Acts.caller c.args.acts.now) (g.A.Acts.caller c.act.new.self) c.args.bench.now.links
+    c.has_changed.new.bench.links c.publish.new.bench.links c.args.bench.now.dice
+    c.has_changed.new.bench.dice c.publish.new.bench.dice c.seeds_of.result.now
+    (rows_of c.in-Ok-settings_of.settings.entries.0) c.seeds_of.ensures
+    c.in-Ok-settings_of.ensures (ap (λ b. b.dice) c.in-Ok.ensures.kept) c.in-Ok.ensures.asked
+    c.in-Ok.changed c.if-not-changed.false c.in-Ok.ensures.compares c.in-Ok-publish.published
+    c.in-Ok-act.answer c.reloaded.result c.known-2.ensures c.requires.held
+    c.in-Ok-publish.ensures.published c.in-Ok-act.ensures.acted c.reloaded.ensures
+
+pub returns-in-Ok-act-clause-honest : goal.returns-in-Ok-act-clause-honest
+returns-in-Ok-act-clause-honest g c = λ told. keeps_reload g.L.Kms.truth.opens
+    (g.A.Acts.caller c.args.acts.now) (g.A.Acts.caller c.act.new.self) c.args.replica
+    c.in-Ok-publish.published _ c.in-Ok-act.answer
+    (seeds_tell g.L.Kms.truth g.L.Kms.link g.D.Dice.left g.D.Dice.count
+    (rows_of c.in-Ok-settings_of.settings.entries.0) c.in-Ok-publish.published
+    c.has_changed.new.bench.links c.publish.new.bench.links c.has_changed.new.bench.dice
+    c.publish.new.bench.dice c.in-Ok-publish.ensures.published told) c.in-Ok-act.ensures.acted
+
+pub returns-in-Ok-act-clause-asked : goal.returns-in-Ok-act-clause-asked
+returns-in-Ok-act-clause-asked g c = renewed_asks g.L.Kms.link c.args.published.now
+    c.seeds_of.result.now (rows_of c.in-Ok-settings_of.settings.entries.0) c.args.bench.now.links
+    c.has_changed.new.bench.links c.publish.new.bench.links c.known.ensures c.seeds_of.ensures
+    c.in-Ok-settings_of.ensures c.in-Ok.ensures.asked c.publish.ensures.asked
+
+pub returns-in-Err-act-clause-asked : goal.returns-in-Err-act-clause-asked
+returns-in-Err-act-clause-asked g c = renewed_asks g.L.Kms.link c.args.published.now
+    c.seeds_of.result.now (rows_of c.in-Ok-settings_of.settings.entries.0) c.args.bench.now.links
+    c.has_changed.new.bench.links c.publish.new.bench.links c.known.ensures c.seeds_of.ensures
+    c.in-Ok-settings_of.ensures c.in-Ok.ensures.asked c.publish.ensures.asked
+
+pub returns-in-Ok-act-clause-holds : goal.returns-in-Ok-act-clause-holds
+returns-in-Ok-act-clause-holds g c = reload_holds (g.A.Acts.caller c.args.acts.now)
+    (g.A.Acts.caller c.act.new.self) c.args.replica c.in-Ok-publish.published
+    _ c.in-Ok-act.answer c.in-Ok-act.ensures.acted
+
+pub returns-in-Ok-act-clause-budget : goal.returns-in-Ok-act-clause-budget
+returns-in-Ok-act-clause-budget g c = reload_spends (g.A.Acts.caller c.args.acts.now)
+    (g.A.Acts.caller c.act.new.self) c.args.replica c.in-Ok-publish.published
+    _ c.in-Ok-act.answer c.in-Ok-act.ensures.acted

@@ -1,0 +1,76 @@
+-- `write`: its stages, one behind another.
+use Rattle.std.proofs.Common.{ap, inl, refl, subst, sym, ◌∙◌, ◌≤◌}
+use Rattle.kr_base.specs.Rules.{IsPath, IsResource}
+use Rattle.kr_provider.specs.KeyPages.{size_of}
+use Rattle.kr_provider.specs.Names.{names_of}
+use Rattle.kr_fleet.proofs.Keeping.{keeps_both}
+use Rattle.kr_fleet.proofs.Nexts.{serves}
+use Rattle.kr_fleet.proofs.Putting.{writes_held}
+use Rattle.kr_fleet.proofs.Single.{some_there}
+use Rattle.kr_fleet.proofs.writing.write.Goals as goal
+
+pub returns-in_default-clause-writes : goal.returns-in_default-clause-writes
+returns-in_default-clause-writes g c = inl (inl refl, refl)
+
+pub returns-in-Err-clause-writes : goal.returns-in-Err-clause-writes
+returns-in-Err-clause-writes g c = inl (c.in-Err.ensures.adopts, refl)
+
+pub take_up-requires-clause-links : goal.take_up-requires-clause-links
+take_up-requires-clause-links g c = serves (g.A.Acts.caller c.args.acts.now).opening.names
+    (names_of g.L.Kms.link c.args.bench.now.links) c.in-Ok-adopt.held.1.rows c.requires.links
+    c.in-Ok-adopt.ensures.known.0.1
+
+pub put-written-requires-clause-path : goal.put-written-requires-clause-path
+put-written-requires-clause-path g c =
+    subst IsPath (sym c.in-Ok-copy.ensures) c.requires.path
+
+pub put-written-requires-clause-resource : goal.put-written-requires-clause-resource
+put-written-requires-clause-resource g c =
+    subst IsResource (sym c.in-Ok.ensures) c.requires.resource
+
+pub put-written-requires-clause-held : goal.put-written-requires-clause-held
+put-written-requires-clause-held g c = record {
+  number = c.in-Ok-adopt.held.0;
+  p = c.in-Ok-adopt.held.1;
+  adopted = ap (λ b. b.published) c.take_up.ensures.taken;
+  held = c.in-Ok-adopt.ensures.known.1;
+}
+
+pub let_go-requires : goal.let_go-requires
+let_go-requires g c =
+    record { holds = some_there _ _ (c.put-written.ensures.holds ∙ c.in-Ok-adopt.ensures.known.1) }
+
+pub returns-clause-writes : goal.returns-clause-writes
+returns-clause-writes g c = writes_held g.D.Dice.left g.D.Dice.count c.args.resource.now
+    c.args.path.now c.in-Ok.resource c.in-Ok-copy.path c.args.plain c.args.replica
+    (g.A.Acts.caller c.args.acts.now) (g.A.Acts.caller c.adopt.new.acts)
+    (g.A.Acts.caller c.put-written.new.acts) (g.A.Acts.caller c.let_go.new.acts)
+    c.args.bench.now.dice c.take_up.new.bench.dice c.put-written.new.bench.dice
+    c.in-Ok-adopt.held c.take_up.new.bench.published c.put-written.result c.let_go.result
+    c.in-Ok.ensures c.in-Ok-copy.ensures (ap (λ b. b.dice) c.take_up.ensures.taken)
+    (ap (λ b. b.published) c.take_up.ensures.taken) c.in-Ok-adopt.ensures.adopts
+    c.put-written.ensures.puts c.let_go.ensures.lets_go
+
+pub returns-clause-honest : goal.returns-clause-honest
+returns-clause-honest g c = keeps_both (g.A.Acts.caller c.args.acts.now)
+    (g.A.Acts.caller c.put-written.new.acts) (g.A.Acts.caller c.let_go.new.acts)
+    (keeps_both (g.A.Acts.caller c.args.acts.now) (g.A.Acts.caller c.adopt.new.acts)
+    (g.A.Acts.caller c.put-written.new.acts) c.in-Ok-adopt.ensures.honest
+    c.put-written.ensures.honest)
+    c.let_go.ensures.honest
+
+pub returns-clause-links : goal.returns-clause-links
+returns-clause-links g c =
+    ap (λ b. b.links) c.put-written.ensures.kept ∙ ap (λ b. b.links) c.take_up.ensures.taken
+
+pub returns-clause-later : goal.returns-clause-later
+returns-clause-later g c = subst (λ d. g.D.Dice.count d ≤ g.D.Dice.count c.put-written.new.bench.dice)
+    (ap (λ b. b.dice) c.take_up.ensures.taken) c.put-written.ensures.later
+
+pub returns-clause-pages : goal.returns-clause-pages
+returns-clause-pages g c =
+    ap (λ b. size_of b.pages) c.put-written.ensures.kept ∙ c.take_up.ensures.pages
+
+pub returns-clause-place : goal.returns-clause-place
+returns-clause-place g c =
+    c.let_go.ensures.place ∙ c.put-written.ensures.place ∙ c.in-Ok-adopt.ensures.place

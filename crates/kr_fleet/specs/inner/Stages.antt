@@ -1,0 +1,93 @@
+-- What parts of a call do.
+use Rattle.std.specs.Prelude.{◌≡◌, ◌⊎◌, ℕ, Bool, true, false, List, Option, None, Some, Result, Ok, Err}
+use Rattle.kr_config.specs.Kept.{Row as settings_row}
+use Rattle.kr_kms.specs.Calls.{Link}
+use Rattle.kr_kms.specs.Truth.{Truth}
+use Rattle.kr_provider.specs.Publication.{Publication}
+use Rattle.kr_provider.specs.Publishing.{Publishes}
+use Rattle.kr_provider.specs.declared.refusal.PublishNo.{PublishNo}
+use Rattle.kr_provider.specs.declared.refusal.PublishNo.TheVariants as publishing
+use Rattle.kr_store.specs.declared.rows.Row.{Row}
+use Rattle.kr_rollout.specs.declared.answer.Answer.TheVariants as answer
+use Rattle.kr_rollout.specs.declared.event.Event.TheVariants as event
+use Rattle.kr_rollout.specs.declared.opening.Entry.{Entry}
+use Rattle.kr_rollout.specs.Acting.{Caller, Acted}
+use Rattle.kr_rollout.specs.Callers.{holding}
+use Rattle.kr_provider.specs.declared.refusal.Opened.{Opened}
+use Rattle.kr_provider.specs.declared.refusal.SealNo.{SealNo}
+use Rattle.kr_provider.specs.declared.refusal.SealNo.TheVariants as sealing
+use Rattle.kr_provider.specs.declared.refusal.UnsealNo.{UnsealNo}
+use Rattle.kr_provider.specs.declared.refusal.UnsealNo.TheVariants as unsealing
+use Rattle.kr_provider.specs.declared.refusal.ValueNo.TheVariants.{LooksEncrypted, TooLarge}
+use Rattle.kr_fleet.specs.declared.outcome.Read.{Read}
+use Rattle.kr_fleet.specs.declared.outcome.Read.TheVariants.{Value}
+use Rattle.kr_rollout.specs.declared.call.CallNo.{CallNo}
+use Rattle.kr_rollout.specs.declared.call.CallNo.TheVariants as refusal
+use Rattle.kr_fleet.specs.Calls.{AddsNothing, AdoptsNothing}
+use Rattle.kr_fleet.specs.LoadCalls.{AreKeysSame, AsksInVain, IsKeyChanged}
+use Rattle.kr_kms.specs.declared.seeds.SeedRow.{SeedRow}
+
+-- the replica's generation is adopted, or nothing is
+abbrev pub Adopts : (replica : ℕ) → Caller → Result (ℕ × Publication) CallNo → Caller → Type 0
+Adopts replica old (Ok held) new =
+    Acted old (event.Adopt replica) (answer.Adopted held.0 held.1) new
+Adopts replica old (Err why) new = AdoptsNothing replica old why new
+
+-- the path's row is fetched
+abbrev pub Fetches : (path : List ℕ) → Caller → Result (Option Row) CallNo → Caller → Type 0
+Fetches path old (Ok (Some row)) new = Acted old (event.Fetch path) (answer.Found row) new
+Fetches path old (Ok None) new = Acted old (event.Fetch path) answer.Absent new
+Fetches path old (Err refusal.NoMemory) new = Acted old (event.Fetch path) answer.NoMemory new
+Fetches path old (Err refusal.Spent) new = AddsNothing old new
+Fetches path old (Err why) new = ⊥
+
+-- the seat holds a generation of the configuration that the bench adopted
+pub record HoldsAdopted (published : Option Publication) (own : List Entry) : Type 0 where
+  pub number : ℕ
+  pub p : Publication
+  pub adopted : published ≡ Some p
+  pub held : holding own ≡ Some (number, p)
+
+-- what a row of this revision holds
+abbrev pub value_of : (revision : ℕ) → Result Opened UnsealNo → Result Read CallNo
+value_of revision (Ok opened) =
+    Ok (Value revision opened.plain opened.stale)
+value_of revision (Err (unsealing.Refused why)) = Err (refusal.Refused why)
+value_of revision (Err (unsealing.PluginFailed name)) = Err (refusal.PluginFailed name)
+value_of revision (Err unsealing.NoMemory) = Err refusal.NoMemory
+
+-- why nothing is sealed
+abbrev pub seal_refusal : SealNo → CallNo
+seal_refusal sealing.LooksEncrypted = refusal.Refused LooksEncrypted
+seal_refusal (sealing.TooLarge size) = refusal.Refused TooLarge
+seal_refusal sealing.DiceFailed = refusal.DiceFailed
+seal_refusal sealing.NoMemory = refusal.NoMemory
+
+-- why settings aren't published
+abbrev pub publish_refusal : PublishNo → CallNo
+publish_refusal (publishing.PluginFailed name) = refusal.PluginFailed name
+publish_refusal publishing.DiceFailed = refusal.DiceFailed
+publish_refusal (publishing.Unhealthy name field text) = refusal.Unhealthy name field text
+publish_refusal publishing.NoMemory = refusal.NoMemory
+
+-- settings are published and shared
+module _ {L D : Type 0} (truth : Truth) (link : L → Link) (left : D → Option (List ℕ))
+    (count : D → ℕ) where
+  abbrev pub NotShared : List settings_row → List L → D → CallNo → List L → D → Type 0
+  NotShared rows olds dice why news after = ((no : PublishNo) × (why ≡ publish_refusal no)
+      × Publishes truth link left count rows olds dice (Err no) news after)
+      ⊎ ((p : Publication) × (why ≡ refusal.NoMemory)
+      × Publishes truth link left count rows olds dice (Ok p) news after)
+
+  abbrev pub SharesPublished : List settings_row → List L → D → Result Publication CallNo
+      → List L → D → Type 0
+  SharesPublished rows olds dice (Ok p) news after =
+      Publishes truth link left count rows olds dice (Ok p) news after
+  SharesPublished rows olds dice (Err why) news after = NotShared rows olds dice why news after
+
+-- the plugins' key ids are those of their seeds, or one isn't, or one can't be asked for
+abbrev pub ComparesKeys : {L : Type 0} → (L → Link) → List SeedRow → List L → Result Bool CallNo
+    → List L → Type 0
+ComparesKeys link seeds olds (Ok false) news = AreKeysSame link olds seeds
+ComparesKeys link seeds olds (Ok true) news = IsKeyChanged link olds seeds
+ComparesKeys link seeds olds (Err why) news = AsksInVain link olds seeds why news

@@ -1,0 +1,45 @@
+//! A path that is deleted.
+ghost use Rattle.std.specs.Prelude.{◌≡◌, None};
+ghost use Rattle.kr_base.specs.Rules.{IsPath};
+ghost use Rattle.kr_rollout.specs.Callers.{holding};
+ghost use Rattle.kr_fleet.specs.Calls.{KeepsHonesty, IsDelete};
+ghost use Rattle.kr_fleet.specs.inner.Answering.{AnswersDelete, DeletesBy};
+
+use kr_base::{Spent, Text};
+use kr_rollout::{Acts, Answer, CallNo, Event};
+use std::alloc::Global;
+
+/// Deletes the path's live row. It answers the revision of the row that was written, or `None`
+/// where nothing lived at the path.
+pub fn delete<A: Acts>(alloc: Global, acts: &mut A, path: &str) -> Result<Option<u64>, CallNo>
+    requires path { IsPath path.now }
+    requires idle { holding (A.caller acts.old).mine ≡ None }
+    ensures deletes { IsDelete path.now (A.caller acts.old) result (A.caller acts.new) }
+    ensures honest { KeepsHonesty (A.caller acts.old) (A.caller acts.new) }
+    ensures idle { holding (A.caller acts.new).mine ≡ None }
+    ensures place { A.place acts.new ≡ A.place acts.old }
+{
+    let Ok(path) = Text::copy(alloc, path) else {
+        return Err(CallNo::NoMemory);
+    };
+    acts.known();
+    match acts.act(Event::Delete { path }) {
+        Ok(answer) => deleted(answer),
+        Err(Spent) => Err(CallNo::Spent),
+    }
+}
+
+/// The revision of the row that was written.
+fn deleted(answer: Answer) -> Result<Option<u64>, CallNo>
+    requires { AnswersDelete answer }
+    ensures { DeletesBy answer result }
+{
+    match answer {
+        Answer::Written { revision } => Ok(Some(revision)),
+        Answer::Absent => Ok(None),
+        Answer::StoreFailed => Err(CallNo::StoreFailed),
+        Answer::StoreFull { needed } => Err(CallNo::StoreFull { needed }),
+        Answer::NoMemory => Err(CallNo::NoMemory),
+        _ => unreachable!(),
+    }
+}

@@ -1,0 +1,37 @@
+//! A replica that leaves.
+ghost use Rattle.std.specs.Prelude.{◌≡◌, ◌<◌, length, None};
+ghost use Rattle.kr_rollout.specs.Callers.{holding};
+ghost use Rattle.kr_fleet.specs.Calls.{KeepsHonesty, IsLeave};
+ghost use Rattle.kr_fleet.specs.inner.Answering.{AnswersLeave, DepartsBy};
+
+use kr_base::Spent;
+use kr_rollout::{Acts, Answer, CallNo, Event};
+
+/// Takes the replica's current generation away. It answers the generation, or `None` where the
+/// replica had none. It takes no memory.
+pub fn leave<A: Acts>(acts: &mut A, replica: u32) -> Result<Option<u32>, CallNo>
+    requires replica { replica < length (A.caller acts.old).opening.replicas }
+    requires idle { holding (A.caller acts.old).mine ≡ None }
+    ensures leaves { IsLeave replica (A.caller acts.old) result (A.caller acts.new) }
+    ensures honest { KeepsHonesty (A.caller acts.old) (A.caller acts.new) }
+    ensures idle { holding (A.caller acts.new).mine ≡ None }
+    ensures place { A.place acts.new ≡ A.place acts.old }
+{
+    acts.known();
+    match acts.act(Event::Leave { replica }) {
+        Ok(answer) => Ok(departed(answer)),
+        Err(Spent) => Err(CallNo::Spent),
+    }
+}
+
+/// The generation that was taken away.
+fn departed(answer: Answer) -> Option<u32>
+    requires { AnswersLeave answer }
+    ensures { DepartsBy answer result }
+{
+    match answer {
+        Answer::Departed { generation } => Some(generation),
+        Answer::Gone { replica: _ } => None,
+        _ => unreachable!(),
+    }
+}

@@ -1,0 +1,166 @@
+//! Configurations that are published and brought.
+ghost use Rattle.std.specs.Prelude.{◌≡◌, ◌<◌, ◌≤◌, ◌+◌, length, get_or, None};
+ghost use Rattle.kr_config.specs.Kept.{plugins_in, rows_of};
+ghost use Rattle.kr_provider.specs.AskedLinks.{AskedOnly};
+ghost use Rattle.kr_provider.specs.Names.{HasLinks, names_of};
+ghost use Rattle.kr_rollout.specs.Callers.{holding, reloads_in};
+ghost use Rattle.kr_rollout.specs.Openings.{NamesAmong};
+ghost use Rattle.kr_fleet.specs.Calls.{AreServed, KeepsToldHonesty};
+ghost use Rattle.kr_fleet.specs.LoadCalls.{IsJoin, IsReload};
+ghost use Rattle.kr_fleet.specs.inner.Answering.{AnswersJoin, AnswersReload, JoinsBy, ReloadsBy};
+ghost use Rattle.kr_fleet.specs.inner.Stages.{SharesPublished, publish_refusal};
+
+use crate::outcome::{Joining, Loaded};
+use kr_base::{Dice, Shared, Spent};
+use kr_config::Settings;
+use kr_kms::Kms;
+use kr_provider::{Bench, PublishNo, Published};
+use kr_rollout::{Acts, Answer, CallNo, Event};
+use std::alloc::Global;
+
+/// Publishes the settings, and gives them to the replica, which is in, in place of its current
+/// generation, whichever that is.
+pub fn reload<A: Acts, L: Kms, D: Dice>(
+    alloc: Global,
+    acts: &mut A,
+    bench: &mut Bench<L, D>,
+    replica: u32,
+    settings: Shared<Settings>,
+) -> Result<Loaded, CallNo>
+    requires replica { replica < length (A.caller acts.old).opening.replicas }
+    requires idle { holding (A.caller acts.old).mine ≡ None }
+    requires names { NamesAmong (A.caller acts.old).opening.names (rows_of settings.entries.0) }
+    requires room { reloads_in (A.caller acts.old).mine
+        < get_or (A.caller acts.old).opening.reloads (A.caller acts.old).seat 0 }
+    requires links { AreServed (A.caller acts.old).opening.names (names_of L.link bench.old.links) }
+    ensures reloads { IsReload L.truth L.link D.left D.count (rows_of settings.entries.0) replica
+        (A.caller acts.old) bench.old.links bench.old.dice result (A.caller acts.new)
+        bench.new.links bench.new.dice }
+    ensures honest { KeepsToldHonesty L.truth (A.caller acts.old) (A.caller acts.new) }
+    ensures idle { holding (A.caller acts.new).mine ≡ None }
+    ensures asked { AskedOnly L.link (plugins_in (rows_of settings.entries.0)) bench.old.links
+        bench.new.links }
+    ensures later { D.count bench.old.dice ≤ D.count bench.new.dice }
+    ensures kept { bench.new
+        ≡ record bench.old { links = bench.new.links; dice = bench.new.dice } }
+    ensures budget { reloads_in (A.caller acts.new).mine ≤ reloads_in (A.caller acts.old).mine + 1 }
+    ensures place { A.place acts.new ≡ A.place acts.old }
+{
+    let published = match publish(alloc, bench, settings) {
+        Ok(published) => published,
+        Err(why) => return Err(why),
+    };
+    acts.known();
+    match acts.act(Event::Reload {
+        replica,
+        published,
+        expect: None,
+    }) {
+        Ok(answer) => reloaded(answer),
+        Err(Spent) => Err(CallNo::Spent),
+    }
+}
+
+/// Publishes the settings, and gives them to the replica, which isn't in.
+pub fn join<A: Acts, L: Kms, D: Dice>(
+    alloc: Global,
+    acts: &mut A,
+    bench: &mut Bench<L, D>,
+    replica: u32,
+    settings: Shared<Settings>,
+) -> Result<Joining, CallNo>
+    requires replica { replica < length (A.caller acts.old).opening.replicas }
+    requires idle { holding (A.caller acts.old).mine ≡ None }
+    requires names { NamesAmong (A.caller acts.old).opening.names (rows_of settings.entries.0) }
+    requires room { reloads_in (A.caller acts.old).mine
+        < get_or (A.caller acts.old).opening.reloads (A.caller acts.old).seat 0 }
+    requires links { AreServed (A.caller acts.old).opening.names (names_of L.link bench.old.links) }
+    ensures joins { IsJoin L.truth L.link D.left D.count (rows_of settings.entries.0) replica
+        (A.caller acts.old) bench.old.links bench.old.dice result (A.caller acts.new)
+        bench.new.links bench.new.dice }
+    ensures honest { KeepsToldHonesty L.truth (A.caller acts.old) (A.caller acts.new) }
+    ensures idle { holding (A.caller acts.new).mine ≡ None }
+    ensures asked { AskedOnly L.link (plugins_in (rows_of settings.entries.0)) bench.old.links
+        bench.new.links }
+    ensures later { D.count bench.old.dice ≤ D.count bench.new.dice }
+    ensures kept { bench.new
+        ≡ record bench.old { links = bench.new.links; dice = bench.new.dice } }
+    ensures budget { reloads_in (A.caller acts.new).mine ≤ reloads_in (A.caller acts.old).mine + 1 }
+    ensures place { A.place acts.new ≡ A.place acts.old }
+{
+    let published = match publish(alloc, bench, settings) {
+        Ok(published) => published,
+        Err(why) => return Err(why),
+    };
+    acts.known();
+    match acts.act(Event::Join { replica, published }) {
+        Ok(answer) => joined(answer),
+        Err(Spent) => Err(CallNo::Spent),
+    }
+}
+
+/// Publishes the settings to be shared.
+pub(crate) fn publish<L: Kms, D: Dice>(
+    alloc: Global,
+    bench: &mut Bench<L, D>,
+    settings: Shared<Settings>,
+) -> Result<Shared<Published>, CallNo>
+    requires links { HasLinks (names_of L.link bench.old.links) (rows_of settings.entries.0) }
+    ensures published { SharesPublished L.truth L.link D.left D.count (rows_of settings.entries.0)
+        bench.old.links bench.old.dice result bench.new.links bench.new.dice }
+    ensures asked { AskedOnly L.link (plugins_in (rows_of settings.entries.0)) bench.old.links
+        bench.new.links }
+    ensures later { D.count bench.old.dice ≤ D.count bench.new.dice }
+    ensures kept { bench.new
+        ≡ record bench.old { links = bench.new.links; dice = bench.new.dice } }
+{
+    let published = match bench.publish(alloc, settings) {
+        Ok(published) => published,
+        Err(why) => return Err(publish_refusal(why)),
+    };
+    match Shared::new(alloc, published) {
+        Ok(shared) => Ok(shared),
+        Err(_refused) => Err(CallNo::NoMemory),
+    }
+}
+
+/// Why settings aren't published.
+pub(crate) fn publish_refusal(why: PublishNo) -> CallNo
+    ensures { result ≡ publish_refusal why }
+{
+    match why {
+        PublishNo::PluginFailed { name } => CallNo::PluginFailed { name },
+        PublishNo::DiceFailed => CallNo::DiceFailed,
+        PublishNo::Unhealthy { name, field, text } => CallNo::Unhealthy { name, field, text },
+        PublishNo::NoMemory => CallNo::NoMemory,
+    }
+}
+
+/// What the replica has now.
+pub(crate) fn reloaded(answer: Answer) -> Result<Loaded, CallNo>
+    requires { AnswersReload answer }
+    ensures { ReloadsBy answer result }
+{
+    match answer {
+        Answer::Reloaded { generation } => Ok(Loaded::Generation(generation)),
+        Answer::Refused(verdict) => Ok(Loaded::Refused(verdict)),
+        Answer::Moved { generation } => Ok(Loaded::Moved(generation)),
+        Answer::Gone { replica: _ } => Err(CallNo::Gone),
+        Answer::NoMemory => Err(CallNo::NoMemory),
+        _ => unreachable!(),
+    }
+}
+
+/// What the replica that may have joined has now.
+fn joined(answer: Answer) -> Result<Joining, CallNo>
+    requires { AnswersJoin answer }
+    ensures { JoinsBy answer result }
+{
+    match answer {
+        Answer::Joined { generation } => Ok(Joining::Generation(generation)),
+        Answer::Refused(verdict) => Ok(Joining::Refused(verdict)),
+        Answer::Present { generation } => Ok(Joining::Present(generation)),
+        Answer::NoMemory => Err(CallNo::NoMemory),
+        _ => unreachable!(),
+    }
+}

@@ -1,0 +1,166 @@
+//! The data at a path.
+ghost use Rattle.std.specs.Prelude.{◌≡◌, ◌<◌, ◌≤◌, length, None, Some, IfSome, IfOk, IsSome};
+ghost use Rattle.kr_base.specs.Rules.{IsPath};
+ghost use Rattle.kr_base.specs.Limits.{path_limit, value_limit};
+ghost use Rattle.kr_provider.specs.AskedLinks.{AskedOnly};
+ghost use Rattle.kr_provider.specs.KeyPages.{size_of};
+ghost use Rattle.kr_provider.specs.Names.{names_of};
+ghost use Rattle.kr_provider.specs.Publication.{list_at};
+ghost use Rattle.kr_provider.specs.Unsealing.{UnsealsBy};
+ghost use Rattle.kr_rollout.specs.Callers.{holding};
+ghost use Rattle.kr_fleet.specs.Calls.{AreServed, IsIdle, KeepsHonesty};
+ghost use Rattle.kr_fleet.specs.ReadCalls.{Finds, IsRead, ReadsContent};
+ghost use Rattle.kr_fleet.specs.inner.Answering.{AnswersFetch, FetchesBy};
+ghost use Rattle.kr_fleet.specs.inner.Stages.{Fetches, HoldsAdopted, value_of};
+
+use crate::holding::{adopt, let_go, take_up};
+use crate::outcome::Read;
+use kr_base::{Dice, Shared, Spent, Text};
+use kr_kms::Kms;
+use kr_provider::{Bench, Opened, UnsealNo};
+use kr_rollout::{Acts, Answer, CallNo, Event};
+use kr_store::Row;
+use std::alloc::Global;
+
+/// Reads the data at the path by the replica's current generation, which the seat holds meanwhile.
+/// Where the plugins' truth is told, or none is named, `Refused` comes only for a row with which
+/// the core was started.
+pub fn read<A: Acts, L: Kms, D: Dice>(
+    alloc: Global,
+    acts: &mut A,
+    replica: u32,
+    bench: &mut Bench<L, D>,
+    path: &str,
+) -> Result<Read, CallNo>
+    requires replica { replica < length (A.caller acts.old).opening.replicas }
+    requires idle { holding (A.caller acts.old).mine ≡ None }
+    requires path { IsPath path.now }
+    requires links { AreServed (A.caller acts.old).opening.names (names_of L.link bench.old.links) }
+    requires pages { 64 ≤ size_of bench.old.pages }
+    ensures reads { IsRead L.truth L.link path.now replica (A.caller acts.old) bench.old.links
+        result (A.caller acts.new) bench.new.links }
+    ensures content { ReadsContent L.truth path.now (A.caller acts.old) result
+        (A.caller acts.new) }
+    ensures honest { KeepsHonesty (A.caller acts.old) (A.caller acts.new) }
+    ensures idle { IsIdle result (A.caller acts.new) }
+    ensures asked { AskedOnly L.link (names_of L.link bench.old.links) bench.old.links
+        bench.new.links }
+    ensures dice { bench.new.dice ≡ bench.old.dice }
+    ensures pages { size_of bench.new.pages ≡ size_of bench.old.pages }
+    ensures place { A.place acts.new ≡ A.place acts.old }
+{
+    let Ok(copy) = Text::copy(alloc, path) else {
+        return Err(CallNo::NoMemory);
+    };
+    acts.known();
+    let held = match adopt(acts, replica) {
+        Ok(held) => held,
+        Err(why) => return Err(why),
+    };
+    take_up(bench, held.1);
+    let found = find(alloc, acts, bench, copy);
+    let_go(acts, found)
+}
+
+/// What the path's live row holds, by the configuration that the bench adopted.
+fn find<A: Acts, L: Kms, D: Dice>(
+    alloc: Global,
+    acts: &mut A,
+    bench: &mut Bench<L, D>,
+    path: Text,
+) -> Result<Read, CallNo>
+    requires path { IsPath path }
+    requires held { HoldsAdopted bench.old.published (A.caller acts.old).mine }
+    ensures finds { IfSome bench.old.published (λ p. Finds L.truth L.link path p
+        (A.caller acts.old) bench.old.links result (A.caller acts.new) bench.new.links) }
+    ensures kept { bench.new
+        ≡ record bench.old { links = bench.new.links; cache = bench.new.cache } }
+    ensures asked { AskedOnly L.link (names_of L.link bench.old.links) bench.old.links
+        bench.new.links }
+    ensures honest { KeepsHonesty (A.caller acts.old) (A.caller acts.new) }
+    ensures holds { holding (A.caller acts.new).mine ≡ holding (A.caller acts.old).mine }
+    ensures place { A.place acts.new ≡ A.place acts.old }
+{
+    let found = match fetch(acts, path) {
+        Ok(found) => found,
+        Err(why) => return Err(why),
+    };
+    let Some(row) = found else {
+        return Ok(Read::Absent);
+    };
+    let lent = row.get();
+    let opened = unseal(alloc, bench, lent);
+    value_of(lent.revision, opened)
+}
+
+/// What the row's value holds, by the configuration that the bench adopted.
+fn unseal<L: Kms, D: Dice>(
+    alloc: Global,
+    bench: &mut Bench<L, D>,
+    row: &Row,
+) -> Result<Opened, UnsealNo>
+    requires adopted { IsSome bench.old.published }
+    requires path { length row.now.path ≤ path_limit }
+    requires fits { length row.now.stored ≤ value_limit }
+    ensures opened { IfSome bench.old.published (λ p. UnsealsBy L.truth L.link p.seeds
+        (list_at p row.now.resource) row.now.path row.now.stored bench.old.links result
+        bench.new.links) }
+    ensures asked { AskedOnly L.link (names_of L.link bench.old.links) bench.old.links
+        bench.new.links }
+    ensures kept { bench.new
+        ≡ record bench.old { links = bench.new.links; cache = bench.new.cache } }
+{
+    bench.unseal(
+        alloc,
+        row.resource.as_str(),
+        row.path.as_str(),
+        row.stored.as_slice(),
+    )
+}
+
+/// The path's live row.
+fn fetch<A: Acts>(acts: &mut A, path: Text) -> Result<Option<Shared<Row>>, CallNo>
+    requires path { IsPath path }
+    requires held { IsSome (holding (A.caller acts.old).mine) }
+    ensures fetches { Fetches path (A.caller acts.old) result (A.caller acts.new) }
+    ensures honest { KeepsHonesty (A.caller acts.old) (A.caller acts.new) }
+    ensures holds { holding (A.caller acts.new).mine ≡ holding (A.caller acts.old).mine }
+    ensures row { IfOk result (λ found. IfSome found
+        (λ row. (row.path ≡ path) × (length row.stored ≤ value_limit))) }
+    ensures place { A.place acts.new ≡ A.place acts.old }
+{
+    acts.known();
+    match acts.act(Event::Fetch { path }) {
+        Ok(answer) => fetched(answer),
+        Err(Spent) => Err(CallNo::Spent),
+    }
+}
+
+/// The row that was found.
+fn fetched(answer: Answer) -> Result<Option<Shared<Row>>, CallNo>
+    requires { AnswersFetch answer }
+    ensures { FetchesBy answer result }
+{
+    match answer {
+        Answer::Found(row) => Ok(Some(row)),
+        Answer::Absent => Ok(None),
+        Answer::NoMemory => Err(CallNo::NoMemory),
+        _ => unreachable!(),
+    }
+}
+
+/// What a row of this revision holds.
+fn value_of(revision: u64, opened: Result<Opened, UnsealNo>) -> Result<Read, CallNo>
+    ensures { result ≡ value_of revision opened }
+{
+    match opened {
+        Ok(Opened { plain, stale }) => Ok(Read::Value {
+            revision,
+            plain,
+            stale,
+        }),
+        Err(UnsealNo::Refused(why)) => Err(CallNo::Refused(why)),
+        Err(UnsealNo::PluginFailed { name }) => Err(CallNo::PluginFailed { name }),
+        Err(UnsealNo::NoMemory) => Err(CallNo::NoMemory),
+    }
+}

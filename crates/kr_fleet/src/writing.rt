@@ -1,0 +1,144 @@
+//! Data that are put under a path.
+ghost use Rattle.std.specs.Prelude.{◌≡◌, ◌<◌, ◌≤◌, length, None, IfOk, IfSome, IsSome};
+ghost use Rattle.kr_base.specs.Rules.{IsPath, IsResource};
+ghost use Rattle.kr_base.specs.Limits.{path_limit};
+ghost use Rattle.kr_provider.specs.KeyPages.{size_of};
+ghost use Rattle.kr_provider.specs.Names.{names_of};
+ghost use Rattle.kr_provider.specs.Publication.{writer_at};
+ghost use Rattle.kr_provider.specs.Sealing.{IsSealing, Seals};
+ghost use Rattle.kr_rollout.specs.Callers.{holding};
+ghost use Rattle.kr_fleet.specs.Calls.{AreServed, IsIdle, KeepsHonesty};
+ghost use Rattle.kr_fleet.specs.WriteCalls.{IsWrite, Puts};
+ghost use Rattle.kr_fleet.specs.inner.Answering.{AnswersPut, PutsBy};
+ghost use Rattle.kr_fleet.specs.inner.Stages.{HoldsAdopted, seal_refusal};
+
+use crate::holding::{adopt, let_go, take_up};
+use kr_base::{Bytes, Dice, Spent, Text};
+use kr_kms::Kms;
+use kr_provider::{Bench, SealNo, ValueNo};
+use kr_rollout::{Acts, Answer, CallNo, Event};
+use std::alloc::Global;
+
+/// Puts the data under the path, as an object of the resource, sealed by the replica's current
+/// generation, which the seat holds meanwhile. It answers the revision of the row that was written.
+pub fn write<A: Acts, L: Kms, D: Dice>(
+    alloc: Global,
+    acts: &mut A,
+    replica: u32,
+    bench: &mut Bench<L, D>,
+    resource: &str,
+    path: &str,
+    plain: Bytes,
+) -> Result<u64, CallNo>
+    requires replica { replica < length (A.caller acts.old).opening.replicas }
+    requires idle { holding (A.caller acts.old).mine ≡ None }
+    requires path { IsPath path.now }
+    requires resource { IsResource resource.now }
+    requires links { AreServed (A.caller acts.old).opening.names (names_of L.link bench.old.links) }
+    requires pages { 64 ≤ size_of bench.old.pages }
+    ensures writes { IsWrite D.left D.count resource.now path.now plain replica
+        (A.caller acts.old) bench.old.dice result (A.caller acts.new) bench.new.dice }
+    ensures honest { KeepsHonesty (A.caller acts.old) (A.caller acts.new) }
+    ensures idle { IsIdle result (A.caller acts.new) }
+    ensures links { bench.new.links ≡ bench.old.links }
+    ensures later { D.count bench.old.dice ≤ D.count bench.new.dice }
+    ensures pages { size_of bench.new.pages ≡ size_of bench.old.pages }
+    ensures place { A.place acts.new ≡ A.place acts.old }
+{
+    let Ok(resource) = Text::copy(alloc, resource) else {
+        return Err(CallNo::NoMemory);
+    };
+    let Ok(path) = Text::copy(alloc, path) else {
+        return Err(CallNo::NoMemory);
+    };
+    acts.known();
+    let held = match adopt(acts, replica) {
+        Ok(held) => held,
+        Err(why) => return Err(why),
+    };
+    take_up(bench, held.1);
+    let written = put(alloc, acts, bench, resource, path, plain);
+    let_go(acts, written)
+}
+
+/// Seals the data by the configuration that the bench adopted, and puts them.
+fn put<A: Acts, L: Kms, D: Dice>(
+    alloc: Global,
+    acts: &mut A,
+    bench: &mut Bench<L, D>,
+    resource: Text,
+    path: Text,
+    plain: Bytes,
+) -> Result<u64, CallNo>
+    requires path { IsPath path }
+    requires resource { IsResource resource }
+    requires held { HoldsAdopted bench.old.published (A.caller acts.old).mine }
+    ensures puts { IfSome bench.old.published (λ p. Puts D.left D.count resource path plain p
+        (A.caller acts.old) bench.old.dice result (A.caller acts.new) bench.new.dice) }
+    ensures later { D.count bench.old.dice ≤ D.count bench.new.dice }
+    ensures kept { bench.new ≡ record bench.old { dice = bench.new.dice } }
+    ensures honest { KeepsHonesty (A.caller acts.old) (A.caller acts.new) }
+    ensures holds { holding (A.caller acts.new).mine ≡ holding (A.caller acts.old).mine }
+    ensures place { A.place acts.new ≡ A.place acts.old }
+{
+    let stored = match seal(alloc, bench, &resource, &path, &plain) {
+        Ok(stored) => stored,
+        Err(why) => return Err(seal_refusal(why)),
+    };
+    acts.known();
+    match acts.act(Event::Put {
+        path,
+        resource,
+        plain,
+        stored,
+    }) {
+        Ok(answer) => written(answer),
+        Err(Spent) => Err(CallNo::Spent),
+    }
+}
+
+/// Seals the data by the configuration that the bench adopted.
+fn seal<L: Kms, D: Dice>(
+    alloc: Global,
+    bench: &mut Bench<L, D>,
+    resource: &Text,
+    path: &Text,
+    plain: &Bytes,
+) -> Result<Bytes, SealNo>
+    requires adopted { IsSome bench.old.published }
+    requires path { length path.now ≤ path_limit }
+    ensures sealed { IfSome bench.old.published (λ p. Seals D.left D.count p.seeds
+        (writer_at p resource.now) path.now plain.now bench.old.dice bench.new.dice result) }
+    ensures sealing { IfSome bench.old.published (λ p. IfOk result
+        (λ value. IsSealing p resource.now path.now plain.now value)) }
+    ensures later { D.count bench.old.dice ≤ D.count bench.new.dice }
+    ensures kept { bench.new ≡ record bench.old { dice = bench.new.dice } }
+{
+    bench.seal(alloc, resource.as_str(), path.as_str(), plain.as_slice())
+}
+
+/// The revision of the row that was written.
+fn written(answer: Answer) -> Result<u64, CallNo>
+    requires { AnswersPut answer }
+    ensures { PutsBy answer result }
+{
+    match answer {
+        Answer::Written { revision } => Ok(revision),
+        Answer::StoreFailed => Err(CallNo::StoreFailed),
+        Answer::StoreFull { needed } => Err(CallNo::StoreFull { needed }),
+        Answer::NoMemory => Err(CallNo::NoMemory),
+        _ => unreachable!(),
+    }
+}
+
+/// Why the data aren't put.
+fn seal_refusal(why: SealNo) -> CallNo
+    ensures { result ≡ seal_refusal why }
+{
+    match why {
+        SealNo::LooksEncrypted => CallNo::Refused(ValueNo::LooksEncrypted),
+        SealNo::TooLarge { length: _ } => CallNo::Refused(ValueNo::TooLarge),
+        SealNo::DiceFailed => CallNo::DiceFailed,
+        SealNo::NoMemory => CallNo::NoMemory,
+    }
+}

@@ -1,0 +1,3 @@
+-- The lemmas of kr_seats.
+pub mod Beginning
+pub mod Closing

@@ -1,0 +1,68 @@
+-- What the phases over a lent tape give to a command.
+use Rattle.std.specs.Prelude.{◌≡◌, ℕ, Bool, false, List, [], Option, None, Some, ⊤}
+use Rattle.std.specs.Option.{option_map}
+use Rattle.kr_base.specs.Faults.{Rose}
+use Rattle.kr_base.specs.Told.{Agrees}
+use Rattle.kr_kms.specs.Outside.{Outside, with_call, file_faults, same_name, KeepsFiles, HandsOut, TakesBack, IsTape}
+use Rattle.kr_kms.specs.declared.world.WorldCall.TheVariants.{Tape}
+use Rattle.kr_store.specs.Stores.{Kept}
+use Rattle.kr_store.specs.declared.rows.Row.{Row}
+use Rattle.kr_store.specs.declared.answers.StoreNo.{StoreNo}
+use Rattle.kr_store.specs.declared.answers.StoreNo.TheVariants as no
+use Rattle.kr_top.specs.StoreFiles.{Stored}
+use Rattle.kr_top.specs.Texts.{visible}
+use Rattle.kr_top.specs.declared.refusal.Breach.TheVariants as breach
+use Rattle.kr_top.specs.declared.refusal.Limit.TheVariants as limit
+use Rattle.kr_top.specs.declared.refusal.Object.{Object}
+use Rattle.kr_top.specs.declared.refusal.Object.TheVariants.{Files}
+use Rattle.kr_top.specs.declared.refusal.Refusal.TheVariants.{Absent, Limit, Broken}
+use Rattle.kr_top.specs.declared.refusal.Stop.{Stop}
+use Rattle.kr_top.specs.declared.refusal.Stop.TheVariants.{Words, Refused, Fault, NoMemory}
+
+-- why no tape was handed out
+abbrev pub NoTape : Outside → Outside → (name : List ℕ) (make : Bool) → Stop → Type 0
+NoTape old new name make (Refused why) =
+    (make ≡ false) × Agrees (old.tapes.told name) None × (why ≡ Absent (visible name))
+NoTape old new name make (Fault object count) =
+    (object ≡ Files) × Rose old.faults.tapes new.faults.tapes × (count ≡ file_faults new)
+NoTape old new name make NoMemory = ⊤
+NoTape old new name make (Words why) = ⊥
+
+-- the tape of the name was handed out, and nothing else done but the call noted
+pub record LentTape (name : List ℕ) (make : Bool) (old new : Outside) (told : Option (List ℕ))
+    (count : ℕ) : Type 0 where
+  pub out : HandsOut same_name old.tapes new.tapes name count
+  pub tape : IsTape (old.tapes.told name) make told
+  pub files : KeepsFiles old new
+  pub asked : new.asked ≡ with_call (Tape name make) old.asked
+  pub dice : new.dice ≡ old.dice
+  pub links : new.links ≡ old.links
+
+-- it came back, and nothing else was done
+pub record ReturnedTape (name : List ℕ) (old new : Outside) (told : Option (List ℕ)) (count : ℕ)
+    : Type 0 where
+  pub home : TakesBack same_name old.tapes new.tapes name count
+  pub tape : new.tapes.told name ≡ option_map Some told
+  pub file : new.file ≡ old.file
+  pub faults : new.faults ≡ old.faults
+  pub asked : new.asked ≡ old.asked
+  pub dice : new.dice ≡ old.dice
+  pub links : new.links ≡ old.links
+
+-- why a store wasn't loaded, as a command says it, by the faults of its tape
+abbrev pub load_stop : Object → ℕ → StoreNo → Stop
+load_stop object faults no.Magic = Refused (Broken breach.Magic)
+load_stop object faults (no.Torn at) = Refused (Broken (breach.Torn at))
+load_stop object faults (no.BadRow at) = Refused (Broken (breach.BadRow at))
+load_stop object faults (no.Order at) = Refused (Broken (breach.Order at))
+load_stop object faults no.TooLong = Refused (Limit limit.Store)
+load_stop object faults no.Failed = Fault object faults
+load_stop object faults no.NoMemory = NoMemory
+
+abbrev pub stored_of : Kept → Stored
+stored_of store = record { format = store.format; rows = store.rows }
+
+-- the path of the row where a walk over the live rows is; the empty one at its begin
+abbrev pub path_of : Option Row → List ℕ
+path_of None = []
+path_of (Some row) = row.path
