@@ -1,2 +1,4 @@
 -- The lemmas that the answers cite.
+mod Asking
+mod Lines
 mod Loaded

@@ -1,3 +1,5 @@
 -- The definitions that contracts name.
+pub mod Lines
 pub mod Opened
+pub mod Plugins
 pub mod RealWorld

@@ -1,13 +1,14 @@
 //! One line asked, one line answered.
-ghost use Rattle.std.specs.Prelude.{◌≡◌, ◌<◌, ◌≤◌, true, length, IfOk, IfSome, IsErr, OnErr};
+ghost use Rattle.std.specs.Prelude.{◌≡◌, ◌<◌, ◌≤◌, ◌==◌, true, false, length, take, position};
+ghost use Rattle.std.specs.Prelude.{IfOk, IfSome, IsErr, OnErr, ◌⊎◌};
+ghost use Rattle.std.specs.Io.KnownBytes.{Consumes, IsAtEnd};
+ghost use Rattle.kr_base.specs.Faults.{Rose, IsCounted};
+ghost use Rattle.kr_edge.specs.Lines.{TakesLine, TakesNoLine, Exchanged, IsCutOff, ends_of};
 
+use crate::answer_room::AnswerRoom;
 use crate::streams::{StdSink, StdSource};
-use kr_base::{Failed, NoMemory, Source, write_all};
-use std::alloc::Global;
+use kr_base::{Failed, Source, write_all};
 use std::io::{Read, Write};
-
-/// The most bytes of an answer, without its LF.
-const ANSWER_LIMIT: usize = 131_072;
 
 /// The ends of what answers each line with one. After an exchange that was cut off it stays broken:
 /// the next line would answer an older question.
@@ -19,24 +20,13 @@ pub struct Exchange<W, R> {
     broken: bool,
 }
 
-/// Room for an answer with its LF.
-#[derive(Drop)]
-pub struct AnswerRoom {
-    line: Vec<u8>,
-    ghost size: { length line.items ≡ 131073 },
-}
-
-impl AnswerRoom {
-    /// Takes the memory.
-    pub fn new(alloc: Global) -> Result<AnswerRoom, NoMemory> {
-        let line = vec![in alloc; 0; ANSWER_LIMIT + 1]?;
-        Ok(AnswerRoom { line })
-    }
-}
-
 impl<W: Write, R: Read> Exchange<W, R> {
     /// Writes questions to the one, and reads answers from the other.
-    pub fn new(input: W, output: R, line: AnswerRoom) -> Exchange<W, R> {
+    pub fn new(input: W, output: R, line: AnswerRoom) -> Exchange<W, R>
+        ensures input { result.input.writer ≡ input }
+        ensures output { result.output.reader ≡ output }
+        ensures whole { result.broken ≡ false }
+    {
         Exchange {
             input: StdSink::new(input),
             output: StdSource::new(output),
@@ -48,10 +38,15 @@ impl<W: Write, R: Read> Exchange<W, R> {
     /// Asks a line, reads the answer to it, and tells how many bytes it has without its LF. One of
     /// more than 131,072 bytes, one without LF, bytes behind it, and a write that takes nothing are
     /// faults. What is broken asks nothing.
+    #[tactic(auto, using(crate::proofs::Asking::cut_before, crate::proofs::Asking::cut_asking, crate::proofs::Asking::cut_reading, crate::proofs::Asking::exchanged))]
     pub fn ask(&mut self, question: &[u8]) -> Result<usize, Failed>
         ensures size { IfOk result (λ size. size ≤ 131072) }
         ensures broken { self.old.broken ≡ true → IsErr result × (self.new ≡ self.old) }
-        ensures breaks { OnErr result (self.new.broken ≡ true) }
+        ensures ok { IfOk result (λ size. Exchanged (ends_of W.contents R.remaining self.old)
+            (ends_of W.contents R.remaining self.new) question.now
+            (take size self.new.line.line.items)) }
+        ensures err { OnErr result (IsCutOff (ends_of W.contents R.remaining self.old)
+            (ends_of W.contents R.remaining self.new) question.now) }
     {
         if self.broken {
             return Err(Failed);
@@ -73,6 +68,7 @@ impl<W: Write, R: Read> Exchange<W, R> {
     /// The answer that was read last, of this size.
     pub fn answer(&self, size: usize) -> &[u8]
         requires { size ≤ 131072 }
+        ensures { result.now ≡ take size self.now.line.line.items }
     {
         &self.line.line[..size]
     }
@@ -80,41 +76,58 @@ impl<W: Write, R: Read> Exchange<W, R> {
 
 /// Reads one line to the front of the buffer, and answers how many bytes stand before its LF.
 fn read_line<S: Source>(source: &mut S, line: &mut [u8]) -> Result<usize, Failed>
-    ensures { IfOk result (λ size. size < length line.new) }
+    ensures ok { IfOk result (λ size. (size < length line.new)
+        × TakesLine (S.left source.old) (S.left source.new) (take size line.new)) }
+    ensures err { OnErr result (Rose (S.count source.old) (S.count source.new)
+        ⊎ TakesNoLine (length line.new) (S.left source.old) (S.left source.new)) }
 {
     let mut filled = 0;
-    for _ in 0..line.len() {
-        if filled == line.len() {
-            return Err(Failed);
-        }
-        let count = match source.read(&mut line[filled..]) {
-            Ok(count) => count,
+    while filled < line.len() {
+        let (count, end) = match read_piece(source, &mut line[filled..]) {
+            Ok(piece) => piece,
             Err(Failed) => return Err(Failed),
         };
-        if count == 0 {
-            return Err(Failed);
-        }
-        match end_in(&line[filled..filled + count]) {
+        match end {
             Some(at) => {
                 if at + 1 == count {
                     return Ok(filled + at);
                 }
                 return Err(Failed);
             }
-            None => filled += count,
+            None => {
+                if count == 0 {
+                    return Err(Failed);
+                }
+                filled += count;
+            }
         }
     }
     Err(Failed)
 }
 
+/// Reads once, and answers how many bytes came, and where their first LF stands.
+fn read_piece<S: Source>(source: &mut S, into: &mut [u8]) -> Result<(usize, Option<usize>), Failed>
+    ensures bound { IfOk result (λ piece. piece.0 ≤ length into.new) }
+    ensures bytes { IfOk result (λ piece.
+        Consumes (S.left source.old) (S.left source.new) (take piece.0 into.new)) }
+    ensures at_end { IfOk result (λ piece.
+        piece.0 ≡ 0 → 0 < length into.new → IsAtEnd (S.left source.new)) }
+    ensures first { IfOk result (λ piece.
+        piece.1 ≡ position (λ byte. byte == 10) (take piece.0 into.new)) }
+    ensures within { IfOk result (λ piece. IfSome piece.1 (λ at. at < piece.0)) }
+    ensures cause { IsCounted (S.count source.old) (S.count source.new) result }
+{
+    let count = match source.read(into) {
+        Ok(count) => count,
+        Err(Failed) => return Err(Failed),
+    };
+    Ok((count, end_in(&into[..count])))
+}
+
 /// Where the first LF stands.
 fn end_in(bytes: &[u8]) -> Option<usize>
-    ensures { IfSome result (λ at. at < length bytes.now) }
+    ensures first { result ≡ position (λ byte. byte == 10) bytes.now }
+    ensures within { IfSome result (λ at. at < length bytes.now) }
 {
-    for at in 0..bytes.len() {
-        if bytes[at] == b'\n' {
-            return Some(at);
-        }
-    }
-    None
+    bytes.iter().position(|byte| *byte == b'\n')
 }

@@ -9,8 +9,8 @@ ghost use Rattle.kr_kms.specs.declared.world.WorldCall.{WorldCall};
 ghost use Rattle.kr_edge.specs.Opened.{Holds};
 ghost use Rattle.kr_edge.specs.RealWorld.{real_world};
 
+use crate::answer_room::AnswerRoom;
 use crate::child_link::{ChildLink, take_ends};
-use crate::exchange::AnswerRoom;
 use crate::files::{NamedFiles, OpenNo, StartNo};
 use crate::streams::StdSource;
 use crate::tape::FileTape;

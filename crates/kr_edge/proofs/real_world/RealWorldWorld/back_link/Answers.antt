@@ -29,10 +29,10 @@ returns-clause-back g c =
     ∙ ap (λ l. position (λ o. same_link o key) l) c.out.ensures) in
     let same = key_stands same_link links_decide old.out at key place in
     let back : c.put_back_by.new.self
-    ≡ record { items = (key, c.args.link.faults) ∷ old.items; out = remove old.out at } =
+    ≡ record { items = (key, c.args.link.lines.faults) ∷ old.items; out = remove old.out at } =
     c.put_back_by.ensures key ∙ (λ i. record {
       items = (same i, c.close.ensures i) ∷ old.items;
       out = remove old.out at;
     }) in
     returned same_link key_of (λ first. None) count_of links_decide old c.put_back_by.new.self at
-    key (key, c.args.link.faults) refl place back
+    key (key, c.args.link.lines.faults) refl place back

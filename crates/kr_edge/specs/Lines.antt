@@ -1,0 +1,62 @@
+-- Lines, each with LF, the byte 10, as its end, and exchanges of a question for a line.
+use Rattle.std.specs.Prelude.{◌≡◌, ◌≢◌, ℕ, ◌<◌, List, [], ◌∷◌, ◌++◌, length, Bool, true, false, Option, All, ◌⊎◌}
+use Rattle.std.specs.Io.KnownBytes.{Appends, Consumes, IsAtEnd}
+use Rattle.kr_base.specs.Faults.{Rose}
+use Rattle.kr_base.specs.Streams.{AppendsFront}
+use Rattle.kr_edge.specs.declared.exchange.Exchange.{Exchange}
+
+abbrev pub HasNoLF : List ℕ → Type 0
+HasNoLF bytes = All (λ byte. byte ≢ 10) bytes
+
+-- one line was taken from the front, with its LF
+abbrev pub TakesLine : Option (List ℕ) → Option (List ℕ) → List ℕ → Type 0
+TakesLine old new line = Consumes old new (line ++ 10 ∷ []) × HasNoLF line
+
+-- bytes stand behind the line
+abbrev pub GoesOn : List ℕ → Type 0
+GoesOn bytes = (line : List ℕ) × (behind : List ℕ)
+    × (bytes ≡ line ++ 10 ∷ behind) × (0 < length behind)
+
+-- what was taken from the front isn't one line: there is an end in place of its LF, or no LF in so
+-- many bytes, or it goes on behind it
+abbrev pub TakesNoLine : ℕ → Option (List ℕ) → Option (List ℕ) → Type 0
+TakesNoLine most old new = (bytes : List ℕ) × Consumes old new bytes
+    × ((HasNoLF bytes × (IsAtEnd new ⊎ (length bytes ≡ most))) ⊎ GoesOn bytes)
+
+-- ---- exchanges
+
+-- the two ends of an exchange: the bytes that were written and those that are left to be read,
+-- where they are told; how often each end failed; and whether an exchange was cut off
+pub record Ends : Type 0 where
+  pub written : Option (List ℕ)
+  pub left : Option (List ℕ)
+  pub write_faults : ℕ
+  pub read_faults : ℕ
+  pub broken : Bool
+
+abbrev pub ends_of : {W R : Type 0} → (W → Option (List ℕ)) → (R → Option (List ℕ))
+    → Exchange W R → Ends
+ends_of contents remaining exchange = record {
+  written = contents exchange.input.writer;
+  left = remaining exchange.output.reader;
+  write_faults = exchange.input.faults;
+  read_faults = exchange.output.faults;
+  broken = exchange.broken;
+}
+
+-- the question was written, once, and the line was taken as its answer
+pub record Exchanged (old new : Ends) (question line : List ℕ) : Type 0 where
+  pub asked : Appends old.written new.written question
+  pub answered : TakesLine old.left new.left line
+  pub whole : new.broken ≡ false
+
+-- one was cut off before; or an end failed, or no line of at most 131,072 bytes came
+abbrev pub CutsOff : Ends → Ends → Type 0
+CutsOff old new = (old.broken ≡ true) ⊎ Rose old.write_faults new.write_faults
+    ⊎ Rose old.read_faults new.read_faults ⊎ TakesNoLine 131073 old.left new.left
+
+-- a front of the question was written at most
+pub record IsCutOff (old new : Ends) (question : List ℕ) : Type 0 where
+  pub asked : AppendsFront old.written new.written question
+  pub cause : CutsOff old new
+  pub broken : new.broken ≡ true

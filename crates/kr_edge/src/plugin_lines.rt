@@ -1,0 +1,206 @@
+//! The calls on a plugin that reads a line for each, and answers with one.
+ghost use Rattle.std.specs.Prelude.{◌≡◌, ◌≤◌, ⊤, false, IsErrOf};
+ghost use Rattle.kr_base.specs.Faults.{Rose};
+ghost use Rattle.kr_base.specs.Numbering.{next_number};
+ghost use Rattle.kr_kms.specs.Limits.{IsWithinLimits};
+ghost use Rattle.kr_kms.specs.declared.replies.Asked.{Asked};
+ghost use Rattle.kr_kms.specs.declared.replies.Reply.{Reply};
+ghost use Rattle.kr_kms.specs.declared.requests.Request.{Request};
+ghost use Rattle.kr_kms.specs.declared.plugin.KmsNo.{KmsNo};
+ghost use Rattle.kr_edge.specs.Lines.{ends_of};
+ghost use Rattle.kr_edge.specs.Plugins.{Answers, Judges};
+
+use crate::answer_room::AnswerRoom;
+use crate::exchange::Exchange;
+use kr_base::{Annotations, Bytes, FaultCount, Text};
+use kr_kms::{
+    Asked, KmsNo, Reply, ReplyNo, Request, Status, Wrapped, is_within_limits, read_reply,
+    request_line,
+};
+use std::alloc::Global;
+use std::io::{Read, Write};
+
+/// The calls on a plugin over two ends, of which the one takes requests and the other gives
+/// replies. An exchange that was cut off leaves it broken, so that each later call fails too; a
+/// reply that is none, a refusal, and a wrap above the limits are faults that leave it whole.
+#[derive(Drop)]
+pub struct PluginLines<W, R> {
+    exchange: Exchange<W, R>,
+    uid: u64,
+    faults: FaultCount,
+}
+
+impl<W: Write, R: Read> PluginLines<W, R> {
+    /// Over these ends, of a plugin that failed so often before.
+    pub fn new(input: W, output: R, room: AnswerRoom, faults: u64) -> PluginLines<W, R>
+        ensures input { result.exchange.input.writer ≡ input }
+        ensures output { result.exchange.output.reader ≡ output }
+        ensures whole { result.exchange.broken ≡ false }
+        ensures uid { result.uid ≡ 0 }
+        ensures faults { result.faults ≡ faults }
+    {
+        PluginLines {
+            exchange: Exchange::new(input, output, room),
+            uid: 0,
+            faults: FaultCount::from_count(faults),
+        }
+    }
+
+    /// How often it failed so far, up to the greatest number.
+    pub fn faults(&self) -> u64
+        ensures { result ≡ self.now.faults }
+    {
+        self.faults.count()
+    }
+
+    /// Asks for the status.
+    #[tactic(auto, using(crate::proofs::Asking::passes_on, crate::proofs::Asking::refused))]
+    pub fn status(&mut self, alloc: Global) -> Result<Status, KmsNo>
+        ensures later { self.old.faults ≤ self.new.faults }
+        ensures failed { IsErrOf result KmsNo.Failed → Rose self.old.faults self.new.faults }
+        ensures answers { Answers Reply.Status (λ _. ⊤)
+            (ends_of W.contents R.remaining self.old.exchange)
+            (ends_of W.contents R.remaining self.new.exchange)
+            Asked.Status Request.Status result }
+    {
+        match self.ask(alloc, Asked::Status, &Request::Status) {
+            Ok(Reply::Status(status)) => Ok(status),
+            Ok(_) => {
+                self.faults.rise();
+                Err(KmsNo::Failed)
+            }
+            Err(why) => Err(why),
+        }
+    }
+
+    /// Wraps plain bytes. Requests to wrap and to unwrap are numbered from 1 up to the greatest
+    /// number.
+    #[tactic(auto, using(crate::proofs::Asking::passes_on, crate::proofs::Asking::refused))]
+    pub fn wrap(&mut self, alloc: Global, plain: &[u8]) -> Result<Wrapped, KmsNo>
+        ensures later { self.old.faults ≤ self.new.faults }
+        ensures failed { IsErrOf result KmsNo.Failed → Rose self.old.faults self.new.faults }
+        ensures answers { Answers Reply.Encrypt IsWithinLimits
+            (ends_of W.contents R.remaining self.old.exchange)
+            (ends_of W.contents R.remaining self.new.exchange)
+            Asked.Encrypt (Request.Encrypt plain.now (next_number self.old.uid)) result }
+        ensures uid { self.new.uid ≡ next_number self.old.uid }
+    {
+        let uid = self.next_uid();
+        let Ok(plain) = Bytes::copy(alloc, plain) else {
+            return Err(KmsNo::NoMemory);
+        };
+        let request = Request::Encrypt { plain, uid };
+        match self.ask(alloc, Asked::Encrypt, &request) {
+            Ok(Reply::Encrypt(wrapped)) => {
+                if is_within_limits(&wrapped) {
+                    Ok(wrapped)
+                } else {
+                    self.faults.rise();
+                    Err(KmsNo::Failed)
+                }
+            }
+            Ok(_) => {
+                self.faults.rise();
+                Err(KmsNo::Failed)
+            }
+            Err(why) => Err(why),
+        }
+    }
+
+    /// Unwraps what was wrapped under this key id with these annotations.
+    #[tactic(auto, using(crate::proofs::Asking::passes_on, crate::proofs::Asking::refused))]
+    pub fn unwrap_source(
+        &mut self,
+        alloc: Global,
+        key_id: &str,
+        annotations: &Annotations,
+        source: &[u8],
+    ) -> Result<Bytes, KmsNo>
+        ensures later { self.old.faults ≤ self.new.faults }
+        ensures failed { IsErrOf result KmsNo.Failed → Rose self.old.faults self.new.faults }
+        ensures answers { Answers Reply.Decrypt (λ _. ⊤)
+            (ends_of W.contents R.remaining self.old.exchange)
+            (ends_of W.contents R.remaining self.new.exchange)
+            Asked.Decrypt (Request.Decrypt source.now key_id.now annotations.now
+            (next_number self.old.uid)) result }
+        ensures uid { self.new.uid ≡ next_number self.old.uid }
+    {
+        let uid = self.next_uid();
+        let Ok(source) = Bytes::copy(alloc, source) else {
+            return Err(KmsNo::NoMemory);
+        };
+        let Ok(key_id) = Text::copy(alloc, key_id) else {
+            return Err(KmsNo::NoMemory);
+        };
+        let Ok(annotations) = annotations.copy(alloc) else {
+            return Err(KmsNo::NoMemory);
+        };
+        let request = Request::Decrypt {
+            source,
+            key_id,
+            annotations,
+            uid,
+        };
+        match self.ask(alloc, Asked::Decrypt, &request) {
+            Ok(Reply::Decrypt(plain)) => Ok(plain),
+            Ok(_) => {
+                self.faults.rise();
+                Err(KmsNo::Failed)
+            }
+            Err(why) => Err(why),
+        }
+    }
+
+    /// The number of the next request.
+    fn next_uid(&mut self) -> u64
+        ensures next { result ≡ next_number self.old.uid }
+        ensures kept { self.new.uid ≡ result }
+        ensures exchange { self.new.exchange ≡ self.old.exchange }
+        ensures faults { self.new.faults ≡ self.old.faults }
+    {
+        self.uid = self.uid.saturating_add(1);
+        self.uid
+    }
+
+    /// Asks the plugin, and reads its reply.
+    fn ask(&mut self, alloc: Global, asked: Asked, request: &Request) -> Result<Reply, KmsNo>
+        ensures later { self.old.faults ≤ self.new.faults }
+        ensures failed { IsErrOf result KmsNo.Failed → Rose self.old.faults self.new.faults }
+        ensures answers { Answers (λ reply. reply) (λ _. ⊤)
+            (ends_of W.contents R.remaining self.old.exchange)
+            (ends_of W.contents R.remaining self.new.exchange) asked request.now result }
+        ensures uid { self.new.uid ≡ self.old.uid }
+    {
+        let line = match request_line(alloc, request) {
+            Ok(line) => line,
+            Err(_) => return Err(KmsNo::NoMemory),
+        };
+        match self.exchange.ask(line.as_slice()) {
+            Ok(size) => match judge(alloc, asked, self.exchange.answer(size)) {
+                Ok(reply) => Ok(reply),
+                Err(KmsNo::NoMemory) => Err(KmsNo::NoMemory),
+                Err(KmsNo::Failed) => {
+                    self.faults.rise();
+                    Err(KmsNo::Failed)
+                }
+            },
+            Err(_) => {
+                self.faults.rise();
+                Err(KmsNo::Failed)
+            }
+        }
+    }
+}
+
+/// Reads a reply. A refusal is a fault, as what is none.
+fn judge(alloc: Global, asked: Asked, line: &[u8]) -> Result<Reply, KmsNo>
+    ensures { Judges asked line.now result }
+{
+    match read_reply(alloc, asked, line) {
+        Ok(reply) => Ok(reply),
+        Err(ReplyNo::NotJson) => Err(KmsNo::Failed),
+        Err(ReplyNo::Shape) => Err(KmsNo::Failed),
+        Err(ReplyNo::Error(_)) => Err(KmsNo::Failed),
+        Err(ReplyNo::NoMemory) => Err(KmsNo::NoMemory),
+    }
+}
