@@ -1,5 +1,5 @@
 -- What comes of a question, and of the reply to a request.
-use Rattle.std.proofs.Common.{Bool, true, false, ◌≡◌, ℕ, List, length, take, Option, sym, ◌∙◌, ap, subst, arith, ◌⊎◌, inl, inr, refl}
+use Rattle.std.proofs.Common.{true, false, ◌≡◌, ℕ, List, length, Option, sym, ◌∙◌, ap, subst, arith, ◌⊎◌, inl, inr}
 use Rattle.std.specs.Prelude.{Result, Ok, Err, ⊤}
 use Rattle.std.proofs.lemmas.List.{take_all}
 use Rattle.std.specs.Io.KnownBytes.{Appends}
@@ -12,7 +12,7 @@ use Rattle.kr_kms.specs.declared.replies.Reply.{Reply}
 use Rattle.kr_kms.specs.declared.requests.Request.{Request}
 use Rattle.kr_base.specs.Faults.{Rose}
 use Rattle.kr_edge.specs.Lines.{Ends, Exchanged, IsCutOff, TakesLine, TakesNoLine}
-use Rattle.kr_edge.specs.Plugins.{Answers, Asks, IsRefusal}
+use Rattle.kr_edge.specs.Plugins.{Answers}
 
 -- a question of which nothing was written, and one that was written whole
 pub asked-nothing : (a : Option (List ℕ)) (question : List ℕ) → AppendsFront a a question
