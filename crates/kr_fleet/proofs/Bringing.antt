@@ -15,7 +15,7 @@ use Rattle.kr_rollout.specs.declared.line.Did.TheVariants as did
 use Rattle.kr_rollout.specs.declared.line.Gave.{Gave}
 use Rattle.kr_rollout.specs.declared.line.Gave.TheVariants.{Adopted, Found, Absent, Written, Changed, Released, Reloaded, Joined, Refused, Moved, Present, Departed, Gone, StoreFailed, StoreFull, Nothing}
 use Rattle.kr_rollout.specs.declared.opening.Entry.{Entry}
-use Rattle.kr_rollout.specs.Acting.{Caller, Acted}
+use Rattle.kr_rollout.specs.Acting.{Caller, AddsEntry}
 use Rattle.kr_rollout.specs.Callers.{gave_of, holding}
 use Rattle.kr_rollout.specs.Honesty.{HonestBy, SeedsOpen}
 use Rattle.kr_rollout.proofs.KeptHonest.{honesty_follows}
@@ -23,13 +23,13 @@ use Rattle.kr_rollout.specs.declared.call.CallNo.{CallNo}
 use Rattle.kr_rollout.specs.declared.call.CallNo.TheVariants as refusal
 use Rattle.kr_fleet.specs.declared.outcome.Joining.{Joining}
 use Rattle.kr_fleet.specs.declared.outcome.Loaded.{Loaded}
-use Rattle.kr_fleet.specs.Calls.{AddsNothing, KeepsHonestBy}
+use Rattle.kr_rollout.specs.Calls.{AddsNothing, KeepsHonestBy}
 use Rattle.kr_fleet.specs.LoadCalls.{BringsBy, IsJoin, IsReload}
 use Rattle.kr_fleet.specs.inner.Answering as answers
 use Rattle.kr_fleet.specs.inner.Answering.{ReloadsBy}
 use Rattle.kr_fleet.specs.inner.Stages.{NotShared, publish_refusal}
-use Rattle.kr_fleet.proofs.Answered.{may_give}
-use Rattle.kr_fleet.proofs.Keeping.{holds_still}
+use Rattle.kr_rollout.proofs.Answered.{may_give}
+use Rattle.kr_rollout.proofs.KeptByEvents.{holds_still}
 
 -- ---- the seeds that are brought open
 
@@ -80,14 +80,14 @@ join_honest opens e replica p Nothing s = tt
 
 pub keeps_reload : (opens : Opens) (old new : Caller) (replica : ℕ) (p : Publication)
     (expect : Option ℕ) (given : Answer) → SeedsOpen opens p
-    → Acted old (event.Reload replica p expect) given new → KeepsHonestBy opens old new
+    → AddsEntry old (event.Reload replica p expect) given new → KeepsHonestBy opens old new
 keeps_reload opens old new replica p expect given s a =
     honesty_follows opens old new (event.Reload replica p expect) given a
     (λ front. reload_honest opens a.entry replica p expect (gave_of given) s)
 
 pub keeps_join : (opens : Opens) (old new : Caller) (replica : ℕ) (p : Publication)
     (given : Answer) → SeedsOpen opens p
-    → Acted old (event.Join replica p) given new → KeepsHonestBy opens old new
+    → AddsEntry old (event.Join replica p) given new → KeepsHonestBy opens old new
 keeps_join opens old new replica p given s a =
     honesty_follows opens old new (event.Join replica p) given a
     (λ front. join_honest opens a.entry replica p (gave_of given) s)
@@ -95,13 +95,13 @@ keeps_join opens old new replica p given s a =
 -- ---- nothing that is held changes
 
 pub reload_holds : (old new : Caller) (replica : ℕ) (p : Publication) (expect : Option ℕ)
-    (given : Answer) → Acted old (event.Reload replica p expect) given new
+    (given : Answer) → AddsEntry old (event.Reload replica p expect) given new
     → holding new.mine ≡ holding old.mine
 reload_holds old new replica p expect given a =
     holds_still old new (event.Reload replica p expect) given tt a
 
 pub join_holds : (old new : Caller) (replica : ℕ) (p : Publication) (given : Answer)
-    → Acted old (event.Join replica p) given new → holding new.mine ≡ holding old.mine
+    → AddsEntry old (event.Join replica p) given new → holding new.mine ≡ holding old.mine
 join_holds old new replica p given a = holds_still old new (event.Join replica p) given tt a
 
 -- ---- what is answered
@@ -138,7 +138,7 @@ module _ {L D : Type 0} (truth : Truth) (link : L → Link) (left : D → Option
     pub reload_answered : (replica : ℕ) (p : Publication) (given : Answer)
         (result : Result Loaded CallNo)
         → Publishes truth link left count rows olds dice (Ok p) news after
-        → Acted old (event.Reload replica p None) given new → ReloadsBy given result
+        → AddsEntry old (event.Reload replica p None) given new → ReloadsBy given result
         → IsReload truth link left count rows replica old olds dice result new news after
     reload_answered replica p (answer.Adopted number q) result w a d = absurd d
     reload_answered replica p (answer.Gone other) result w a d =
@@ -148,7 +148,8 @@ module _ {L D : Type 0} (truth : Truth) (link : L → Link) (left : D → Option
         (record {
           p = p;
           publishes = w;
-          brought = subst (λ r. Acted old (event.Reload replica p None) (answer.Gone r) new) m.is.0
+          brought = subst
+              (λ r. AddsEntry old (event.Reload replica p None) (answer.Gone r) new) m.is.0
               a;
         })
     reload_answered replica p (answer.Found row) result w a d = absurd d
@@ -179,7 +180,7 @@ module _ {L D : Type 0} (truth : Truth) (link : L → Link) (left : D → Option
     pub join_answered : (replica : ℕ) (p : Publication) (given : Answer)
         (result : Result Joining CallNo)
         → Publishes truth link left count rows olds dice (Ok p) news after
-        → Acted old (event.Join replica p) given new → answers.JoinsBy given result
+        → AddsEntry old (event.Join replica p) given new → answers.JoinsBy given result
         → IsJoin truth link left count rows replica old olds dice result new news after
     join_answered replica p (answer.Adopted number q) result w a d = absurd d
     join_answered replica p (answer.Gone other) result w a d = absurd d

@@ -1,11 +1,8 @@
 pub mod Allowed
-pub mod Answered
 pub mod Asked
 pub mod Bare
 pub mod Bringing
 pub mod Finding
-pub mod Keeping
-pub mod Nexts
 pub mod Putting
 pub mod Renewed
 pub mod Renewing

@@ -8,10 +8,10 @@ use Rattle.kr_provider.specs.declared.refusal.SealNo.TheVariants as sealing
 use Rattle.kr_rollout.specs.declared.answer.Answer.{Answer}
 use Rattle.kr_rollout.specs.declared.answer.Answer.TheVariants as answer
 use Rattle.kr_rollout.specs.declared.event.Event.TheVariants as event
-use Rattle.kr_rollout.specs.Acting.{Caller, Acted}
+use Rattle.kr_rollout.specs.Acting.{Caller, AddsEntry}
 use Rattle.kr_rollout.specs.declared.call.CallNo.{CallNo}
 use Rattle.kr_rollout.specs.declared.call.CallNo.TheVariants as refusal
-use Rattle.kr_fleet.specs.Calls.{AddsNothing, LetsGo}
+use Rattle.kr_rollout.specs.Calls.{AddsNothing, LetsGo}
 use Rattle.kr_fleet.specs.WriteCalls.{IsWrite, Puts}
 use Rattle.kr_fleet.specs.inner.Answering.{PutsBy}
 use Rattle.kr_fleet.specs.inner.Stages.{seal_refusal}
@@ -21,7 +21,7 @@ module _ {D : Type 0} (left : D → Option (List ℕ)) (count : D → ℕ)
   pub put_answered : (stored : List ℕ) (given : Answer) (result : Result ℕ CallNo)
       → Seals left count p.seeds (writer_at p resource) path plain dice after (Ok stored)
       → IsSealing p resource path plain stored
-      → Acted old (event.Put path resource plain stored) given new → PutsBy given result
+      → AddsEntry old (event.Put path resource plain stored) given new → PutsBy given result
       → Puts left count resource path plain p old dice result new after
   put_answered stored (answer.Adopted number q) result s t a d = absurd d
   put_answered stored (answer.Gone other) result s t a d = absurd d
@@ -69,7 +69,7 @@ pub writes_held : {D : Type 0} (left : D → Option (List ℕ)) (count : D → �
     (old adopted acted new : Caller) (dice lent after : D) (held : ℕ × Publication)
     (published : Option Publication) (done result : Result ℕ CallNo)
     → own_resource ≡ resource → own_path ≡ path → lent ≡ dice → published ≡ Some held.1
-    → Acted old (event.Adopt replica) (answer.Adopted held.0 held.1) adopted
+    → AddsEntry old (event.Adopt replica) (answer.Adopted held.0 held.1) adopted
     → IfSome published (λ p. Puts left count own_resource own_path plain p adopted lent done acted
     after)
     → LetsGo acted done result new
@@ -110,7 +110,7 @@ pub put_done : {D : Type 0} (left : D → Option (List ℕ)) (count : D → ℕ)
     → IfSome published (λ p. Seals left count p.seeds (writer_at p resource) path plain dice after
     (Ok stored))
     → IfSome published (λ p. IsSealing p resource path plain stored)
-    → Acted old (event.Put path resource plain stored) given new → PutsBy given result
+    → AddsEntry old (event.Put path resource plain stored) given new → PutsBy given result
     → IfSome published (λ p. Puts left count resource path plain p old dice result new after)
 put_done left count resource path plain stored None old new dice after given result s t a d = tt
 put_done left count resource path plain stored (Some p) old new dice after given result s t a d =

@@ -14,7 +14,7 @@ use Rattle.kr_rollout.specs.declared.answer.Answer.{Answer}
 use Rattle.kr_rollout.specs.declared.answer.Answer.TheVariants as answer
 use Rattle.kr_rollout.specs.declared.event.Event.TheVariants as event
 use Rattle.kr_rollout.specs.declared.generation.Generation.{Generation}
-use Rattle.kr_rollout.specs.Acting.{Caller, Acted, IsCaller}
+use Rattle.kr_rollout.specs.Acting.{Caller, AddsEntry, IsCaller}
 use Rattle.kr_rollout.specs.Answers.{IsAnswer, Reloads}
 use Rattle.kr_rollout.specs.Callers.{gave_of, holding, number_with, with_published}
 use Rattle.kr_rollout.specs.Entries.{published_at}
@@ -30,7 +30,7 @@ use Rattle.kr_fleet.specs.inner.Stages.{ComparesKeys, SharesPublished}
 use Rattle.kr_provider.proofs.AskedLists.{asked_then}
 use Rattle.kr_fleet.proofs.Asked.{asked_among}
 use Rattle.kr_fleet.proofs.Bringing.{not_shared}
-use Rattle.kr_fleet.proofs.Nexts.{front_own, legal_now}
+use Rattle.kr_rollout.proofs.Nexts.{front_own, legal_now}
 
 -- ---- the generation that is held
 
@@ -56,7 +56,7 @@ held_published generations (Some m) number p e =
         (ap first_part same) (is ∙ ap second_part same)
 
 module _ (old new : Caller) (replica number : ℕ) (p q : Publication) (given : Answer)
-    (a : Acted old (event.Reload replica q (Some number)) given new) where
+    (a : AddsEntry old (event.Reload replica q (Some number)) given new) where
   reload_step : Reloads replica q (Some number) (gave_of given)
       (state_of old.opening (old.seen ++ a.others))
   reload_step =
@@ -68,7 +68,7 @@ module _ (old new : Caller) (replica number : ℕ) (p q : Publication) (given : 
 -- the settings of the generation that is held, where the replica has it still, are never refused
 pub not_refused : (old new : Caller) (replica number : ℕ) (p q : Publication) (verdict : Verdict)
     → IsCaller old → holding old.mine ≡ Some (number, p) → q.rows ≡ p.rows
-    → Acted old (event.Reload replica q (Some number)) (answer.Refused verdict) new → ⊥
+    → AddsEntry old (event.Reload replica q (Some number)) (answer.Refused verdict) new → ⊥
 not_refused old new replica number p q verdict k held rows a =
     let asked = event.Reload replica q (Some number) in
     let given = answer.Refused verdict in
@@ -91,7 +91,7 @@ module _ {L D : Type 0} (truth : Truth) (link : L → Link) (left : D → Option
   pub renew_answered : (q : Publication) (given : Answer) (result : Result Loaded CallNo)
       → IsCaller old → holding old.mine ≡ Some (number, p)
       → Publishes truth link left count p.rows asked dice (Ok q) news after
-      → Acted old (event.Reload replica q (Some number)) given new → ReloadsBy given result
+      → AddsEntry old (event.Reload replica q (Some number)) given new → ReloadsBy given result
       → Refreshes truth link left count replica number p old olds dice result new news after
   renew_answered q (answer.Adopted n r) result k held w a d = absurd d
   renew_answered q (answer.Gone other) result k held w a d =
@@ -105,7 +105,8 @@ module _ {L D : Type 0} (truth : Truth) (link : L → Link) (left : D → Option
           p = q;
           publishes = w;
           brought = subst
-              (λ r. Acted old (event.Reload replica q (Some number)) (answer.Gone r) new) step.0 a;
+              (λ r. AddsEntry old (event.Reload replica q (Some number)) (answer.Gone r) new)
+              step.0 a;
         };
       }))
   renew_answered q (answer.Found row) result k held w a d = absurd d
@@ -204,7 +205,7 @@ module _ {L D : Type 0} (truth : Truth) (link : L → Link) (left : D → Option
   pub published : (q : Publication) (given : Answer) (result : Result Loaded CallNo)
       → IsCaller old → holding old.mine ≡ Some (number, p)
       → SharesPublished truth link left count rows mids between (Ok q) news after
-      → Acted old (event.Reload replica q (Some number)) given new → ReloadsBy given result
+      → AddsEntry old (event.Reload replica q (Some number)) given new → ReloadsBy given result
       → Refreshes truth link left count replica number p old olds dice result new news after
   published q given result k held w a d = renew_answered truth link left count replica number p
       old new olds mids news dice after asked_of changed_then q given result k held

@@ -1,4 +1,4 @@
-pub mod Calls
+pub mod SingleCalls
 pub mod ReadCalls
 pub mod WriteCalls
 pub mod LoadCalls

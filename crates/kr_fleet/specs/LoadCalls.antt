@@ -17,14 +17,14 @@ use Rattle.kr_rollout.specs.declared.answer.Answer.{Answer}
 use Rattle.kr_rollout.specs.declared.answer.Answer.TheVariants as answer
 use Rattle.kr_rollout.specs.declared.event.Event.{Event}
 use Rattle.kr_rollout.specs.declared.event.Event.TheVariants as event
-use Rattle.kr_rollout.specs.Acting.{Caller, Acted}
+use Rattle.kr_rollout.specs.Acting.{Caller, AddsEntry}
 use Rattle.kr_rollout.specs.declared.call.CallNo.{CallNo}
 use Rattle.kr_rollout.specs.declared.call.CallNo.TheVariants as refusal
 use Rattle.kr_fleet.specs.declared.outcome.Joining.{Joining}
 use Rattle.kr_fleet.specs.declared.outcome.Joining.TheVariants as joining
 use Rattle.kr_fleet.specs.declared.outcome.Loaded.{Loaded}
 use Rattle.kr_fleet.specs.declared.outcome.Loaded.TheVariants as loaded
-use Rattle.kr_fleet.specs.Calls.{AddsNothing, AdoptsNothing, HoldsMeanwhile}
+use Rattle.kr_rollout.specs.Calls.{AddsNothing, EndsEarly, HoldsMeanwhile}
 
 -- a replica is given the configuration in place of the expected generation
 abbrev pub reload_of : (replica : ℕ) → (expect : Option ℕ) → Publication → Event
@@ -37,7 +37,7 @@ module _ {L D : Type 0} (truth : Truth) (link : L → Link) (left : D → Option
       (given : Answer) (new : Caller) (news : List L) (after : D) : Type 0 where
     pub p : Publication
     pub publishes : Publishes truth link left count rows olds dice (Ok p) news after
-    pub brought : Acted old (brings p) given new
+    pub brought : AddsEntry old (brings p) given new
 
   -- they were published, but aren't brought
   abbrev pub BringsNothing : List L → D → List L → D → Type 0
@@ -180,15 +180,10 @@ module _ {L D : Type 0} (truth : Truth) (link : L → Link) (left : D → Option
   Refreshes number p old olds dice (Err why) new news after =
       RefreshesBy number p old olds dice why new news after
 
-  abbrev pub IsEarlyEnd : Caller → List L → D → Result Loaded CallNo → Caller → List L → D
-      → Type 0
-  IsEarlyEnd old olds dice (Ok done) new news after = ⊥
-  IsEarlyEnd old olds dice (Err why) new news after =
-      AdoptsNothing replica old why new × (news ≡ olds) × (after ≡ dice)
-
   -- nothing is adopted; or by the adopted generation, whose settings' plugins alone are asked
   abbrev pub IsRefresh : Caller → List L → D → Result Loaded CallNo → Caller → List L → D
       → Type 0
-  IsRefresh old olds dice result new news after = IsEarlyEnd old olds dice result new news after
+  IsRefresh old olds dice result new news after =
+      EndsEarly replica ((news ≡ olds) × (after ≡ dice)) old result new
       ⊎ HoldsMeanwhile (λ number p from done to. Refreshes number p from olds dice done to news
       after × AskedOnly link (plugin_names p.seeds) olds news) replica old result new

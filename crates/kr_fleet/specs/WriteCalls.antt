@@ -8,10 +8,10 @@ use Rattle.kr_provider.specs.declared.refusal.ValueNo.TheVariants.{LooksEncrypte
 use Rattle.kr_rollout.specs.declared.answer.Answer.{Answer}
 use Rattle.kr_rollout.specs.declared.answer.Answer.TheVariants as answer
 use Rattle.kr_rollout.specs.declared.event.Event.TheVariants as event
-use Rattle.kr_rollout.specs.Acting.{Caller, Acted}
+use Rattle.kr_rollout.specs.Acting.{Caller, AddsEntry}
 use Rattle.kr_rollout.specs.declared.call.CallNo.{CallNo}
 use Rattle.kr_rollout.specs.declared.call.CallNo.TheVariants as refusal
-use Rattle.kr_fleet.specs.Calls.{AddsNothing, AdoptsNothing, HoldsMeanwhile}
+use Rattle.kr_rollout.specs.Calls.{AddsNothing, EndsEarly, HoldsMeanwhile}
 
 module _ {D : Type 0} (left : D → Option (List ℕ)) (count : D → ℕ)
     (resource path plain : List ℕ) where
@@ -21,7 +21,7 @@ module _ {D : Type 0} (left : D → Option (List ℕ)) (count : D → ℕ)
     pub stored : List ℕ
     pub seals : Seals left count p.seeds (writer_at p resource) path plain dice after (Ok stored)
     pub sealing : IsSealing p resource path plain stored
-    pub put : Acted old (event.Put path resource plain stored) given new
+    pub put : AddsEntry old (event.Put path resource plain stored) given new
 
   -- the data were sealed, but no line may be added
   pub record SealsInVain (p : Publication) (old : Caller) (dice : D) (new : Caller) (after : D)
@@ -56,12 +56,7 @@ module _ {D : Type 0} (left : D → Option (List ℕ)) (count : D → ℕ)
       ⊎ PutsSealed p old dice answer.NoMemory new after
   Puts p old dice (Err why) new after = ⊥
 
-  abbrev pub IsEarlyEnd : (replica : ℕ) → Caller → D → Result ℕ CallNo → Caller → D → Type 0
-  IsEarlyEnd replica old dice (Ok revision) new after = ⊥
-  IsEarlyEnd replica old dice (Err why) new after =
-      AdoptsNothing replica old why new × (after ≡ dice)
-
   abbrev pub IsWrite : (replica : ℕ) → Caller → D → Result ℕ CallNo → Caller → D → Type 0
-  IsWrite replica old dice result new after = IsEarlyEnd replica old dice result new after
+  IsWrite replica old dice result new after = EndsEarly replica (after ≡ dice) old result new
       ⊎ HoldsMeanwhile (λ number p from done to. Puts p from dice done to after) replica old result
       new

@@ -1,8 +1,10 @@
 //! A path that is deleted.
-ghost use Rattle.std.specs.Prelude.{◌≡◌, None};
+ghost use Rattle.std.specs.Prelude.{◌≡◌, [], None};
 ghost use Rattle.kr_base.specs.Rules.{IsPath};
 ghost use Rattle.kr_rollout.specs.Callers.{holding};
-ghost use Rattle.kr_fleet.specs.Calls.{KeepsHonesty, IsDelete};
+ghost use Rattle.kr_rollout.specs.Calls.{KeepsHonesty};
+ghost use Rattle.kr_rollout.specs.Parts.{AddsWithin};
+ghost use Rattle.kr_fleet.specs.SingleCalls.{IsDelete};
 ghost use Rattle.kr_fleet.specs.inner.Answering.{AnswersDelete, DeletesBy};
 
 use kr_base::{Spent, Text};
@@ -15,6 +17,7 @@ pub fn delete<A: Acts>(alloc: Global, acts: &mut A, path: &str) -> Result<Option
     requires path { IsPath path.now }
     requires idle { holding (A.caller acts.old).mine ≡ None }
     ensures deletes { IsDelete path.now (A.caller acts.old) result (A.caller acts.new) }
+    ensures adds { AddsWithin 1 0 [] (A.caller acts.old) (A.caller acts.new) }
     ensures honest { KeepsHonesty (A.caller acts.old) (A.caller acts.new) }
     ensures idle { holding (A.caller acts.new).mine ≡ None }
     ensures place { A.place acts.new ≡ A.place acts.old }

@@ -1,7 +1,9 @@
 //! A replica that leaves.
-ghost use Rattle.std.specs.Prelude.{◌≡◌, ◌<◌, length, None};
+ghost use Rattle.std.specs.Prelude.{◌≡◌, ◌<◌, [], length, None};
 ghost use Rattle.kr_rollout.specs.Callers.{holding};
-ghost use Rattle.kr_fleet.specs.Calls.{KeepsHonesty, IsLeave};
+ghost use Rattle.kr_rollout.specs.Calls.{KeepsHonesty};
+ghost use Rattle.kr_rollout.specs.Parts.{AddsWithin};
+ghost use Rattle.kr_fleet.specs.SingleCalls.{IsLeave};
 ghost use Rattle.kr_fleet.specs.inner.Answering.{AnswersLeave, DepartsBy};
 
 use kr_base::Spent;
@@ -13,6 +15,7 @@ pub fn leave<A: Acts>(acts: &mut A, replica: u32) -> Result<Option<u32>, CallNo>
     requires replica { replica < length (A.caller acts.old).opening.replicas }
     requires idle { holding (A.caller acts.old).mine ≡ None }
     ensures leaves { IsLeave replica (A.caller acts.old) result (A.caller acts.new) }
+    ensures adds { AddsWithin 1 0 [] (A.caller acts.old) (A.caller acts.new) }
     ensures honest { KeepsHonesty (A.caller acts.old) (A.caller acts.new) }
     ensures idle { holding (A.caller acts.new).mine ≡ None }
     ensures place { A.place acts.new ≡ A.place acts.old }

@@ -3,7 +3,6 @@
 #![tactic(auto)]
 
 mod deleting;
-mod holding;
 mod leaving;
 mod loading;
 mod outcome;

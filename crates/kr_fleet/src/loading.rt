@@ -1,11 +1,12 @@
 //! Configurations that are published and brought.
-ghost use Rattle.std.specs.Prelude.{◌≡◌, ◌<◌, ◌≤◌, ◌+◌, length, get_or, None};
+ghost use Rattle.std.specs.Prelude.{◌≡◌, ◌<◌, ◌≤◌, [], length, get_or, None};
 ghost use Rattle.kr_config.specs.Kept.{plugins_in, rows_of};
 ghost use Rattle.kr_provider.specs.AskedLinks.{AskedOnly};
 ghost use Rattle.kr_provider.specs.Names.{HasLinks, names_of};
 ghost use Rattle.kr_rollout.specs.Callers.{holding, reloads_in};
 ghost use Rattle.kr_rollout.specs.Openings.{NamesAmong};
-ghost use Rattle.kr_fleet.specs.Calls.{AreServed, KeepsToldHonesty};
+ghost use Rattle.kr_rollout.specs.Calls.{AreServed, KeepsToldHonesty};
+ghost use Rattle.kr_rollout.specs.Parts.{AddsWithin};
 ghost use Rattle.kr_fleet.specs.LoadCalls.{IsJoin, IsReload};
 ghost use Rattle.kr_fleet.specs.inner.Answering.{AnswersJoin, AnswersReload, JoinsBy, ReloadsBy};
 ghost use Rattle.kr_fleet.specs.inner.Stages.{SharesPublished, publish_refusal};
@@ -43,7 +44,7 @@ pub fn reload<A: Acts, L: Kms, D: Dice>(
     ensures later { D.count bench.old.dice ≤ D.count bench.new.dice }
     ensures kept { bench.new
         ≡ record bench.old { links = bench.new.links; dice = bench.new.dice } }
-    ensures budget { reloads_in (A.caller acts.new).mine ≤ reloads_in (A.caller acts.old).mine + 1 }
+    ensures adds { AddsWithin 1 1 [] (A.caller acts.old) (A.caller acts.new) }
     ensures place { A.place acts.new ≡ A.place acts.old }
 {
     let published = match publish(alloc, bench, settings) {
@@ -85,7 +86,7 @@ pub fn join<A: Acts, L: Kms, D: Dice>(
     ensures later { D.count bench.old.dice ≤ D.count bench.new.dice }
     ensures kept { bench.new
         ≡ record bench.old { links = bench.new.links; dice = bench.new.dice } }
-    ensures budget { reloads_in (A.caller acts.new).mine ≤ reloads_in (A.caller acts.old).mine + 1 }
+    ensures adds { AddsWithin 1 1 [] (A.caller acts.old) (A.caller acts.new) }
     ensures place { A.place acts.new ≡ A.place acts.old }
 {
     let published = match publish(alloc, bench, settings) {

@@ -1,5 +1,5 @@
 //! The data at a path.
-ghost use Rattle.std.specs.Prelude.{◌≡◌, ◌<◌, ◌≤◌, length, None, Some, IfSome, IfOk, IsSome};
+ghost use Rattle.std.specs.Prelude.{◌≡◌, ◌<◌, ◌≤◌, [], length, None, Some, IfSome, IfOk, IsSome};
 ghost use Rattle.kr_base.specs.Rules.{IsPath};
 ghost use Rattle.kr_base.specs.Limits.{path_limit, value_limit};
 ghost use Rattle.kr_provider.specs.AskedLinks.{AskedOnly};
@@ -8,17 +8,17 @@ ghost use Rattle.kr_provider.specs.Names.{names_of};
 ghost use Rattle.kr_provider.specs.Publication.{list_at};
 ghost use Rattle.kr_provider.specs.Unsealing.{UnsealsBy};
 ghost use Rattle.kr_rollout.specs.Callers.{holding};
-ghost use Rattle.kr_fleet.specs.Calls.{AreServed, IsIdle, KeepsHonesty};
-ghost use Rattle.kr_fleet.specs.ReadCalls.{Finds, IsRead, ReadsContent};
+ghost use Rattle.kr_rollout.specs.Calls.{AreServed, IsIdle, KeepsHonesty};
+ghost use Rattle.kr_rollout.specs.Parts.{AddsWithin};
+ghost use Rattle.kr_fleet.specs.ReadCalls.{Finds, IsRead};
 ghost use Rattle.kr_fleet.specs.inner.Answering.{AnswersFetch, FetchesBy};
 ghost use Rattle.kr_fleet.specs.inner.Stages.{Fetches, HoldsAdopted, value_of};
 
-use crate::holding::{adopt, let_go, take_up};
 use crate::outcome::Read;
 use kr_base::{Dice, Shared, Spent, Text};
 use kr_kms::Kms;
 use kr_provider::{Bench, Opened, UnsealNo};
-use kr_rollout::{Acts, Answer, CallNo, Event};
+use kr_rollout::{Acts, Answer, CallNo, Event, adopt, let_go, take_up};
 use kr_store::Row;
 use std::alloc::Global;
 
@@ -39,8 +39,7 @@ pub fn read<A: Acts, L: Kms, D: Dice>(
     requires pages { 64 ≤ size_of bench.old.pages }
     ensures reads { IsRead L.truth L.link path.now replica (A.caller acts.old) bench.old.links
         result (A.caller acts.new) bench.new.links }
-    ensures content { ReadsContent L.truth path.now (A.caller acts.old) result
-        (A.caller acts.new) }
+    ensures adds { AddsWithin 3 0 [] (A.caller acts.old) (A.caller acts.new) }
     ensures honest { KeepsHonesty (A.caller acts.old) (A.caller acts.new) }
     ensures idle { IsIdle result (A.caller acts.new) }
     ensures asked { AskedOnly L.link (names_of L.link bench.old.links) bench.old.links
@@ -52,7 +51,6 @@ pub fn read<A: Acts, L: Kms, D: Dice>(
     let Ok(copy) = Text::copy(alloc, path) else {
         return Err(CallNo::NoMemory);
     };
-    acts.known();
     let held = match adopt(acts, replica) {
         Ok(held) => held,
         Err(why) => return Err(why),
@@ -73,6 +71,7 @@ fn find<A: Acts, L: Kms, D: Dice>(
     requires held { HoldsAdopted bench.old.published (A.caller acts.old).mine }
     ensures finds { IfSome bench.old.published (λ p. Finds L.truth L.link path p
         (A.caller acts.old) bench.old.links result (A.caller acts.new) bench.new.links) }
+    ensures adds { AddsWithin 1 0 [] (A.caller acts.old) (A.caller acts.new) }
     ensures kept { bench.new
         ≡ record bench.old { links = bench.new.links; cache = bench.new.cache } }
     ensures asked { AskedOnly L.link (names_of L.link bench.old.links) bench.old.links
@@ -81,6 +80,7 @@ fn find<A: Acts, L: Kms, D: Dice>(
     ensures holds { holding (A.caller acts.new).mine ≡ holding (A.caller acts.old).mine }
     ensures place { A.place acts.new ≡ A.place acts.old }
 {
+    acts.known();
     let found = match fetch(acts, path) {
         Ok(found) => found,
         Err(why) => return Err(why),
@@ -123,6 +123,7 @@ fn fetch<A: Acts>(acts: &mut A, path: Text) -> Result<Option<Shared<Row>>, CallN
     requires path { IsPath path }
     requires held { IsSome (holding (A.caller acts.old).mine) }
     ensures fetches { Fetches path (A.caller acts.old) result (A.caller acts.new) }
+    ensures adds { AddsWithin 1 0 [] (A.caller acts.old) (A.caller acts.new) }
     ensures honest { KeepsHonesty (A.caller acts.old) (A.caller acts.new) }
     ensures holds { holding (A.caller acts.new).mine ≡ holding (A.caller acts.old).mine }
     ensures row { IfOk result (λ found. IfSome found

@@ -1,22 +1,22 @@
 //! Settings that are published anew where a plugin's key has changed.
-ghost use Rattle.std.specs.Prelude.{◌≡◌, ◌<◌, ◌≤◌, ◌+◌, length, get_or, ℕ, List, [], ◌∷◌, Contains, None, Some, IfOk};
+ghost use Rattle.std.specs.Prelude.{◌≡◌, ◌<◌, ◌≤◌, length, get_or, ℕ, List, [], ◌∷◌, Contains, None, Some, IfOk};
 ghost use Rattle.kr_config.specs.Kept.{rows_of};
 ghost use Rattle.kr_provider.specs.AskedLinks.{AskedOnly};
 ghost use Rattle.kr_provider.specs.Names.{HasLinks, names_of};
 ghost use Rattle.kr_rollout.specs.Callers.{holding, reloads_in};
 ghost use Rattle.kr_rollout.specs.Openings.{NamesAmong};
-ghost use Rattle.kr_fleet.specs.Calls.{AreServed, IsIdle, KeepsToldHonesty};
+ghost use Rattle.kr_rollout.specs.Calls.{AreServed, IsIdle, KeepsToldHonesty};
+ghost use Rattle.kr_rollout.specs.Parts.{AddsWithin};
 ghost use Rattle.kr_fleet.specs.LoadCalls.{IsRefresh, Refreshes, plugin_names};
 ghost use Rattle.kr_fleet.specs.inner.Stages.{ComparesKeys};
 
-use crate::holding::{adopt, let_go};
 use crate::loading::{publish, publish_refusal, reloaded};
 use crate::outcome::Loaded;
 use kr_base::{Dice, NoMemory, Shared, Spent};
 use kr_config::Settings;
 use kr_kms::{Kms, SeedRow};
 use kr_provider::{Bench, Published};
-use kr_rollout::{Acts, CallNo, Event};
+use kr_rollout::{Acts, CallNo, Event, adopt, let_go};
 use std::alloc::Global;
 
 /// Publishes the replica's current settings anew, where the key id of one of their plugins isn't
@@ -43,7 +43,7 @@ pub fn refresh<A: Acts, L: Kms, D: Dice>(
     ensures later { D.count bench.old.dice ≤ D.count bench.new.dice }
     ensures kept { bench.new
         ≡ record bench.old { links = bench.new.links; dice = bench.new.dice } }
-    ensures budget { reloads_in (A.caller acts.new).mine ≤ reloads_in (A.caller acts.old).mine + 1 }
+    ensures adds { AddsWithin 3 1 [] (A.caller acts.old) (A.caller acts.new) }
     ensures place { A.place acts.new ≡ A.place acts.old }
 {
     let (generation, published) = match adopt(acts, replica) {
@@ -79,7 +79,7 @@ fn renew<A: Acts, L: Kms, D: Dice>(
     ensures later { D.count bench.old.dice ≤ D.count bench.new.dice }
     ensures kept { bench.new
         ≡ record bench.old { links = bench.new.links; dice = bench.new.dice } }
-    ensures budget { reloads_in (A.caller acts.new).mine ≤ reloads_in (A.caller acts.old).mine + 1 }
+    ensures adds { AddsWithin 1 1 [] (A.caller acts.old) (A.caller acts.new) }
     ensures place { A.place acts.new ≡ A.place acts.old }
 {
     published.known();

@@ -1,22 +1,23 @@
 //! Data that are put under a path.
-ghost use Rattle.std.specs.Prelude.{◌≡◌, ◌<◌, ◌≤◌, length, None, IfOk, IfSome, IsSome};
+ghost use Rattle.std.specs.Prelude.{◌≡◌, ◌<◌, ◌≤◌, [], ◌∷◌, length, None, IfOk, IfSome, IsSome};
 ghost use Rattle.kr_base.specs.Rules.{IsPath, IsResource};
 ghost use Rattle.kr_base.specs.Limits.{path_limit};
 ghost use Rattle.kr_provider.specs.KeyPages.{size_of};
 ghost use Rattle.kr_provider.specs.Names.{names_of};
 ghost use Rattle.kr_provider.specs.Publication.{writer_at};
 ghost use Rattle.kr_provider.specs.Sealing.{IsSealing, Seals};
+ghost use Rattle.kr_rollout.specs.declared.line.Did.TheVariants.{Put};
 ghost use Rattle.kr_rollout.specs.Callers.{holding};
-ghost use Rattle.kr_fleet.specs.Calls.{AreServed, IsIdle, KeepsHonesty};
+ghost use Rattle.kr_rollout.specs.Calls.{AreServed, IsIdle, KeepsHonesty};
+ghost use Rattle.kr_rollout.specs.Parts.{AddsWithin};
 ghost use Rattle.kr_fleet.specs.WriteCalls.{IsWrite, Puts};
 ghost use Rattle.kr_fleet.specs.inner.Answering.{AnswersPut, PutsBy};
 ghost use Rattle.kr_fleet.specs.inner.Stages.{HoldsAdopted, seal_refusal};
 
-use crate::holding::{adopt, let_go, take_up};
 use kr_base::{Bytes, Dice, Spent, Text};
 use kr_kms::Kms;
 use kr_provider::{Bench, SealNo, ValueNo};
-use kr_rollout::{Acts, Answer, CallNo, Event};
+use kr_rollout::{Acts, Answer, CallNo, Event, adopt, let_go, take_up};
 use std::alloc::Global;
 
 /// Puts the data under the path, as an object of the resource, sealed by the replica's current
@@ -38,6 +39,8 @@ pub fn write<A: Acts, L: Kms, D: Dice>(
     requires pages { 64 ≤ size_of bench.old.pages }
     ensures writes { IsWrite D.left D.count resource.now path.now plain replica
         (A.caller acts.old) bench.old.dice result (A.caller acts.new) bench.new.dice }
+    ensures adds { AddsWithin 3 0 (Put path.now resource.now plain ∷ [])
+        (A.caller acts.old) (A.caller acts.new) }
     ensures honest { KeepsHonesty (A.caller acts.old) (A.caller acts.new) }
     ensures idle { IsIdle result (A.caller acts.new) }
     ensures links { bench.new.links ≡ bench.old.links }
@@ -51,7 +54,6 @@ pub fn write<A: Acts, L: Kms, D: Dice>(
     let Ok(path) = Text::copy(alloc, path) else {
         return Err(CallNo::NoMemory);
     };
-    acts.known();
     let held = match adopt(acts, replica) {
         Ok(held) => held,
         Err(why) => return Err(why),
@@ -75,6 +77,8 @@ fn put<A: Acts, L: Kms, D: Dice>(
     requires held { HoldsAdopted bench.old.published (A.caller acts.old).mine }
     ensures puts { IfSome bench.old.published (λ p. Puts D.left D.count resource path plain p
         (A.caller acts.old) bench.old.dice result (A.caller acts.new) bench.new.dice) }
+    ensures adds { AddsWithin 1 0 (Put path resource plain ∷ []) (A.caller acts.old)
+        (A.caller acts.new) }
     ensures later { D.count bench.old.dice ≤ D.count bench.new.dice }
     ensures kept { bench.new ≡ record bench.old { dice = bench.new.dice } }
     ensures honest { KeepsHonesty (A.caller acts.old) (A.caller acts.new) }

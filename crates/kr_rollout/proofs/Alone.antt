@@ -7,18 +7,19 @@ use Rattle.kr_rollout.specs.declared.event.Event.{Event}
 use Rattle.kr_rollout.specs.Histories.{state_of, IsLegal}
 use Rattle.kr_rollout.specs.Steps.{IsStep}
 use Rattle.kr_rollout.specs.Cores.{CoreState, Applies}
-use Rattle.kr_rollout.specs.Acting.{Acted, only_caller}
+use Rattle.kr_rollout.specs.Acting.{AddsEntry, only_caller}
 
 pub not_full : (full : Bool) (n room : ℕ) → IsTrue full ↔ (room ≤ n) → full ≡ false → n < room
 not_full full n room both e = lt_of_not-le (λ l. both_ways full e (both.1 l))
 
 pub acted_alone : (old new : CoreState) (event : Event) (answer : Answer)
     → Applies old 0 event answer new → IsLegal old.opening old.history
-    → length old.history < old.room → Acted (only_caller old) event answer (only_caller new)
+    → length old.history < old.room → AddsEntry (only_caller old) event answer (only_caller new)
 acted_alone old new event answer a legal l =
     let none = append-nil old.history in
     let e = a.entry in
-    subst (λ (c : CoreState). Acted (only_caller old) event answer (only_caller c)) (sym a.new_is)
+    subst (λ (c : CoreState). AddsEntry (only_caller old) event answer (only_caller c))
+    (sym a.new_is)
     (record {
       others = [];
       entry = e;

@@ -8,7 +8,7 @@ use Rattle.kr_rollout.specs.declared.event.Event.{Event}
 use Rattle.kr_rollout.specs.declared.event.Event.TheVariants as event
 use Rattle.kr_rollout.specs.declared.line.Gave.TheVariants.{Adopted}
 use Rattle.kr_rollout.specs.declared.opening.Entry.{Entry}
-use Rattle.kr_rollout.specs.Acting.{Caller, Acted}
+use Rattle.kr_rollout.specs.Acting.{Caller, AddsEntry}
 use Rattle.kr_rollout.specs.Callers.{gave_of, holding_then, holding_from, holding, found_then, found_from, found_in}
 use Rattle.kr_rollout.specs.CallerLaws.{AdoptedIsHeld, ReleasedIsNotHeld, LeavesHolding, HoldingStays, FetchedIsFound, NextIsFound}
 
@@ -23,7 +23,8 @@ found_more : (now : Option Row) (own : List Entry) (e : Entry)
 found_more now [] e = refl
 found_more now (x ∷ own) e = found_more (found_then x.line.did x.line.gave x.row now) own e
 
-module _ (old new : Caller) (asked : Event) (given : Answer) (a : Acted old asked given new) where
+module _ (old new : Caller) (asked : Event) (given : Answer)
+    (a : AddsEntry old asked given new) where
   mine_is : new.mine ≡ old.mine ++ a.entry ∷ []
   mine_is = ap (λ (c : Caller). c.mine) a.new_is
 

@@ -26,7 +26,7 @@ use Rattle.kr_rollout.specs.Openings.{IsAdmitted, generations_from, start_of}
 use Rattle.kr_rollout.specs.Steps.{KeepsRules, after, new_generation, new_generations, new_rows}
 use Rattle.kr_rollout.specs.Histories.{IsLegal, IsRun, state_from, state_of}
 use Rattle.kr_rollout.specs.Callers.{holding, found_in}
-use Rattle.kr_rollout.specs.Acting.{Caller, IsCaller, Acted}
+use Rattle.kr_rollout.specs.Acting.{Caller, IsCaller, AddsEntry}
 use Rattle.kr_rollout.specs.Honesty.{SeedsOpen}
 use Rattle.kr_rollout.specs.CallLaws.{HeldIsAdmitted, HeldOpens, NamesHeld, HeldIsNamed, FoundIsNamed}
 use Rattle.kr_rollout.proofs.Revisions.{published_front}
@@ -182,7 +182,7 @@ held_opens opens c number p k honest h =
 -- ---- what the entry of its event names
 
 module _ (old new : Caller) (asked : Event) (given : Answer) (k : IsCaller old)
-    (a : Acted old asked given new) where
+    (a : AddsEntry old asked given new) where
   abbrev before : List Entry
   before = old.seen ++ a.others
 

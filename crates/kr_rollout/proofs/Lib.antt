@@ -37,3 +37,10 @@ pub mod KeptHonest
 pub mod Causes
 pub mod HavingContent
 pub mod FullExact
+pub mod Answered
+pub mod KeptByEvents
+pub mod Nexts
+pub mod AdoptedLetGo
+pub mod PartsAdd
+pub mod NoNames
+pub mod LivePuts

@@ -28,7 +28,7 @@ pub record IsCaller (c : Caller) : Type 0 where
 
 -- behind what was seen stand others' entries, and then exactly this event's: it is a step from
 -- there, and has this answer
-pub record Acted (old : Caller) (event : Event) (answer : Answer) (new : Caller) : Type 0 where
+pub record AddsEntry (old : Caller) (event : Event) (answer : Answer) (new : Caller) : Type 0 where
   pub others : List Entry
   pub entry : Entry
   pub new_is : new ≡ record old {

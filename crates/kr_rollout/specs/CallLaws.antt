@@ -1,6 +1,6 @@
 -- What a call over a core may stand on: what is known of the configuration that its seat holds and
 -- of the row that it found, that its entries name these, and how honesty, budgets and rows follow.
-use Rattle.std.specs.Prelude.{◌≡◌, ℕ, ◌+◌, cond, List, [], ◌∷◌, ◌++◌, Some}
+use Rattle.std.specs.Prelude.{◌≡◌, ℕ, ◌+◌, cond, List, [], ◌∷◌, ◌++◌, Some, ⊤}
 use Rattle.kr_base.specs.Lines.{of_seat, Stands}
 use Rattle.kr_store.specs.declared.rows.LogRow.{LogRow}
 use Rattle.kr_store.specs.declared.rows.Row.{Row}
@@ -19,7 +19,8 @@ use Rattle.kr_rollout.specs.Openings.{IsAdmitted}
 use Rattle.kr_rollout.specs.Steps.{new_rows}
 use Rattle.kr_rollout.specs.Histories.{state_of}
 use Rattle.kr_rollout.specs.Callers.{holding, found_in, reloads_in, brings_settings, did_of, gave_of}
-use Rattle.kr_rollout.specs.Acting.{Caller, IsCaller, Acted}
+use Rattle.kr_rollout.specs.Acting.{Caller, IsCaller, AddsEntry}
+use Rattle.kr_rollout.specs.Calls.{KeepsHonesty}
 use Rattle.kr_rollout.specs.Honesty.{SeedsOpen, HonestBy, IsHonest, KeepsHonest}
 
 -- ---- what is held
@@ -44,7 +45,7 @@ pub record NamesHeld (before : State) (number : ℕ) (p : Publication) (e : Entr
 -- so does the entry of each event of a caller that holds something
 abbrev pub HeldIsNamed : Type 0
 HeldIsNamed = (old new : Caller) (asked : Event) (given : Answer) (number : ℕ) (p : Publication)
-    → IsCaller old → (a : Acted old asked given new) → holding old.mine ≡ Some (number, p)
+    → IsCaller old → (a : AddsEntry old asked given new) → holding old.mine ≡ Some (number, p)
     → NamesHeld (state_of old.opening (old.seen ++ a.others)) number p a.entry
 
 -- ---- what was found
@@ -57,13 +58,13 @@ FoundKeepsRules = (c : Caller) (row : Row) → IsCaller c → found_in c.mine �
 -- so does one that is handed out
 abbrev pub HandedOutKeepsRules : Type 0
 HandedOutKeepsRules = (old new : Caller) (asked : Event) (row : Row) → IsCaller old
-    → Acted old asked (answer.Found row) new → IsRow old.opening.format row
+    → AddsEntry old asked (answer.Found row) new → IsRow old.opening.format row
 
 -- the entry of a Replace names the row that was found, if that has the revision
 abbrev pub FoundIsNamed : Type 0
 FoundIsNamed = (old new : Caller) (path : List ℕ) (revision : ℕ) (stored : List ℕ)
     (given : Answer) (row : Row) → IsCaller old
-    → (a : Acted old (event.Replace path revision stored) given new)
+    → (a : AddsEntry old (event.Replace path revision stored) given new)
     → found_in old.mine ≡ Some row → row.revision ≡ revision → a.entry.replaced ≡ Some row
 
 -- ---- honesty
@@ -73,7 +74,7 @@ FoundIsNamed = (old new : Caller) (path : List ℕ) (revision : ℕ) (stored : L
 -- Written, a Reload that is answered Reloaded and a Join that is answered Joined
 abbrev pub HonestyFollows : Type 0
 HonestyFollows = (opens : Opens) (old new : Caller) (asked : Event) (given : Answer)
-    (a : Acted old asked given new)
+    (a : AddsEntry old asked given new)
     → (IsHonest opens old.opening (old.seen ++ a.others)
     → HonestBy (gave_of given) (did_of asked) opens a.entry)
     → KeepsHonest opens old.opening old.seat old.seen
@@ -86,11 +87,41 @@ HonestyStands = (opens : Opens) (o : Opening) (history : List Entry) (seat : ℕ
     → of_seat seat_of seat seen ≡ mine → KeepsHonest opens o seat seen
     → KeepsHonest opens o seat history
 
+-- ---- one more event
+
+-- what is known of each caller
+abbrev pub CallerFollows : Type 0
+CallerFollows = (old new : Caller) (asked : Event) (given : Answer) → IsCaller old
+    → AddsEntry old asked given new → IsCaller new
+
+-- an event that neither replaces a row nor brings a configuration
+abbrev pub AsksNoHonesty : Event → Type 0
+AsksNoHonesty (event.Replace path revision stored) = ⊥
+AsksNoHonesty (event.Reload replica p expect) = ⊥
+AsksNoHonesty (event.Join replica p) = ⊥
+AsksNoHonesty asked = ⊤
+
+-- it keeps honest what the caller saw
+abbrev pub QuietKeepsHonesty : Type 0
+QuietKeepsHonesty = (old new : Caller) (asked : Event) (given : Answer) → AsksNoHonesty asked
+    → AddsEntry old asked given new → KeepsHonesty old new
+
+-- an event that neither adopts nor lets go
+abbrev pub AsksNoHold : Event → Type 0
+AsksNoHold (event.Adopt replica) = ⊥
+AsksNoHold event.LetGo = ⊥
+AsksNoHold asked = ⊤
+
+-- it leaves what the caller holds
+abbrev pub HoldStays : Type 0
+HoldStays = (old new : Caller) (asked : Event) (given : Answer) → AsksNoHold asked
+    → AddsEntry old asked given new → holding new.mine ≡ holding old.mine
+
 -- ---- budgets and rows
 
 -- an event that brings a configuration takes one of the seat's budget
 abbrev pub BudgetFollows : Type 0
-BudgetFollows = (old new : Caller) (asked : Event) (given : Answer) → Acted old asked given new
+BudgetFollows = (old new : Caller) (asked : Event) (given : Answer) → AddsEntry old asked given new
     → reloads_in new.mine ≡ reloads_in old.mine + cond (brings_settings (did_of asked)) 1 0
 
 -- the rows that entries write, in their order

@@ -6,18 +6,18 @@ use Rattle.kr_rollout.specs.declared.answer.Answer.{Answer}
 use Rattle.kr_rollout.specs.declared.answer.Answer.TheVariants as answer
 use Rattle.kr_rollout.specs.declared.event.Event.{Event}
 use Rattle.kr_rollout.specs.declared.event.Event.TheVariants as event
-use Rattle.kr_rollout.specs.Acting.{Caller, Acted}
+use Rattle.kr_rollout.specs.Acting.{Caller, AddsEntry}
 use Rattle.kr_rollout.specs.Callers.{holding, found_in}
 
 -- what was adopted is held
 abbrev pub AdoptedIsHeld : Type 0
 AdoptedIsHeld = (old new : Caller) (replica number : ℕ) (p : Publication)
-    → Acted old (event.Adopt replica) (answer.Adopted number p) new
+    → AddsEntry old (event.Adopt replica) (answer.Adopted number p) new
     → holding new.mine ≡ Some (number, p)
 
 -- what was let go isn't
 abbrev pub ReleasedIsNotHeld : Type 0
-ReleasedIsNotHeld = (old new : Caller) → Acted old event.LetGo answer.Released new
+ReleasedIsNotHeld = (old new : Caller) → AddsEntry old event.LetGo answer.Released new
     → holding new.mine ≡ None
 
 -- an event that was neither adopts nor lets go: what is held stays
@@ -28,13 +28,13 @@ LeavesHolding given = ⊤
 
 abbrev pub HoldingStays : Type 0
 HoldingStays = (old new : Caller) (asked : Event) (given : Answer) → LeavesHolding given
-    → Acted old asked given new → holding new.mine ≡ holding old.mine
+    → AddsEntry old asked given new → holding new.mine ≡ holding old.mine
 
 -- the row that was found is the one that was found last
 abbrev pub FetchedIsFound : Type 0
 FetchedIsFound = (old new : Caller) (path : List ℕ) (row : Row)
-    → Acted old (event.Fetch path) (answer.Found row) new → found_in new.mine ≡ Some row
+    → AddsEntry old (event.Fetch path) (answer.Found row) new → found_in new.mine ≡ Some row
 
 abbrev pub NextIsFound : Type 0
 NextIsFound = (old new : Caller) (path : List ℕ) (row : Row)
-    → Acted old (event.After path) (answer.Found row) new → found_in new.mine ≡ Some row
+    → AddsEntry old (event.After path) (answer.Found row) new → found_in new.mine ≡ Some row

@@ -1,5 +1,5 @@
 -- Laws of contents: what is found reads as the content.
-use Rattle.std.specs.Prelude.{◌≡◌, ◌↔◌, ℕ, ◌<◌, false, List, [], ◌∷◌, ◌++◌, length, All, Option, None, Some}
+use Rattle.std.specs.Prelude.{◌≡◌, ◌↔◌, ◌⊎◌, ℕ, ◌<◌, false, List, [], ◌∷◌, ◌++◌, length, All, Contains, Option, None, Some, IsSome}
 use Rattle.kr_store.specs.declared.rows.Row as stored_row
 use Rattle.kr_store.specs.declared.rows.LogRow.{LogRow}
 use Rattle.kr_store.specs.Rows.{live}
@@ -10,13 +10,14 @@ use Rattle.kr_kms.specs.Truth.{Opens}
 use Rattle.kr_provider.specs.Publication.{Publication, names_plugin}
 use Rattle.kr_provider.specs.Reading.{Reading, HasReading}
 use Rattle.kr_rollout.specs.declared.line.Did.{Did}
-use Rattle.kr_rollout.specs.declared.line.Did.TheVariants.{Fetch, After, Replace}
+use Rattle.kr_rollout.specs.declared.line.Did.TheVariants.{Fetch, After, Put, Replace}
 use Rattle.kr_rollout.specs.declared.line.Gave.TheVariants.{Found, Absent, Written}
 use Rattle.kr_rollout.specs.declared.opening.Entry.{Entry}
 use Rattle.kr_rollout.specs.declared.opening.Opening.{Opening}
 use Rattle.kr_rollout.specs.States.{IsLive}
 use Rattle.kr_rollout.specs.Histories.{state_of, IsLegal}
 use Rattle.kr_rollout.specs.Contents.{IsContent}
+use Rattle.kr_rollout.specs.Parts.{written_puts}
 use Rattle.kr_rollout.specs.Honesty.{IsHonest, IsHonestEntry, KeepsHonest}
 
 -- a path has one content alone
@@ -35,6 +36,14 @@ abbrev pub NothingIsAbsent : Type 0
 NothingIsAbsent = (opens : Opens) (o : Opening) (history : List Entry) (path : List ℕ)
     → IsLegal o history
     → IsContent opens o history path None ↔ (live (state_of o history).rows path ≡ None)
+
+-- what lives was live at the opening, or a Put of its path was written since
+abbrev pub LiveWasPut : Type 0
+LiveWasPut = (o : Opening) (history : List Entry) (path : List ℕ) (row : stored_row.Row)
+    → IsLegal o history → live (state_of o history).rows path ≡ Some row
+    → IsSome (live o.rows path)
+    ⊎ ((resource : List ℕ) × (plain : List ℕ)
+    × Contains (written_puts history) (Put path resource plain))
 
 -- where the history is honest, a live row reads by each live generation as the content of its path
 abbrev pub LiveReads : Type 0
@@ -115,6 +124,11 @@ HonestBySeats = (opens : Opens) (o : Opening) (history : List Entry) → IsLegal
 abbrev pub NamesNoPlugin : Opening → List Entry → Type 0
 NamesNoPlugin o history =
     All (λ g. names_plugin g.published.rows ≡ false) (state_of o history).generations
+
+-- none does where the opening lets configurations name none
+abbrev pub NoNamesNoPlugin : Type 0
+NoNamesNoPlugin = (o : Opening) (history : List Entry) → IsLegal o history → o.names ≡ []
+    → NamesNoPlugin o history
 
 abbrev pub HonestWithoutPlugin : Type 0
 HonestWithoutPlugin = (opens : Opens) (o : Opening) (history : List Entry) → IsLegal o history

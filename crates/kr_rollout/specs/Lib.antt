@@ -21,3 +21,6 @@ pub mod ContentLaws
 pub mod CallerLaws
 pub mod CallLaws
 pub mod SizeLaws
+pub mod Parts
+pub mod PartLaws
+pub mod Calls

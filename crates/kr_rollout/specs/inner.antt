@@ -3,3 +3,4 @@ pub mod Rollouts
 pub mod OpeningBoards
 pub mod Writing
 pub mod Membership
+pub mod Adopting

@@ -1,6 +1,6 @@
 //! What a caller has of a core.
 ghost use Rattle.std.specs.Prelude.{◌≡◌, ◌↔◌, IsErr, IfOk, OnErr};
-ghost use Rattle.kr_rollout.specs.Acting.{Caller, IsCaller, Acted};
+ghost use Rattle.kr_rollout.specs.Acting.{Caller, IsCaller, AddsEntry};
 ghost use Rattle.kr_rollout.specs.Callers.{MayAsk};
 
 use crate::answer::Answer;
@@ -36,6 +36,6 @@ pub trait Acts {
         ensures spent { IsErr result ↔ ((caller self.old).left ≡ 0) }
         ensures nothing { OnErr result (caller self.new ≡ caller self.old) }
         ensures acted { IfOk result
-            (λ answer. Acted (caller self.old) event answer (caller self.new)) }
+            (λ answer. AddsEntry (caller self.old) event answer (caller self.new)) }
         ensures place { place self.new ≡ place self.old };
 }

@@ -1,5 +1,5 @@
 //! Laws for calls over a core. The functions do nothing.
-ghost use Rattle.kr_rollout.specs.CallLaws.{HeldIsAdmitted, HeldOpens, HeldIsNamed, FoundKeepsRules, HandedOutKeepsRules, FoundIsNamed, HonestyFollows, HonestyStands, BudgetFollows, RowsAreWritten};
+ghost use Rattle.kr_rollout.specs.CallLaws.{HeldIsAdmitted, HeldOpens, HeldIsNamed, FoundKeepsRules, HandedOutKeepsRules, FoundIsNamed, HonestyFollows, HonestyStands, BudgetFollows, RowsAreWritten, CallerFollows, QuietKeepsHonesty, HoldStays};
 
 /// What a caller holds keeps its rules and names the opening's plugins alone, its seeds open in
 /// honest histories, and each entry of the caller names it.
@@ -21,6 +21,15 @@ pub fn found_is_known()
 pub fn honesty_follows()
     ensures acted { HonestyFollows }
     ensures stands { HonestyStands }
+{}
+
+/// What is known of each caller holds of it with one more event. An event that neither replaces a
+/// row nor brings a configuration keeps honest what the caller saw, and one that neither adopts nor
+/// lets go leaves what it holds.
+pub fn caller_follows()
+    ensures known { CallerFollows }
+    ensures honest { QuietKeepsHonesty }
+    ensures holds { HoldStays }
 {}
 
 /// A caller's budget falls by one with each event that brings a configuration.

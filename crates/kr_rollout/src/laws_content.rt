@@ -1,5 +1,5 @@
 //! Laws of contents: what is found reads as the content. The functions do nothing.
-ghost use Rattle.kr_rollout.specs.ContentLaws.{OneContent, SomeContent, NothingIsAbsent, LiveReads, FoundIsLive, FoundReads, AbsentIsNothing, ReplacedIsLive, HonestByEntries, HonestBySeats, HonestWithoutPlugin, ContentWithoutPlugin};
+ghost use Rattle.kr_rollout.specs.ContentLaws.{OneContent, SomeContent, NothingIsAbsent, LiveWasPut, LiveReads, FoundIsLive, FoundReads, AbsentIsNothing, ReplacedIsLive, HonestByEntries, HonestBySeats, NoNamesNoPlugin, HonestWithoutPlugin, ContentWithoutPlugin};
 
 /// A path has one content alone.
 pub fn one_content()
@@ -14,6 +14,11 @@ pub fn some_content()
 /// There is nothing at a path exactly where no row of it is live.
 pub fn nothing_is_absent()
     ensures { NothingIsAbsent }
+{}
+
+/// What lives was live at the opening, or a Put of its path was written since.
+pub fn live_was_put()
+    ensures { LiveWasPut }
 {}
 
 /// Where the history is honest, a live row reads by each live generation as the content of its
@@ -53,6 +58,11 @@ pub fn honest_by_entries()
 /// A history that each seat keeps honest is honest, if its opening is.
 pub fn honest_by_seats()
     ensures { HonestBySeats }
+{}
+
+/// Where the opening lets configurations name no plugin, none does in a legal history.
+pub fn no_names_no_plugin()
+    ensures { NoNamesNoPlugin }
 {}
 
 /// Where no configuration names a plugin, each legal history is honest by any truth.

@@ -1,7 +1,7 @@
 //! The only caller of a core.
 ghost use Rattle.std.specs.Prelude.{◌≡◌, ◌↔◌, ◌<◌, ◌+◌, ◌≤◌, length, IsErr, IfOk, OnErr};
 ghost use Rattle.kr_base.specs.Lines.{of_seat};
-ghost use Rattle.kr_rollout.specs.Acting.{Caller, IsCaller, Acted, only_caller};
+ghost use Rattle.kr_rollout.specs.Acting.{Caller, IsCaller, AddsEntry, only_caller};
 ghost use Rattle.kr_rollout.specs.Callers.{MayAsk};
 ghost use Rattle.kr_rollout.specs.Entries.{seat_of};
 

@@ -2,7 +2,7 @@
 ghost use Rattle.std.specs.Prelude.{◌≡◌, ◌↔◌, ◌<◌, ◌≤◌, ◌^◌, ℕ, [], length, sum, All, IsErr, IfOk, IfErr, OnErr};
 ghost use Rattle.kr_base.specs.Lines.{of_seat, Stands};
 ghost use Rattle.kr_turn.specs.Seats.{AreFresh, AreAll, number_of, left_of, seen, mine};
-ghost use Rattle.kr_rollout.specs.Acting.{Acted};
+ghost use Rattle.kr_rollout.specs.Acting.{AddsEntry};
 ghost use Rattle.kr_rollout.specs.Callers.{MayAsk};
 ghost use Rattle.kr_rollout.specs.Entries.{seat_of};
 ghost use Rattle.kr_rollout.specs.Histories.{IsLegal};
@@ -84,7 +84,7 @@ impl<T: Tape> Fleet<T> {
         requires may { MayAsk self.now.terms.basis (number_of seat.old) (mine seat.old) event }
         ensures spent { IsErr result ↔ (left_of seat.old ≡ 0) }
         ensures nothing { OnErr result (seat.new ≡ seat.old) }
-        ensures acted { IfOk result (λ answer. Acted (caller_of self.now seat.old) event answer
+        ensures acted { IfOk result (λ answer. AddsEntry (caller_of self.now seat.old) event answer
             (caller_of self.now seat.new)) }
         ensures seat { IsFleetSeat self.now seat.new }
     {

@@ -1,6 +1,5 @@
 -- What may be answered to each event, and what a call makes of it.
 use Rattle.std.specs.Prelude.{◌≡◌, ℕ, Option, None, Some, Result, Ok, Err, ⊤}
-use Rattle.kr_provider.specs.Publication.{Publication}
 use Rattle.kr_rollout.specs.declared.answer.Answer.{Answer}
 use Rattle.kr_rollout.specs.declared.answer.Answer.TheVariants as answer
 use Rattle.kr_store.specs.declared.rows.Row.{Row}
@@ -36,18 +35,6 @@ DeletesBy answer.StoreFailed result = result ≡ Err refusal.StoreFailed
 DeletesBy (answer.StoreFull needed) result = result ≡ Err (refusal.StoreFull needed)
 DeletesBy answer.NoMemory result = result ≡ Err refusal.NoMemory
 DeletesBy given result = ⊥
-
-abbrev pub AnswersAdopt : Answer → Type 0
-AnswersAdopt (answer.Adopted number p) = ⊤
-AnswersAdopt (answer.Gone replica) = ⊤
-AnswersAdopt answer.NoMemory = ⊤
-AnswersAdopt given = ⊥
-
-abbrev pub AdoptsBy : Answer → Result (ℕ × Publication) CallNo → Type 0
-AdoptsBy (answer.Adopted number p) result = result ≡ Ok (number, p)
-AdoptsBy (answer.Gone replica) result = result ≡ Err refusal.Gone
-AdoptsBy answer.NoMemory result = result ≡ Err refusal.NoMemory
-AdoptsBy given result = ⊥
 
 abbrev pub AnswersFetch : Answer → Type 0
 AnswersFetch (answer.Found row) = ⊤

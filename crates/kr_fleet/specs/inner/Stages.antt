@@ -11,7 +11,7 @@ use Rattle.kr_store.specs.declared.rows.Row.{Row}
 use Rattle.kr_rollout.specs.declared.answer.Answer.TheVariants as answer
 use Rattle.kr_rollout.specs.declared.event.Event.TheVariants as event
 use Rattle.kr_rollout.specs.declared.opening.Entry.{Entry}
-use Rattle.kr_rollout.specs.Acting.{Caller, Acted}
+use Rattle.kr_rollout.specs.Acting.{Caller, AddsEntry}
 use Rattle.kr_rollout.specs.Callers.{holding}
 use Rattle.kr_provider.specs.declared.refusal.Opened.{Opened}
 use Rattle.kr_provider.specs.declared.refusal.SealNo.{SealNo}
@@ -23,21 +23,15 @@ use Rattle.kr_fleet.specs.declared.outcome.Read.{Read}
 use Rattle.kr_fleet.specs.declared.outcome.Read.TheVariants.{Value}
 use Rattle.kr_rollout.specs.declared.call.CallNo.{CallNo}
 use Rattle.kr_rollout.specs.declared.call.CallNo.TheVariants as refusal
-use Rattle.kr_fleet.specs.Calls.{AddsNothing, AdoptsNothing}
+use Rattle.kr_rollout.specs.Calls.{AddsNothing}
 use Rattle.kr_fleet.specs.LoadCalls.{AreKeysSame, AsksInVain, IsKeyChanged}
 use Rattle.kr_kms.specs.declared.seeds.SeedRow.{SeedRow}
 
--- the replica's generation is adopted, or nothing is
-abbrev pub Adopts : (replica : ℕ) → Caller → Result (ℕ × Publication) CallNo → Caller → Type 0
-Adopts replica old (Ok held) new =
-    Acted old (event.Adopt replica) (answer.Adopted held.0 held.1) new
-Adopts replica old (Err why) new = AdoptsNothing replica old why new
-
 -- the path's row is fetched
 abbrev pub Fetches : (path : List ℕ) → Caller → Result (Option Row) CallNo → Caller → Type 0
-Fetches path old (Ok (Some row)) new = Acted old (event.Fetch path) (answer.Found row) new
-Fetches path old (Ok None) new = Acted old (event.Fetch path) answer.Absent new
-Fetches path old (Err refusal.NoMemory) new = Acted old (event.Fetch path) answer.NoMemory new
+Fetches path old (Ok (Some row)) new = AddsEntry old (event.Fetch path) (answer.Found row) new
+Fetches path old (Ok None) new = AddsEntry old (event.Fetch path) answer.Absent new
+Fetches path old (Err refusal.NoMemory) new = AddsEntry old (event.Fetch path) answer.NoMemory new
 Fetches path old (Err refusal.Spent) new = AddsNothing old new
 Fetches path old (Err why) new = ⊥
 

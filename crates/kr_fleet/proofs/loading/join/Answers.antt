@@ -1,11 +1,12 @@
 -- `join`: what was published is brought.
-use Rattle.std.proofs.Common.{refl, subst, sym, ◌∙◌}
+use Rattle.std.proofs.Common.{[], refl, subst, sym, ◌∙◌}
 use Rattle.kr_config.specs.Kept.{rows_of}
 use Rattle.kr_provider.specs.Names.{names_of}
 use Rattle.kr_rollout.specs.Openings.{NamesAmong}
 use Rattle.kr_fleet.proofs.Bringing.{join_answered, join_holds, join_in_vain, join_not_shared, keeps_join, seeds_tell}
-use Rattle.kr_fleet.proofs.Nexts.{serves}
-use Rattle.kr_fleet.proofs.Spending.{join_spends, none_spends}
+use Rattle.kr_rollout.proofs.Nexts.{serves}
+use Rattle.kr_rollout.specs.declared.event.Event.TheVariants as event
+use Rattle.kr_rollout.proofs.PartsAdd.{entry_within, nothing_within, same_within}
 use Rattle.kr_fleet.proofs.loading.join.Goals as goal
 
 pub publish-requires : goal.publish-requires
@@ -68,11 +69,14 @@ returns-in-Err-act-clause-joins g c = join_in_vain g.L.Kms.truth g.L.Kms.link
     (record { spent = c.in-Err-act.ensures.spent.0 refl; same = c.in-Err-act.ensures.nothing })
     c.in-Ok.ensures.published
 
-pub returns-in-Ok-act-clause-budget : goal.returns-in-Ok-act-clause-budget
-returns-in-Ok-act-clause-budget g c = join_spends (g.A.Acts.caller c.args.acts.now)
-    (g.A.Acts.caller c.act.new.self) c.args.replica c.in-Ok.published
+pub returns-in-Err-clause-adds : goal.returns-in-Err-clause-adds
+returns-in-Err-clause-adds g c = nothing_within 1 1 [] (g.A.Acts.caller c.args.acts.now)
+
+pub returns-in-Ok-act-clause-adds : goal.returns-in-Ok-act-clause-adds
+returns-in-Ok-act-clause-adds g c = entry_within (g.A.Acts.caller c.args.acts.now)
+    (g.A.Acts.caller c.act.new.self) (event.Join c.args.replica c.in-Ok.published)
     c.in-Ok-act.answer c.in-Ok-act.ensures.acted
 
-pub returns-in-Err-act-clause-budget : goal.returns-in-Err-act-clause-budget
-returns-in-Err-act-clause-budget g c = none_spends (g.A.Acts.caller c.args.acts.now)
-    (g.A.Acts.caller c.act.new.self) c.in-Err-act.ensures.nothing
+pub returns-in-Err-act-clause-adds : goal.returns-in-Err-act-clause-adds
+returns-in-Err-act-clause-adds g c = same_within 1 1 []
+    (g.A.Acts.caller c.args.acts.now) (g.A.Acts.caller c.act.new.self) c.in-Err-act.ensures.nothing

@@ -1,12 +1,13 @@
 -- `reload`: what was published is brought.
-use Rattle.std.proofs.Common.{None, refl, subst, sym, ◌∙◌}
+use Rattle.std.proofs.Common.{[], None, refl, subst, sym, ◌∙◌}
 use Rattle.kr_config.specs.Kept.{rows_of}
 use Rattle.kr_provider.specs.Names.{names_of}
 use Rattle.kr_rollout.specs.Openings.{NamesAmong}
 use Rattle.kr_fleet.specs.LoadCalls.{reload_of}
 use Rattle.kr_fleet.proofs.Bringing.{in_vain, keeps_reload, not_shared, reload_answered, reload_holds, seeds_tell}
-use Rattle.kr_fleet.proofs.Nexts.{serves}
-use Rattle.kr_fleet.proofs.Spending.{none_spends, reload_spends}
+use Rattle.kr_rollout.proofs.Nexts.{serves}
+use Rattle.kr_rollout.specs.declared.event.Event.TheVariants as event
+use Rattle.kr_rollout.proofs.PartsAdd.{entry_within, nothing_within, same_within}
 use Rattle.kr_fleet.proofs.loading.reload.Goals as goal
 
 pub publish-requires : goal.publish-requires
@@ -69,11 +70,14 @@ returns-in-Err-act-clause-reloads g c = in_vain g.L.Kms.truth g.L.Kms.link
     (record { spent = c.in-Err-act.ensures.spent.0 refl; same = c.in-Err-act.ensures.nothing })
     c.in-Ok.ensures.published
 
-pub returns-in-Ok-act-clause-budget : goal.returns-in-Ok-act-clause-budget
-returns-in-Ok-act-clause-budget g c = reload_spends (g.A.Acts.caller c.args.acts.now)
-    (g.A.Acts.caller c.act.new.self) c.args.replica c.in-Ok.published None
+pub returns-in-Err-clause-adds : goal.returns-in-Err-clause-adds
+returns-in-Err-clause-adds g c = nothing_within 1 1 [] (g.A.Acts.caller c.args.acts.now)
+
+pub returns-in-Ok-act-clause-adds : goal.returns-in-Ok-act-clause-adds
+returns-in-Ok-act-clause-adds g c = entry_within (g.A.Acts.caller c.args.acts.now)
+    (g.A.Acts.caller c.act.new.self) (event.Reload c.args.replica c.in-Ok.published None)
     c.in-Ok-act.answer c.in-Ok-act.ensures.acted
 
-pub returns-in-Err-act-clause-budget : goal.returns-in-Err-act-clause-budget
-returns-in-Err-act-clause-budget g c = none_spends (g.A.Acts.caller c.args.acts.now)
-    (g.A.Acts.caller c.act.new.self) c.in-Err-act.ensures.nothing
+pub returns-in-Err-act-clause-adds : goal.returns-in-Err-act-clause-adds
+returns-in-Err-act-clause-adds g c = same_within 1 1 []
+    (g.A.Acts.caller c.args.acts.now) (g.A.Acts.caller c.act.new.self) c.in-Err-act.ensures.nothing

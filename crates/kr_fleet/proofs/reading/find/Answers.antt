@@ -52,5 +52,6 @@ returns-clause-finds g c =
     find_done g.L.Kms.truth g.L.Kms.link c.args.path (g.A.Acts.caller c.args.acts.now)
     (g.A.Acts.caller c.fetch.new.acts) c.args.bench.now.links c.unseal-opened.new.bench.links
     c.args.bench.now.published c.in-Ok.found c.in-Some.row c.get-lent.result.now
-    c.unseal-opened.result c.value_of.result c.in-Ok.ensures.fetches c.in-Some.is at
+    c.unseal-opened.result c.value_of.result c.known.ensures c.requires.held
+    c.in-Ok.ensures.fetches c.in-Some.is at
     c.get-lent.ensures c.unseal-opened.ensures.opened c.value_of.ensures

@@ -1,14 +1,15 @@
 -- `read`: its stages, one behind another.
-use Rattle.std.proofs.Common.{Err, ap, inl, refl, subst, sym, ◌∙◌}
+use Rattle.std.proofs.Common.{[], ap, arith, inl, refl, subst, sym, ◌∙◌}
 use Rattle.kr_base.specs.Rules.{IsPath}
 use Rattle.kr_provider.proofs.AskedLists.{asked_none}
 use Rattle.kr_provider.specs.AskedLinks.{AskedOnly}
 use Rattle.kr_provider.specs.KeyPages.{size_of}
 use Rattle.kr_provider.specs.Names.{names_of}
-use Rattle.kr_fleet.proofs.Finding.{read_content, reads_held}
+use Rattle.kr_fleet.proofs.Finding.{reads_held}
 use Rattle.kr_fleet.proofs.Single.{some_there}
-use Rattle.kr_fleet.proofs.Keeping.{keeps_both}
-use Rattle.kr_fleet.proofs.Nexts.{serves}
+use Rattle.kr_rollout.proofs.KeptByEvents.{keeps_both}
+use Rattle.kr_rollout.proofs.Nexts.{serves}
+use Rattle.kr_rollout.proofs.PartsAdd.{held_within, nothing_within, within_more}
 use Rattle.kr_fleet.proofs.reading.read.Goals as goal
 
 pub returns-in_default-clause-reads : goal.returns-in_default-clause-reads
@@ -20,12 +21,6 @@ returns-in_default-clause-asked g c = asked_none g.L.Kms.link
 
 pub returns-in-Err-clause-reads : goal.returns-in-Err-clause-reads
 returns-in-Err-clause-reads g c = inl (c.in-Err.ensures.adopts, refl)
-
-pub returns-in-Err-clause-content : goal.returns-in-Err-clause-content
-returns-in-Err-clause-content g c = read_content g.L.Kms.truth g.L.Kms.link c.args.path.now
-    c.args.replica (g.A.Acts.caller c.args.acts.now) (g.A.Acts.caller c.adopt.new.acts)
-    c.args.bench.now.links c.args.bench.now.links (Err c.in-Err.why) c.known.ensures
-    (inl (c.in-Err.ensures.adopts, refl))
 
 pub returns-in-Err-clause-asked : goal.returns-in-Err-clause-asked
 returns-in-Err-clause-asked g c = asked_none g.L.Kms.link
@@ -61,19 +56,6 @@ returns-clause-reads g c = reads_held g.L.Kms.truth g.L.Kms.link c.args.path.now
     (ap (λ b. b.published) c.take_up.ensures.taken) c.in-Ok-adopt.ensures.adopts
     c.find-found.ensures.finds c.let_go.ensures.lets_go
 
-pub returns-clause-content : goal.returns-clause-content
-returns-clause-content g c = read_content g.L.Kms.truth g.L.Kms.link c.args.path.now
-    c.args.replica (g.A.Acts.caller c.args.acts.now) (g.A.Acts.caller c.let_go.new.acts)
-    c.args.bench.now.links c.find-found.new.bench.links c.let_go.result c.known.ensures
-    (reads_held g.L.Kms.truth g.L.Kms.link c.args.path.now c.in-Ok.copy
-    c.args.replica (g.A.Acts.caller c.args.acts.now) (g.A.Acts.caller c.adopt.new.acts)
-    (g.A.Acts.caller c.find-found.new.acts) (g.A.Acts.caller c.let_go.new.acts)
-    c.args.bench.now.links c.take_up.new.bench.links c.find-found.new.bench.links
-    c.in-Ok-adopt.held c.take_up.new.bench.published c.find-found.result c.let_go.result
-    c.in-Ok.ensures (ap (λ b. b.links) c.take_up.ensures.taken)
-    (ap (λ b. b.published) c.take_up.ensures.taken) c.in-Ok-adopt.ensures.adopts
-    c.find-found.ensures.finds c.let_go.ensures.lets_go)
-
 pub returns-clause-honest : goal.returns-clause-honest
 returns-clause-honest g c = keeps_both (g.A.Acts.caller c.args.acts.now)
     (g.A.Acts.caller c.find-found.new.acts) (g.A.Acts.caller c.let_go.new.acts)
@@ -98,3 +80,16 @@ returns-clause-pages g c =
 pub returns-clause-place : goal.returns-clause-place
 returns-clause-place g c =
     c.let_go.ensures.place ∙ c.find-found.ensures.place ∙ c.in-Ok-adopt.ensures.place
+
+pub returns-in_default-clause-adds : goal.returns-in_default-clause-adds
+returns-in_default-clause-adds g c = nothing_within 3 0 [] (g.A.Acts.caller c.args.acts.now)
+
+pub returns-in-Err-clause-adds : goal.returns-in-Err-clause-adds
+returns-in-Err-clause-adds g c = within_more 1 3 0 0 [] (g.A.Acts.caller c.args.acts.now)
+    (g.A.Acts.caller c.adopt.new.acts) (omega arith) (omega arith) c.in-Err.ensures.adds
+
+pub returns-clause-adds : goal.returns-clause-adds
+returns-clause-adds g c = held_within 0 [] (g.A.Acts.caller c.args.acts.now)
+    (g.A.Acts.caller c.adopt.new.acts) (g.A.Acts.caller c.find-found.new.acts)
+    (g.A.Acts.caller c.let_go.new.acts) c.in-Ok-adopt.ensures.adds c.find-found.ensures.adds
+    c.let_go.ensures.adds

@@ -1,5 +1,5 @@
 -- `refresh`: its stages, one behind another.
-use Rattle.std.proofs.Common.{arith, subst, sym}
+use Rattle.std.proofs.Common.{[], arith, subst, sym}
 use Rattle.kr_provider.specs.Names.{HasLinks, names_of}
 use Rattle.kr_provider.specs.Publication.{Publication}
 use Rattle.kr_rollout.specs.declared.answer.Answer.TheVariants as answer
@@ -9,8 +9,9 @@ use Rattle.kr_rollout.specs.Openings.{NamesAmong}
 use Rattle.kr_provider.proofs.AskedLists.{asked_none}
 use Rattle.kr_fleet.specs.LoadCalls.{plugin_names}
 use Rattle.kr_fleet.proofs.Asked.{asked_all}
-use Rattle.kr_fleet.proofs.Nexts.{opening_is, serves}
-use Rattle.kr_fleet.proofs.Spending.{adopt_spends, adopted_room, let_go_spends, nothing_spends}
+use Rattle.kr_rollout.proofs.Nexts.{opening_is, serves}
+use Rattle.kr_fleet.proofs.Spending.{adopted_room}
+use Rattle.kr_rollout.proofs.PartsAdd.{held_within, within_more}
 use Rattle.kr_fleet.proofs.refreshing.refresh.Goals as goal
 
 pub returns-in-Err-clause-honest : goal.returns-in-Err-clause-honest
@@ -19,11 +20,6 @@ returns-in-Err-clause-honest g c = λ told. c.in-Err.ensures.honest g.L.Kms.trut
 pub returns-in-Err-clause-asked : goal.returns-in-Err-clause-asked
 returns-in-Err-clause-asked g c = asked_none g.L.Kms.link
     (names_of g.L.Kms.link c.args.bench.now.links) c.args.bench.now.links
-
-pub returns-in-Err-clause-budget : goal.returns-in-Err-clause-budget
-returns-in-Err-clause-budget g c = nothing_spends c.args.replica
-    (g.A.Acts.caller c.args.acts.now) c.in-Err.why (g.A.Acts.caller c.adopt.new.acts)
-    c.in-Err.ensures.adopts
 
 pub renew-done-requires-clause-names : goal.renew-done-requires-clause-names
 renew-done-requires-clause-names g c =
@@ -50,16 +46,16 @@ pub returns-clause-honest : goal.returns-clause-honest
 returns-clause-honest g c = λ told keeps. c.let_go.ensures.honest g.L.Kms.truth.opens
     (c.renew-done.ensures.honest told (c.in-Ok.ensures.honest g.L.Kms.truth.opens keeps))
 
-pub returns-clause-budget : goal.returns-clause-budget
-returns-clause-budget g c = omega (
-  arith,
-  let_go_spends (g.A.Acts.caller c.renew-done.new.acts) (g.A.Acts.caller c.let_go.new.acts)
-      c.renew-done.result c.let_go.result c.let_go.ensures.lets_go,
-  c.renew-done.ensures.budget,
-  adopt_spends (g.A.Acts.caller c.args.acts.now) (g.A.Acts.caller c.adopt.new.acts)
-      c.args.replica (answer.Adopted c.in-Ok.held.0 c.in-Ok.held.1) c.in-Ok.ensures.adopts,
-)
-
 pub returns-clause-asked : goal.returns-clause-asked
 returns-clause-asked g c = asked_all g.L.Kms.link (plugin_names c.get.result.now.seeds)
     c.args.bench.now.links c.renew-done.new.bench.links c.renew-done.ensures.asked
+
+pub returns-in-Err-clause-adds : goal.returns-in-Err-clause-adds
+returns-in-Err-clause-adds g c = within_more 1 3 0 1 [] (g.A.Acts.caller c.args.acts.now)
+    (g.A.Acts.caller c.adopt.new.acts) (omega arith) (omega arith) c.in-Err.ensures.adds
+
+pub returns-clause-adds : goal.returns-clause-adds
+returns-clause-adds g c = held_within 1 [] (g.A.Acts.caller c.args.acts.now)
+    (g.A.Acts.caller c.adopt.new.acts) (g.A.Acts.caller c.renew-done.new.acts)
+    (g.A.Acts.caller c.let_go.new.acts) c.in-Ok.ensures.adds c.renew-done.ensures.adds
+    c.let_go.ensures.adds

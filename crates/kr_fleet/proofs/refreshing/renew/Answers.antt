@@ -1,5 +1,5 @@
 -- `renew`: key ids are compared, then the settings are published and brought.
-use Rattle.std.proofs.Common.{List, ap, refl, subst, sym, ◌∙◌}
+use Rattle.std.proofs.Common.{[], Some, List, ap, refl, subst, sym, ◌∙◌}
 use Rattle.std.specs.Prelude.{Contains}
 use Rattle.kr_config.specs.Kept.{Row, plugins_in, rows_of}
 use Rattle.kr_kms.specs.declared.seeds.SeedRow.{SeedRow}
@@ -8,7 +8,8 @@ use Rattle.kr_provider.proofs.AskedLists.{names_stay}
 use Rattle.kr_fleet.specs.LoadCalls.{plugin_names}
 use Rattle.kr_fleet.proofs.Bringing.{keeps_reload, reload_holds, seeds_tell}
 use Rattle.kr_fleet.proofs.Renewed.{compared_asks, published, renewed_asks, unpublished}
-use Rattle.kr_fleet.proofs.Spending.{reload_spends}
+use Rattle.kr_rollout.specs.declared.event.Event.TheVariants as event
+use Rattle.kr_rollout.proofs.PartsAdd.{entry_within, nothing_within, same_within}
 use Rattle.kr_fleet.proofs.refreshing.renew.Goals as goal
 
 pub has_changed-requires : goal.has_changed-requires
@@ -109,7 +110,24 @@ returns-in-Ok-act-clause-holds g c = reload_holds (g.A.Acts.caller c.args.acts.n
     (g.A.Acts.caller c.act.new.self) c.args.replica c.in-Ok-publish.published
     _ c.in-Ok-act.answer c.in-Ok-act.ensures.acted
 
-pub returns-in-Ok-act-clause-budget : goal.returns-in-Ok-act-clause-budget
-returns-in-Ok-act-clause-budget g c = reload_spends (g.A.Acts.caller c.args.acts.now)
-    (g.A.Acts.caller c.act.new.self) c.args.replica c.in-Ok-publish.published
-    _ c.in-Ok-act.answer c.in-Ok-act.ensures.acted
+pub returns-in-Err-clause-adds : goal.returns-in-Err-clause-adds
+returns-in-Err-clause-adds g c = nothing_within 1 1 [] (g.A.Acts.caller c.args.acts.now)
+
+pub returns-then-not-changed-clause-adds : goal.returns-then-not-changed-clause-adds
+returns-then-not-changed-clause-adds g c = nothing_within 1 1 [] (g.A.Acts.caller c.args.acts.now)
+
+pub returns-in_default-clause-adds : goal.returns-in_default-clause-adds
+returns-in_default-clause-adds g c = nothing_within 1 1 [] (g.A.Acts.caller c.args.acts.now)
+
+pub returns-in-Err-publish-clause-adds : goal.returns-in-Err-publish-clause-adds
+returns-in-Err-publish-clause-adds g c = nothing_within 1 1 [] (g.A.Acts.caller c.args.acts.now)
+
+pub returns-in-Ok-act-clause-adds : goal.returns-in-Ok-act-clause-adds
+returns-in-Ok-act-clause-adds g c = entry_within (g.A.Acts.caller c.args.acts.now)
+    (g.A.Acts.caller c.act.new.self)
+    (event.Reload c.args.replica c.in-Ok-publish.published (Some c.args.generation))
+    c.in-Ok-act.answer c.in-Ok-act.ensures.acted
+
+pub returns-in-Err-act-clause-adds : goal.returns-in-Err-act-clause-adds
+returns-in-Err-act-clause-adds g c = same_within 1 1 []
+    (g.A.Acts.caller c.args.acts.now) (g.A.Acts.caller c.act.new.self) c.in-Err-act.ensures.nothing

@@ -1,10 +1,13 @@
 -- `put`: what was sealed is put.
-use Rattle.std.proofs.Common.{refl, subst}
+use Rattle.std.proofs.Common.{[], ◌∷◌, refl, subst}
 use Rattle.std.specs.Prelude.{IfSome}
 use Rattle.kr_provider.specs.Sealing.{IsSealing}
-use Rattle.kr_fleet.proofs.Keeping.{keeps_put}
+use Rattle.kr_rollout.proofs.KeptByEvents.{keeps_put}
 use Rattle.kr_fleet.proofs.Putting.{put_done, put_spent, put_stays}
 use Rattle.kr_fleet.proofs.Single.{put_holds, some_there}
+use Rattle.kr_rollout.specs.declared.event.Event.TheVariants as event
+use Rattle.kr_rollout.specs.declared.line.Did.TheVariants.{Put}
+use Rattle.kr_rollout.proofs.PartsAdd.{entry_within, nothing_within, same_within}
 use Rattle.kr_fleet.proofs.writing.put.Goals as goal
 
 pub seal-requires-clause-adopted : goal.seal-requires-clause-adopted
@@ -56,3 +59,17 @@ returns-in-Err-act-clause-puts g c = put_spent g.D.Dice.left g.D.Dice.count c.ar
     (g.A.Acts.caller c.args.acts.now) (g.A.Acts.caller c.act.new.self)
     c.args.bench.now.dice c.seal.new.bench.dice c.in-Ok.ensures.sealed
     (record { spent = c.in-Err-act.ensures.spent.0 refl; same = c.in-Err-act.ensures.nothing })
+
+pub returns-in-Err-clause-adds : goal.returns-in-Err-clause-adds
+returns-in-Err-clause-adds g c = nothing_within 1 0
+    (Put c.args.path c.args.resource c.args.plain ∷ []) (g.A.Acts.caller c.args.acts.now)
+
+pub returns-in-Ok-act-clause-adds : goal.returns-in-Ok-act-clause-adds
+returns-in-Ok-act-clause-adds g c = entry_within (g.A.Acts.caller c.args.acts.now)
+    (g.A.Acts.caller c.act.new.self) (event.Put c.args.path c.args.resource c.args.plain c.in-Ok.stored)
+    c.in-Ok-act.answer c.in-Ok-act.ensures.acted
+
+pub returns-in-Err-act-clause-adds : goal.returns-in-Err-act-clause-adds
+returns-in-Err-act-clause-adds g c = same_within 1 0
+    (Put c.args.path c.args.resource c.args.plain ∷ [])
+    (g.A.Acts.caller c.args.acts.now) (g.A.Acts.caller c.act.new.self) c.in-Err-act.ensures.nothing

@@ -1,12 +1,15 @@
 -- `write`: its stages, one behind another.
-use Rattle.std.proofs.Common.{ap, inl, refl, subst, sym, ◌∙◌, ◌≤◌}
+use Rattle.std.proofs.Common.{[], ◌∷◌, arith, ap, inl, refl, subst, sym, ◌∙◌, ◌≤◌}
 use Rattle.kr_base.specs.Rules.{IsPath, IsResource}
 use Rattle.kr_provider.specs.KeyPages.{size_of}
 use Rattle.kr_provider.specs.Names.{names_of}
-use Rattle.kr_fleet.proofs.Keeping.{keeps_both}
-use Rattle.kr_fleet.proofs.Nexts.{serves}
+use Rattle.kr_rollout.proofs.KeptByEvents.{keeps_both}
+use Rattle.kr_rollout.proofs.Nexts.{serves}
 use Rattle.kr_fleet.proofs.Putting.{writes_held}
 use Rattle.kr_fleet.proofs.Single.{some_there}
+use Rattle.kr_rollout.specs.declared.line.Did.TheVariants.{Put}
+use Rattle.kr_rollout.specs.Parts.{AddsWithin}
+use Rattle.kr_rollout.proofs.PartsAdd.{held_within, nothing_within, within_more}
 use Rattle.kr_fleet.proofs.writing.write.Goals as goal
 
 pub returns-in_default-clause-writes : goal.returns-in_default-clause-writes
@@ -74,3 +77,32 @@ returns-clause-pages g c =
 pub returns-clause-place : goal.returns-clause-place
 returns-clause-place g c =
     c.let_go.ensures.place ∙ c.put-written.ensures.place ∙ c.in-Ok-adopt.ensures.place
+
+pub returns-in_default-clause-adds : goal.returns-in_default-clause-adds
+returns-in_default-clause-adds g c = nothing_within 3 0
+    (Put c.args.path.now c.args.resource.now c.args.plain ∷ [])
+    (g.A.Acts.caller c.args.acts.now)
+
+pub returns-in_default-copy-clause-adds : goal.returns-in_default-copy-clause-adds
+returns-in_default-copy-clause-adds g c = nothing_within 3 0
+    (Put c.args.path.now c.args.resource.now c.args.plain ∷ [])
+    (g.A.Acts.caller c.args.acts.now)
+
+pub returns-in-Err-clause-adds : goal.returns-in-Err-clause-adds
+returns-in-Err-clause-adds g c = within_more 1 3 0 0
+    (Put c.args.path.now c.args.resource.now c.args.plain ∷ [])
+    (g.A.Acts.caller c.args.acts.now) (g.A.Acts.caller c.adopt.new.acts) (omega arith) (omega arith)
+    c.in-Err.ensures.adds
+
+pub returns-clause-adds : goal.returns-clause-adds
+returns-clause-adds g c =
+    let adopted = g.A.Acts.caller c.adopt.new.acts in
+    let acted = g.A.Acts.caller c.put-written.new.acts in
+    held_within 0 (Put c.args.path.now c.args.resource.now c.args.plain ∷ [])
+    (g.A.Acts.caller c.args.acts.now) adopted acted (g.A.Acts.caller c.let_go.new.acts)
+    c.in-Ok-adopt.ensures.adds
+    (subst (λ p. AddsWithin 1 0 (Put p c.args.resource.now c.args.plain ∷ []) adopted acted)
+    c.in-Ok-copy.ensures
+    (subst (λ r. AddsWithin 1 0 (Put c.in-Ok-copy.path r c.args.plain ∷ []) adopted acted)
+    c.in-Ok.ensures c.put-written.ensures.adds))
+    c.let_go.ensures.adds

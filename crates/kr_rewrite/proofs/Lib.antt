@@ -1,0 +1,9 @@
+pub mod Asked
+pub mod BetweenSteps
+pub mod Covering
+pub mod Growing
+pub mod Looking
+pub mod Options
+pub mod Replacing
+pub mod Rewriting
+pub mod Walking

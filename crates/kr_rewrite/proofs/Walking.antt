@@ -1,0 +1,226 @@
+-- Steps one behind another, and what is counted of them.
+use Rattle.std.proofs.Common.{◌≡◌, ℕ, ◌+◌, ◌-◌, ◌^◌, Bool, true, false, cond, List, [], ◌∷◌, ◌++◌, min, Option, Result, Ok, Err, refl, sym, ap, subst, ◌∙◌, arith}
+use Rattle.std.specs.Prelude.{All, count_by}
+use Rattle.std.proofs.lemmas.List.Elements.{All-nil, All-cons}
+use Rattle.std.proofs.lemmas.List.Sums.{sum_by-append, sum_by-cons}
+use Rattle.kr_kms.specs.Calls.{Link}
+use Rattle.kr_kms.specs.Truth.{Truth}
+use Rattle.kr_rollout.specs.declared.call.CallNo.{CallNo}
+use Rattle.kr_rollout.specs.Acting.{Caller}
+use Rattle.kr_rewrite.specs.Drives.{Counts, FindsRow, IsSettled, Settles, Walks, counted, is_changed, is_fresh, is_left, is_rewritten, last_of, path_of}
+use Rattle.kr_rewrite.specs.Rewrites.{IsStep}
+use Rattle.kr_rewrite.specs.declared.outcome.Report.{Report}
+use Rattle.kr_rewrite.specs.declared.outcome.Step.{Step}
+use Rattle.kr_rewrite.specs.declared.outcome.Step.TheVariants as step
+use Rattle.kr_rewrite.specs.inner.Stages.{CountsStep, one_more}
+
+-- ---- the path of the last step
+
+pub last_more : (above : List ℕ) (steps : List Step) (taken : Step)
+    → last_of above (steps ++ taken ∷ []) ≡ path_of (last_of above steps) taken
+last_more above [] taken = refl
+last_more above (first ∷ steps) taken = last_more (path_of above first) steps taken
+
+-- ---- counts
+
+module _ (p : Step → Bool) (steps : List Step) (taken : Step) (m : ℕ)
+    (is : m ≡ counted (count_by p steps)) where
+  count_more : count_by p (steps ++ taken ∷ []) ≡ count_by p steps + cond (p taken) 1 0
+  count_more = omega (
+    arith,
+    sum_by-append (λ x. cond (p x) 1 0) steps (taken ∷ []),
+    sum_by-cons (λ x. cond (p x) 1 0) taken [],
+  )
+
+  counts_it : p taken ≡ true → one_more m ≡ counted (count_by p (steps ++ taken ∷ []))
+  counts_it here =
+      let one : cond (p taken) 1 0 ≡ 1 = ap {B = ℕ} (λ b. cond b 1 0) here in
+      by m (count_by p steps) (count_by p (steps ++ taken ∷ [])) is (omega (arith, count_more, one))
+    where
+      by : (m n k : ℕ) → m ≡ counted n → k ≡ n + 1 → one_more m ≡ counted k
+      by m n k e f = grind arith
+
+  counts_still : p taken ≡ false → m ≡ counted (count_by p (steps ++ taken ∷ []))
+  counts_still not_here =
+      let none : cond (p taken) 1 0 ≡ 0 = ap {B = ℕ} (λ b. cond b 1 0) not_here in
+      let same : count_by p steps ≡ count_by p (steps ++ taken ∷ []) =
+      omega (arith, count_more, none) in
+      is ∙ ap counted same
+
+module _ (above : List ℕ) (steps : List Step) (old new : Report) (c : Counts above steps old) where
+  counts_rewritten : (path : List ℕ)
+      → new ≡ record old { rewritten = one_more old.rewritten; last = path }
+      → Counts above (steps ++ step.Rewritten path ∷ []) new
+  counts_rewritten path e =
+      let s = step.Rewritten path in record {
+        rewritten = ap (λ (r : Report). r.rewritten) e
+            ∙ counts_it is_rewritten steps s old.rewritten c.rewritten refl;
+        fresh = ap (λ (r : Report). r.fresh) e
+            ∙ counts_still is_fresh steps s old.fresh c.fresh refl;
+        changed = ap (λ (r : Report). r.changed) e
+            ∙ counts_still is_changed steps s old.changed c.changed refl;
+        left = ap (λ (r : Report). r.left) e ∙ counts_still is_left steps s old.left c.left refl;
+        last = ap (λ (r : Report). r.last) e ∙ sym (last_more above steps s);
+      }
+
+  counts_fresh : (path : List ℕ) → new ≡ record old { fresh = one_more old.fresh; last = path }
+      → Counts above (steps ++ step.Fresh path ∷ []) new
+  counts_fresh path e =
+      let s = step.Fresh path in record {
+        rewritten = ap (λ (r : Report). r.rewritten) e
+            ∙ counts_still is_rewritten steps s old.rewritten c.rewritten refl;
+        fresh = ap (λ (r : Report). r.fresh) e
+            ∙ counts_it is_fresh steps s old.fresh c.fresh refl;
+        changed = ap (λ (r : Report). r.changed) e
+            ∙ counts_still is_changed steps s old.changed c.changed refl;
+        left = ap (λ (r : Report). r.left) e ∙ counts_still is_left steps s old.left c.left refl;
+        last = ap (λ (r : Report). r.last) e ∙ sym (last_more above steps s);
+      }
+
+  counts_changed : (path : List ℕ)
+      → new ≡ record old { changed = one_more old.changed; last = path }
+      → Counts above (steps ++ step.Changed path ∷ []) new
+  counts_changed path e =
+      let s = step.Changed path in record {
+        rewritten = ap (λ (r : Report). r.rewritten) e
+            ∙ counts_still is_rewritten steps s old.rewritten c.rewritten refl;
+        fresh = ap (λ (r : Report). r.fresh) e
+            ∙ counts_still is_fresh steps s old.fresh c.fresh refl;
+        changed = ap (λ (r : Report). r.changed) e
+            ∙ counts_it is_changed steps s old.changed c.changed refl;
+        left = ap (λ (r : Report). r.left) e ∙ counts_still is_left steps s old.left c.left refl;
+        last = ap (λ (r : Report). r.last) e ∙ sym (last_more above steps s);
+      }
+
+  counts_left : (path : List ℕ) → new ≡ record old { left = one_more old.left; last = path }
+      → Counts above (steps ++ step.Left path ∷ []) new
+  counts_left path e =
+      let s = step.Left path in record {
+        rewritten = ap (λ (r : Report). r.rewritten) e
+            ∙ counts_still is_rewritten steps s old.rewritten c.rewritten refl;
+        fresh = ap (λ (r : Report). r.fresh) e
+            ∙ counts_still is_fresh steps s old.fresh c.fresh refl;
+        changed = ap (λ (r : Report). r.changed) e
+            ∙ counts_still is_changed steps s old.changed c.changed refl;
+        left = ap (λ (r : Report). r.left) e ∙ counts_it is_left steps s old.left c.left refl;
+        last = ap (λ (r : Report). r.last) e ∙ sym (last_more above steps s);
+      }
+
+pub counts_more : (above : List ℕ) (steps : List Step) (taken : Step) (found : Bool)
+    (old new : Report) → CountsStep old taken found new → found ≡ true → Counts above steps old
+    → Counts above (steps ++ taken ∷ []) new
+counts_more above steps step.End found old new s is c = cc (s.0, is)
+counts_more above steps (step.Rewritten path) found old new s is c =
+    counts_rewritten above steps old new c path s.1
+counts_more above steps (step.Fresh path) found old new s is c =
+    counts_fresh above steps old new c path s.1
+counts_more above steps (step.Changed path) found old new s is c =
+    counts_changed above steps old new c path s.1
+counts_more above steps (step.Left path) found old new s is c =
+    counts_left above steps old new c path s.1
+
+-- the step that isn't counted is the end
+pub record IsEnd (taken : Step) (old new : Report) : Type 0 where
+  pub end : taken ≡ step.End
+  pub same : new ≡ old
+
+pub ends_there : (taken : Step) (found : Bool) (old new : Report) → CountsStep old taken found new
+    → found ≡ false → IsEnd taken old new
+ends_there step.End found old new s is = record { end = refl; same = s.1 }
+ends_there (step.Rewritten path) found old new s is = cc (s.0, is)
+ends_there (step.Fresh path) found old new s is = cc (s.0, is)
+ends_there (step.Changed path) found old new s is = cc (s.0, is)
+ends_there (step.Left path) found old new s is = cc (s.0, is)
+
+pub finds_row : (taken : Step) (found : Bool) (old new : Report) → CountsStep old taken found new
+    → found ≡ true → FindsRow taken
+finds_row step.End found old new s is = cc (s.0, is)
+finds_row (step.Rewritten path) found old new s is = tt
+finds_row (step.Fresh path) found old new s is = tt
+finds_row (step.Changed path) found old new s is = tt
+finds_row (step.Left path) found old new s is = tt
+
+-- the report's last path is the step's
+pub last_is : (taken : Step) (found : Bool) (old new : Report) → CountsStep old taken found new
+    → found ≡ true → new.last ≡ path_of old.last taken
+last_is step.End found old new s is = cc (s.0, is)
+last_is (step.Rewritten path) found old new s is = ap (λ (r : Report). r.last) s.1
+last_is (step.Fresh path) found old new s is = ap (λ (r : Report). r.last) s.1
+last_is (step.Changed path) found old new s is = ap (λ (r : Report). r.last) s.1
+last_is (step.Left path) found old new s is = ap (λ (r : Report). r.last) s.1
+
+-- ---- steps
+
+module _ {L D : Type 0} (truth : Truth) (link : L → Link) (left : D → Option (List ℕ))
+    (count : D → ℕ) (replica : ℕ) where
+  pub walks_more : (above : List ℕ) (steps : List Step) (taken : Step) (old middle new : Caller)
+      (olds mids news : List L) (dice between after : D)
+      → Walks truth link left count replica above steps old olds dice middle mids between
+      → FindsRow taken
+      → IsStep truth link left count replica (last_of above steps) middle mids between (Ok taken)
+      new news after
+      → Walks truth link left count replica above (steps ++ taken ∷ []) old olds dice new news
+      after
+  walks_more above [] taken old middle new olds mids news dice between after w f s = record {
+    middle = new;
+    mids = news;
+    between = after;
+    finds = f;
+    goes = subst (λ (c : Caller). IsStep truth link left count replica above c olds dice (Ok taken)
+        new news after) w.0
+        (subst (λ l. IsStep truth link left count replica above middle l dice (Ok taken) new news
+        after) w.1
+        (subst (λ d. IsStep truth link left count replica above middle mids d (Ok taken) new news
+        after) w.2 s));
+    behind = (refl, refl, refl);
+  }
+  walks_more above (first ∷ steps) taken old middle new olds mids news dice between after w f s =
+      record {
+        middle = w.middle;
+        mids = w.mids;
+        between = w.between;
+        finds = w.finds;
+        goes = w.goes;
+        behind = walks_more (path_of above first) steps taken w.middle middle new w.mids mids news
+            w.between between after w.behind f s;
+      }
+
+  settled_one : (taken : Step) → FindsRow taken → is_left taken ≡ false → is_changed taken ≡ false
+      → IsSettled taken
+  settled_one step.End f l c = absurd f
+  settled_one (step.Rewritten path) f l c = tt
+  settled_one (step.Fresh path) f l c = tt
+  settled_one (step.Changed path) f l c = cc
+  settled_one (step.Left path) f l c = cc
+
+  none_counted : (b : Bool) (n : ℕ) → cond b 1 0 + n ≡ 0 → b ≡ false
+  none_counted true n e = absurd (omega (arith, e))
+  none_counted false n e = refl
+
+  settles_all : (above : List ℕ) (steps : List Step) (old new : Caller) (olds news : List L)
+      (dice after : D)
+      → Walks truth link left count replica above steps old olds dice new news after
+      → count_by is_left steps ≡ 0 → count_by is_changed steps ≡ 0 → All IsSettled steps
+  settles_all above [] old new olds news dice after w l c = All-nil IsSettled
+  settles_all above (taken ∷ steps) old new olds news dice after w l c =
+      let one_left : cond (is_left taken) 1 0 + count_by is_left steps ≡ 0 =
+      omega (arith, l, sum_by-cons (λ x. cond (is_left x) 1 0) taken steps) in
+      let one_changed : cond (is_changed taken) 1 0 + count_by is_changed steps ≡ 0 =
+      omega (arith, c, sum_by-cons (λ x. cond (is_changed x) 1 0) taken steps) in
+      All-cons IsSettled taken steps
+      (settled_one taken w.finds (none_counted (is_left taken) (count_by is_left steps) one_left)
+      (none_counted (is_changed taken) (count_by is_changed steps) one_changed))
+      (settles_all (path_of above taken) steps w.middle new w.mids news w.between after w.behind
+      (omega (arith, one_left)) (omega (arith, one_changed)))
+
+  none_by : (m n : ℕ) → m ≡ counted n → m ≡ 0 → n ≡ 0
+  none_by m n e z = grind arith
+
+  pub settles : (above : List ℕ) (steps : List Step) (report : Report) (old new : Caller)
+      (olds news : List L) (dice after : D) → Counts above steps report
+      → Walks truth link left count replica above steps old olds dice new news after
+      → Settles steps report
+  settles above steps report old new olds news dice after c w l h =
+      settles_all above steps old new olds news dice after w
+      (none_by report.left (count_by is_left steps) c.left l)
+      (none_by report.changed (count_by is_changed steps) c.changed h)

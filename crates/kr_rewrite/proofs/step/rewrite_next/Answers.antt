@@ -1,0 +1,102 @@
+-- `rewrite_next`: its stages, one behind another.
+use Rattle.std.proofs.Common.{◌⊎◌, ◌≡◌, ◌≤◌, ℕ, List, [], ap, arith, inl, refl, subst, sym, ◌∙◌}
+use Rattle.kr_base.specs.Rules.{IsPath}
+use Rattle.kr_provider.proofs.AskedLists.{asked_none}
+use Rattle.kr_provider.specs.AskedLinks.{AskedOnly}
+use Rattle.kr_provider.specs.KeyPages.{size_of}
+use Rattle.kr_provider.specs.Names.{names_of}
+use Rattle.kr_rollout.proofs.Nexts.{serves}
+use Rattle.kr_rollout.proofs.PartsAdd.{nothing_within, within_behind, within_more}
+use Rattle.kr_rewrite.proofs.Options.{is_there}
+use Rattle.kr_rewrite.proofs.Rewriting.{let_go_to, step_held}
+use Rattle.kr_rewrite.proofs.step.rewrite_next.Goals as goal
+
+pub returns-in_default-clause-steps : goal.returns-in_default-clause-steps
+returns-in_default-clause-steps g c = inl (inl refl, (refl, refl))
+
+pub returns-in_default-clause-adds : goal.returns-in_default-clause-adds
+returns-in_default-clause-adds g c = nothing_within 4 0 [] (g.A.Acts.caller c.args.acts.now)
+
+pub returns-in_default-clause-asked : goal.returns-in_default-clause-asked
+returns-in_default-clause-asked g c = asked_none g.L.Kms.link
+    (names_of g.L.Kms.link c.args.bench.now.links) c.args.bench.now.links
+
+pub returns-in-Err-clause-steps : goal.returns-in-Err-clause-steps
+returns-in-Err-clause-steps g c = inl (c.in-Err.ensures.adopts, (refl, refl))
+
+pub returns-in-Err-clause-adds : goal.returns-in-Err-clause-adds
+returns-in-Err-clause-adds g c = within_more 1 4 0 0 [] (g.A.Acts.caller c.args.acts.now)
+    (g.A.Acts.caller c.adopt.new.acts) (omega arith) (omega arith) c.in-Err.ensures.adds
+
+pub returns-in-Err-clause-honest : goal.returns-in-Err-clause-honest
+returns-in-Err-clause-honest g c = λ told. c.in-Err.ensures.honest g.L.Kms.truth.opens
+
+pub returns-in-Err-clause-asked : goal.returns-in-Err-clause-asked
+returns-in-Err-clause-asked g c = asked_none g.L.Kms.link
+    (names_of g.L.Kms.link c.args.bench.now.links) c.args.bench.now.links
+
+pub take_up-requires-clause-links : goal.take_up-requires-clause-links
+take_up-requires-clause-links g c = serves (g.A.Acts.caller c.args.acts.now).opening.names
+    (names_of g.L.Kms.link c.args.bench.now.links) c.in-Ok-adopt.held.1.rows c.requires.links
+    c.in-Ok-adopt.ensures.known.0.1
+
+pub step-done-requires-clause-path : goal.step-done-requires-clause-path
+step-done-requires-clause-path g c =
+    subst (λ (q : List ℕ). (q ≡ []) ⊎ IsPath q) (sym c.in-Ok.ensures) c.requires.path
+
+pub step-done-requires-clause-held : goal.step-done-requires-clause-held
+step-done-requires-clause-held g c = record {
+  number = c.in-Ok-adopt.held.0;
+  p = c.in-Ok-adopt.held.1;
+  adopted = ap (λ b. b.published) c.take_up.ensures.taken;
+  held = c.in-Ok-adopt.ensures.known.1;
+}
+
+pub let_go-requires : goal.let_go-requires
+let_go-requires g c =
+    record { holds = is_there _ _ (c.step-done.ensures.holds ∙ c.in-Ok-adopt.ensures.known.1) }
+
+pub returns-clause-steps : goal.returns-clause-steps
+returns-clause-steps g c = step_held g.L.Kms.truth g.L.Kms.link g.D.Dice.left g.D.Dice.count
+    c.args.after.now c.in-Ok.copy c.args.replica (g.A.Acts.caller c.args.acts.now)
+    (g.A.Acts.caller c.adopt.new.acts) (g.A.Acts.caller c.step-done.new.acts)
+    (g.A.Acts.caller c.let_go.new.acts) c.args.bench.now.links c.take_up.new.bench.links
+    c.step-done.new.bench.links c.args.bench.now.dice c.take_up.new.bench.dice
+    c.step-done.new.bench.dice c.in-Ok-adopt.held c.take_up.new.bench.published c.step-done.result
+    c.let_go.result c.in-Ok.ensures (ap (λ b. b.links) c.take_up.ensures.taken)
+    (ap (λ b. b.dice) c.take_up.ensures.taken) (ap (λ b. b.published) c.take_up.ensures.taken)
+    c.in-Ok-adopt.ensures.adopts c.step-done.ensures.steps c.let_go.ensures.lets_go
+
+pub returns-clause-path : goal.returns-clause-path
+returns-clause-path g c = let_go_to (g.A.Acts.caller c.step-done.new.acts)
+    (g.A.Acts.caller c.let_go.new.acts) c.step-done.result c.let_go.result
+    c.let_go.ensures.lets_go c.step-done.ensures.path
+
+pub returns-clause-adds : goal.returns-clause-adds
+returns-clause-adds g c = within_behind 3 1 0 0 [] (g.A.Acts.caller c.args.acts.now)
+    (g.A.Acts.caller c.step-done.new.acts) (g.A.Acts.caller c.let_go.new.acts)
+    (within_behind 1 2 0 0 [] (g.A.Acts.caller c.args.acts.now)
+    (g.A.Acts.caller c.adopt.new.acts) (g.A.Acts.caller c.step-done.new.acts)
+    c.in-Ok-adopt.ensures.adds c.step-done.ensures.adds) c.let_go.ensures.adds
+
+pub returns-clause-honest : goal.returns-clause-honest
+returns-clause-honest g c = λ told keeps. c.let_go.ensures.honest g.L.Kms.truth.opens
+    (c.step-done.ensures.honest told (c.in-Ok-adopt.ensures.honest g.L.Kms.truth.opens keeps))
+
+pub returns-clause-asked : goal.returns-clause-asked
+returns-clause-asked g c = subst
+    (λ l. AskedOnly g.L.Kms.link (names_of g.L.Kms.link l) l c.step-done.new.bench.links)
+    (ap (λ b. b.links) c.take_up.ensures.taken) c.step-done.ensures.asked
+
+pub returns-clause-later : goal.returns-clause-later
+returns-clause-later g c = subst
+    (λ d. g.D.Dice.count d ≤ g.D.Dice.count c.step-done.new.bench.dice)
+    (ap (λ b. b.dice) c.take_up.ensures.taken) c.step-done.ensures.later
+
+pub returns-clause-pages : goal.returns-clause-pages
+returns-clause-pages g c =
+    ap (λ b. size_of b.pages) c.step-done.ensures.kept ∙ c.take_up.ensures.pages
+
+pub returns-clause-place : goal.returns-clause-place
+returns-clause-place g c =
+    c.let_go.ensures.place ∙ c.step-done.ensures.place ∙ c.in-Ok-adopt.ensures.place

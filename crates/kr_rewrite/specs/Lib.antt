@@ -1,0 +1,3 @@
+pub mod Rewrites
+pub mod Drives
+pub mod inner

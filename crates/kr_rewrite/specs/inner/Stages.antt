@@ -1,0 +1,101 @@
+-- What parts of a step do.
+use Rattle.std.specs.Prelude.{◌≡◌, ◌⊎◌, ℕ, ◌+◌, ◌-◌, ◌^◌, Bool, true, false, List, min, Option, None, Some, Result, Ok, Err, ⊤}
+use Rattle.kr_kms.specs.Calls.{Link}
+use Rattle.kr_kms.specs.Truth.{Truth, OpenAll}
+use Rattle.kr_provider.specs.Publication.{Publication, list_at}
+use Rattle.kr_provider.specs.Reading.{HasReading, HasSomeReading, data_of}
+use Rattle.kr_store.specs.declared.rows.Row.{Row}
+use Rattle.kr_rollout.specs.declared.answer.Answer.{Answer}
+use Rattle.kr_rollout.specs.declared.answer.Answer.TheVariants as answer
+use Rattle.kr_rollout.specs.declared.event.Event.TheVariants as event
+use Rattle.kr_rollout.specs.declared.opening.Entry.{Entry}
+use Rattle.kr_rollout.specs.declared.call.CallNo.{CallNo}
+use Rattle.kr_rollout.specs.declared.call.CallNo.TheVariants as refusal
+use Rattle.kr_rollout.specs.Acting.{Caller, AddsEntry}
+use Rattle.kr_rollout.specs.Callers.{holding}
+use Rattle.kr_rollout.specs.Calls.{AddsNothing}
+use Rattle.kr_rewrite.specs.Drives.{Drives, IsCut}
+use Rattle.kr_rewrite.specs.Rewrites.{CopiesNothing, Reseals}
+use Rattle.kr_rewrite.specs.declared.outcome.Report.{Report}
+use Rattle.kr_rewrite.specs.declared.outcome.Step.{Step}
+use Rattle.kr_rewrite.specs.declared.outcome.Step.TheVariants as step
+
+-- the seat holds a generation of the configuration that the bench adopted
+pub record HoldsAdopted (published : Option Publication) (own : List Entry) : Type 0 where
+  pub number : ℕ
+  pub p : Publication
+  pub adopted : published ≡ Some p
+  pub held : holding own ≡ Some (number, p)
+
+-- ---- the next row
+
+abbrev pub AnswersAfter : Answer → Type 0
+AnswersAfter (answer.Found row) = ⊤
+AnswersAfter answer.Absent = ⊤
+AnswersAfter answer.NoMemory = ⊤
+AnswersAfter given = ⊥
+
+abbrev pub FindsBy : Answer → Result (Option Row) CallNo → Type 0
+FindsBy (answer.Found row) result = result ≡ Ok (Some row)
+FindsBy answer.Absent result = result ≡ Ok None
+FindsBy answer.NoMemory result = result ≡ Err refusal.NoMemory
+FindsBy given result = ⊥
+
+abbrev pub LooksAbove : (above : List ℕ) → Caller → Result (Option Row) CallNo → Caller → Type 0
+LooksAbove above old (Ok (Some row)) new = AddsEntry old (event.After above) (answer.Found row) new
+LooksAbove above old (Ok None) new = AddsEntry old (event.After above) answer.Absent new
+LooksAbove above old (Err refusal.NoMemory) new =
+    AddsEntry old (event.After above) answer.NoMemory new
+LooksAbove above old (Err refusal.Spent) new = AddsNothing old new
+LooksAbove above old (Err why) new = ⊥
+
+-- ---- the row in its place
+
+abbrev pub AnswersReplace : Answer → Type 0
+AnswersReplace (answer.Written revision) = ⊤
+AnswersReplace (answer.Changed revision) = ⊤
+AnswersReplace answer.StoreFailed = ⊤
+AnswersReplace (answer.StoreFull needed) = ⊤
+AnswersReplace answer.NoMemory = ⊤
+AnswersReplace given = ⊥
+
+-- the row reads as the data: with some source, and by the truth that is told
+pub record ReadsData (truth : Truth) (p : Publication) (row : Row) (plain : List ℕ)
+    : Type 0 where
+  pub some : HasSomeReading (list_at p row.resource) row.path row.stored (data_of plain)
+  pub told : truth.told ≡ true → OpenAll truth.opens p.seeds
+      → HasReading truth.opens (list_at p row.resource) row.path row.stored (data_of plain)
+
+-- the data of a stale row are sealed anew, unless there is no memory for a copy of its path
+abbrev pub ResealsRow : {D : Type 0} → (D → Option (List ℕ)) → (D → ℕ) → Publication → Row
+    → (plain : List ℕ) → Caller → D → Result Step CallNo → Caller → D → Type 0
+ResealsRow left count p row plain old dice result new after =
+    Reseals left count p row plain old dice result new after
+    ⊎ CopiesNothing old dice result new after
+
+-- ---- a drive
+
+-- one more step is counted
+abbrev pub one_more : ℕ → ℕ
+one_more n = min (n + 1) (2 ^ 64 - 1)
+
+abbrev pub CountsStep : Report → Step → Bool → Report → Type 0
+CountsStep old step.End result new = (result ≡ false) × (new ≡ old)
+CountsStep old (step.Rewritten path) result new = (result ≡ true)
+    × (new ≡ record old { rewritten = one_more old.rewritten; last = path })
+CountsStep old (step.Fresh path) result new = (result ≡ true)
+    × (new ≡ record old { fresh = one_more old.fresh; last = path })
+CountsStep old (step.Changed path) result new = (result ≡ true)
+    × (new ≡ record old { changed = one_more old.changed; last = path })
+CountsStep old (step.Left path) result new = (result ≡ true)
+    × (new ≡ record old { left = one_more old.left; last = path })
+
+-- steps up to the end, or to the one that was cut short
+module _ {L D : Type 0} (truth : Truth) (link : L → Link) (left : D → Option (List ℕ))
+    (count : D → ℕ) (replica : ℕ) where
+  abbrev pub GoesOn : (above : List ℕ) → Caller → List L → D → Result Report (Report × CallNo)
+      → Caller → List L → D → Type 0
+  GoesOn above old olds dice (Ok report) new news after =
+      Drives truth link left count replica above old olds dice report new news after
+  GoesOn above old olds dice (Err cut) new news after =
+      IsCut truth link left count replica above old olds dice cut.1 cut.0 new news after

@@ -1,0 +1,194 @@
+//! The row that was found, rewritten where it is stale.
+ghost use Rattle.std.specs.Prelude.{◌≡◌, ◌≤◌, [], length, IfOk, IfSome, IsSome, Some};
+ghost use Rattle.kr_base.specs.Limits.{path_limit, value_limit};
+ghost use Rattle.kr_provider.specs.AskedLinks.{AskedOnly};
+ghost use Rattle.kr_provider.specs.Names.{names_of};
+ghost use Rattle.kr_provider.specs.Publication.{list_at, writer_at};
+ghost use Rattle.kr_provider.specs.Sealing.{IsSealing, Seals};
+ghost use Rattle.kr_provider.specs.Unsealing.{UnsealsBy};
+ghost use Rattle.kr_store.specs.Rows.{IsRow};
+ghost use Rattle.kr_rollout.specs.Callers.{found_in, holding};
+ghost use Rattle.kr_rollout.specs.Calls.{KeepsToldHonesty};
+ghost use Rattle.kr_rollout.specs.Parts.{AddsWithin};
+ghost use Rattle.kr_rewrite.specs.Rewrites.{CopiesNothing, IsStepTo, Replaces, ReplacesBy, Reseals, Rewrites, unread_step, unsealed_step};
+ghost use Rattle.kr_rewrite.specs.inner.Stages.{AnswersReplace, HoldsAdopted, ReadsData, ResealsRow};
+
+use crate::outcome::Step;
+use kr_base::{Bytes, Dice, Spent, Text};
+use kr_kms::Kms;
+use kr_provider::{Bench, Opened, SealNo, UnsealNo};
+use kr_rollout::{Acts, Answer, CallNo, Event};
+use kr_store::Row;
+use std::alloc::Global;
+
+/// Rewrites the row that was found, by the configuration that the bench adopted.
+pub(crate) fn rewrite<A: Acts, L: Kms, D: Dice>(
+    alloc: Global,
+    acts: &mut A,
+    bench: &mut Bench<L, D>,
+    row: &Row,
+) -> Result<Step, CallNo>
+    requires held { HoldsAdopted bench.old.published (A.caller acts.old).mine }
+    requires found { found_in (A.caller acts.old).mine ≡ Some row.now }
+    requires rules { IsRow (A.caller acts.old).opening.format row.now }
+    ensures rewrites { IfSome bench.old.published (λ p. Rewrites L.truth L.link D.left D.count p
+        row.now (A.caller acts.old) bench.old.links bench.old.dice result (A.caller acts.new)
+        bench.new.links bench.new.dice) }
+    ensures path { IfOk result IsStepTo }
+    ensures adds { AddsWithin 1 0 [] (A.caller acts.old) (A.caller acts.new) }
+    ensures honest { KeepsToldHonesty L.truth (A.caller acts.old) (A.caller acts.new) }
+    ensures holds { holding (A.caller acts.new).mine ≡ holding (A.caller acts.old).mine }
+    ensures asked { AskedOnly L.link (names_of L.link bench.old.links) bench.old.links
+        bench.new.links }
+    ensures later { D.count bench.old.dice ≤ D.count bench.new.dice }
+    ensures kept { bench.new
+        ≡ record bench.old {
+          links = bench.new.links;
+          dice = bench.new.dice;
+          cache = bench.new.cache;
+        } }
+    ensures place { A.place acts.new ≡ A.place acts.old }
+{
+    let Ok(path) = Text::copy(alloc, row.path.as_str()) else {
+        return Err(CallNo::NoMemory);
+    };
+    let opened = match unseal(alloc, bench, row) {
+        Ok(opened) => opened,
+        Err(why) => return unread_step(path, why),
+    };
+    let Opened { plain, stale } = opened;
+    if !stale {
+        return Ok(Step::Fresh(path));
+    }
+    reseal(alloc, acts, bench, row, path, plain)
+}
+
+/// Seals the row's data anew, and offers them in its place.
+fn reseal<A: Acts, L: Kms, D: Dice>(
+    alloc: Global,
+    acts: &mut A,
+    bench: &mut Bench<L, D>,
+    row: &Row,
+    path: Text,
+    plain: Bytes,
+) -> Result<Step, CallNo>
+    requires held { HoldsAdopted bench.old.published (A.caller acts.old).mine }
+    requires found { found_in (A.caller acts.old).mine ≡ Some row.now }
+    requires rules { IsRow (A.caller acts.old).opening.format row.now }
+    requires path { path ≡ row.now.path }
+    requires reads { IfSome bench.old.published (λ p. ReadsData L.truth p row.now plain) }
+    ensures reseals { IfSome bench.old.published (λ p. ResealsRow D.left D.count p row.now plain
+        (A.caller acts.old) bench.old.dice result (A.caller acts.new) bench.new.dice) }
+    ensures path { IfOk result IsStepTo }
+    ensures adds { AddsWithin 1 0 [] (A.caller acts.old) (A.caller acts.new) }
+    ensures honest { KeepsToldHonesty L.truth (A.caller acts.old) (A.caller acts.new) }
+    ensures holds { holding (A.caller acts.new).mine ≡ holding (A.caller acts.old).mine }
+    ensures later { D.count bench.old.dice ≤ D.count bench.new.dice }
+    ensures kept { bench.new ≡ record bench.old { dice = bench.new.dice } }
+    ensures place { A.place acts.new ≡ A.place acts.old }
+{
+    let Ok(copy) = Text::copy(alloc, row.path.as_str()) else {
+        return Err(CallNo::NoMemory);
+    };
+    let stored = match seal(alloc, bench, row, &plain) {
+        Ok(stored) => stored,
+        Err(why) => return unsealed_step(path, why),
+    };
+    acts.known();
+    match acts.act(Event::Replace {
+        path: copy,
+        revision: row.revision,
+        stored,
+    }) {
+        Ok(answer) => replaced_step(path, answer),
+        Err(Spent) => Err(CallNo::Spent),
+    }
+}
+
+/// What the row's value holds, by the configuration that the bench adopted.
+fn unseal<L: Kms, D: Dice>(
+    alloc: Global,
+    bench: &mut Bench<L, D>,
+    row: &Row,
+) -> Result<Opened, UnsealNo>
+    requires adopted { IsSome bench.old.published }
+    requires path { length row.now.path ≤ path_limit }
+    requires fits { length row.now.stored ≤ value_limit }
+    ensures opened { IfSome bench.old.published (λ p. UnsealsBy L.truth L.link p.seeds
+        (list_at p row.now.resource) row.now.path row.now.stored bench.old.links result
+        bench.new.links) }
+    ensures asked { AskedOnly L.link (names_of L.link bench.old.links) bench.old.links
+        bench.new.links }
+    ensures kept { bench.new
+        ≡ record bench.old { links = bench.new.links; cache = bench.new.cache } }
+{
+    bench.unseal(
+        alloc,
+        row.resource.as_str(),
+        row.path.as_str(),
+        row.stored.as_slice(),
+    )
+}
+
+/// Seals the data for the row's place, by the configuration that the bench adopted.
+fn seal<L: Kms, D: Dice>(
+    alloc: Global,
+    bench: &mut Bench<L, D>,
+    row: &Row,
+    plain: &Bytes,
+) -> Result<Bytes, SealNo>
+    requires adopted { IsSome bench.old.published }
+    requires path { length row.now.path ≤ path_limit }
+    ensures sealed { IfSome bench.old.published (λ p. Seals D.left D.count p.seeds
+        (writer_at p row.now.resource) row.now.path plain.now bench.old.dice bench.new.dice
+        result) }
+    ensures sealing { IfSome bench.old.published (λ p. IfOk result
+        (λ value. IsSealing p row.now.resource row.now.path plain.now value)) }
+    ensures later { D.count bench.old.dice ≤ D.count bench.new.dice }
+    ensures kept { bench.new ≡ record bench.old { dice = bench.new.dice } }
+{
+    bench.seal(
+        alloc,
+        row.resource.as_str(),
+        row.path.as_str(),
+        plain.as_slice(),
+    )
+}
+
+/// What became of the row.
+fn replaced_step(path: Text, answer: Answer) -> Result<Step, CallNo>
+    requires { AnswersReplace answer }
+    ensures { ReplacesBy path answer result }
+{
+    match answer {
+        Answer::Written { revision: _ } => Ok(Step::Rewritten(path)),
+        Answer::Changed { revision: _ } => Ok(Step::Changed(path)),
+        Answer::StoreFailed => Err(CallNo::StoreFailed),
+        Answer::StoreFull { needed } => Err(CallNo::StoreFull { needed }),
+        Answer::NoMemory => Err(CallNo::NoMemory),
+        _ => unreachable!(),
+    }
+}
+
+/// What a row is whose value isn't read.
+fn unread_step(path: Text, why: UnsealNo) -> Result<Step, CallNo>
+    ensures { result ≡ unread_step path why }
+{
+    match why {
+        UnsealNo::Refused(_why) => Ok(Step::Left(path)),
+        UnsealNo::PluginFailed { name } => Err(CallNo::PluginFailed { name }),
+        UnsealNo::NoMemory => Err(CallNo::NoMemory),
+    }
+}
+
+/// What a row is whose data can't be sealed anew.
+fn unsealed_step(path: Text, why: SealNo) -> Result<Step, CallNo>
+    ensures { result ≡ unsealed_step path why }
+{
+    match why {
+        SealNo::LooksEncrypted => Ok(Step::Left(path)),
+        SealNo::TooLarge { length: _ } => Ok(Step::Left(path)),
+        SealNo::DiceFailed => Err(CallNo::DiceFailed),
+        SealNo::NoMemory => Err(CallNo::NoMemory),
+    }
+}

@@ -1,0 +1,130 @@
+//! One step: the next live row above a path.
+ghost use Rattle.std.specs.Prelude.{◌≡◌, ◌⊎◌, ◌<◌, ◌≤◌, length, None, Some, IfOk, IfSome, IsSome, []};
+ghost use Rattle.kr_base.specs.Rules.{IsPath};
+ghost use Rattle.kr_provider.specs.AskedLinks.{AskedOnly};
+ghost use Rattle.kr_provider.specs.KeyPages.{size_of};
+ghost use Rattle.kr_provider.specs.Names.{names_of};
+ghost use Rattle.kr_store.specs.Rows.{IsRow};
+ghost use Rattle.kr_rollout.specs.Callers.{found_in, holding};
+ghost use Rattle.kr_rollout.specs.Calls.{AreServed, IsIdle, KeepsHonesty, KeepsToldHonesty};
+ghost use Rattle.kr_rollout.specs.Parts.{AddsWithin};
+ghost use Rattle.kr_rewrite.specs.Rewrites.{IsStep, IsStepTo, Steps};
+ghost use Rattle.kr_rewrite.specs.inner.Stages.{AnswersAfter, FindsBy, HoldsAdopted, LooksAbove};
+
+use crate::outcome::Step;
+use crate::row::rewrite;
+use kr_base::{Dice, Shared, Spent, Text};
+use kr_kms::Kms;
+use kr_provider::Bench;
+use kr_rollout::{Acts, Answer, CallNo, Event, adopt, let_go, take_up};
+use kr_store::Row;
+use std::alloc::Global;
+
+/// Rewrites the live row with the least path above this one, which may be empty, where that row is
+/// stale, by the replica's current generation, which the seat holds meanwhile.
+pub fn rewrite_next<A: Acts, L: Kms, D: Dice>(
+    alloc: Global,
+    acts: &mut A,
+    replica: u32,
+    bench: &mut Bench<L, D>,
+    after: &str,
+) -> Result<Step, CallNo>
+    requires replica { replica < length (A.caller acts.old).opening.replicas }
+    requires idle { holding (A.caller acts.old).mine ≡ None }
+    requires path { (after.now ≡ []) ⊎ IsPath after.now }
+    requires links { AreServed (A.caller acts.old).opening.names (names_of L.link bench.old.links) }
+    requires pages { 64 ≤ size_of bench.old.pages }
+    ensures steps { IsStep L.truth L.link D.left D.count replica after.now (A.caller acts.old)
+        bench.old.links bench.old.dice result (A.caller acts.new) bench.new.links bench.new.dice }
+    ensures path { IfOk result IsStepTo }
+    ensures adds { AddsWithin 4 0 [] (A.caller acts.old) (A.caller acts.new) }
+    ensures honest { KeepsToldHonesty L.truth (A.caller acts.old) (A.caller acts.new) }
+    ensures idle { IsIdle result (A.caller acts.new) }
+    ensures asked { AskedOnly L.link (names_of L.link bench.old.links) bench.old.links
+        bench.new.links }
+    ensures later { D.count bench.old.dice ≤ D.count bench.new.dice }
+    ensures pages { size_of bench.new.pages ≡ size_of bench.old.pages }
+    ensures place { A.place acts.new ≡ A.place acts.old }
+{
+    let Ok(copy) = Text::copy(alloc, after) else {
+        return Err(CallNo::NoMemory);
+    };
+    acts.known();
+    let held = match adopt(acts, replica) {
+        Ok(held) => held,
+        Err(why) => return Err(why),
+    };
+    take_up(bench, held.1);
+    let done = step(alloc, acts, bench, copy);
+    let_go(acts, done)
+}
+
+/// Finds the next row above, and rewrites it by the configuration that the bench adopted.
+fn step<A: Acts, L: Kms, D: Dice>(
+    alloc: Global,
+    acts: &mut A,
+    bench: &mut Bench<L, D>,
+    above: Text,
+) -> Result<Step, CallNo>
+    requires path { (above ≡ []) ⊎ IsPath above }
+    requires held { HoldsAdopted bench.old.published (A.caller acts.old).mine }
+    ensures steps { IfSome bench.old.published (λ p. Steps L.truth L.link D.left D.count p above
+        (A.caller acts.old) bench.old.links bench.old.dice result (A.caller acts.new)
+        bench.new.links bench.new.dice) }
+    ensures path { IfOk result IsStepTo }
+    ensures adds { AddsWithin 2 0 [] (A.caller acts.old) (A.caller acts.new) }
+    ensures honest { KeepsToldHonesty L.truth (A.caller acts.old) (A.caller acts.new) }
+    ensures holds { holding (A.caller acts.new).mine ≡ holding (A.caller acts.old).mine }
+    ensures asked { AskedOnly L.link (names_of L.link bench.old.links) bench.old.links
+        bench.new.links }
+    ensures later { D.count bench.old.dice ≤ D.count bench.new.dice }
+    ensures kept { bench.new
+        ≡ record bench.old {
+          links = bench.new.links;
+          dice = bench.new.dice;
+          cache = bench.new.cache;
+        } }
+    ensures place { A.place acts.new ≡ A.place acts.old }
+{
+    let found = match look_above(acts, above) {
+        Ok(found) => found,
+        Err(why) => return Err(why),
+    };
+    let Some(row) = found else {
+        return Ok(Step::End);
+    };
+    rewrite(alloc, acts, bench, row.get())
+}
+
+/// The next row above.
+fn look_above<A: Acts>(acts: &mut A, above: Text) -> Result<Option<Shared<Row>>, CallNo>
+    requires path { (above ≡ []) ⊎ IsPath above }
+    requires held { IsSome (holding (A.caller acts.old).mine) }
+    ensures looks { LooksAbove above (A.caller acts.old) result (A.caller acts.new) }
+    ensures adds { AddsWithin 1 0 [] (A.caller acts.old) (A.caller acts.new) }
+    ensures honest { KeepsHonesty (A.caller acts.old) (A.caller acts.new) }
+    ensures holds { holding (A.caller acts.new).mine ≡ holding (A.caller acts.old).mine }
+    ensures row { IfOk result (λ found. IfSome found
+        (λ row. (found_in (A.caller acts.new).mine ≡ Some row)
+        × IsRow (A.caller acts.new).opening.format row)) }
+    ensures place { A.place acts.new ≡ A.place acts.old }
+{
+    acts.known();
+    match acts.act(Event::After { path: above }) {
+        Ok(answer) => found(answer),
+        Err(Spent) => Err(CallNo::Spent),
+    }
+}
+
+/// The row that was found.
+fn found(answer: Answer) -> Result<Option<Shared<Row>>, CallNo>
+    requires { AnswersAfter answer }
+    ensures { FindsBy answer result }
+{
+    match answer {
+        Answer::Found(row) => Ok(Some(row)),
+        Answer::Absent => Ok(None),
+        Answer::NoMemory => Err(CallNo::NoMemory),
+        _ => unreachable!(),
+    }
+}
