@@ -9,7 +9,7 @@ use crate::words::{Wrong, number_of, revision_of};
 use kr_rollout::Gave;
 use std::alloc::Global;
 
-/// Reads an answer; a number behind a word that takes none, or a word that isn't listed, is no form.
+/// Reads an answer; a number behind a word that takes none, or a word not listed, is no form.
 pub fn gave_of(alloc: Global, text: &str) -> Result<Gave, Wrong> {
     match text.split_once(' ') {
         Some((word, rest)) => with_more(alloc, word, rest),

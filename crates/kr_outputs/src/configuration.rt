@@ -9,7 +9,7 @@ use std::alloc::Global;
 const FILE: &str = r#"{"apiVersion":"apiserver.config.k8s.io/v1","kind":"EncryptionConfiguration",
 "resources":[{"resources":["secrets"],"providers":[{"identity":{}}]}]}"#;
 
-/// Publishes one configuration, whose provider is identity: no plugin is asked and nothing is drawn.
+/// Publishes one configuration, whose provider is identity: no plugin is asked, nothing is drawn.
 pub fn published(alloc: Global) -> Result<Shared<Published>, Wrong> {
     let settings = match read(alloc, FILE.as_bytes()) {
         Ok(settings) => settings,

@@ -5,6 +5,8 @@ use kr_config::{Class, Who};
 use kr_judge::Verdict;
 use std::alloc::Global;
 
+/// The verdict of a line's last words, as `verdict_text` prints it: `pass`, or the reason with its
+/// generation or path, its class and its provider.
 pub fn verdict_of(alloc: Global, text: &str) -> Result<Verdict, Wrong> {
     if text == "pass" {
         return Ok(Verdict::Pass);

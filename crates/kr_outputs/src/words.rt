@@ -29,6 +29,7 @@ pub fn two_words(text: &str) -> Result<(&str, &str), Wrong> {
     }
 }
 
+/// A number in decimal digits: of a seat, a replica or a generation.
 pub fn number_of(text: &str) -> Result<u32, Wrong> {
     match text.parse::<u32>() {
         Ok(number) => Ok(number),
@@ -36,6 +37,7 @@ pub fn number_of(text: &str) -> Result<u32, Wrong> {
     }
 }
 
+/// A revision, or how often a step was counted, in decimal digits.
 pub fn revision_of(text: &str) -> Result<u64, Wrong> {
     match text.parse::<u64>() {
         Ok(number) => Ok(number),

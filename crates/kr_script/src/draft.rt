@@ -41,6 +41,7 @@ impl Draft {
     ghost use Rattle.kr_script.specs.inner.Drafts.{said_by, workers_in, passes, draft_within};
     ghost use Rattle.kr_script.specs.inner.Reading.{Finds, Moves, Closes, Gives, fleet_at_end, row_step};
 
+    /// Of no line so far. It takes no memory yet.
     pub fn new(alloc: Global) -> Draft
         ensures { draft_of result ≡ start }
     {

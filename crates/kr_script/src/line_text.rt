@@ -38,6 +38,7 @@ impl Sink for LineText {
 }
 
 impl LineText {
+    /// An empty line. It takes no memory yet.
     pub fn new(alloc: Global) -> LineText
         ensures { result.bytes.items ≡ [] }
     {
