@@ -10,3 +10,4 @@ pub mod Budgeting
 pub mod Assembling
 pub mod Seating
 pub mod Summing
+pub mod Working
