@@ -49,8 +49,8 @@ module _ {L D : Type 0} (truth : Truth) (link : L → Link) (left : D → Option
   as_told : (old new : Caller) (olds news : List L) (dice after : D) (why other : CallNo)
       → ◌≡◌ {A = Result Step CallNo} (Err why) (Err other)
       → CausesStep old olds dice other new news after → CausesStep old olds dice why new news after
-  as_told old new olds news dice after why other is h = spent_caused {T = Step} link count
-      line.Rewrite old new olds news dice after why other is h
+  as_told old new olds news dice after why other is h = spent_caused link count line.Rewrite
+      {T = Step} old new olds news dice after why other is h
 
   -- one that was cut short isn't done
   undone : (why : CallNo) (taken : Step) → ◌≡◌ {A = Result Step CallNo} (Err why) (Ok taken) → ⊥
@@ -129,7 +129,7 @@ module _ {L D : Type 0} (truth : Truth) (link : L → Link) (left : D → Option
       → CausesStep old olds dice why new news after
   opens_caused p row old new olds news dice after why (Ok opened) u r = rewrites_caused p row
       opened.plain opened.stale old new olds news dice after why r
-  opens_caused p row old new olds news dice after why (Err (unsealing.Refused no)) u r =
+  opens_caused p row old new olds news dice after why (Err (unsealing.Refused wrong)) u r =
       absurd (undone why (step.Left row.path) r.0)
   opens_caused p row old new olds news dice after why (Err (unsealing.PluginFailed name)) u r =
       as_told old new olds news dice after why (refusal.PluginFailed name) r.0 u.rose
