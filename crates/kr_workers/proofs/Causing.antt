@@ -72,7 +72,7 @@ store_failed old new asked a = record {
 }
 
 -- it is one of what is added before and behind it too
-store_within : (a b c d : Caller) (p q : List Entry) → Adds a p b → StoreFails b c → Adds c q d
+pub store_within : (a b c d : Caller) (p q : List Entry) → Adds a p b → StoreFails b c → Adds c q d
     → StoreFails a d
 store_within a b c d p q x s y =
     let starts : b.seen ++ s.before ≡ a.seen ++ (x.more ++ s.before) =
