@@ -10,3 +10,5 @@ pub mod Budgeting
 pub mod Assembling
 pub mod Seating
 pub mod Summing
+pub mod PutLines
+pub mod Living
