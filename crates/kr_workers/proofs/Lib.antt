@@ -12,3 +12,4 @@ pub mod Seating
 pub mod Summing
 pub mod PutLines
 pub mod Living
+pub mod Working

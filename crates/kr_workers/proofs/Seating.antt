@@ -1,4 +1,4 @@
--- Seats that are given to workers, and taken back. (Draft: no check has read it.)
+-- Seats that are given to workers, and taken back.
 use Rattle.std.proofs.Common.{◌≡◌, ℕ, zero, suc, ◌<◌, ◌+◌, List, [], ◌∷◌, ◌++◌, length, set, map, get_or, take, drop, drop-cons, append-nil, Option, None, Some, refl, ap, sym, subst, ◌∙◌, ◌≤◌, arith}
 use Rattle.std.specs.Prelude.{All}
 use Rattle.std.proofs.lemmas.List.{append_assoc, length-append, length-map, length-take-le, map-append, drop_all, take_all, take_more}
@@ -131,6 +131,21 @@ module _ {T L D : Type 0} (seats : List (Place (SharedCore T) Entry Opening))
     as_long = ap suc s.as_long;
   }
 
+  -- the same of the worker at that place, as a loop has it
+  pub none_at : (k : ℕ) (it : Worker T L D) → k ≡ length rest → it ≡ get_or workers_now k it
+      → it.seat ≡ None
+  none_at k it at is = ap (λ (w : Worker T L D). w.seat) (is ∙ (λ i. get_or workers_now (at i) it))
+      ∙ there_none it
+
+  pub sit_at : (k : ℕ) (it new : Worker T L D) → k ≡ length rest → it ≡ get_or workers_now k it
+      → new ≡ record it { seat = Some seat }
+      → IsSeating seats rest workers (set workers_now k new)
+  sit_at k it new at is sits =
+      let here = is ∙ (λ i. get_or workers_now (at i) it) in
+      let there = sits ∙ (λ i. record (here i) { seat = Some seat }) in
+      subst (λ l. IsSeating seats rest workers l) (λ i. set workers_now (sym at i) (sym there i))
+      (sit_next it)
+
 -- ---- seats that are taken back, from the first on
 
 -- so many were
@@ -189,6 +204,17 @@ module _ {T L D : Type 0} (workers : List (Worker T L D)) where
               ∙ (λ i. sym (map-append unseated (take k workers) (w ∷ [])) i ++ drop (one i) workers)
               ∙ ap (λ l. map unseated l ++ drop (k + 1) workers) (sym (take_more workers k d below));
         }
+
+    -- the same of the worker there, as a loop has it
+    pub unseat_at : (it new : Worker T L D) (seat : Place (SharedCore T) Entry Opening)
+        (more : List (Place (SharedCore T) Entry Opening)) → it ≡ get_or now k it
+        → it.seat ≡ Some seat → new ≡ unseated it → more ≡ seats ++ seat ∷ []
+        → IsUnseating workers (k + 1) more (set now k new)
+    unseat_at it new seat more is has stands all =
+        let there = stands ∙ ap unseated is in
+        subst (λ l. IsUnseating workers (k + 1) l (set now k new)) (sym all)
+        (subst (λ w. IsUnseating workers (k + 1) (seats ++ seat ∷ []) (set now k w)) (sym there)
+        (unseat_next it seat (ap (λ (w : Worker T L D). w.seat) (sym is) ∙ has)))
 
   -- all were
   pub all_unseated : (k : ℕ) (seats : List (Place (SharedCore T) Entry Opening))
