@@ -56,20 +56,27 @@ run_workers-requires g c =
     let fresh = subst (λ n. AreFresh c.in-Ok.made.0 n c.in-Ok.made.1.0) many
     c.in-Ok.ensures.fresh in
     let basis = ap (λ (t : Terms Opening). t.basis) c.in-Ok.ensures.terms in
-    let seated = sym c.seat_each.ensures.seated in (
+    let seated = sym c.seat_each.ensures.seated in
+    let some = subst (λ ws. 0 < length ws) seated (some_seated g.L.Kms.link c.args.files.now
+    c.args.parts.now c.in-Ok.made.0 c.args.core.opening c.in-Ok.made.1.0
+    c.args.workers.now.items basis fresh c.requires.many.2 c.in-Ok.ensures.seats
+    c.requires.lines c.requires.begin c.requires.reloads c.requires.many.0) in
+    let ready = subst (λ ws. All (IsReadyWorker c.in-Ok.made.0 c.args.files.now c.args.parts.now
+    g.L.Kms.link) ws) seated (all_ready g.L.Kms.link c.args.files.now c.args.parts.now
+    c.in-Ok.made.0 c.args.core.opening c.in-Ok.made.1.0 c.args.workers.now.items basis fresh
+    c.requires.many.2 c.in-Ok.ensures.seats c.requires.lines c.requires.begin
+    c.requires.reloads) in (
       c.type_bounds.send-T,
-      c.type_bounds.send-L,
-      c.type_bounds.send-D,
-      c.type_bounds.sync-R,
-      subst (λ ws. 0 < length ws) seated (some_seated g.L.Kms.link c.args.files.now
-          c.args.parts.now c.in-Ok.made.0 c.args.core.opening c.in-Ok.made.1.0
-          c.args.workers.now.items basis fresh c.requires.many.2 c.in-Ok.ensures.seats
-          c.requires.lines c.requires.begin c.requires.reloads c.requires.many.0),
-      subst (λ ws. All (IsReadyWorker c.in-Ok.made.0 c.args.files.now c.args.parts.now
-          g.L.Kms.link) ws) seated (all_ready g.L.Kms.link c.args.files.now c.args.parts.now
-          c.in-Ok.made.0 c.args.core.opening c.in-Ok.made.1.0 c.args.workers.now.items basis fresh
-          c.requires.many.2 c.in-Ok.ensures.seats c.requires.lines c.requires.begin
-          c.requires.reloads),
+      (
+        c.type_bounds.send-L,
+        (
+          c.type_bounds.send-D,
+          (
+            c.type_bounds.sync-R,
+            (some, ready),
+          ),
+        ),
+      ),
     )
 
 pub unseat_each-requires : goal.unseat_each-requires
