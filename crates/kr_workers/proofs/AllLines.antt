@@ -169,6 +169,7 @@ module _ {L D : Type 0} (truth : Truth) (link : L → Link) (left : D → Option
               does = s.does;
               part = s.adds.0;
               adds = s.adds.1;
+              within = s.adds.2;
               spent = s.spent;
             };
             opening = ap (λ (d : Caller). d.opening) s.adds.1.new_is ∙ going.opening;

@@ -14,4 +14,6 @@ pub mod Budgeting
 pub mod Assembling
 pub mod Seating
 pub mod Summing
+pub mod PutLines
+pub mod Living
 pub mod Working

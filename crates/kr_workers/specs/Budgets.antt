@@ -1,5 +1,7 @@
 -- How many lines of the journal a worker's lines may add, and how many configurations they bring.
-use Rattle.std.specs.Prelude.{◌≡◌, ℕ, ◌+◌, ◌*◌, Bool, true, false, List, [], ◌∷◌, map}
+use Rattle.std.specs.Prelude.{◌≡◌, ℕ, ◌+◌, ◌*◌, Bool, true, false, List, [], ◌∷◌, map, count_by, sum}
+use Rattle.kr_store.specs.Stores.{IsLiveCount}
+use Rattle.kr_store.specs.declared.rows.LogRow.{LogRow}
 use Rattle.kr_rollout.specs.declared.line.Did.{Did}
 use Rattle.kr_rollout.specs.declared.line.Did.TheVariants as did
 use Rattle.kr_script.specs.declared.script.Part.{Part}
@@ -17,20 +19,6 @@ entries_of paths (line.Reload replica file) = 1
 entries_of paths line.Refresh = 3
 entries_of paths (line.Join replica file) = 1
 entries_of paths (line.Leave replica) = 1
-
--- it seals anew what is stale
-abbrev pub is_rewrite : ScriptLine → Bool
-is_rewrite (line.Put resource path plain) = false
-is_rewrite (line.Get path) = false
-is_rewrite (line.Delete path) = false
-is_rewrite line.Rewrite = true
-is_rewrite (line.Reload replica file) = false
-is_rewrite line.Refresh = false
-is_rewrite (line.Join replica file) = false
-is_rewrite (line.Leave replica) = false
-
-abbrev pub IsNoRewrite : ScriptLine → Type 0
-IsNoRewrite asked = is_rewrite asked ≡ false
 
 abbrev pub budget_of : (paths : ℕ) → List ScriptLine → ℕ
 budget_of paths [] = 0
@@ -51,6 +39,17 @@ abbrev pub reloads_of : List ScriptLine → ℕ
 reloads_of [] = 0
 reloads_of (line ∷ lines) = brought_by line + reloads_of lines
 
+-- it puts an object
+abbrev pub is_put : ScriptLine → Bool
+is_put (line.Put resource path plain) = true
+is_put (line.Get path) = false
+is_put (line.Delete path) = false
+is_put line.Rewrite = false
+is_put (line.Reload replica file) = false
+is_put line.Refresh = false
+is_put (line.Join replica file) = false
+is_put (line.Leave replica) = false
+
 -- the Puts that it may write
 abbrev pub puts_of : ScriptLine → List Did
 puts_of (line.Put resource path plain) = did.Put path resource plain ∷ []
@@ -70,6 +69,16 @@ journal_limit = 4000000
 
 abbrev pub budgets_of : (paths : ℕ) → List Part → List ℕ
 budgets_of paths parts = map (λ part. budget_of paths part.lines.0) parts
+
+-- how many lines put an object
+abbrev pub put_lines : List Part → ℕ
+put_lines parts = sum (map (λ part. count_by is_put part.lines.0) parts)
+
+-- what the parts may need over these rows: a rewrite finds the paths that are live at first, and
+-- those that are put meanwhile
+abbrev pub AreBudgets : List LogRow → List Part → List ℕ → Type 0
+AreBudgets rows parts budgets = (live : ℕ) × IsLiveCount rows live
+    × (budgets ≡ budgets_of (live + put_lines parts) parts)
 
 abbrev pub all_reloads : List Part → List ℕ
 all_reloads parts = map (λ part. reloads_of part.lines.0) parts

@@ -77,6 +77,7 @@ module _ {L D : Type 0} (truth : Truth) (link : L → Link) (left : D → Option
     pub does : Does truth link left count files replica line old (Err (record {})) new
     pub part : List Entry
     pub adds : Adds old.caller part new.caller
+    pub within : IsWithin (entries_of (length part) line) (brought_by line) (puts_of line) part
     pub spent : EndsFor line old.caller (Err (record {}))
 
   -- all lines were done, or one was cut short

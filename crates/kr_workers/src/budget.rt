@@ -1,7 +1,7 @@
 //! How many lines the workers of a fleet may add to the journal, and how many configurations they
 //! bring.
-ghost use Rattle.std.specs.Prelude.{◌≡◌, ◌<◌, ◌≤◌, ◌^◌, ◌-◌, sum, min, IfOk, IsErrOf, MatchOption};
-ghost use Rattle.kr_workers.specs.Budgets.{all_reloads, brought_by, budget_of, budgets_of, entries_of, journal_limit, reloads_of};
+ghost use Rattle.std.specs.Prelude.{◌≡◌, ◌<◌, ◌≤◌, ◌+◌, ◌^◌, ◌-◌, count_by, sum, min, IfOk, IsErrOf, MatchOption};
+ghost use Rattle.kr_workers.specs.Budgets.{all_reloads, brought_by, budget_of, budgets_of, entries_of, is_put, journal_limit, put_lines, reloads_of};
 
 use kr_script::{Part, ScriptLine};
 use std::alloc::{AllocFailed, Global};
@@ -35,8 +35,43 @@ impl<T: Drop> From<AllocFailed<T>> for BudgetNo {
     }
 }
 
-/// What the parts of a fleet file may need, where a rewrite finds at most so many paths.
-pub fn budgets_of(alloc: Global, paths: u64, parts: &[Part]) -> Result<Budgets, BudgetNo>
+/// What the parts of a fleet file may need over a store with so many live rows.
+pub fn budgets_of(alloc: Global, live: u64, parts: &[Part]) -> Result<Budgets, BudgetNo>
+    ensures entries { IfOk result (λ budgets. budgets.entries.items
+        ≡ budgets_of (live + put_lines parts.now) parts.now) }
+    ensures reloads { IfOk result (λ budgets. budgets.reloads.items ≡ all_reloads parts.now) }
+    ensures few { IfOk result (λ budgets. sum budgets.entries.items ≤ journal_limit) }
+    ensures many { IsErrOf result BudgetNo.TooMany
+        → journal_limit < sum (budgets_of (live + put_lines parts.now) parts.now) }
+{
+    budgets_for(alloc, live.saturating_add(put_lines(parts)), parts)
+}
+
+/// How many lines put an object, up to the greatest number.
+fn put_lines(parts: &[Part]) -> u64
+    ensures { result ≡ min (put_lines parts.now) (2 ^ 64 - 1) }
+{
+    let mut puts = 0u64;
+    for part in parts {
+        puts = puts.saturating_add(puts_among(part.lines.as_slice()));
+    }
+    puts
+}
+
+fn puts_among(lines: &[ScriptLine]) -> u64
+    ensures { result ≡ count_by is_put lines.now }
+{
+    lines.iter().filter(|line| is_put(line)).count() as u64
+}
+
+fn is_put(line: &ScriptLine) -> bool
+    ensures { result ≡ is_put line.now }
+{
+    matches!(line, ScriptLine::Put { .. })
+}
+
+/// What the parts may need, where a rewrite finds at most so many paths.
+fn budgets_for(alloc: Global, paths: u64, parts: &[Part]) -> Result<Budgets, BudgetNo>
     ensures entries { IfOk result (λ budgets. budgets.entries.items ≡ budgets_of paths parts.now) }
     ensures reloads { IfOk result (λ budgets. budgets.reloads.items ≡ all_reloads parts.now) }
     ensures few { IfOk result (λ budgets. sum budgets.entries.items ≤ journal_limit) }

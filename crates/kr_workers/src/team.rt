@@ -4,7 +4,7 @@ ghost use Rattle.kr_provider.specs.KeyPages.{size_of};
 ghost use Rattle.kr_provider.specs.Names.{names_of};
 ghost use Rattle.kr_rollout.specs.Calls.{AreServed};
 ghost use Rattle.kr_workers.specs.declared.worker.Worker.{Worker};
-ghost use Rattle.kr_workers.specs.Budgets.{IsNoRewrite, all_reloads, budgets_of};
+ghost use Rattle.kr_workers.specs.Budgets.{AreBudgets, all_reloads};
 ghost use Rattle.kr_workers.specs.Histories.{IsOneHistory};
 ghost use Rattle.kr_workers.specs.ScriptLines.{MayDo};
 ghost use Rattle.kr_workers.specs.Workers.{MayBegin, seated, unseated};
@@ -41,9 +41,8 @@ pub fn run_fleet<R: Threads + Wait + Sync, T: Tape + Send, L: Kms + Send, D: Dic
     requires begin { (i : ℕ) (part : Part) (worker : Worker T L D) → i < length parts.now
         → MayBegin L.link core.opening.names (slice_index_or parts.now i part)
         (slice_index_or workers.old.items i worker) }
-    requires no_rewrites { All (λ part. All IsNoRewrite part.lines.0) parts.now }
     requires reloads { core.opening.reloads ≡ all_reloads parts.now }
-    requires budgets { budgets.now ≡ budgets_of 0 parts.now }
+    requires budgets { AreBudgets core.opening.rows parts.now budgets.now }
     requires room { sum budgets.now ≤ core.room }
     requires small { sum budgets.now < 2 ^ 64 }
     requires no_lines { core.history ≡ [] }
