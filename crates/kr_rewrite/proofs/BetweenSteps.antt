@@ -162,7 +162,7 @@ module _ {L D : Type 0} (truth : Truth) (link : L → Link) (left : D → Option
         subst (λ (r : Report). Drives truth link left count replica above old olds dice r new news
         after) (sym e.same)
         (drives (subst (λ t. IsStep truth link left count replica at now links drawn (Ok t) new
-        news after) e.end s) f)
+        news after) e.end s) f asked later)
 
 -- ---- the path to go on from
 

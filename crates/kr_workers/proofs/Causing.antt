@@ -44,7 +44,7 @@ abbrev reply_in : Told → Reply → Told
 reply_in other (Ok reply) = reply
 reply_in other (Err spent) = other
 
-is_told : Reply → Bool
+abbrev is_told : Reply → Bool
 is_told (Ok reply) = true
 is_told (Err spent) = false
 
@@ -52,7 +52,7 @@ abbrev why_in : {T : Type 0} → CallNo → Result T CallNo → CallNo
 why_in other (Ok done) = other
 why_in other (Err why) = why
 
-pub is_done : {T : Type 0} → Result T CallNo → Bool
+abbrev pub is_done : {T : Type 0} → Result T CallNo → Bool
 is_done (Ok done) = true
 is_done (Err why) = false
 
@@ -72,7 +72,7 @@ store_failed old new asked a = record {
 }
 
 -- it is one of what is added before and behind it too
-store_within : (a b c d : Caller) (p q : List Entry) → Adds a p b → StoreFails b c → Adds c q d
+pub store_within : (a b c d : Caller) (p q : List Entry) → Adds a p b → StoreFails b c → Adds c q d
     → StoreFails a d
 store_within a b c d p q x s y =
     let starts : b.seen ++ s.before ≡ a.seen ++ (x.more ++ s.before) =
@@ -234,6 +234,8 @@ module _ {L D : Type 0} (truth : Truth) (link : L → Link) (left : D → Option
   puts_caused resource path plain p old new olds news dice after (refusal.Refused value.NotUtf8) d =
       absurd d
   puts_caused resource path plain p old new olds news dice after
+      (refusal.Refused value.SeedLength) d = absurd d
+  puts_caused resource path plain p old new olds news dice after
       (refusal.Refused value.NoProvider) d = absurd d
   puts_caused resource path plain p old new olds news dice after
       (refusal.Refused value.LooksEncrypted) d = tt
@@ -243,7 +245,7 @@ module _ {L D : Type 0} (truth : Truth) (link : L → Link) (left : D → Option
       absurd d
   puts_caused resource path plain p old new olds news dice after refusal.DiceFailed d = d.0.2
   puts_caused resource path plain p old new olds news dice after refusal.StoreFailed d =
-      store_failed old new (event.Put resource path plain d.stored) d.put
+      store_failed old new (event.Put path resource plain d.stored) d.put
   puts_caused resource path plain p old new olds news dice after (refusal.StoreFull needed) d = tt
   puts_caused resource path plain p old new olds news dice after
       (refusal.Unhealthy name field text) d = absurd d

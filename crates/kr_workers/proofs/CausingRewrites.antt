@@ -31,7 +31,7 @@ use Rattle.kr_script.specs.declared.script.ScriptLine.TheVariants as line
 use Rattle.kr_script.specs.declared.told.Told.{Told}
 use Rattle.kr_script.specs.declared.told.Told.TheVariants as told
 use Rattle.kr_workers.specs.declared.files.SettingsFile.{SettingsFile}
-use Rattle.kr_workers.specs.Causes.{HasCause, RepliesHaveCauses}
+use Rattle.kr_workers.specs.Causes.{HasCause}
 use Rattle.kr_workers.specs.Files.{rows_at}
 use Rattle.kr_workers.specs.Replies.{told_of_drive}
 use Rattle.kr_workers.specs.ScriptLines.{Does, Workplace}
@@ -49,8 +49,8 @@ module _ {L D : Type 0} (truth : Truth) (link : L → Link) (left : D → Option
   as_told : (old new : Caller) (olds news : List L) (dice after : D) (why other : CallNo)
       → ◌≡◌ {A = Result Step CallNo} (Err why) (Err other)
       → CausesStep old olds dice other new news after → CausesStep old olds dice why new news after
-  as_told old new olds news dice after why other is h = spent_caused {T = Step} link count
-      line.Rewrite old new olds news dice after why other is h
+  as_told old new olds news dice after why other is h = spent_caused link count line.Rewrite
+      {T = Step} old new olds news dice after why other is h
 
   -- one that was cut short isn't done
   undone : (why : CallNo) (taken : Step) → ◌≡◌ {A = Result Step CallNo} (Err why) (Ok taken) → ⊥
@@ -129,7 +129,7 @@ module _ {L D : Type 0} (truth : Truth) (link : L → Link) (left : D → Option
       → CausesStep old olds dice why new news after
   opens_caused p row old new olds news dice after why (Ok opened) u r = rewrites_caused p row
       opened.plain opened.stale old new olds news dice after why r
-  opens_caused p row old new olds news dice after why (Err (unsealing.Refused no)) u r =
+  opens_caused p row old new olds news dice after why (Err (unsealing.Refused wrong)) u r =
       absurd (undone why (step.Left row.path) r.0)
   opens_caused p row old new olds news dice after why (Err (unsealing.PluginFailed name)) u r =
       as_told old new olds news dice after why (refusal.PluginFailed name) r.0 u.rose
@@ -215,7 +215,7 @@ module _ {L D : Type 0} (truth : Truth) (link : L → Link) (left : D → Option
 
   -- ---- each line
 
-  line_caused : (files : List SettingsFile) (replica : ℕ) (asked : ScriptLine)
+  pub line_caused : (files : List SettingsFile) (replica : ℕ) (asked : ScriptLine)
       (old new : Workplace L D) (reply : Told)
       → Does truth link left count files replica asked old (Ok reply) new
       → HasCause link count asked old reply new
@@ -235,9 +235,3 @@ module _ {L D : Type 0} (truth : Truth) (link : L → Link) (left : D → Option
       joined_caused truth link left count named file (rows_at files file) old new reply d
   line_caused files replica (line.Leave named) old new reply d =
       left_caused truth link left count named old new reply d.0 d.1 d.2
-
-pub replies_have_causes : {L D : Type 0} → (truth : Truth) (link : L → Link)
-    (left : D → Option (List ℕ)) (count : D → ℕ) (files : List SettingsFile)
-    → RepliesHaveCauses truth link left count files
-replies_have_causes truth link left count files replica old new done d =
-    line_caused truth link left count files replica done.line old new done.reply d.does

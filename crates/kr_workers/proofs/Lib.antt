@@ -9,6 +9,7 @@ pub mod Getting
 pub mod Causing
 pub mod CausingLoads
 pub mod CausingRewrites
+pub mod CausingRuns
 pub mod Budgeting
 pub mod Assembling
 pub mod Seating

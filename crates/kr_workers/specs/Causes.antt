@@ -1,10 +1,11 @@
 -- Why a line has another reply than it asks for: each line has its defined replies, and a reply that
 -- names an object as its fault is told only where the count of that very object rose meanwhile.
-use Rattle.std.specs.Prelude.{◌≡◌, ℕ, List, ◌∷◌, ◌++◌, Option, ⊤}
+use Rattle.std.specs.Prelude.{◌≡◌, ℕ, List, ◌∷◌, ◌++◌, Contains, Option, ⊤}
 use Rattle.kr_base.specs.Faults.{Rose}
 use Rattle.kr_kms.specs.Calls.{Link}
 use Rattle.kr_kms.specs.Truth.{Truth}
 use Rattle.kr_provider.specs.AskedLinks.{FaultRose}
+use Rattle.kr_provider.specs.BenchState.{BenchState}
 use Rattle.kr_provider.specs.declared.refusal.ValueNo.{ValueNo}
 use Rattle.kr_provider.specs.declared.refusal.ValueNo.TheVariants.{LooksEncrypted, TooLarge}
 use Rattle.kr_rollout.specs.declared.line.Gave.TheVariants as gave
@@ -12,11 +13,13 @@ use Rattle.kr_rollout.specs.declared.opening.Entry.{Entry}
 use Rattle.kr_rollout.specs.Acting.{Caller}
 use Rattle.kr_rollout.specs.Histories.{state_of}
 use Rattle.kr_fleet.specs.ReadCalls.{IsOfValue}
+use Rattle.kr_script.specs.declared.script.Part.{Part}
 use Rattle.kr_script.specs.declared.script.ScriptLine.{ScriptLine}
 use Rattle.kr_script.specs.declared.script.ScriptLine.TheVariants as line
 use Rattle.kr_script.specs.declared.told.Told.{Told}
 use Rattle.kr_script.specs.declared.told.Told.TheVariants as told
 use Rattle.kr_workers.specs.declared.files.SettingsFile.{SettingsFile}
+use Rattle.kr_workers.specs.Histories.{StandsIn}
 use Rattle.kr_workers.specs.Runs.{IsDone, LineDone}
 use Rattle.kr_workers.specs.ScriptLines.{Workplace}
 
@@ -74,7 +77,7 @@ pub record StoreFails (old new : Caller) : Type 0 where
 
 module _ {L D : Type 0} (link : L → Link) (count : D → ℕ) where
   -- the reply is want of memory, or names the plugin, the seat's own random source or the store,
-  -- whose count rose while the line was done; or it is one of the line's defined replies
+  -- whose count rose meanwhile; or it is one of the line's defined replies
   abbrev pub HasCause : ScriptLine → Workplace L D → Told → Workplace L D → Type 0
   HasCause asked old told.Memory new = ⊤
   HasCause asked old (told.FaultPlugin name) new = FaultRose link name old.links new.links
@@ -83,9 +86,15 @@ module _ {L D : Type 0} (link : L → Link) (count : D → ℕ) where
   HasCause asked old told.FaultStore new = StoreFails old.caller new.caller
   HasCause asked old reply new = IsDefined asked reply
 
--- so has each reply to a line that was done
-abbrev pub RepliesHaveCauses : {L D : Type 0} → Truth → (L → Link) → (D → Option (List ℕ))
-    → (D → ℕ) → List SettingsFile → Type 0
-RepliesHaveCauses {L} {D} truth link left count files = (replica : ℕ) (old new : Workplace L D)
-    (done : LineDone) → IsDone truth link left count files replica old done new
-    → HasCause link count done.line old done.reply new
+-- so has each reply to a line that was done, while the line was done; and then also by the whole of
+-- its worker's run, from the worker's begin to its end
+pub record RepliesHaveCauses {L D : Type 0} (truth : Truth) (link : L → Link)
+    (left : D → Option (List ℕ)) (count : D → ℕ) (files : List SettingsFile) : Type 0 where
+  pub each : (replica : ℕ) (old new : Workplace L D) (done : LineDone)
+      → IsDone truth link left count files replica old done new
+      → HasCause link count done.line old done.reply new
+  pub whole : (history : List Entry) (part : Part) (first : Workplace L D) (replies : List Told)
+      (after : BenchState L D)
+      → (stands : StandsIn truth link left count files history part first replies after)
+      → (done : LineDone) → Contains stands.run done
+      → HasCause link count done.line first done.reply stands.last

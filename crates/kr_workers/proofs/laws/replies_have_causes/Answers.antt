@@ -1,4 +1,4 @@
-use Rattle.kr_workers.proofs.CausingRewrites as proved
+use Rattle.kr_workers.proofs.CausingRuns as proved
 use Rattle.kr_workers.proofs.laws.replies_have_causes.Goals as goal
 
 pub returns : goal.returns
