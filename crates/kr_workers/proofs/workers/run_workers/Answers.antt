@@ -1,5 +1,5 @@
 -- `run_workers`: each worker was ready, and did its lines.
-use Rattle.std.proofs.Common.{◌<◌, length, get_or, List, ap, subst, sym, ◌∙◌}
+use Rattle.std.proofs.Common.{◌<◌, ◌++◌, length, List, drop, take, subst, sym, ◌∙◌}
 use Rattle.std.specs.Prelude.{All}
 use Rattle.std.proofs.lemmas.List.{take_at}
 use Rattle.kr_workers.specs.Workers.{IsReadyWorker}
@@ -22,7 +22,9 @@ returns-clause-worked g c = λ i d below.
     (sym c.deref_mut.ensures.value) below)).1 in
     worked_at c.args.fleet.now c.args.files.now c.args.parts.now g.L.Kms.truth g.L.Kms.link
     g.D.Dice.left g.D.Dice.count c.args.workers.now.items c.deref_mut.result.now
-    c.for_each_mut.new.s _ i d change.argument.now change.after_call.now
+    c.for_each_mut.new.s (take c.args.workers.now.len (c.for_each_mut.new.s
+    ++ drop (length c.for_each_mut.new.s) c.args.workers.now.items)) i d change.argument.now
+    change.after_call.now
     c.deref_mut.ensures.value
     (take_at _ _ _ (c.for_each_mut.auto.s ∙ c.deref_mut.ensures.len)) change.argument_is
     change.left change.call
