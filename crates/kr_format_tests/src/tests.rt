@@ -3,3 +3,4 @@ mod envelope;
 mod kms;
 mod lines;
 mod store;
+mod world;

@@ -1,10 +1,7 @@
 //! Plugins: the masks of the one in memory, and its failing calls; seeds, and those that are kept.
 use kr_base::{Annotations, Bytes, Dice, List, MemDice, NoMemory, Text};
-use kr_kms::{
-    Field, Kms, KmsNo, SeedCache, SeedKey, SeedNo, SeedRow, TablePlugin, key_id_of, make_seed,
-};
+use kr_kms::{Field, Kms, KmsNo, SeedCache, SeedNo, SeedRow, TablePlugin, key_id_of, make_seed};
 use std::alloc::Global;
-use std::test::Fail;
 
 /// The plugin `p` with the salt 01.
 fn plugin(alloc: Global, key_id: &str, fails: &[u64]) -> Option<TablePlugin> {
@@ -29,71 +26,72 @@ fn salted(alloc: Global, salt: &[u8]) -> Result<Annotations, NoMemory> {
 }
 
 /// Whether a source of a key is unwrapped as that.
-fn opens_as(alloc: Global, key_id: &str, salt: &[u8], source: &[u8], plain: &[u8]) -> Option<bool> {
-    let mut link = plugin(alloc, "other", &[])?;
-    let annotations = salted(alloc, salt).ok()?;
-    let opened = link
-        .unwrap_source(alloc, key_id, &annotations, source)
-        .ok()?;
-    Some(opened.as_slice() == plain)
+fn opens_as(
+    alloc: Global,
+    link: &mut TablePlugin,
+    key_id: &str,
+    salt: &Annotations,
+    plain: &[u8],
+) -> bool {
+    match link.unwrap_source(alloc, key_id, salt, b"\x9d\x9d") {
+        Ok(opened) => opened.as_slice() == plain,
+        Err(_) => false,
+    }
 }
 
 // The masks were summed by hand: 9d is 6b + 31 + 01.
-#[test]
-fn unwraps_by_the_given_mask(rt: HostRuntime) {
-    let alloc = rt.alloc();
-    assert!(rt; opens_as(alloc, "k1", &[1], b"\x9d\x9d", b"\x00\x00") == Some(true));
-    assert!(rt; opens_as(alloc, "k2", &[1], b"\x9d\x9d", b"\x03\x03") == Some(true));
+fn unwraps(alloc: Global, link: &mut TablePlugin) -> bool {
+    match salted(alloc, &[1]) {
+        Ok(salt) => {
+            opens_as(alloc, link, "k1", &salt, b"\x00\x00")
+                && opens_as(alloc, link, "k2", &salt, b"\x03\x03")
+        }
+        Err(_) => false,
+    }
+}
+
+// 9e is 00 xor 6b + 32 + 01. The third call fails.
+fn wraps(alloc: Global, link: &mut TablePlugin) -> bool {
+    match link.wrap(alloc, b"\x00\x01") {
+        Ok(wrapped) => {
+            wrapped.key_id.as_str() == "k2" && wrapped.cipher.as_slice() == b"\x9e\x9f".as_slice()
+        }
+        Err(_) => false,
+    }
+}
+
+fn tells(alloc: Global, link: &mut TablePlugin) -> bool {
+    match link.status(alloc) {
+        Ok(status) => status.key_id.as_str() == "k2" && status.version.as_str() == "v2",
+        Err(_) => false,
+    }
+}
+
+fn fails(alloc: Global, link: &mut TablePlugin) -> bool {
+    matches!(link.wrap(alloc, b"a"), Err(KmsNo::Failed)) && link.faults() == 1
+}
+
+/// Whether a plugin under another key unwraps by the mask that is given.
+fn reads(alloc: Global) -> bool {
+    match plugin(alloc, "other", &[]) {
+        Some(mut link) => unwraps(alloc, &mut link),
+        None => false,
+    }
+}
+
+/// Whether one wraps under its own key.
+fn writes(alloc: Global) -> bool {
+    match plugin(alloc, "k2", &[3]) {
+        Some(mut link) => {
+            tells(alloc, &mut link) && wraps(alloc, &mut link) && fails(alloc, &mut link)
+        }
+        None => false,
+    }
 }
 
 #[test]
-fn wraps_under_its_key(rt: HostRuntime) -> Result<(), Fail> {
-    let alloc = rt.alloc();
-    let mut link = plugin(alloc, "k1", &[]).ok_or("memory")?;
-    link.set_key_id(Text::copy(alloc, "k2")?);
-    let status = link.status(alloc).ok().ok_or("no status")?;
-    assert_eq!(rt; status.version.as_str(), "v2");
-    assert_eq!(rt; status.healthz.as_str(), "ok");
-    assert_eq!(rt; status.key_id.as_str(), "k2");
-    let wrapped = link.wrap(alloc, b"\x00\x01").ok().ok_or("not wrapped")?;
-    assert!(rt; wrapped.cipher.as_slice() == b"\x9e\x9f".as_slice());
-    assert_eq!(rt; wrapped.key_id.as_str(), "k2");
-    Ok(())
-}
-
-#[test]
-fn fails_by_number(rt: HostRuntime) -> Result<(), Fail> {
-    let alloc = rt.alloc();
-    let mut link = plugin(alloc, "k1", &[2]).ok_or("memory")?;
-    assert!(rt; link.status(alloc).is_ok());
-    assert!(rt; matches!(link.wrap(alloc, b"a"), Err(KmsNo::Failed)));
-    assert_eq!(rt; link.faults(), 1);
-    // What would pass a limit isn't wrapped.
-    assert!(rt; matches!(link.wrap(alloc, b""), Err(KmsNo::Failed)));
-    assert_eq!(rt; link.faults(), 2);
-    Ok(())
-}
-
-/// The key of the plugin `p` with a salt.
-fn key(alloc: Global, salt: &[u8]) -> Option<SeedKey> {
-    Some(SeedKey {
-        name: Text::copy(alloc, "p").ok()?,
-        key_id: Text::copy(alloc, "k1").ok()?,
-        annotations: salted(alloc, salt).ok()?,
-        source: Bytes::copy(alloc, b"s").ok()?,
-    })
-}
-
-// Keys are compared by all of their parts, and a copy is equal.
-#[test]
-fn keys_of_seeds(rt: HostRuntime) -> Result<(), Fail> {
-    let alloc = rt.alloc();
-    let first = key(alloc, &[1]).ok_or("memory")?;
-    let other = key(alloc, &[2]).ok_or("memory")?;
-    let copy = first.copy(alloc)?;
-    assert!(rt; first == copy);
-    assert!(rt; first != other);
-    Ok(())
+fn wraps_and_unwraps_by_its_masks(rt: HostRuntime) {
+    assert!(rt; reads(rt.alloc()) && writes(rt.alloc()));
 }
 
 /// The plugin `p` with this status, and no failing call.
@@ -117,17 +115,20 @@ fn breach(alloc: Global, version: &str, healthz: &str, key_id: &str) -> Option<(
     }
 }
 
+fn is_breach(found: Option<(Field, Text)>, part: Field, wanted: &str) -> bool {
+    match found {
+        Some((field, text)) => field == part && text.as_str() == wanted,
+        None => false,
+    }
+}
+
 // The first part that breaks a rule is told.
 #[test]
-fn unhealthy_by_the_first_part(rt: HostRuntime) -> Result<(), Fail> {
+fn unhealthy_by_the_first_part(rt: HostRuntime) {
     let alloc = rt.alloc();
-    let (field, text) = breach(alloc, "v1", "down", "").ok_or("healthy")?;
-    assert!(rt; matches!(field, Field::Version) && text.as_str() == "v1");
-    let (field, text) = breach(alloc, "v2", "down", "").ok_or("healthy")?;
-    assert!(rt; matches!(field, Field::Healthz) && text.as_str() == "down");
-    let (field, text) = breach(alloc, "v2", "ok", "").ok_or("healthy")?;
-    assert!(rt; matches!(field, Field::KeyId) && text.as_str() == "");
-    Ok(())
+    assert!(rt; is_breach(breach(alloc, "v1", "down", ""), Field::Version, "v1"));
+    assert!(rt; is_breach(breach(alloc, "v2", "down", ""), Field::Healthz, "down"));
+    assert!(rt; is_breach(breach(alloc, "v2", "ok", ""), Field::KeyId, ""));
 }
 
 /// Whether these are 32 times this byte.
@@ -141,37 +142,72 @@ fn made(alloc: Global, dice: &mut MemDice) -> Option<SeedRow> {
     make_seed(alloc, &mut link, dice).ok()
 }
 
-// 9d is 00 xor the mask under `k1`, as above. Behind 32 bytes of 40 there is no seed more.
-#[test]
-fn makes_a_seed(rt: HostRuntime) -> Result<(), Fail> {
-    let alloc = rt.alloc();
-    let mut dice = MemDice::new(Bytes::from_vec(vec![in alloc; 0; 40]?), List::new(alloc));
-    let row = made(alloc, &mut dice).ok_or("no seed")?;
-    assert_eq!(rt; row.key_id.as_str(), "k1");
-    assert!(rt; is_all(row.seed.as_slice(), 0));
-    assert!(rt; is_all(row.source.as_slice(), 0x9d));
-    assert!(rt; made(alloc, &mut dice).is_none());
-    assert_eq!(rt; dice.faults(), 1);
-    Ok(())
+fn is_made(alloc: Global, dice: &mut MemDice) -> bool {
+    match made(alloc, dice) {
+        Some(row) => {
+            row.key_id.as_str() == "k1"
+                && is_all(row.seed.as_slice(), 0)
+                && is_all(row.source.as_slice(), 0x9d)
+        }
+        None => false,
+    }
 }
 
-/// Why the plugin `p` whose calls of these numbers fail makes no seed.
-fn no_seed(alloc: Global, fails: &[u64], dice: &mut MemDice) -> Option<SeedNo> {
-    let mut link = plugin(alloc, "k1", fails)?;
-    make_seed(alloc, &mut link, dice).err()
+// 9d is 00 xor the mask under `k1`, as above. Behind 32 bytes of 40 there is no seed more.
+fn makes(alloc: Global) -> bool {
+    let Ok(bytes) = Bytes::copy(alloc, &[0; 40]) else {
+        return false;
+    };
+    let mut dice = MemDice::new(bytes, List::new(alloc));
+    is_made(alloc, &mut dice) && made(alloc, &mut dice).is_none() && dice.faults() == 1
+}
+
+#[test]
+fn makes_a_seed(rt: HostRuntime) {
+    assert!(rt; makes(rt.alloc()));
+}
+
+/// Whether the plugin `p` whose calls of these numbers fail makes no seed for this cause, and then
+/// so many random bytes are left.
+fn makes_none(alloc: Global, fails: &[u64], dice: &mut MemDice, why: Cause, left: usize) -> bool {
+    match plugin(alloc, "k1", fails) {
+        Some(mut link) => {
+            cause_of(make_seed(alloc, &mut link, dice).err()) == why && dice.bytes().len() == left
+        }
+        None => false,
+    }
+}
+
+/// What failed, if something did.
+#[derive(Clone, Copy, PartialEq, Eq)]
+enum Cause {
+    Link,
+    Dice,
+    Other,
+}
+
+fn cause_of(why: Option<SeedNo>) -> Cause {
+    match why {
+        Some(SeedNo::Failed) => Cause::Link,
+        Some(SeedNo::DiceFailed) => Cause::Dice,
+        _ => Cause::Other,
+    }
 }
 
 // The status, the wrap behind the draw, and the draw.
+fn makes_none_behind_faults(alloc: Global) -> bool {
+    let Ok(bytes) = Bytes::copy(alloc, &[0; 32]) else {
+        return false;
+    };
+    let mut dice = MemDice::new(bytes, List::new(alloc));
+    makes_none(alloc, &[1], &mut dice, Cause::Link, 32)
+        && makes_none(alloc, &[2], &mut dice, Cause::Link, 0)
+        && makes_none(alloc, &[], &mut dice, Cause::Dice, 0)
+}
+
 #[test]
-fn makes_no_seed_behind_a_fault(rt: HostRuntime) -> Result<(), Fail> {
-    let alloc = rt.alloc();
-    let mut dice = MemDice::new(Bytes::from_vec(vec![in alloc; 0; 32]?), List::new(alloc));
-    assert!(rt; matches!(no_seed(alloc, &[1], &mut dice), Some(SeedNo::Failed)));
-    assert_eq!(rt; dice.bytes().len(), 32);
-    assert!(rt; matches!(no_seed(alloc, &[2], &mut dice), Some(SeedNo::Failed)));
-    assert_eq!(rt; dice.bytes().len(), 0);
-    assert!(rt; matches!(no_seed(alloc, &[], &mut dice), Some(SeedNo::DiceFailed)));
-    Ok(())
+fn makes_no_seed_behind_a_fault(rt: HostRuntime) {
+    assert!(rt; makes_none_behind_faults(rt.alloc()));
 }
 
 /// The first byte of what is fetched for a source of 32 bytes 9d under a key id, and whether all
@@ -192,35 +228,68 @@ fn fetched(
     }
 }
 
-// The third answer is kept from the first: the third call on the link would fail.
-#[test]
-fn fetches_a_kept_seed_without_a_call(rt: HostRuntime) -> Result<(), Fail> {
-    let alloc = rt.alloc();
-    let mut link = plugin(alloc, "k1", &[3]).ok_or("memory")?;
-    let mut cache = SeedCache::new(alloc, 2)?;
-    assert!(rt; fetched(alloc, &mut cache, &mut link, "k1") == Some(0));
-    assert!(rt; fetched(alloc, &mut cache, &mut link, "k2") == Some(3));
-    assert!(rt; fetched(alloc, &mut cache, &mut link, "k1") == Some(0));
-    assert_eq!(rt; link.faults(), 0);
-    // Another key is asked for.
-    assert!(rt; fetched(alloc, &mut cache, &mut link, "k3") == None);
-    assert_eq!(rt; link.faults(), 1);
-    Ok(())
+// The third answer is kept from the first: the third call on the link would fail. Another key is
+// asked for.
+fn keeps(alloc: Global, cache: &mut SeedCache, link: &mut TablePlugin) -> bool {
+    let first = fetched(alloc, cache, link, "k1");
+    let second = fetched(alloc, cache, link, "k2");
+    let third = fetched(alloc, cache, link, "k1");
+    let kept = link.faults() == 0;
+    let other = fetched(alloc, cache, link, "k3");
+    first == Some(0)
+        && second == Some(3)
+        && third == Some(0)
+        && kept
+        && other == None
+        && link.faults() == 1
 }
 
-// A fault of the link is told as one, and a seed that was fetched twice stays.
+fn fetches(alloc: Global) -> bool {
+    let Some(mut link) = plugin(alloc, "k1", &[3]) else {
+        return false;
+    };
+    match SeedCache::new(alloc, 2) {
+        Ok(mut cache) => keeps(alloc, &mut cache, &mut link),
+        Err(_) => false,
+    }
+}
+
 #[test]
-fn tells_a_fault_of_the_link(rt: HostRuntime) -> Result<(), Fail> {
-    let alloc = rt.alloc();
-    let mut link = plugin(alloc, "k1", &[2]).ok_or("memory")?;
-    let mut cache = SeedCache::new(alloc, 1)?;
-    assert!(rt; fetched(alloc, &mut cache, &mut link, "k1") == Some(0));
-    assert!(rt; fetched(alloc, &mut cache, &mut link, "k1") == Some(0));
-    let annotations = salted(alloc, &[1])?;
-    let failed = cache.fetch(&mut link, "k2", &annotations, b"s");
-    assert!(rt; matches!(failed, Err(KmsNo::Failed)));
-    // The first is still kept, since there was nothing to put in its place.
-    assert!(rt; fetched(alloc, &mut cache, &mut link, "k1") == Some(0));
-    assert_eq!(rt; link.faults(), 1);
-    Ok(())
+fn fetches_a_kept_seed_without_a_call(rt: HostRuntime) {
+    assert!(rt; fetches(rt.alloc()));
+}
+
+fn fails_to_fetch(alloc: Global, cache: &mut SeedCache, link: &mut TablePlugin) -> bool {
+    match salted(alloc, &[1]) {
+        Ok(annotations) => match cache.fetch(link, "k2", &annotations, b"s") {
+            Ok(_) => false,
+            Err(why) => why == KmsNo::Failed && link.faults() == 1,
+        },
+        Err(_) => false,
+    }
+}
+
+// A fault of the link is told as one, and a seed that was fetched twice stays, since there was
+// nothing to put in its place.
+fn stays(alloc: Global, cache: &mut SeedCache, link: &mut TablePlugin) -> bool {
+    fetched(alloc, cache, link, "k1") == Some(0)
+        && fetched(alloc, cache, link, "k1") == Some(0)
+        && fails_to_fetch(alloc, cache, link)
+        && fetched(alloc, cache, link, "k1") == Some(0)
+        && link.faults() == 1
+}
+
+fn stays_fetched(alloc: Global) -> bool {
+    let Some(mut link) = plugin(alloc, "k1", &[2]) else {
+        return false;
+    };
+    match SeedCache::new(alloc, 1) {
+        Ok(mut cache) => stays(alloc, &mut cache, &mut link),
+        Err(_) => false,
+    }
+}
+
+#[test]
+fn tells_a_fault_of_the_link(rt: HostRuntime) {
+    assert!(rt; stays_fetched(rt.alloc()));
 }

@@ -2,13 +2,15 @@
 //! breaches, and files that are read ahead.
 use kr_base::{Bytes, List, MemTape, path_ok, resource_ok};
 use kr_store::{
-    Check, Format, PutNo, RowRef, Store, StoreNo, one_breach, one_file, one_row, some_answer,
+    Check, Format, PutNo, RowRef, Store, StoreNo, one_breach, one_file, one_listing, one_row,
+    some_answer,
 };
 use std::alloc::Global;
 use std::test::Fail;
 
 /// The put of `hi` for `secrets` at `/s` with a check of zero bytes into an empty file:
-/// 4b5253544f524532 01 0000000000000001 0002 2f73 0007 73656372657473 0000000000000000 00000002 6869.
+/// 4b5253544f524532 01 0000000000000001 0002 2f73 0007 73656372657473 0000000000000000 00000002
+/// 6869.
 const ONE_ROW: &[u8] =
     b"KRSTORE2\x01\0\0\0\0\0\0\0\x01\0\x02/s\0\x07secrets\0\0\0\0\0\0\0\0\0\0\0\x02hi";
 
@@ -90,9 +92,6 @@ fn deletes(store: &mut Store<MemTape>, path: &str) -> Result<Option<u64>, PutNo>
 
 /// Whether the live row of a path has this revision and this value.
 fn has(store: &Store<MemTape>, path: &str, revision: u64, stored: &[u8]) -> bool {
-    if !path_ok(path) {
-        return false;
-    }
     match store.get(path) {
         Ok(Some(row)) => {
             let row = row.get();
@@ -110,61 +109,105 @@ fn after(store: &Store<MemTape>, path: &str) -> u64 {
     }
 }
 
-#[test]
-fn writes_the_file(rt: HostRuntime) -> Result<(), Fail> {
-    let alloc = rt.alloc();
-    let tape = tape(alloc, b"", &[]).ok_or("memory")?;
-    let mut store = Store::load(alloc, tape, 44).ok().ok_or("not loaded")?;
-    assert_eq!(rt; puts(alloc, &mut store, "/s", b"hi"), 1);
-    let full = put(alloc, &mut store, "/t", b"");
-    assert!(rt; matches!(full, Err(PutNo::Full { needed: 78 })));
-    let full = deletes(&mut store, "/s");
-    assert!(rt; matches!(full, Err(PutNo::Full { needed: 57 })));
-    let tape = store.close();
-    assert!(rt; tape.bytes() == ONE_ROW);
-    Ok(())
+/// Whether a put at `/s` fills a store, and then a put and a delete are refused.
+fn fills(alloc: Global, store: &mut Store<MemTape>) -> bool {
+    puts(alloc, store, "/s", b"hi") == 1
+        && put(alloc, store, "/t", b"") == Err(PutNo::Full { needed: 78 })
+        && deletes(store, "/s") == Err(PutNo::Full { needed: 57 })
 }
 
-// The second write fails, and then the cut.
-#[test]
-fn goes_on_after_a_failed_write_and_cut(rt: HostRuntime) -> Result<(), Fail> {
-    let alloc = rt.alloc();
-    let mut store = loaded(alloc, b"", &[2, 3]).ok_or("not loaded")?;
-    assert_eq!(rt; puts(alloc, &mut store, "/s", b"1"), 1);
-    let failed = put(alloc, &mut store, "/s", b"2");
-    assert!(rt; matches!(failed, Err(PutNo::Failed)));
-    let failed = put(alloc, &mut store, "/s", b"3");
-    assert!(rt; matches!(failed, Err(PutNo::Failed)));
-    assert_eq!(rt; store.faults(), 2);
-    assert!(rt; has(&store, "/s", 1, b"1"));
-    assert_eq!(rt; puts(alloc, &mut store, "/s", b"4"), 2);
-    let tape = store.close();
-    assert!(rt; matches!(rows_of(alloc, tape.bytes(), 100), Ok(2)));
-    Ok(())
+/// Whether a store of at most 44 bytes is filled so, and leaves these bytes.
+fn is_written(alloc: Global, wanted: &[u8]) -> bool {
+    let Some(tape) = tape(alloc, b"", &[]) else {
+        return false;
+    };
+    match Store::load(alloc, tape, 44) {
+        Ok(mut store) => fills(alloc, &mut store) && store.close().bytes() == wanted,
+        Err(_) => false,
+    }
 }
 
 #[test]
-fn finds_rows_by_their_paths(rt: HostRuntime) -> Result<(), Fail> {
-    let alloc = rt.alloc();
-    let mut store = loaded(alloc, b"", &[]).ok_or("not loaded")?;
-    assert_eq!(rt; puts(alloc, &mut store, "/b", b"1"), 1);
-    assert_eq!(rt; puts(alloc, &mut store, "/a", b"2"), 2);
-    assert_eq!(rt; puts(alloc, &mut store, "/c", b"3"), 3);
-    assert!(rt; matches!(deletes(&mut store, "/b"), Ok(Some(4))));
-    assert_eq!(rt; after(&store, ""), 2);
-    assert_eq!(rt; after(&store, "/a"), 3);
-    assert_eq!(rt; after(&store, "/c"), 0);
-    Ok(())
+fn writes_the_file(rt: HostRuntime) {
+    assert!(rt; is_written(rt.alloc(), ONE_ROW));
 }
 
+/// Whether `/b`, `/a` and `/c`, of which `/b` is deleted, are found by their paths.
+fn finds(alloc: Global, store: &mut Store<MemTape>) -> bool {
+    puts(alloc, store, "/b", b"1");
+    puts(alloc, store, "/a", b"2");
+    puts(alloc, store, "/c", b"3");
+    deletes(store, "/b") == Ok(Some(4))
+        && after(store, "") == 2
+        && after(store, "/a") == 3
+        && after(store, "/c") == 0
+        && store.live_count() == 2
+}
+
+/// The check of the path's live row: none where the row has none, or there is no row.
+fn check(store: &Store<MemTape>, path: &str) -> Option<Check> {
+    match store.get(path) {
+        Ok(Some(row)) => row.get().check,
+        _ => None,
+    }
+}
+
+/// Whether another row takes the place of a file's only row, with this check.
+fn replaces_with(alloc: Global, store: &mut Store<MemTape>, wanted: Option<Check>) -> bool {
+    has(store, "/s", 1, b"hi")
+        && replaces(alloc, store, "/s", 2).is_none()
+        && replaces(alloc, store, "/s", 1) == Some(2)
+        && has(store, "/s", 2, b"new")
+        && check(store, "/s") == wanted
+}
+
+/// How the row with this revision is lent: a put by the length of its value, a delete by 1,000, and
+/// none by 2,000.
+fn lent(store: &Store<MemTape>, revision: u64) -> usize {
+    match store.row_at(revision) {
+        Some(RowRef::Put(row)) => row.stored.as_slice().len(),
+        Some(RowRef::Delete(_)) => 1_000,
+        None => 2_000,
+    }
+}
+
+/// Whether the rows 0 to 3 are lent so, once the only put is deleted.
+fn lends(store: &mut Store<MemTape>) -> bool {
+    deletes(store, "/s") == Ok(Some(2))
+        && lent(store, 0) == 2_000
+        && lent(store, 1) == 2
+        && lent(store, 2) == 1_000
+        && lent(store, 3) == 2_000
+}
+
+/// What is asked of the store of a file.
+#[derive(Clone, Copy)]
+enum Ask {
+    Finds,
+    Replaces(Option<Check>),
+    Lends,
+}
+
+/// Whether the store of a file answers so.
+fn answers(alloc: Global, bytes: &[u8], ask: Ask) -> bool {
+    match loaded(alloc, bytes, &[]) {
+        Some(mut store) => match ask {
+            Ask::Finds => finds(alloc, &mut store),
+            Ask::Replaces(check) => replaces_with(alloc, &mut store, check),
+            Ask::Lends => lends(&mut store),
+        },
+        None => false,
+    }
+}
+
+// The first format keeps no check.
 #[test]
-fn replaces_the_last_revision(rt: HostRuntime) -> Result<(), Fail> {
+fn finds_and_replaces_rows(rt: HostRuntime) {
     let alloc = rt.alloc();
-    let mut store = loaded(alloc, ONE_ROW, &[]).ok_or("not loaded")?;
-    assert_eq!(rt; replaces(alloc, &mut store, "/s", 2), None);
-    assert_eq!(rt; replaces(alloc, &mut store, "/s", 1), Some(2));
-    assert!(rt; has(&store, "/s", 2, b"new"));
-    Ok(())
+    assert!(rt; answers(alloc, b"", Ask::Finds));
+    assert!(rt; answers(alloc, ONE_ROW, Ask::Replaces(Some(Check { value: 7 }))));
+    assert!(rt; answers(alloc, OLD_ROW, Ask::Replaces(None)));
+    assert!(rt; answers(alloc, ONE_ROW, Ask::Lends));
 }
 
 /// Whether the first bytes of a file of one row are answered as they must be.
@@ -174,10 +217,20 @@ fn is_torn_right(alloc: Global, row: &[u8], length: usize) -> bool {
     };
     match rows_of(alloc, cut, 44) {
         Ok(rows) => rows == 0 && (length == 0 || length == 8),
-        Err(StoreNo::Torn { at: 0 }) => length < 8,
+        Err(StoreNo::Torn { at: 0 }) => length > 0 && length < 8,
         Err(StoreNo::Torn { at: 8 }) => length > 8,
         Err(_) => false,
     }
+}
+
+/// Whether each cut of a file of one row is.
+fn all_torn_right(alloc: Global, row: &[u8]) -> bool {
+    for length in 0..row.len() {
+        if !is_torn_right(alloc, row, length) {
+            return false;
+        }
+    }
+    true
 }
 
 #[test]
@@ -186,119 +239,88 @@ fn refuses_every_cut_of_a_row(rt: HostRuntime) {
     one_breach();
     some_answer();
     one_row();
+    one_listing();
     let alloc = rt.alloc();
-    for length in 0..44usize {
-        assert!(rt; is_torn_right(alloc, ONE_ROW, length), "{length}");
-    }
-    for length in 0..36usize {
-        assert!(rt; is_torn_right(alloc, OLD_ROW, length), "{length}");
-    }
-    assert!(rt; matches!(rows_of(alloc, ONE_ROW, 44), Ok(1)));
-    assert!(rt; matches!(rows_of(alloc, ONE_ROW, 43), Err(StoreNo::TooLong)));
+    assert!(rt; all_torn_right(alloc, ONE_ROW) && all_torn_right(alloc, OLD_ROW));
+    assert_eq!(rt; rows_of(alloc, ONE_ROW, 44), Ok(1));
+    assert_eq!(rt; rows_of(alloc, ONE_ROW, 43), Err(StoreNo::TooLong));
 }
 
-/// The format of the file, and how a put at `/t` lets it grow.
-fn grows(alloc: Global, bytes: &[u8]) -> Option<(Format, usize)> {
-    let mut store = loaded(alloc, bytes, &[])?;
-    let format = store.format();
-    if puts(alloc, &mut store, "/t", b"") == 0 {
-        return None;
+/// Whether a file has this format and this length, and then this one with a put at `/t`.
+fn grows(alloc: Global, bytes: &[u8], format: Format, then: u64) -> bool {
+    match loaded(alloc, bytes, &[]) {
+        Some(mut store) => {
+            store.format() == format
+                && store.length() == bytes.len() as u64
+                && puts(alloc, &mut store, "/t", b"") > 0
+                && store.length() == then
+        }
+        None => false,
     }
-    let tape = store.close();
-    Some((format, tape.bytes().len()))
 }
 
 // The first format keeps no check, so its rows are 8 bytes shorter.
 #[test]
 fn keeps_the_format(rt: HostRuntime) {
     let alloc = rt.alloc();
-    assert_eq!(rt; grows(alloc, b""), Some((Format::Two, 42)));
-    assert_eq!(rt; grows(alloc, b"KRSTORE2"), Some((Format::Two, 42)));
-    assert_eq!(rt; grows(alloc, b"KRSTORE1"), Some((Format::One, 34)));
-    assert_eq!(rt; grows(alloc, OLD_ROW), Some((Format::One, 62)));
+    assert!(rt; grows(alloc, b"", Format::Two, 42));
+    assert!(rt; grows(alloc, b"KRSTORE2", Format::Two, 42));
+    assert!(rt; grows(alloc, b"KRSTORE1", Format::One, 34));
+    assert!(rt; grows(alloc, OLD_ROW, Format::One, 62));
 }
 
-/// The check of the path's live row: none where the row has none, or there is no row.
-fn check(store: &Store<MemTape>, path: &str) -> Option<Check> {
-    if !path_ok(path) {
-        return None;
-    }
-    match store.get(path) {
-        Ok(Some(row)) => row.get().check,
-        _ => None,
-    }
-}
-
-#[test]
-fn keeps_checks_in_the_second_format(rt: HostRuntime) -> Result<(), Fail> {
-    let alloc = rt.alloc();
-    let mut store = loaded(alloc, ONE_ROW, &[]).ok_or("not loaded")?;
-    assert_eq!(rt; check(&store, "/s"), Some(NO_SECRET));
-    assert_eq!(rt; replaces(alloc, &mut store, "/s", 1), Some(2));
-    assert_eq!(rt; check(&store, "/s"), Some(Check { value: 7 }));
-    let mut old = loaded(alloc, OLD_ROW, &[]).ok_or("not loaded")?;
-    assert!(rt; has(&old, "/s", 1, b"hi"));
-    assert_eq!(rt; replaces(alloc, &mut old, "/s", 1), Some(2));
-    assert_eq!(rt; check(&old, "/s"), None);
-    Ok(())
-}
-
-/// Whether the row with this revision puts a value with this length, or deletes `/s` where none is
-/// given.
-fn lends(store: &Store<MemTape>, revision: u64, length: Option<usize>) -> bool {
-    match store.row_at(revision) {
-        Some(RowRef::Put(row)) => {
-            row.revision == revision && Some(row.stored.as_slice().len()) == length
-        }
-        Some(RowRef::Delete(path)) => path == "/s" && length.is_none(),
-        None => false,
-    }
-}
-
-#[test]
-fn lends_rows_by_their_revisions(rt: HostRuntime) -> Result<(), Fail> {
-    let alloc = rt.alloc();
-    let mut store = loaded(alloc, ONE_ROW, &[]).ok_or("not loaded")?;
-    assert!(rt; matches!(deletes(&mut store, "/s"), Ok(Some(2))));
-    assert!(rt; lends(&store, 1, Some(2)));
-    assert!(rt; lends(&store, 2, None));
-    assert!(rt; store.row_at(0).is_none());
-    assert!(rt; store.row_at(3).is_none());
-    Ok(())
-}
-
-/// The rows of a file of one row in which one byte is another.
-fn rows_with(alloc: Global, at: usize, byte: u8) -> Result<u64, StoreNo> {
-    let Ok(mut changed) = Vec::from_slice(alloc, ONE_ROW) else {
-        return Err(StoreNo::NoMemory);
-    };
-    if let Some(place) = changed.get_mut(at) {
-        *place = byte;
-    }
-    rows_of(alloc, changed.as_slice(), 44)
+/// Why a file of one row in which one byte is another isn't loaded.
+fn refusal(alloc: Global, at: usize, byte: u8) -> Option<StoreNo> {
+    let mut changed = Vec::from_slice(alloc, ONE_ROW).ok()?;
+    let place = changed.get_mut(at)?;
+    *place = byte;
+    rows_of(alloc, changed.as_slice(), 44).err()
 }
 
 #[test]
 fn refuses_other_bytes(rt: HostRuntime) {
     let alloc = rt.alloc();
-    assert!(rt; matches!(rows_with(alloc, 0, 0), Err(StoreNo::Magic)));
-    assert!(rt; matches!(rows_with(alloc, 7, b'3'), Err(StoreNo::Magic)));
-    assert!(rt; matches!(rows_with(alloc, 8, 3), Err(StoreNo::BadRow { at: 8 })));
-    assert!(rt; matches!(rows_with(alloc, 16, 2), Err(StoreNo::Order { at: 8 })));
-    assert!(rt; matches!(rows_with(alloc, 17, 5), Err(StoreNo::BadRow { at: 8 })));
-    assert!(rt; matches!(rows_with(alloc, 23, b'S'), Err(StoreNo::BadRow { at: 8 })));
+    assert_eq!(rt; refusal(alloc, 0, 0), Some(StoreNo::Magic));
+    assert_eq!(rt; refusal(alloc, 7, b'3'), Some(StoreNo::Magic));
+    // A delete has nothing behind its path, and here nothing to delete.
+    assert_eq!(rt; refusal(alloc, 8, 2), Some(StoreNo::BadRow { at: 8 }));
+    assert_eq!(rt; refusal(alloc, 8, 3), Some(StoreNo::BadRow { at: 8 }));
+    assert_eq!(rt; refusal(alloc, 16, 2), Some(StoreNo::Order { at: 8 }));
+    assert_eq!(rt; refusal(alloc, 17, 5), Some(StoreNo::BadRow { at: 8 }));
+    assert_eq!(rt; refusal(alloc, 23, b'S'), Some(StoreNo::BadRow { at: 8 }));
 }
 
-/// A tape of four rows, two of them longer than what is read ahead holds beside another.
-fn long_tape(alloc: Global, half: &[u8], long: &[u8]) -> Option<MemTape> {
-    let mut store = loaded(alloc, b"", &[])?;
-    if puts(alloc, &mut store, "/a", half) != 1 || puts(alloc, &mut store, "/b", half) != 2 {
-        return None;
+/// Puts four rows, two of them longer than what is read ahead holds beside another.
+fn puts_long(alloc: Global, store: &mut Store<MemTape>, half: &[u8], long: &[u8]) {
+    puts(alloc, store, "/a", half);
+    puts(alloc, store, "/b", half);
+    puts(alloc, store, "/c", long);
+    puts(alloc, store, "/d", b"end");
+}
+
+/// Whether its rows are there when such a tape is loaded.
+fn has_long(store: &Store<MemTape>, half: &[u8], long: &[u8]) -> bool {
+    has(store, "/a", 1, half)
+        && has(store, "/b", 2, half)
+        && has(store, "/c", 3, long)
+        && has(store, "/d", 4, b"end")
+}
+
+/// The store of the file of another store that is closed.
+fn again(alloc: Global, store: Store<MemTape>) -> Option<Store<MemTape>> {
+    let tape = store.close();
+    loaded(alloc, tape.bytes(), &[])
+}
+
+fn reads_long(alloc: Global, half: &[u8], long: &[u8]) -> bool {
+    let Some(mut store) = loaded(alloc, b"", &[]) else {
+        return false;
+    };
+    puts_long(alloc, &mut store, half, long);
+    match again(alloc, store) {
+        Some(again) => has_long(&again, half, long),
+        None => false,
     }
-    if puts(alloc, &mut store, "/c", long) != 3 || puts(alloc, &mut store, "/d", b"end") != 4 {
-        return None;
-    }
-    Some(store.close())
 }
 
 // The file is longer than what is read ahead: its parts are read from what was read, behind a
@@ -308,11 +330,7 @@ fn reads_long_files(rt: HostRuntime) -> Result<(), Fail> {
     let alloc = rt.alloc();
     let half = vec![in alloc; 7u8; 5_000]?;
     let long = vec![in alloc; 9u8; 9_000]?;
-    let tape = long_tape(alloc, half.as_slice(), long.as_slice()).ok_or("not written")?;
-    let again = loaded(alloc, tape.bytes(), &[]).ok_or("not loaded")?;
-    assert!(rt; has(&again, "/b", 2, half.as_slice()));
-    assert!(rt; has(&again, "/c", 3, long.as_slice()));
-    assert!(rt; has(&again, "/d", 4, b"end"));
+    assert!(rt; reads_long(alloc, half.as_slice(), long.as_slice()));
     Ok(())
 }
 
@@ -330,19 +348,41 @@ fn refusals(alloc: Global, store: &mut Store<MemTape>) -> Option<u64> {
     Some(refused)
 }
 
-/// Whether of six writes the one with that number is refused, and the others are there when the
-/// tape is loaded again.
-fn loses_one(alloc: Global, fails: u64) -> Option<bool> {
-    let mut store = loaded(alloc, b"", &[fails])?;
-    let refused = refusals(alloc, &mut store)?;
-    let tape = store.close();
-    let again = loaded(alloc, tape.bytes(), &[])?;
-    Some(refused == 1 && again.revision() == 5 && has(&again, "/s", 5, &[6]))
+/// Whether of six puts, of which calls on the tape with these numbers fail, so many are refused,
+/// and the others are there when the tape is loaded again.
+fn loses(alloc: Global, fails: &[u64], refused: u64) -> bool {
+    let Some(mut store) = loaded(alloc, b"", fails) else {
+        return false;
+    };
+    if refusals(alloc, &mut store) != Some(refused) || store.faults() != refused {
+        return false;
+    }
+    match again(alloc, store) {
+        Some(again) => again.revision() == 6u64.wrapping_sub(refused),
+        None => false,
+    }
 }
 
+/// Whether a store is torn behind a write that failed, and no more behind the next one.
+fn is_torn_between(alloc: Global) -> bool {
+    match loaded(alloc, b"", &[1]) {
+        Some(mut store) => {
+            puts(alloc, &mut store, "/s", b"1") == 0
+                && store.torn()
+                && puts(alloc, &mut store, "/s", b"2") == 1
+                && !store.torn()
+        }
+        None => false,
+    }
+}
+
+// With the second and the third a write fails, and then the cut before the next one.
 #[test]
 fn loses_no_row_that_was_answered(rt: HostRuntime) {
+    let alloc = rt.alloc();
     for fails in 1..6u64 {
-        assert_eq!(rt; loses_one(rt.alloc(), fails), Some(true));
+        assert!(rt; loses(alloc, &[fails], 1));
     }
+    assert!(rt; loses(alloc, &[2, 3], 2));
+    assert!(rt; is_torn_between(alloc));
 }

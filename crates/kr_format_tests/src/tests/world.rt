@@ -1,0 +1,137 @@
+//! The world in memory: a tape and a link that go out and come back.
+ghost use Rattle.std.specs.Prelude.{◌≡◌};
+
+use kr_base::{List, Tape, Text};
+use kr_kms::{FileNo, Kms, MemWorld, TablePlugin, World};
+use std::alloc::Global;
+
+/// The plugin `p` under the key `k1`.
+fn plugin(alloc: Global) -> Option<TablePlugin> {
+    Some(TablePlugin::new(
+        Text::copy(alloc, "p").ok()?,
+        Text::copy(alloc, "k1").ok()?,
+        1,
+        Text::copy(alloc, "v2").ok()?,
+        Text::copy(alloc, "ok").ok()?,
+        List::new(alloc),
+    ))
+}
+
+/// A world of nothing but a link of the seat 3 to it.
+fn world(alloc: Global) -> Option<MemWorld<TablePlugin>> {
+    let link = plugin(alloc)?;
+    let mut links = Vec::new(alloc);
+    links.push((3, link)).ok()?;
+    Some(MemWorld::new(
+        alloc,
+        List::new(alloc),
+        List::new(alloc),
+        List::new(alloc),
+        List::from_vec(links),
+        100,
+    ))
+}
+
+/// Why a world has no tape of the name, if it has none. One that it has goes back at once.
+#[tactic(auto, using(crate::proofs::Lent::is_out, crate::proofs::Lent::goes_back, crate::proofs::Lent::stays))]
+fn refusal<W: World>(world: &mut W, alloc: Global, name: &str) -> Option<FileNo>
+    ensures { (W.told world.new).tapes.out name.now ≡ (W.told world.old).tapes.out name.now }
+{
+    match world.tape(alloc, name, true) {
+        Ok(tape) => {
+            world.back_tape(name, tape);
+            None
+        }
+        Err(why) => Some(why),
+    }
+}
+
+/// Whether there is a tape of the name, and not a second one while it is out. It takes these bytes.
+#[tactic(auto, using(crate::proofs::Lent::is_out, crate::proofs::Lent::is_still_out))]
+fn writes<W: World>(world: &mut W, alloc: Global, name: &str, bytes: &[u8]) -> bool {
+    match world.tape(alloc, name, true) {
+        Ok(mut tape) => {
+            let put = tape.put_at(0, bytes).is_ok();
+            let alone = refusal(world, alloc, name) == Some(FileNo::Failed);
+            world.back_tape(name, tape);
+            put && alone
+        }
+        Err(_) => false,
+    }
+}
+
+/// Whether the tape that is there has these bytes.
+fn has(world: &MemWorld<TablePlugin>, name: &str, bytes: &[u8]) -> bool {
+    match world.tape_of(name) {
+        Some(tape) => tape.bytes() == bytes && tape.faults() == 0,
+        None => false,
+    }
+}
+
+/// Whether a tape that wasn't there is made, and keeps what is put, once it is back and out again.
+fn keeps_a_tape(world: &mut MemWorld<TablePlugin>, alloc: Global) -> bool {
+    world.tape_of("/s").is_none()
+        && writes(world, alloc, "/s", b"ab")
+        && has(world, "/s", b"ab")
+        && writes(world, alloc, "/s", b"c")
+        && has(world, "/s", b"cb")
+        && world.faults() == 2
+}
+
+/// Whether the link of the seat to `p` tells its key.
+#[tactic(auto, using(crate::proofs::Lent::link_is_out))]
+fn asks<W: World>(world: &mut W, alloc: Global, seat: u32) -> bool {
+    match world.link(alloc, seat, "p", "") {
+        Ok(mut link) => {
+            let told = tells(alloc, &mut link);
+            world.back_link(seat, link);
+            told
+        }
+        Err(_) => false,
+    }
+}
+
+fn tells<L: Kms>(alloc: Global, link: &mut L) -> bool
+    ensures { (L.link link.new).name ≡ (L.link link.old).name }
+{
+    match link.status(alloc) {
+        Ok(status) => status.key_id.as_str() == "k1",
+        Err(_) => false,
+    }
+}
+
+/// Whether the link goes out and comes back to its seat, and no other seat has one.
+fn keeps_a_link(world: &mut MemWorld<TablePlugin>, alloc: Global) -> bool {
+    asks(world, alloc, 3)
+        && asks(world, alloc, 3)
+        && world.faults() == 0
+        && !asks(world, alloc, 4)
+        && world.faults() == 1
+        && world.link_of(3, "p").is_some()
+        && world.link_of(4, "p").is_none()
+        && world.link_of(3, "q").is_none()
+}
+
+/// Whether a world keeps a tape, or a link.
+fn keeps(alloc: Global, tape: bool) -> bool {
+    match world(alloc) {
+        Some(mut world) => {
+            if tape {
+                keeps_a_tape(&mut world, alloc)
+            } else {
+                keeps_a_link(&mut world, alloc)
+            }
+        }
+        None => false,
+    }
+}
+
+#[test]
+fn a_tape_comes_back_with_its_bytes(rt: HostRuntime) {
+    assert!(rt; keeps(rt.alloc(), true));
+}
+
+#[test]
+fn a_link_comes_back_to_its_seat(rt: HostRuntime) {
+    assert!(rt; keeps(rt.alloc(), false));
+}
