@@ -30,7 +30,7 @@ use Rattle.kr_rollout.specs.Histories.{state_of}
 use Rattle.kr_rollout.specs.Honesty.{IsHonest, SeedsOpen}
 use Rattle.kr_rollout.specs.States.{IsLive}
 use Rattle.kr_rollout.proofs.FoundRows.{absent_is_nothing, found_reads}
-use Rattle.kr_rollout.proofs.HeldFacts.{held_opens}
+use Rattle.kr_rollout.proofs.HeldFacts.{held_is_named, held_opens}
 use Rattle.kr_rollout.proofs.Judging.{holding_is_live}
 use Rattle.kr_rollout.proofs.NeedsLive.{live_is_readable}
 use Rattle.kr_rollout.proofs.WithoutPlugin.{honest_without_plugin}
@@ -256,6 +256,8 @@ module _ {L : Type 0} (truth : Truth) (link : L → Link) (path : List ℕ) (old
       (sym (e ∙ ap (λ (r : Row). value_of r.revision opened) same))
       (value_found truth link path p old new olds news row opened (record {
         found = f;
+        named = (held_is_named old new (event.Fetch path) (answer.Found row) h.number p k f
+            h.held).published;
         unseals = u;
         content = content_found old k h.number p h.held path truth link new olds news row f opened
             u;

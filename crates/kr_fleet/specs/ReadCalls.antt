@@ -83,11 +83,12 @@ module _ {L : Type 0} (truth : Truth) (link : L → Link) (path : List ℕ) wher
   IsReadByAny o history p row olds news (Err (unsealing.PluginFailed name)) unsealed = ⊤
   IsReadByAny o history p row olds news (Err unsealing.NoMemory) unsealed = ⊤
 
-  -- the row of the path was found, and this is what the bench answers of its value; it is the
-  -- content before the Fetch
+  -- the row of the path was found, by an entry that names the configuration, and this is what the
+  -- bench answers of its value; it is the content before the Fetch
   pub record FindsRow (p : Publication) (old : Caller) (olds : List L) (row : Row)
       (opened : Result Opened UnsealNo) (new : Caller) (news : List L) : Type 0 where
     pub found : AddsEntry old (event.Fetch path) (answer.Found row) new
+    pub named : found.entry.published ≡ Some p
     pub unseals : UnsealsBy truth link p.seeds (list_at p row.resource) path row.stored olds opened
         news
     pub content : IsContentOf opened
