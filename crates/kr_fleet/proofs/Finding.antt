@@ -30,7 +30,7 @@ use Rattle.kr_rollout.specs.Histories.{state_of}
 use Rattle.kr_rollout.specs.Honesty.{IsHonest, SeedsOpen}
 use Rattle.kr_rollout.specs.States.{IsLive}
 use Rattle.kr_rollout.proofs.FoundRows.{absent_is_nothing, found_reads}
-use Rattle.kr_rollout.proofs.HeldFacts.{held_opens}
+use Rattle.kr_rollout.proofs.HeldFacts.{held_is_named, held_opens}
 use Rattle.kr_rollout.proofs.Judging.{holding_is_live}
 use Rattle.kr_rollout.proofs.NeedsLive.{live_is_readable}
 use Rattle.kr_rollout.proofs.WithoutPlugin.{honest_without_plugin}
@@ -39,7 +39,7 @@ use Rattle.kr_rollout.specs.declared.call.CallNo.TheVariants as refusal
 use Rattle.kr_fleet.specs.declared.outcome.Read.{Read}
 use Rattle.kr_fleet.specs.declared.outcome.Read.TheVariants.{Absent}
 use Rattle.kr_rollout.specs.Calls.{LetsGo}
-use Rattle.kr_fleet.specs.ReadCalls.{FindsRow, Finds, IsContentOf, IsKnownContent, IsOfValue, IsRead}
+use Rattle.kr_fleet.specs.ReadCalls.{FindsRow, Finds, IsContentOf, IsKnownContent, IsOfValue, IsRead, IsReadByAny}
 use Rattle.kr_fleet.specs.inner.Answering.{FetchesBy}
 use Rattle.kr_fleet.specs.inner.Stages.{Fetches, HoldsAdopted, value_of}
 use Rattle.kr_fleet.proofs.Allowed.{refused_allowed}
@@ -189,6 +189,17 @@ module _ (old : Caller) (k : IsCaller old) (number : ℕ) (p : Publication)
     content_found row f (Err (unsealing.PluginFailed name)) u = tt
     content_found row f (Err unsealing.NoMemory) u = tt
 
+    pub content_by_any : (row : Row) (f : AddsEntry old (event.Fetch path) (answer.Found row) new)
+        (opened : Result Opened UnsealNo)
+        → (u : UnsealsBy truth link p.seeds (list_at p row.resource) path row.stored olds opened news)
+        → IsReadByAny truth link path old.opening (old.seen ++ f.others) p row olds news opened u
+    content_by_any row f (Ok opened) u = λ opens honest same.
+        found_content opens row f (data_of opened.plain) honest (u.envelope, same, u.is.0)
+    content_by_any row f (Err (unsealing.Refused why)) u = λ opens honest same.
+        found_content opens row f (refused why) honest (u.envelope, same, u.is)
+    content_by_any row f (Err (unsealing.PluginFailed name)) u = tt
+    content_by_any row f (Err unsealing.NoMemory) u = tt
+
 -- ---- what is found
 
 module _ {L : Type 0} (truth : Truth) (link : L → Link) (path : List ℕ) (old new : Caller)
@@ -245,8 +256,12 @@ module _ {L : Type 0} (truth : Truth) (link : L → Link) (path : List ℕ) (old
       (sym (e ∙ ap (λ (r : Row). value_of r.revision opened) same))
       (value_found truth link path p old new olds news row opened (record {
         found = f;
+        named = (held_is_named old new (event.Fetch path) (answer.Found row) h.number p k f
+            h.held).published;
         unseals = u;
         content = content_found old k h.number p h.held path truth link new olds news row f opened
+            u;
+        by_any = content_by_any old k h.number p h.held path truth link new olds news row f opened
             u;
       })))
 

@@ -1,8 +1,10 @@
 -- `read`: an Adopt, a Fetch, a LetGo. What is found is unsealed by the adopted configuration, and
 -- is the content at the path.
 use Rattle.std.specs.Prelude.{◌≡◌, ◌⊎◌, ℕ, true, List, ◌++◌, None, Some, Result, Ok, Err, ⊤}
+use Rattle.kr_config.specs.declared.who.Who.{Who}
 use Rattle.kr_kms.specs.Calls.{Link}
 use Rattle.kr_kms.specs.Truth.{Opens, Truth}
+use Rattle.kr_provider.specs.Envelopes.{Envelope, IsEnvelopeOf}
 use Rattle.kr_provider.specs.Publication.{Publication, list_at}
 use Rattle.kr_provider.specs.Reading.{Reading, data_of, refused}
 use Rattle.kr_provider.specs.Unsealing.{UnsealsBy}
@@ -51,6 +53,14 @@ IsContentOf (Ok opened) Is = Is (data_of opened.plain)
 IsContentOf (Err (unsealing.Refused why)) Is = IsOfValue why × Is (refused why)
 IsContentOf (Err why) Is = ⊤
 
+-- this is the content by any truth by which the history is honest and the value's source is what it
+-- was unwrapped to; a value that no plugin reads has none
+abbrev pub IsContentByAny : Opening → List Entry → (list : List Who) → (path bytes : List ℕ)
+    → Envelope → Reading → Type 0
+IsContentByAny o history list path bytes envelope reading = (opens : Opens)
+    → IsHonest opens o history → IsEnvelopeOf opens list bytes envelope
+    → IsContent opens o history path (Some reading)
+
 -- ---- the call
 
 -- the path has no row, and no content before the Fetch, by any truth
@@ -60,15 +70,30 @@ pub record FindsNothing (path : List ℕ) (old new : Caller) : Type 0 where
       → IsContent opens old.opening (old.seen ++ absent.others) path None
 
 module _ {L : Type 0} (truth : Truth) (link : L → Link) (path : List ℕ) where
-  -- the row of the path was found, and this is what the bench answers of its value; it is the
-  -- content before the Fetch
+  -- so is what the bench read, with the source that it had
+  abbrev pub IsReadByAny : Opening → List Entry → (p : Publication) → (row : Row)
+      → (olds news : List L) → (opened : Result Opened UnsealNo)
+      → UnsealsBy truth link p.seeds (list_at p row.resource) path row.stored olds opened news
+      → Type 0
+  IsReadByAny o history p row olds news (Ok opened) unsealed = IsContentByAny o history
+      (list_at p row.resource) path row.stored unsealed.envelope (data_of opened.plain)
+  IsReadByAny o history p row olds news (Err (unsealing.Refused why)) unsealed =
+      IsContentByAny o history (list_at p row.resource) path row.stored unsealed.envelope
+      (refused why)
+  IsReadByAny o history p row olds news (Err (unsealing.PluginFailed name)) unsealed = ⊤
+  IsReadByAny o history p row olds news (Err unsealing.NoMemory) unsealed = ⊤
+
+  -- the row of the path was found, by an entry that names the configuration, and this is what the
+  -- bench answers of its value; it is the content before the Fetch
   pub record FindsRow (p : Publication) (old : Caller) (olds : List L) (row : Row)
       (opened : Result Opened UnsealNo) (new : Caller) (news : List L) : Type 0 where
     pub found : AddsEntry old (event.Fetch path) (answer.Found row) new
+    pub named : found.entry.published ≡ Some p
     pub unseals : UnsealsBy truth link p.seeds (list_at p row.resource) path row.stored olds opened
         news
     pub content : IsContentOf opened
         (IsKnownContent truth old.opening (old.seen ++ found.others) path)
+    pub by_any : IsReadByAny old.opening (old.seen ++ found.others) p row olds news opened unseals
 
   abbrev pub FindsValue : Publication → Caller → List L → Result Opened UnsealNo → Caller → List L
       → Type 0
