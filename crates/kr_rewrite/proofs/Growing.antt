@@ -1,5 +1,5 @@
 -- What a step adds to what its caller sees, and which row it found.
-use Rattle.std.proofs.Common.{◌≡◌, ◌⊎◌, inl, inr, ℕ, ◌+◌, ◌<◌, ◌≤◌, Bool, true, false, List, [], ◌∷◌, ◌++◌, Option, None, Some, Result, Ok, Err, refl, sym, ap, subst, ◌∙◌, append-nil, arith}
+use Rattle.std.proofs.Common.{◌≡◌, inl, inr, ℕ, ◌<◌, ◌≤◌, Bool, true, false, List, [], ◌∷◌, ◌++◌, Option, None, Some, Result, Ok, Err, refl, sym, ap, subst, ◌∙◌, append-nil, arith}
 use Rattle.std.proofs.lemmas.List.{append_assoc}
 use Rattle.std.proofs.lemmas.Option.{same_Some}
 use Rattle.kr_kms.specs.Calls.{Link}
@@ -30,7 +30,7 @@ use Rattle.kr_rollout.specs.Histories.{state_of}
 use Rattle.kr_rollout.proofs.FoundRows.{found_is_live}
 use Rattle.kr_rollout.proofs.Nexts.{legal_now, opening_is, seat_is, seen_is}
 use Rattle.kr_rewrite.specs.Drives.{FindsRow, path_of}
-use Rattle.kr_rewrite.specs.Rewrites.{FindsNone, IsStep, ReplacesBy, Reseals, ResealsBy, Rewrites, RewritesBy, RewritesData, Steps, unread_step, unsealed_step}
+use Rattle.kr_rewrite.specs.Rewrites.{FindsNone, IsStep, ReplacesBy, ResealsBy, Rewrites, RewritesBy, RewritesData, Steps, unread_step, unsealed_step}
 use Rattle.kr_rewrite.specs.declared.outcome.Step.{Step}
 use Rattle.kr_rewrite.specs.declared.outcome.Step.TheVariants as step
 

@@ -1,6 +1,6 @@
 -- The row that an After finds.
-use Rattle.std.specs.Prelude.{IfOk, IfSome, IsSome}
-use Rattle.std.proofs.Common.{◌≡◌, ℕ, List, Option, None, Some, Result, Ok, Err, refl, sym, ap, subst}
+use Rattle.std.specs.Prelude.{IfOk, IfSome}
+use Rattle.std.proofs.Common.{◌≡◌, ℕ, List, Option, Some, Result, sym, ap, subst}
 use Rattle.kr_store.specs.Rows.{IsRow}
 use Rattle.kr_store.specs.declared.format.Format.{Format}
 use Rattle.kr_store.specs.declared.rows.Row.{Row}

@@ -1,5 +1,5 @@
 -- A row that is replaced: what its seat may ask, what becomes of the row, and that its data stay.
-use Rattle.std.specs.Prelude.{IfOk, ⊤}
+use Rattle.std.specs.Prelude.{IfOk}
 use Rattle.std.proofs.Common.{◌≡◌, inl, inr, ℕ, ◌<◌, true, List, ◌++◌, length, Option, Some, Result, Ok, Err, refl, sym, ap, subst, ◌∙◌}
 use Rattle.std.specs.Option.{option_map}
 use Rattle.std.proofs.lemmas.Option.{same_Some}
@@ -28,8 +28,7 @@ use Rattle.kr_rollout.proofs.HeldFacts.{found_is_named, held_is_named, held_open
 use Rattle.kr_rollout.proofs.KeptHonest.{honesty_follows}
 use Rattle.kr_rollout.proofs.Nexts.{front_own, legal_now}
 use Rattle.kr_rewrite.specs.declared.outcome.Step.{Step}
-use Rattle.kr_rewrite.specs.declared.outcome.Step.TheVariants as step
-use Rattle.kr_rewrite.specs.Rewrites.{IsStepTo, Replaces, ReplacesBy, ResealsBy, unsealed_step}
+use Rattle.kr_rewrite.specs.Rewrites.{IsStepTo, ReplacesBy, unsealed_step}
 use Rattle.kr_rewrite.specs.inner.Stages.{ReadsData, ResealsRow}
 
 -- ---- what may be asked

@@ -1,28 +1,23 @@
 -- Lines one behind another.
-use Rattle.std.proofs.Common.{◌≡◌, ℕ, zero, suc, ◌<◌, ◌≤◌, ◌+◌, List, [], ◌∷◌, ◌++◌, length, take, drop, drop-cons, get_or, map, Option, None, Some, Result, Ok, Err, refl, ap, sym, subst, ◌∙◌, arith, add-one}
-use Rattle.std.specs.Prelude.{All, Contains}
-use Rattle.std.proofs.lemmas.List.{take_more, drop_all, append_assoc, map-append}
+use Rattle.std.proofs.Common.{◌≡◌, ℕ, zero, suc, ◌<◌, ◌≤◌, ◌+◌, List, [], ◌∷◌, ◌++◌, length, take, drop, drop-cons, get_or, Option, Result, Ok, Err, refl, ap, sym, subst, ◌∙◌, arith}
+use Rattle.std.proofs.lemmas.List.{take_more, map-append}
 use Rattle.kr_base.specs.declared.errors.Spent.{Spent}
 use Rattle.kr_kms.specs.Calls.{Link}
 use Rattle.kr_kms.specs.Truth.{Truth}
 use Rattle.kr_provider.specs.AskedLinks.{AskedOnly}
 use Rattle.kr_provider.specs.BenchState.{BenchState}
-use Rattle.kr_provider.specs.KeyPages.{size_of}
 use Rattle.kr_provider.specs.Names.{names_of}
 use Rattle.kr_provider.proofs.AskedLists.{asked_none, asked_then, names_stay}
-use Rattle.kr_rollout.specs.declared.opening.Entry.{Entry}
 use Rattle.kr_rollout.specs.declared.opening.Opening.{Opening}
 use Rattle.kr_rollout.specs.Acting.{Caller}
-use Rattle.kr_rollout.specs.Callers.{holding, reloads_in}
+use Rattle.kr_rollout.specs.Callers.{reloads_in}
 use Rattle.kr_rollout.specs.Calls.{AreServed, KeepsToldHonesty}
-use Rattle.kr_rollout.specs.Parts.{Adds, AddsWithin, IsWithin}
 use Rattle.kr_rollout.proofs.PartsAdd.{parts_add_up}
 use Rattle.kr_script.specs.declared.script.ScriptLine.{ScriptLine}
-use Rattle.kr_script.specs.declared.script.ScriptLine.TheVariants as line
 use Rattle.kr_script.specs.declared.told.Told.{Told}
 use Rattle.kr_workers.specs.declared.files.SettingsFile.{SettingsFile}
-use Rattle.kr_workers.specs.Budgets.{brought_by, entries_of, puts_of, reloads_of}
-use Rattle.kr_workers.specs.Runs.{AreReady, DoesAll, IsDone, LineDone, Runs, lines_in, replies_in}
+use Rattle.kr_workers.specs.Budgets.{brought_by, reloads_of}
+use Rattle.kr_workers.specs.Runs.{AreReady, DoesAll, IsDone, LineDone, Runs}
 use Rattle.kr_workers.specs.ScriptLines.{MayDo, Workplace}
 use Rattle.kr_workers.specs.Serving.{IsReadyFor, Serves, place_of}
 use Rattle.kr_workers.specs.inner.Going.{IsGoing}

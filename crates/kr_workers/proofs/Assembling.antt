@@ -1,8 +1,8 @@
 -- The workers' runs, put together to one history.
-use Rattle.std.specs.Prelude.{All, Contains, IsSome, is_some, slice_index, slice_index_or, sum}
+use Rattle.std.specs.Prelude.{All, Contains, IsSome, is_some, slice_index, slice_index_or}
 use Rattle.std.proofs.lemmas.Bool.{false≢true}
 use Rattle.std.proofs.Common.{◌≡◌, ℕ, zero, suc, ◌<◌, ◌≤◌, ◌+◌, true, List, [], ◌∷◌, ◌++◌, length, map, get_or, Option, None, Some, Result, Ok, Err, refl, ap, sym, subst, ◌∙◌, arith}
-use Rattle.std.specs.List.{range_with_len, slice_get}
+use Rattle.std.specs.List.{slice_get}
 use Rattle.std.proofs.lemmas.List.{get_or-map, length-append, length-map}
 use Rattle.std.proofs.lemmas.List.Elements.{All-contains, All-map}
 use Rattle.std.proofs.lemmas.List.FromFn.{get_or-range_with_len, length-range_with_len}
@@ -29,19 +29,18 @@ use Rattle.kr_rollout.specs.Histories.{IsLegal}
 use Rattle.kr_rollout.specs.Honesty.{IsHonest, KeepsHonest}
 use Rattle.kr_rollout.specs.Parts.{written_puts}
 use Rattle.kr_script.specs.declared.script.Part.{Part}
-use Rattle.kr_script.specs.declared.script.ScriptLine.{ScriptLine}
 use Rattle.kr_script.specs.declared.told.Told.{Told}
 use Rattle.kr_seats.specs.Fleets.{AreAdded, HonestIfSeatsAre, IsFleetSeat, caller_of}
 use Rattle.kr_seats.specs.declared.shared_core.SharedCore.{SharedCore}
 use Rattle.kr_turn.specs.Keys.{Home}
-use Rattle.kr_turn.specs.Seats.{AreAll, AreFresh, IsFresh, IsSeatOf, left_of, mine, number_of, seen}
+use Rattle.kr_turn.specs.Seats.{AreAll, AreFresh, IsFresh, left_of, mine, number_of, seen}
 use Rattle.kr_turn.specs.declared.seat.Place.{Place}
 use Rattle.kr_turn.specs.declared.view.Terms.{Terms}
 use Rattle.kr_workers.specs.declared.files.SettingsFile.{SettingsFile}
 use Rattle.kr_workers.specs.declared.worker.Worker.{Worker}
 use Rattle.kr_workers.specs.Budgets.{AreBudgets, all_reloads, budget_of, budgets_of, put_lines, reloads_of}
-use Rattle.kr_workers.specs.Histories.{AllStandIn, IsOneHistory, StandsIn, first_place}
-use Rattle.kr_workers.specs.Runs.{AreReady, DoesAll, EndsRun, LineDone, Runs, entries_in, lines_in}
+use Rattle.kr_workers.specs.Histories.{IsOneHistory, StandsIn, first_place}
+use Rattle.kr_workers.specs.Runs.{AreReady, DoesAll, Runs, entries_in}
 use Rattle.kr_workers.specs.ScriptLines.{MayDo, Workplace}
 use Rattle.kr_workers.specs.Serving.{place_of}
 use Rattle.kr_workers.specs.Workers.{HasWorked, IsReadyWorker, MayBegin, seated, unseated}

@@ -1,6 +1,6 @@
 -- A worker whose lines fit its budget is never cut short, where as many paths live as the budget
 -- was made for.
-use Rattle.std.proofs.Common.{◌≡◌, ℕ, ◌<◌, ◌≤◌, ◌+◌, ◌*◌, List, [], ◌∷◌, ◌++◌, length, append-nil, Option, Result, Ok, Err, refl, ap, sym, subst, ◌∙◌, arith}
+use Rattle.std.proofs.Common.{◌≡◌, ℕ, ◌<◌, ◌≤◌, ◌+◌, List, [], ◌∷◌, ◌++◌, length, append-nil, Option, Result, Ok, Err, refl, ap, sym, ◌∙◌, arith}
 use Rattle.std.proofs.lemmas.List.{append_assoc}
 use Rattle.kr_kms.specs.Calls.{Link}
 use Rattle.kr_kms.specs.Truth.{Truth}
@@ -19,7 +19,7 @@ use Rattle.kr_script.specs.declared.told.Told.{Told}
 use Rattle.kr_workers.specs.declared.files.SettingsFile.{SettingsFile}
 use Rattle.kr_workers.specs.Budgets.{brought_by, budget_of, entries_of, puts_of}
 use Rattle.kr_workers.specs.Replies.{Reply, told_of_drive, told_of_refusal}
-use Rattle.kr_workers.specs.Runs.{DoesAll, IsCutShort, IsDone, LineDone, lines_in}
+use Rattle.kr_workers.specs.Runs.{DoesAll, IsCutShort, LineDone, lines_in}
 use Rattle.kr_workers.specs.ScriptLines.{Does, Workplace}
 use Rattle.kr_workers.specs.Serving.{IsShortFor}
 use Rattle.kr_workers.proofs.Living.{LivesIn, among_front}

@@ -1,11 +1,10 @@
 -- Each reply has its cause, by the relation of its line's call: of calls that publish nothing.
 use Rattle.std.specs.Prelude.{⊤}
-use Rattle.std.proofs.Common.{◌≡◌, ℕ, ◌≤◌, Bool, true, false, List, [], ◌∷◌, ◌++◌, Option, None, Some, Result, Ok, Err, inl, inr, refl, ap, sym, subst, ◌∙◌, arith}
+use Rattle.std.proofs.Common.{◌≡◌, ℕ, ◌≤◌, Bool, true, false, List, [], ◌∷◌, ◌++◌, Option, None, Some, Result, Ok, Err, inl, inr, refl, ap, sym, subst, ◌∙◌}
 use Rattle.std.proofs.lemmas.Bool.{false≢true}
 use Rattle.std.proofs.lemmas.List.{append_assoc}
 use Rattle.kr_base.proofs.Counting.{Rose-later}
 use Rattle.kr_base.specs.Faults.{Rose}
-use Rattle.kr_base.specs.declared.errors.Spent.{Spent}
 use Rattle.kr_kms.specs.Calls.{Link}
 use Rattle.kr_kms.specs.Truth.{Truth}
 use Rattle.kr_provider.specs.AskedLinks.{AskedOnly, FaultRose}
@@ -279,7 +278,7 @@ module _ {L D : Type 0} (truth : Truth) (link : L → Link) (left : D → Option
       (write_caused resource path plain replica old.caller new.caller old.links new.links old.dice
       new.dice why w)
 
--- ---- a get
+  -- ---- a get
 
   finds_caused : (path : List ℕ) (p : Publication) (old new : Caller) (olds news : List L)
       (dice after : D) (why : CallNo) → Finds truth link path p old olds (Err why) new news
@@ -319,7 +318,7 @@ module _ {L D : Type 0} (truth : Truth) (link : L → Link) (left : D → Option
       refused_caused link count (line.Get path) old new reply why is
       (read_caused path replica old.caller new.caller old.links new.links old.dice new.dice why r)
 
--- ---- a delete and a leave
+  -- ---- a delete and a leave
 
   delete_caused : (path : List ℕ) (old new : Caller) (olds news : List L) (dice after : D)
       (why : CallNo) → IsDelete path old (Err why) new

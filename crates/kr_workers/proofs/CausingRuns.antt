@@ -1,5 +1,5 @@
 -- The cause of a reply, by the whole of its worker's run.
-use Rattle.std.proofs.Common.{◌≡◌, ℕ, zero, suc, ◌<◌, ◌≤◌, List, [], ◌∷◌, ◌++◌, Contains, Option, inl, inr, refl, ap, sym, subst, ◌∙◌, arith}
+use Rattle.std.proofs.Common.{ℕ, zero, suc, ◌≤◌, List, [], ◌∷◌, ◌++◌, Contains, Option, inl, inr, refl, ap, sym, subst, ◌∙◌, arith}
 use Rattle.std.proofs.Math.Nat.{eq-or-lt_of_le}
 use Rattle.kr_base.proofs.Counting.{Rose-later}
 use Rattle.kr_base.specs.Faults.{Rose}
@@ -27,7 +27,9 @@ use Rattle.kr_workers.proofs.CausingRewrites.{line_caused}
 rose_still : (a b c : ℕ) → Rose a b → b ≤ c → Rose a c
 rose_still a b c (inl r) h = inl (omega (arith, r, h))
 rose_still a b c (inr r) h = elim (eq-or-lt_of_le h) [
-  inl e ↦ inr (r.0, omega (arith, e, r.1)) | inr l ↦ inl (omega (arith, r.0, r.1, l)) ]
+  | inl e ↦ inr (r.0, omega (arith, e, r.1))
+  | inr l ↦ inl (omega (arith, r.0, r.1, l))
+]
 
 -- the link that this one became
 became : {L : Type 0} (link : L → Link) (names : List (List ℕ)) (xs ys : List L) (x : L)

@@ -1,13 +1,11 @@
 -- A reply to a `get` tells the content before its Fetch.
 use Rattle.std.specs.Prelude.{⊤, Contains}
-use Rattle.std.proofs.Common.{◌≡◌, ℕ, zero, suc, ◌<◌, List, [], ◌∷◌, ◌++◌, length, Option, None, Some, Result, Ok, Err, inl, inr, append-nil, refl, ap, sym, subst, ◌∙◌, arith}
+use Rattle.std.proofs.Common.{◌≡◌, ℕ, zero, suc, List, [], ◌∷◌, ◌++◌, Option, None, Result, Ok, Err, inl, inr, append-nil, refl, ap, sym, subst, ◌∙◌, arith}
 use Rattle.std.proofs.lemmas.List.{append_assoc}
-use Rattle.kr_base.specs.declared.errors.Spent.{Spent}
 use Rattle.kr_kms.specs.Calls.{Link}
 use Rattle.kr_kms.specs.Truth.{Opens, Truth}
-use Rattle.kr_provider.specs.BenchState.{BenchState}
 use Rattle.kr_provider.specs.Publication.{Publication}
-use Rattle.kr_provider.specs.Reading.{Reading, data_of, refused}
+use Rattle.kr_provider.specs.Reading.{data_of, refused}
 use Rattle.kr_provider.specs.declared.refusal.Opened.{Opened}
 use Rattle.kr_provider.specs.declared.refusal.UnsealNo.TheVariants as unsealing
 use Rattle.kr_provider.specs.declared.refusal.ValueNo.{ValueNo}
@@ -20,19 +18,14 @@ use Rattle.kr_rollout.specs.declared.event.Event.TheVariants as event
 use Rattle.kr_rollout.specs.declared.opening.Entry.{Entry}
 use Rattle.kr_rollout.specs.declared.opening.Opening.{Opening}
 use Rattle.kr_rollout.specs.Acting.{Caller, AddsEntry}
-use Rattle.kr_rollout.specs.Calls.{HoldsMeanwhile, LetsGo}
+use Rattle.kr_rollout.specs.Calls.{LetsGo}
 use Rattle.kr_rollout.specs.Contents.{IsContent}
 use Rattle.kr_fleet.specs.declared.outcome.Read.{Read}
 use Rattle.kr_fleet.specs.declared.outcome.Read.TheVariants as found
 use Rattle.kr_fleet.specs.ReadCalls.{Finds, FindsRow, IsRead}
-use Rattle.kr_script.specs.declared.script.Part.{Part}
-use Rattle.kr_script.specs.declared.script.ScriptLine.{ScriptLine}
-use Rattle.kr_script.specs.declared.script.ScriptLine.TheVariants as line
 use Rattle.kr_script.specs.declared.told.Told.{Told}
-use Rattle.kr_script.specs.declared.told.Told.TheVariants as told
 use Rattle.kr_workers.specs.declared.files.SettingsFile.{SettingsFile}
 use Rattle.kr_workers.specs.Gets.{FetchesWhere, GetsTellContent, ReadsContent, TellsContent}
-use Rattle.kr_workers.specs.Histories.{StandsIn}
 use Rattle.kr_workers.specs.Replies.{Reply, told_of_read, told_of_refusal}
 use Rattle.kr_workers.specs.Runs.{DoesAll, IsDone, LineDone}
 use Rattle.kr_workers.specs.ScriptLines.{Does, Workplace}

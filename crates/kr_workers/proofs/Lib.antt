@@ -2,7 +2,6 @@
 -- lines one behind another.
 pub mod Telling
 pub mod Cutting
-pub mod Looking
 pub mod OneLine
 pub mod AllLines
 pub mod Getting

@@ -1,7 +1,7 @@
 -- Seats that are given to workers, and taken back.
-use Rattle.std.proofs.Common.{◌≡◌, ℕ, zero, suc, ◌<◌, ◌+◌, List, [], ◌∷◌, ◌++◌, length, set, map, get_or, take, drop, drop-cons, append-nil, Option, None, Some, refl, ap, sym, subst, ◌∙◌, ◌≤◌, arith}
+use Rattle.std.proofs.Common.{◌≡◌, ℕ, zero, suc, ◌<◌, ◌+◌, List, [], ◌∷◌, ◌++◌, length, set, map, get_or, take, drop, drop-cons, append-nil, None, Some, refl, ap, sym, subst, ◌∙◌, arith}
 use Rattle.std.specs.Prelude.{All}
-use Rattle.std.proofs.lemmas.List.{append_assoc, length-append, length-map, length-take-le, map-append, drop_all, take_all, take_more}
+use Rattle.std.proofs.lemmas.List.{append_assoc, length-append, length-map, length-take-le, map-append, take_more}
 use Rattle.kr_rollout.specs.declared.opening.Entry.{Entry}
 use Rattle.kr_rollout.specs.declared.opening.Opening.{Opening}
 use Rattle.kr_seats.specs.declared.shared_core.SharedCore.{SharedCore}
@@ -65,16 +65,6 @@ module _ {T L D : Type 0} (seats : List (Place (SharedCore T) Entry Opening))
     as_long = refl;
   }
 
-  pub all_seated : (workers_now : List (Worker T L D)) → IsSeating seats [] workers workers_now
-      → workers_now ≡ seated seats workers
-  all_seated workers_now s = by s.front s.long s.workers_are s.now_are
-    where
-      by : (front : List (Worker T L D)) → length front ≡ 0 → workers ≡ front ++ s.back
-          → workers_now ≡ front ++ seated s.given s.back → workers_now ≡ seated seats workers
-      by [] long are now =
-          now ∙ (λ i. seated (sym s.seats_are i) (sym are i))
-      by (x ∷ front) long are now = absurd (omega (arith, long))
-
 -- ---- the next seat, from the last on
 
 module _ {T L D : Type 0} (seats : List (Place (SharedCore T) Entry Opening))
@@ -93,11 +83,6 @@ module _ {T L D : Type 0} (seats : List (Place (SharedCore T) Entry Opening))
   were : workers ≡ behind.front ++ behind.last ∷ s.back
   were = s.workers_are ∙ ap (λ l. l ++ s.back) behind.parted
       ∙ append_assoc behind.front (behind.last ∷ []) s.back
-
-  pub there_in : length rest < length workers_now
-  there_in = let e = ap length now_is in
-      let f = length-append behind.front (behind.last ∷ seated s.given s.back) in
-      let g = behind.long in omega (arith, e, f, g)
 
   at_is : (d : Worker T L D) → get_or workers_now (length rest) d ≡ behind.last
   at_is d = (λ i. get_or (now_is i) (sym behind.long i) d)
@@ -156,9 +141,6 @@ pub record IsUnseating {T L D : Type 0} (workers : List (Worker T L D)) (k : ℕ
   pub now_are : now ≡ map unseated (take k workers) ++ drop k workers
 
 module _ {T L D : Type 0} (workers : List (Worker T L D)) where
-  pub none_unseated : IsUnseating workers 0 [] workers
-  none_unseated = record { seats_are = refl; now_are = refl }
-
   module _ (k : ℕ) (seats : List (Place (SharedCore T) Entry Opening))
       (now : List (Worker T L D)) (s : IsUnseating workers k seats now)
       (below : k < length workers) where
@@ -170,17 +152,6 @@ module _ {T L D : Type 0} (workers : List (Worker T L D)) where
         ++ get_or workers k d ∷ drop (suc k) workers
     here d = s.now_are
         ∙ ap (λ l. map unseated (take k workers) ++ l) (drop-cons workers k d below)
-
-    pub still_in : k < length now
-    still_in = let d = (λ (d : Worker T L D). ap length (here d)
-        ∙ length-append (map unseated (take k workers)) (get_or workers k d ∷ drop (suc k) workers)) in
-        by workers d below
-      where
-        by : (ws : List (Worker T L D)) → ((d : Worker T L D) → length now
-            ≡ length (map (unseated {T = T} {L = L} {D = D}) (take k workers))
-            + suc (length (drop (suc k) workers))) → k < length ws → k < length now
-        by [] e l = absurd (omega (arith, l))
-        by (w ∷ ws) e l = let f = e w in let g = front_long in omega (arith, f, g)
 
     pub still_is : (d : Worker T L D) → get_or now k d ≡ get_or workers k d
     still_is d = (λ i. get_or (here d i) (sym front_long i) d)
@@ -215,14 +186,3 @@ module _ {T L D : Type 0} (workers : List (Worker T L D)) where
         subst (λ l. IsUnseating workers (k + 1) l (set now k new)) (sym all)
         (subst (λ w. IsUnseating workers (k + 1) (seats ++ seat ∷ []) (set now k w)) (sym there)
         (unseat_next it seat (ap (λ (w : Worker T L D). w.seat) (sym is) ∙ has)))
-
-  -- all were
-  pub all_unseated : (k : ℕ) (seats : List (Place (SharedCore T) Entry Opening))
-      (now : List (Worker T L D)) → IsUnseating workers k seats now → length workers ≤ k
-      → (map Some seats ≡ map (λ (w : Worker T L D). w.seat) workers)
-      × (now ≡ map unseated workers)
-  all_unseated k seats now s past = (
-    s.seats_are ∙ ap (λ l. map (λ (w : Worker T L D). w.seat) l) (take_all k workers past),
-    s.now_are ∙ (λ i. map unseated (take_all k workers past i) ++ drop_all k workers past i)
-        ∙ append-nil (map unseated workers),
-  )

@@ -1,6 +1,5 @@
 -- What a reply says of the result that it tells.
-use Rattle.std.specs.Prelude.{⊤}
-use Rattle.std.proofs.Common.{◌≡◌, ℕ, ◌<◌, Option, None, Some, Result, Ok, Err, refl, ap}
+use Rattle.std.proofs.Common.{◌≡◌, ℕ, Option, None, Some, Result, Ok, Err, refl}
 use Rattle.kr_rollout.specs.declared.call.CallNo.{CallNo}
 use Rattle.kr_rollout.specs.declared.call.CallNo.TheVariants as refusal
 use Rattle.kr_rollout.specs.Acting.{Caller}

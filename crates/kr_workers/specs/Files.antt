@@ -1,5 +1,5 @@
 -- The configurations that a fleet file names, by the names of their files.
-use Rattle.std.specs.Prelude.{◌≡◌, ℕ, List, Option, None, Some, find}
+use Rattle.std.specs.Prelude.{ℕ, List, Option, find}
 use Rattle.std.specs.Option.{option_map}
 use Rattle.std.specs.Str.{bytes_eq}
 use Rattle.kr_config.specs.Kept.{Row, rows_of}

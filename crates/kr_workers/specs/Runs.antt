@@ -1,6 +1,5 @@
 -- A worker's run: its lines in order, each once and with one reply.
 use Rattle.std.specs.Prelude.{◌≡◌, ◌<◌, ◌≤◌, ◌+◌, ℕ, List, [], ◌∷◌, ◌++◌, length, map, get_or, All, None, Option, Result, Ok, Err}
-use Rattle.std.specs.List.{flat_map}
 use Rattle.kr_base.specs.declared.errors.Spent.{Spent}
 use Rattle.kr_kms.specs.Calls.{Link}
 use Rattle.kr_kms.specs.Truth.{Truth}

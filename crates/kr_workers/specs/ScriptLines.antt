@@ -1,12 +1,10 @@
 -- What a worker's line does: its call's own relation, and the reply that tells the call's result.
-use Rattle.std.specs.Prelude.{◌≡◌, ◌⊎◌, ◌<◌, ℕ, List, [], ◌∷◌, length, Option, None, Some, Result, Ok, Err, ⊤}
+use Rattle.std.specs.Prelude.{◌≡◌, ◌⊎◌, ◌<◌, ℕ, List, [], length, Option, None, Some, Result, Ok, ⊤}
 use Rattle.kr_base.specs.Rules.{IsPath, IsResource}
 use Rattle.kr_config.specs.Kept.{Row}
 use Rattle.kr_kms.specs.Calls.{Link}
 use Rattle.kr_kms.specs.Truth.{Truth}
 use Rattle.kr_rollout.specs.declared.call.CallNo.{CallNo}
-use Rattle.kr_rollout.specs.declared.line.Did.{Did}
-use Rattle.kr_rollout.specs.declared.line.Did.TheVariants as did
 use Rattle.kr_rollout.specs.declared.opening.Opening.{Opening}
 use Rattle.kr_rollout.specs.Acting.{Caller}
 use Rattle.kr_rollout.specs.Openings.{NamesAmong}

@@ -1,5 +1,5 @@
 -- `budgets_of`: over the paths that are live and those that are put.
-use Rattle.std.proofs.Common.{◌≡◌, ◌+◌, ◌-◌, ◌^◌, min}
+use Rattle.std.proofs.Common.{◌+◌}
 use Rattle.kr_workers.specs.Budgets.{put_lines}
 use Rattle.kr_workers.proofs.PutLines.{paths_up_to, real_budgets, really_many}
 use Rattle.kr_workers.proofs.budget.budgets_of.Goals as goal

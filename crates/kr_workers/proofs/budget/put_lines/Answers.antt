@@ -1,5 +1,5 @@
 -- `put_lines`: one part more, and all of them.
-use Rattle.std.proofs.Common.{◌≡◌, ◌+◌, ◌-◌, ◌^◌, ap, count_by, min, sym, ◌∙◌}
+use Rattle.std.proofs.Common.{◌+◌, ◌-◌, ◌^◌, ap, count_by, min, ◌∙◌}
 use Rattle.kr_workers.specs.Budgets.{is_put}
 use Rattle.kr_workers.proofs.PutLines.{puts_more, puts_whole}
 use Rattle.kr_workers.proofs.budget.put_lines.Goals as goal

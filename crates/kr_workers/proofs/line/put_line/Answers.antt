@@ -1,9 +1,7 @@
 -- A `put`: a copy of the data is put.
-use Rattle.std.proofs.Common.{ap, inl, refl, subst, sym, ◌∙◌}
+use Rattle.std.proofs.Common.{ap, subst, sym, ◌∙◌}
 use Rattle.kr_base.specs.Rules.{IsPath, IsResource}
-use Rattle.kr_script.specs.declared.script.ScriptLine.TheVariants as line
 use Rattle.kr_workers.specs.Replies.{told_of_write}
-use Rattle.kr_workers.specs.Serving.{Serves}
 use Rattle.kr_workers.proofs.OneLine.{put_as_lent, serves_put, uncopied_put}
 use Rattle.kr_workers.proofs.line.put_line.Goals as goal
 

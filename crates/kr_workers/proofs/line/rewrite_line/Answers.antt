@@ -1,5 +1,5 @@
 -- A `rewrite`, from the first path on.
-use Rattle.std.proofs.Common.{[], ap, inl, refl, subst, sym, ◌∙◌}
+use Rattle.std.proofs.Common.{ap, inl, refl, ◌∙◌}
 use Rattle.kr_workers.specs.Replies.{told_of_drive}
 use Rattle.kr_workers.proofs.OneLine.{serves_rewrite}
 use Rattle.kr_workers.proofs.line.rewrite_line.Goals as goal

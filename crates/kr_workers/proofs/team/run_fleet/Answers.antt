@@ -1,17 +1,15 @@
 -- `run_fleet`: the seats are given, the workers work, the seats come back.
-use Rattle.std.proofs.Common.{◌≡◌, ◌≤◌, ◌<◌, ◌+◌, [], length, map, sum, All, None, Some, ap, sym, subst, ◌∙◌, arith}
+use Rattle.std.proofs.Common.{◌≡◌, ◌<◌, ◌+◌, length, All, None, ap, sym, subst, ◌∙◌, arith}
 use Rattle.std.proofs.lemmas.List.{length-map}
 use Rattle.kr_rollout.specs.declared.opening.Opening.{Opening}
 use Rattle.kr_rollout.specs.Histories.{IsLegal}
 use Rattle.kr_script.specs.declared.script.Part.{Part}
-use Rattle.kr_seats.specs.Fleets.{IsFleetSeat}
 use Rattle.kr_turn.specs.Seats.{AreFresh}
 use Rattle.kr_turn.specs.declared.view.Terms.{Terms}
 use Rattle.kr_workers.specs.Budgets.{budgets_of, put_lines, reloads_of}
 use Rattle.kr_workers.specs.Histories.{IsOneHistory}
 use Rattle.kr_workers.specs.Workers.{IsReadyWorker}
-use Rattle.kr_workers.proofs.Assembling.{HaveWorked, all_ready, as_many, back_all, budgets_many, done_seated, have_worked, none_seated_now, none_yet, one_history, seated_long, seats_long, some_seated}
-use Rattle.kr_workers.proofs.team.run_fleet.Given.{Over}
+use Rattle.kr_workers.proofs.Assembling.{all_ready, as_many, back_all, budgets_many, done_seated, have_worked, none_seated_now, none_yet, one_history, seated_long, seats_long, some_seated}
 use Rattle.kr_workers.proofs.team.run_fleet.Goals as goal
 
 pub new-requires : goal.new-requires

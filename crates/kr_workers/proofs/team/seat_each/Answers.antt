@@ -1,5 +1,5 @@
 -- `seat_each`: seats are given from the last on.
-use Rattle.std.proofs.Common.{List, length, ap, arith, ◌∷◌, []}
+use Rattle.std.proofs.Common.{length, ap, arith, ◌∷◌, []}
 use Rattle.std.proofs.lemmas.List.{length-append}
 use Rattle.kr_workers.proofs.Seating.{none_at, none_seated, sit_at}
 use Rattle.kr_workers.proofs.team.seat_each.Goals as goal
