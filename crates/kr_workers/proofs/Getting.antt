@@ -6,6 +6,10 @@ use Rattle.kr_kms.specs.Calls.{Link}
 use Rattle.kr_kms.specs.Truth.{Opens, Truth}
 use Rattle.kr_provider.specs.Publication.{Publication}
 use Rattle.kr_provider.specs.Reading.{data_of, refused}
+use Rattle.kr_provider.specs.declared.refusal.Opened.{Opened}
+use Rattle.kr_provider.specs.declared.refusal.UnsealNo.TheVariants as unsealing
+use Rattle.kr_provider.specs.declared.refusal.ValueNo.{ValueNo}
+use Rattle.kr_store.specs.declared.rows.Row.{Row}
 use Rattle.kr_rollout.specs.declared.answer.Answer.{Answer}
 use Rattle.kr_rollout.specs.declared.answer.Answer.TheVariants as answer
 use Rattle.kr_rollout.specs.declared.call.CallNo.{CallNo}
@@ -18,10 +22,10 @@ use Rattle.kr_rollout.specs.Calls.{LetsGo}
 use Rattle.kr_rollout.specs.Contents.{IsContent}
 use Rattle.kr_fleet.specs.declared.outcome.Read.{Read}
 use Rattle.kr_fleet.specs.declared.outcome.Read.TheVariants as found
-use Rattle.kr_fleet.specs.ReadCalls.{Finds, IsKnownContent, IsRead}
+use Rattle.kr_fleet.specs.ReadCalls.{Finds, FindsRow, IsRead}
 use Rattle.kr_script.specs.declared.told.Told.{Told}
 use Rattle.kr_workers.specs.declared.files.SettingsFile.{SettingsFile}
-use Rattle.kr_workers.specs.Gets.{FetchesWhere, GetsTellContent, TellsContent}
+use Rattle.kr_workers.specs.Gets.{FetchesWhere, GetsTellContent, ReadsContent, TellsContent}
 use Rattle.kr_workers.specs.Replies.{Reply, told_of_read, told_of_refusal}
 use Rattle.kr_workers.specs.Runs.{DoesAll, IsDone, LineDone}
 use Rattle.kr_workers.specs.ScriptLines.{Does, Workplace}
@@ -115,7 +119,8 @@ ok_no_err reply other ok is = subst is_ok (sym is) ok
 entry_there : (old new : Caller) (path : List ℕ) (given : Answer)
     (a : AddsEntry old (event.Fetch path) given new) (history more : List Entry)
     → history ≡ new.seen ++ more → (o : Opening) (seat : ℕ) → old.opening ≡ o → old.seat ≡ seat
-    → (Holds : Opening → List Entry → Type 0) → Holds old.opening (old.seen ++ a.others)
+    → (Holds : Opening → List Entry → Entry → Type 0)
+    → Holds old.opening (old.seen ++ a.others) a.entry
     → FetchesWhere history seat path (Holds o)
 entry_there old new path given a history more is o seat opening own Holds holds = record {
   front = old.seen ++ a.others;
@@ -125,7 +130,7 @@ entry_there old new path given a history more is o seat opening own Holds holds 
       ∙ append_assoc (old.seen ++ a.others) (a.entry ∷ []) more;
   own = a.records.seat_is ∙ own;
   fetches = a.records.did_is;
-  holds = subst (λ p. Holds p (old.seen ++ a.others)) opening holds;
+  holds = subst (λ p. Holds p (old.seen ++ a.others) a.entry) opening holds;
 }
 
 -- what is told behind a call that let its generation go
@@ -134,25 +139,59 @@ module _ {L : Type 0} (truth : Truth) (link : L → Link) (path : List ℕ) (old
   -- what was found tells the content
   abbrev TellsFound : Result Read CallNo → Type 0
   TellsFound (Ok found.Absent) = FetchesWhere history seat path
-      (λ front. (opens : Opens) → IsContent opens o front path None)
-  TellsFound (Ok (found.Value revision plain stale)) = FetchesWhere history seat path
-      (λ front. IsKnownContent truth o front path (data_of plain))
-  TellsFound (Err (refusal.Refused why)) = FetchesWhere history seat path
-      (λ front. IsKnownContent truth o front path (refused why))
+      (λ front fetch. (opens : Opens) → IsContent opens o front path None)
+  TellsFound (Ok (found.Value revision plain stale)) =
+      FetchesWhere history seat path (ReadsContent truth o path (data_of plain))
+  TellsFound (Err (refusal.Refused why)) =
+      FetchesWhere history seat path (ReadsContent truth o path (refused why))
   TellsFound (Err why) = ⊤
+
+  value_read : (p : Publication) (old new : Caller) (row : Row) (opened : Opened)
+      → (f : FindsRow truth link path p old olds row (Ok opened) new news)
+      → ReadsContent truth old.opening path (data_of opened.plain) (old.seen ++ f.found.others)
+      f.found.entry
+  value_read p old new row opened f = record {
+    known = f.content;
+    p = p;
+    row = row;
+    envelope = f.unseals.envelope;
+    held = f.named;
+    found = f.found.records.shows;
+    object = f.unseals.object;
+    reads = f.unseals.is.0;
+    by_any = f.by_any;
+  }
+
+  value_refused : (p : Publication) (old new : Caller) (row : Row) (why : ValueNo)
+      → (f : FindsRow truth link path p old olds row (Err (unsealing.Refused why)) new news)
+      → ReadsContent truth old.opening path (refused why) (old.seen ++ f.found.others)
+      f.found.entry
+  value_refused p old new row why f = record {
+    known = f.content.1;
+    p = p;
+    row = row;
+    envelope = f.unseals.envelope;
+    held = f.named;
+    found = f.found.records.shows;
+    object = f.unseals.object;
+    reads = f.unseals.is;
+    by_any = f.by_any;
+  }
 
   found_tells : (p : Publication) (old new : Caller) (done : Result Read CallNo)
       → Finds truth link path p old olds done new news → (more : List Entry)
       → history ≡ new.seen ++ more → old.opening ≡ o → old.seat ≡ seat → TellsFound done
   found_tells p old new (Ok found.Absent) d more is opening own =
       entry_there old new path answer.Absent d.0.absent history more is o seat opening own
-      (λ o front. (opens : Opens) → IsContent opens o front path None) d.0.content
+      (λ o front fetch. (opens : Opens) → IsContent opens o front path None) d.0.content
   found_tells p old new (Ok (found.Value revision plain stale)) d more is opening own =
       entry_there old new path (answer.Found d.0) d.1.found history more is o seat opening own
-      (λ o front. IsKnownContent truth o front path (data_of plain)) d.1.content
+      (λ o front fetch. ReadsContent truth o path (data_of plain) front fetch)
+      (value_read p old new d.0 (record { plain = plain; stale = stale }) d.1)
   found_tells p old new (Err (refusal.Refused why)) d more is opening own =
       entry_there old new path (answer.Found d.0) d.1.found history more is o seat opening own
-      (λ o front. IsKnownContent truth o front path (refused why)) d.1.content.1
+      (λ o front fetch. ReadsContent truth o path (refused why) front fetch)
+      (value_refused p old new d.0 why d.1)
   found_tells p old new (Err (refusal.PluginFailed name)) d more is opening own = tt
   found_tells p old new (Err refusal.DiceFailed) d more is opening own = tt
   found_tells p old new (Err refusal.StoreFailed) d more is opening own = tt

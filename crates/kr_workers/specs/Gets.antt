@@ -1,14 +1,18 @@
 -- What a reply to a `get` says: the content of the path before its Fetch.
-use Rattle.std.specs.Prelude.{◌≡◌, ℕ, List, ◌∷◌, ◌++◌, Contains, Option, None, ⊤}
+use Rattle.std.specs.Prelude.{◌≡◌, ℕ, List, ◌∷◌, ◌++◌, Contains, Option, None, Some, ⊤}
 use Rattle.kr_kms.specs.Calls.{Link}
 use Rattle.kr_kms.specs.Truth.{Opens, Truth}
 use Rattle.kr_provider.specs.BenchState.{BenchState}
-use Rattle.kr_provider.specs.Reading.{data_of, refused}
+use Rattle.kr_provider.specs.Envelopes.{Envelope, HasObject}
+use Rattle.kr_provider.specs.Publication.{Publication, list_at}
+use Rattle.kr_provider.specs.Readers.{reader_in}
+use Rattle.kr_provider.specs.Reading.{Reading, data_of, refused, value_reading}
+use Rattle.kr_store.specs.declared.rows.Row.{Row}
 use Rattle.kr_rollout.specs.declared.line.Did.TheVariants as did
 use Rattle.kr_rollout.specs.declared.opening.Entry.{Entry}
 use Rattle.kr_rollout.specs.declared.opening.Opening.{Opening}
 use Rattle.kr_rollout.specs.Contents.{IsContent}
-use Rattle.kr_fleet.specs.ReadCalls.{IsKnownContent}
+use Rattle.kr_fleet.specs.ReadCalls.{IsContentByAny, IsKnownContent}
 use Rattle.kr_script.specs.declared.script.Part.{Part}
 use Rattle.kr_script.specs.declared.script.ScriptLine.TheVariants as line
 use Rattle.kr_script.specs.declared.told.Told.{Told}
@@ -18,30 +22,45 @@ use Rattle.kr_workers.specs.Histories.{StandsIn}
 use Rattle.kr_workers.specs.Runs.{LineDone}
 use Rattle.kr_workers.specs.ScriptLines.{Workplace}
 
--- the seat fetched the path's row at a place of the history, before which this holds of the
--- content
+-- the seat fetched the path's row at a place of the history, and this holds of what stands before
+-- it and of the fetch
 pub record FetchesWhere (history : List Entry) (seat : ℕ) (path : List ℕ)
-    (Holds : (front : List Entry) → Type 0) : Type 0 where
+    (Holds : (front : List Entry) → (fetch : Entry) → Type 0) : Type 0 where
   pub front : List Entry
   pub fetch : Entry
   pub rest : List Entry
   pub there : history ≡ front ++ fetch ∷ rest
   pub own : fetch.line.seat ≡ seat
   pub fetches : fetch.line.did ≡ did.Fetch path
-  pub holds : Holds front
+  pub holds : Holds front fetch
 
--- `got` tells the content, `absent` that there is none, and a refusal is that of the content: by
--- the truth that is told, where the history before it is honest; and by any truth where no
--- configuration names a plugin
+-- the row that was fetched reads so by the configuration that the seat held, and so does the
+-- content before the fetch: by the truth that is told, where what stands before is honest by it; by
+-- any truth, where no configuration names a plugin; and, whatever they name, by any truth by which
+-- what stands before is honest and the value's source is what it was unwrapped to. A value that no
+-- plugin reads has no source
+pub record ReadsContent (truth : Truth) (o : Opening) (path : List ℕ) (reading : Reading)
+    (front : List Entry) (fetch : Entry) : Type 0 where
+  pub known : IsKnownContent truth o front path reading
+  pub p : Publication
+  pub row : Row
+  pub envelope : Envelope
+  pub held : fetch.published ≡ Some p
+  pub found : fetch.row ≡ Some row
+  pub object : HasObject (reader_in (list_at p row.resource) row.stored) row.stored envelope.object
+  pub reads : value_reading envelope (list_at p row.resource) path row.stored ≡ reading
+  pub by_any : IsContentByAny o front (list_at p row.resource) path row.stored envelope reading
+
+-- `got` tells the content, `absent` that there is none, by any truth, and a refusal is that of the
+-- content
 abbrev pub TellsContent : Truth → Opening → (history : List Entry) → (seat : ℕ) → (path : List ℕ)
     → Told → Type 0
 TellsContent truth o history seat path (told.Got revision plain) =
-    FetchesWhere history seat path
-    (λ front. IsKnownContent truth o front path (data_of plain))
+    FetchesWhere history seat path (ReadsContent truth o path (data_of plain))
 TellsContent truth o history seat path told.Absent = FetchesWhere history seat path
-    (λ front. (opens : Opens) → IsContent opens o front path None)
-TellsContent truth o history seat path (told.Value why) = FetchesWhere history seat path
-    (λ front. IsKnownContent truth o front path (refused why))
+    (λ front fetch. (opens : Opens) → IsContent opens o front path None)
+TellsContent truth o history seat path (told.Value why) =
+    FetchesWhere history seat path (ReadsContent truth o path (refused why))
 TellsContent truth o history seat path reply = ⊤
 
 -- so each reply to a `get` of a worker whose lines stand in a history
