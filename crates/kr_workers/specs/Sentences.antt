@@ -1,5 +1,5 @@
 -- What the replies of a fleet say, each by its worker and the place of its line.
-use Rattle.std.specs.Prelude.{◌≡◌, ◌<◌, ℕ, List, length, slice_index, Option, Some}
+use Rattle.std.specs.Prelude.{◌≡◌, ℕ, List, length, slice_index, Option, Some}
 use Rattle.std.specs.List.{slice_get}
 use Rattle.kr_kms.specs.Calls.{Link}
 use Rattle.kr_kms.specs.Truth.{Truth}
