@@ -20,13 +20,24 @@ impl KeyIds {
         ensures calls { plugin.new.calls ≡ plugin.old.calls }
     {
         self.made = self.made.saturating_add(1);
-        for change in self.changes.as_slice() {
-            if change.0 == self.made {
-                plugin.set_key_id(Text::copy(alloc, change.1.as_str())?);
+        match self.begun(alloc) {
+            Ok(Some(key_id)) => {
+                plugin.set_key_id(key_id);
                 return Ok(());
             }
+            Ok(None) => return Ok(()),
+            Err(NoMemory) => return Err(NoMemory),
         }
-        Ok(())
+    }
+
+    /// The key id that begins with the latest call, if one does.
+    fn begun(&self, alloc: Global) -> Result<Option<Text>, NoMemory> {
+        for change in self.changes.as_slice() {
+            if change.0 == self.made {
+                return Ok(Some(Text::copy(alloc, change.1.as_str())?));
+            }
+        }
+        Ok(None)
     }
 }
 
