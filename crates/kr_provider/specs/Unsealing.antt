@@ -1,6 +1,6 @@
 -- How a bench unseals: what it may ask of plugins, and how its answer stands to the value's
 -- reading.
-use Rattle.std.specs.Prelude.{◌≡◌, ℕ, true, List, [], ◌∷◌, Option, Some, None, Result, Ok, Err, ⊤}
+use Rattle.std.specs.Prelude.{◌≡◌, ◌⊎◌, ℕ, true, List, [], ◌∷◌, Option, Some, None, Result, Ok, Err, ⊤}
 use Rattle.kr_config.specs.declared.who.Who.{Who}
 use Rattle.kr_config.specs.declared.who.Who.TheVariants.{Identity, Aescbc, Aesgcm, Kms}
 use Rattle.kr_config.specs.Providers.{plugin_of}
@@ -80,6 +80,13 @@ pub record FailsAt {L : Type 0} (link : L → Link) (seeds : List SeedRow) (list
   pub rose : FaultRose link name old new
   pub others : AskedOnly link (name ∷ []) old new
 
+-- there was no memory. No link was asked, or that to the reader was, which may be asked
+pub record LacksMemory {L : Type 0} (link : L → Link) (seeds : List SeedRow) (list : List Who)
+    (bytes : List ℕ) (old new : List L) : Type 0 where
+  pub asked : AskedOnly link (plugin_reading (reader_in list bytes)) old new
+  pub unasked : (new ≡ old) ⊎ ((object : Result EncryptedObject ObjectNo)
+      × HasObject (reader_in list bytes) bytes object × MayAsk seeds (reader_in list bytes) object)
+
 -- each answer, in the order in which a refusal comes
 module _ {L : Type 0} (truth : Truth) (link : L → Link) where
   abbrev pub UnsealsBy : List SeedRow → List Who → (path bytes : List ℕ) → List L
@@ -91,4 +98,4 @@ module _ {L : Type 0} (truth : Truth) (link : L → Link) where
   UnsealsBy seeds list path bytes old (Err (PluginFailed name)) new =
       FailsAt link seeds list bytes old name new
   UnsealsBy seeds list path bytes old (Err NoMemory) new =
-      AskedOnly link (plugin_reading (reader_in list bytes)) old new
+      LacksMemory link seeds list bytes old new
