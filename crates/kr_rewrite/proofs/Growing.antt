@@ -24,7 +24,7 @@ use Rattle.kr_rollout.specs.declared.opening.Entry.{Entry}
 use Rattle.kr_rollout.specs.declared.opening.Opening.{Opening}
 use Rattle.kr_rollout.specs.Acting.{Caller, AddsEntry}
 use Rattle.kr_rollout.specs.Answers.{IsAnswer}
-use Rattle.kr_rollout.specs.Calls.{LetsGo}
+use Rattle.kr_rollout.specs.Calls.{AdoptsNothing, EndsEarly, LetsGo}
 use Rattle.kr_rollout.specs.ContentLaws.{IsRowFor}
 use Rattle.kr_rollout.specs.Histories.{state_of}
 use Rattle.kr_rollout.proofs.FoundRows.{found_is_live}
@@ -38,30 +38,34 @@ use Rattle.kr_rewrite.specs.declared.outcome.Step.TheVariants as step
 
 pub record Grows (old new : Caller) : Type 0 where
   pub more : List Entry
+  pub opening_is : new.opening ≡ old.opening
   pub seen_is : new.seen ≡ old.seen ++ more
   pub left_less : new.left ≤ old.left
 
 grows_itself : (c : Caller) → Grows c c
 grows_itself c = record {
   more = [];
+  opening_is = refl;
   seen_is = sym (append-nil c.seen);
   left_less = omega arith;
 }
 
-grows_same : (old new : Caller) → new ≡ old → Grows old new
+pub grows_same : (old new : Caller) → new ≡ old → Grows old new
 grows_same old new same = subst (λ c. Grows old c) (sym same) (grows_itself old)
 
-grows_entry : (old new : Caller) (asked : Event) (given : Answer) → AddsEntry old asked given new
+pub grows_entry : (old new : Caller) (asked : Event) (given : Answer) → AddsEntry old asked given new
     → Grows old new
 grows_entry old new asked given a = record {
   more = a.others ++ a.entry ∷ [];
+  opening_is = opening_is old new asked given a;
   seen_is = seen_is old new asked given a ∙ append_assoc old.seen a.others (a.entry ∷ []);
   left_less = omega (arith, a.left_is);
 }
 
-grows_then : (old middle new : Caller) → Grows old middle → Grows middle new → Grows old new
+pub grows_then : (old middle new : Caller) → Grows old middle → Grows middle new → Grows old new
 grows_then old middle new a b = record {
   more = a.more ++ b.more;
+  opening_is = b.opening_is ∙ a.opening_is;
   seen_is = b.seen_is ∙ ap (λ s. s ++ b.more) a.seen_is ∙ append_assoc old.seen a.more b.more;
   left_less = omega (arith, a.left_less, b.left_less);
 }
@@ -88,7 +92,7 @@ module _ {D : Type 0} (left : D → Option (List ℕ)) (count : D → ℕ) (p : 
   opened_grows (Ok opened) result r = data_grows opened.plain opened.stale result r
   opened_grows (Err why) result r = grows_same old new r.1
 
-rewrites_grow : {L D : Type 0} (truth : Truth) (link : L → Link) (left : D → Option (List ℕ))
+pub rewrites_grow : {L D : Type 0} (truth : Truth) (link : L → Link) (left : D → Option (List ℕ))
     (count : D → ℕ) (p : Publication) (row : Row) (old new : Caller) (olds news : List L)
     (dice after : D) (result : Result Step CallNo)
     → Rewrites truth link left count p row old olds dice result new news after → Grows old new
@@ -97,7 +101,7 @@ rewrites_grow truth link left count p row old new olds news dice after result (i
 rewrites_grow truth link left count p row old new olds news dice after result (inr n) =
     grows_same old new n.0.1
 
-lets_go_grows : (old new : Caller) (done result : Result Step CallNo)
+pub lets_go_grows : (old new : Caller) (done result : Result Step CallNo)
     → LetsGo old done result new → Grows old new
 lets_go_grows old new done result (inl a) =
     grows_entry old new event.LetGo answer.Released a.0
@@ -208,7 +212,7 @@ rewrites_at truth link left count p row old new olds news dice after taken (inr 
 
 -- ---- what an After finds
 
-after_finds : (old new : Caller) (above : List ℕ) (row : Row)
+pub after_finds : (old new : Caller) (above : List ℕ) (row : Row)
     → (a : AddsEntry old (event.After above) (answer.Found row) new)
     → IsNext (state_of old.opening (old.seen ++ a.others)).rows above (Some row)
 after_finds old new above row a =
@@ -240,7 +244,7 @@ pub record LooksAt (above : List ℕ) (old new : Caller) (found : Option Row) : 
   pub own : entry.line.seat ≡ old.seat
   pub next : IsNext (state_of old.opening (old.seen ++ before)).rows above found
 
-looks_from : (old adopted middle new : Caller) (replica number : ℕ) (p : Publication)
+pub looks_from : (old adopted middle new : Caller) (replica number : ℕ) (p : Publication)
     (above : List ℕ) (given : Answer) (found : Option Row)
     → (a : AddsEntry old (event.Adopt replica) (answer.Adopted number p) adopted)
     → (b : AddsEntry adopted (event.After above) given middle) → Grows middle new
@@ -344,3 +348,65 @@ module _ {L D : Type 0} (truth : Truth) (link : L → Link) (left : D → Option
       (lets_go_grows h.acted new h.done (Ok taken) h.lets_go)
       (subst (λ d. Steps truth link left count h.p above h.adopted olds dice d h.acted news after)
       (done_is taken h.acted h.done h.lets_go) h.does)
+
+-- ---- a step, however it ended
+
+none_grows : (above : List ℕ) (old new : Caller) (result : Result Step CallNo)
+    → FindsNone above old result new → Grows old new
+none_grows above old new (Ok step.End) a =
+    grows_entry old new (event.After above) answer.Absent a
+none_grows above old new (Ok (step.Rewritten path)) a = absurd a
+none_grows above old new (Ok (step.Fresh path)) a = absurd a
+none_grows above old new (Ok (step.Changed path)) a = absurd a
+none_grows above old new (Ok (step.Left path)) a = absurd a
+none_grows above old new (Err refusal.NoMemory) a =
+    grows_entry old new (event.After above) answer.NoMemory a
+none_grows above old new (Err refusal.Spent) a = grows_same old new a.same
+none_grows above old new (Err (refusal.Refused why)) a = absurd a
+none_grows above old new (Err (refusal.PluginFailed name)) a = absurd a
+none_grows above old new (Err refusal.DiceFailed) a = absurd a
+none_grows above old new (Err refusal.StoreFailed) a = absurd a
+none_grows above old new (Err (refusal.StoreFull needed)) a = absurd a
+none_grows above old new (Err (refusal.Unhealthy name field text)) a = absurd a
+none_grows above old new (Err refusal.Gone) a = absurd a
+
+early_grows : (replica : ℕ) (old new : Caller) (why : CallNo) → AdoptsNothing replica old why new
+    → Grows old new
+early_grows replica old new refusal.Gone a =
+    grows_entry old new (event.Adopt replica) (answer.Gone replica) a
+early_grows replica old new refusal.Spent a = grows_same old new a.same
+early_grows replica old new refusal.NoMemory (inl same) = grows_same old new same
+early_grows replica old new refusal.NoMemory (inr a) =
+    grows_entry old new (event.Adopt replica) answer.NoMemory a
+early_grows replica old new (refusal.Refused why) a = absurd a
+early_grows replica old new (refusal.PluginFailed name) a = absurd a
+early_grows replica old new refusal.DiceFailed a = absurd a
+early_grows replica old new refusal.StoreFailed a = absurd a
+early_grows replica old new (refusal.StoreFull needed) a = absurd a
+early_grows replica old new (refusal.Unhealthy name field text) a = absurd a
+
+module _ {L D : Type 0} (truth : Truth) (link : L → Link) (left : D → Option (List ℕ))
+    (count : D → ℕ) (replica : ℕ) (above : List ℕ) (old new : Caller) (olds news : List L)
+    (dice after : D) where
+  steps_grow : (p : Publication) (adopted acted : Caller) (done : Result Step CallNo)
+      → Steps truth link left count p above adopted olds dice done acted news after
+      → Grows adopted acted
+  steps_grow p adopted acted done (inl f) = none_grows above adopted acted done f.0
+  steps_grow p adopted acted done (inr f) = grows_then adopted f.found acted
+      (grows_entry adopted f.found (event.After above) (answer.Found f.row) f.finds)
+      (rewrites_grow truth link left count p f.row f.found acted olds news dice after done
+      f.rewrites)
+
+  early_step_grows : (result : Result Step CallNo)
+      → EndsEarly replica ((news ≡ olds) × (after ≡ dice)) old result new → Grows old new
+  early_step_grows (Ok done) a = absurd a
+  early_step_grows (Err why) a = early_grows replica old new why a.0
+
+  pub step_grows : (result : Result Step CallNo)
+      → IsStep truth link left count replica above old olds dice result new news after
+      → Grows old new
+  step_grows result (inl early) = early_step_grows result early
+  step_grows result (inr h) = grows_then old h.adopted new
+      (grows_entry old h.adopted (event.Adopt replica) (answer.Adopted h.number h.p) h.adopts)
+      (grows_then h.adopted h.acted new (steps_grow h.p h.adopted h.acted h.done h.does)
+      (lets_go_grows h.acted new h.done result h.lets_go))

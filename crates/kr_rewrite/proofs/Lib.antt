@@ -7,3 +7,5 @@ pub mod Options
 pub mod Replacing
 pub mod Rewriting
 pub mod Walking
+pub mod Spending
+pub mod Shortness

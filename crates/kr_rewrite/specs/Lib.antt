@@ -1,3 +1,4 @@
 pub mod Rewrites
 pub mod Drives
+pub mod DriveLaws
 pub mod inner

@@ -3,10 +3,12 @@
 #![tactic(auto)]
 
 mod driving;
+mod laws;
 mod outcome;
 mod row;
 mod step;
 
 pub use driving::drive;
+pub use laws::drives_need_few;
 pub use outcome::{Report, Step};
 pub use step::rewrite_next;

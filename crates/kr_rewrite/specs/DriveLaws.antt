@@ -1,0 +1,35 @@
+-- Laws of drives: how many entries one may need.
+use Rattle.std.specs.Prelude.{◌≡◌, ◌<◌, ◌+◌, ◌*◌, ℕ, List, [], ◌++◌, length, Contains, IsSome, Option, Result, Err}
+use Rattle.kr_kms.specs.Calls.{Link}
+use Rattle.kr_kms.specs.Truth.{Truth}
+use Rattle.kr_store.specs.Rows.{live}
+use Rattle.kr_rollout.specs.declared.call.CallNo.{CallNo}
+use Rattle.kr_rollout.specs.declared.call.CallNo.TheVariants as refusal
+use Rattle.kr_rollout.specs.declared.opening.Entry.{Entry}
+use Rattle.kr_rollout.specs.Acting.{Caller}
+use Rattle.kr_rollout.specs.Histories.{state_of}
+use Rattle.kr_rollout.specs.Parts.{AddsWithin}
+use Rattle.kr_rewrite.specs.Drives.{IsDrive}
+use Rattle.kr_rewrite.specs.declared.outcome.Report.{Report}
+
+-- each path that had a live row at some time, up to what the caller saw, is one of these
+abbrev pub LiveAmong : List (List ℕ) → Caller → Type 0
+LiveAmong paths c = (path : List ℕ) (before rest : List Entry) → c.seen ≡ before ++ rest
+    → IsSome (live (state_of c.opening before).rows path) → Contains paths path
+
+-- a drive finds each path at most once. So it adds at most four entries for each of them and three
+-- for its end, and lacks entries only where it may add fewer
+pub record NeedsFew (paths : List (List ℕ)) (old : Caller)
+    (result : Result Report (Report × CallNo)) (new : Caller) : Type 0 where
+  pub few : AddsWithin (4 * length paths + 3) 0 [] old new
+  pub spent : (report : Report) → result ≡ Err (report, refusal.Spent)
+      → old.left < 4 * length paths + 3
+
+abbrev pub DrivesNeedFew : {L D : Type 0} → Truth → (link : L → Link)
+    → (left : D → Option (List ℕ)) → (count : D → ℕ) → Type 0
+DrivesNeedFew {L} {D} truth link left count =
+    (replica : ℕ) (above : List ℕ) (old : Caller) (olds : List L) (dice : D)
+    (result : Result Report (Report × CallNo)) (new : Caller) (news : List L) (after : D)
+    (paths : List (List ℕ))
+    → IsDrive truth link left count replica above old olds dice result new news after
+    → LiveAmong paths new → NeedsFew paths old result new

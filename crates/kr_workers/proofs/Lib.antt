@@ -1,0 +1,15 @@
+-- The lemmas of kr_workers: of replies, of seats that may add no more lines, of one line, and of
+-- lines one behind another.
+pub mod Telling
+pub mod Cutting
+pub mod Looking
+pub mod OneLine
+pub mod AllLines
+pub mod Getting
+pub mod Budgeting
+pub mod Assembling
+pub mod Seating
+pub mod Summing
+pub mod PutLines
+pub mod Living
+pub mod Working

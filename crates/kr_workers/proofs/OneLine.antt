@@ -1,0 +1,343 @@
+-- One line: what its call does is what the line does.
+use Rattle.std.specs.Prelude.{IfOk}
+use Rattle.std.proofs.Common.{◌≡◌, ℕ, ◌<◌, ◌≤◌, ◌+◌, ◌*◌, suc, length, List, [], ◌∷◌, Option, None, Some, Result, Ok, Err, Contains, inl, inr, refl, ap, sym, subst, ◌∙◌, arith, get_or}
+use Rattle.std.proofs.lemmas.Option.{same_Some}
+use Rattle.kr_config.specs.Kept.{Row}
+use Rattle.kr_kms.specs.Calls.{Link}
+use Rattle.kr_kms.specs.Truth.{Opens, Truth}
+use Rattle.kr_provider.specs.AskedLinks.{AskedOnly}
+use Rattle.kr_provider.specs.BenchState.{BenchState}
+use Rattle.kr_provider.specs.KeyPages.{size_of}
+use Rattle.kr_provider.specs.Names.{names_of}
+use Rattle.kr_provider.proofs.AskedLists.{asked_none}
+use Rattle.kr_rollout.specs.declared.call.CallNo.{CallNo}
+use Rattle.kr_rollout.specs.declared.call.CallNo.TheVariants as refusal
+use Rattle.kr_rollout.specs.Openings.{NamesAmong}
+use Rattle.kr_rollout.specs.declared.line.Did.TheVariants as did
+use Rattle.kr_rollout.specs.Acting.{Caller}
+use Rattle.kr_rollout.specs.Callers.{holding}
+use Rattle.kr_rollout.specs.Calls.{IsIdle, KeepsHonesty, KeepsToldHonesty}
+use Rattle.kr_rollout.specs.Parts.{AddsWithin}
+use Rattle.kr_rollout.proofs.PartsAdd.{parts_follow}
+use Rattle.kr_fleet.specs.declared.outcome.Joining.{Joining}
+use Rattle.kr_fleet.specs.declared.outcome.Loaded.{Loaded}
+use Rattle.kr_fleet.specs.declared.outcome.Read.{Read}
+use Rattle.kr_fleet.specs.SingleCalls.{IsDelete, IsLeave}
+use Rattle.kr_fleet.specs.LoadCalls.{IsJoin, IsRefresh, IsReload}
+use Rattle.kr_fleet.specs.ReadCalls.{IsRead}
+use Rattle.kr_fleet.specs.WriteCalls.{IsWrite}
+use Rattle.kr_rewrite.specs.declared.outcome.Report.{Report}
+use Rattle.kr_rewrite.specs.Drives.{IsDrive, IsIdleAtEnd}
+use Rattle.kr_script.specs.declared.script.ScriptLine.{ScriptLine}
+use Rattle.kr_script.specs.declared.script.ScriptLine.TheVariants as line
+use Rattle.kr_script.specs.declared.told.Told.TheVariants as told
+use Rattle.kr_workers.specs.declared.files.SettingsFile.{SettingsFile}
+use Rattle.kr_workers.specs.Budgets.{brought_by, entries_of, puts_of}
+use Rattle.kr_workers.specs.Files.{rows_at}
+use Rattle.kr_workers.specs.Replies.{Reply, told_of_delete, told_of_drive, told_of_join, told_of_leave, told_of_read, told_of_refresh, told_of_reload, told_of_write}
+use Rattle.kr_workers.specs.ScriptLines.{Does, DoesJoin, DoesReload, IfRead}
+use Rattle.kr_workers.specs.Serving.{AddsFor, EndsFor, IsIdleAt, Serves, place_of}
+use Rattle.kr_workers.proofs.Cutting.{delete_spent, join_spent, leave_spent, read_spent, refresh_spent, reload_spent, write_spent}
+use Rattle.kr_workers.proofs.Telling.{ends_delete, ends_drive, ends_join, ends_leave, ends_read, ends_refresh, ends_reload, ends_write, idle_always, idle_drive, idle_read, idle_refresh, idle_write}
+
+-- ---- links
+
+there_later : {X : Type 0} (xs : List X) (x y : X) → Contains xs y → Contains (x ∷ xs) y
+there_later xs x y (k, l, is) = (suc k, omega (arith, l), is)
+
+asked_within : {L : Type 0} (link : L → Link) (names more : List (List ℕ)) (olds news : List L)
+    → ((name : List ℕ) → Contains (names_of link olds) name → Contains more name)
+    → AskedOnly link names olds news → AskedOnly link more olds news
+asked_within link names more [] [] t a = tt
+asked_within link names more [] (y ∷ ys) t a = absurd a
+asked_within link names more (x ∷ xs) [] t a = absurd a
+asked_within link names more (x ∷ xs) (y ∷ ys) t a = (
+  a.0,
+  λ none. absurd (none (t (link x).name (0, omega arith, refl))),
+  asked_within link names more xs ys
+      (λ name c. t name (there_later (names_of link xs) (link x).name name c)) a.2,
+)
+
+-- whoever was asked is one of the links
+pub asked_all : {L : Type 0} (link : L → Link) (names : List (List ℕ)) (olds news : List L)
+    → AskedOnly link names olds news → AskedOnly link (names_of link olds) olds news
+asked_all link names olds news a =
+    asked_within link names (names_of link olds) olds news (λ name c. c) a
+
+asked_same : {L : Type 0} (link : L → Link) (olds news : List L) → news ≡ olds
+    → AskedOnly link (names_of link olds) olds news
+asked_same link olds news same = subst (λ ls. AskedOnly link (names_of link olds) olds ls)
+    (sym same) (asked_none link (names_of link olds) olds)
+
+-- ---- parts
+
+-- nothing is within each bound
+pub nothing_for : (asked : ScriptLine) (c : Caller) → AddsFor asked c c
+nothing_for asked c = (
+  [],
+  parts_follow.none c,
+  record {
+    few = omega arith;
+    brings_few = omega arith;
+    puts_are = inl refl;
+  },
+)
+
+-- a part of a rewrite has no bound
+drive_for : (n : ℕ) (old new : Caller) → AddsWithin n 0 [] old new → AddsFor line.Rewrite old new
+drive_for n old new a = (
+  a.0,
+  a.1,
+  record {
+    few = omega arith;
+    brings_few = a.2.brings_few;
+    puts_are = a.2.puts_are;
+  },
+)
+
+-- ---- honesty
+
+told_honesty : (truth : Truth) (old new : Caller) → KeepsHonesty old new
+    → KeepsToldHonesty truth old new
+told_honesty truth old new h = λ told. h truth.opens
+
+module _ {L D : Type 0} (truth : Truth) (link : L → Link) (left : D → Option (List ℕ))
+    (count : D → ℕ) (files : List SettingsFile) (replica : ℕ) where
+  -- nothing was done
+  pub serves_nothing : (asked : ScriptLine) (c : Caller) (b : BenchState L D)
+      → Does truth link left count files replica asked (place_of c b) (Ok told.Memory)
+      (place_of c b) → holding c.mine ≡ None
+      → Serves truth link left count files replica asked c b (Ok told.Memory) c b
+  serves_nothing asked c b d idle = record {
+    does = d;
+    adds = nothing_for asked c;
+    spent = tt;
+    honest = λ told kept. kept;
+    idle = idle;
+    asked_only = asked_none link (names_of link b.links) b.links;
+    later = omega arith;
+    pages = refl;
+  }
+
+  module _ (old new : Caller) (b after : BenchState L D) (reply : Reply) where
+    pub serves_put : (resource path plain : List ℕ) (result : Result ℕ CallNo)
+        → reply ≡ told_of_write old.seat result
+        → IsWrite left count resource path plain replica old b.dice result new after.dice
+        → AddsWithin 3 0 (did.Put path resource plain ∷ []) old new → KeepsHonesty old new
+        → IsIdle result new → after.links ≡ b.links → count b.dice ≤ count after.dice
+        → size_of after.pages ≡ size_of b.pages
+        → Serves truth link left count files replica (line.Put resource path plain) old b reply new
+        after
+    serves_put resource path plain result is does adds honest idle links later pages = record {
+      does = (result, is, does, links);
+      adds = adds;
+      spent = subst (λ r. EndsFor (line.Put resource path plain) old r) (sym is)
+          (ends_write (line.Put resource path plain) old old.seat result
+          (write_spent left count resource path plain replica old b.dice new after.dice result does));
+      honest = told_honesty truth old new honest;
+      idle = subst (λ r. IsIdleAt r new) (sym is) (idle_write old.seat result new idle);
+      asked_only = asked_same link b.links after.links links;
+      later = later;
+      pages = pages;
+    }
+
+    pub serves_get : (path : List ℕ) (result : Result Read CallNo)
+        → reply ≡ told_of_read old.seat result
+        → IsRead truth link path replica old b.links result new after.links
+        → AddsWithin 3 0 [] old new → KeepsHonesty old new → IsIdle result new
+        → AskedOnly link (names_of link b.links) b.links after.links → after.dice ≡ b.dice
+        → size_of after.pages ≡ size_of b.pages
+        → Serves truth link left count files replica (line.Get path) old b reply new after
+    serves_get path result is does adds honest idle asked dice pages = record {
+      does = (result, is, does, dice);
+      adds = adds;
+      spent = subst (λ r. EndsFor (line.Get path) old r) (sym is)
+          (ends_read (line.Get path) old old.seat result
+          (read_spent truth link path replica old b.links new after.links result does));
+      honest = told_honesty truth old new honest;
+      idle = subst (λ r. IsIdleAt r new) (sym is) (idle_read old.seat result new idle);
+      asked_only = asked;
+      later = let e : count after.dice ≡ count b.dice = ap count dice in omega (arith, e);
+      pages = pages;
+    }
+
+    pub serves_refresh : (result : Result Loaded CallNo) → reply ≡ told_of_refresh old.seat result
+        → IsRefresh truth link left count replica old b.links b.dice result new after.links
+        after.dice → AddsWithin 3 1 [] old new → KeepsToldHonesty truth old new
+        → IsIdle result new → AskedOnly link (names_of link b.links) b.links after.links
+        → count b.dice ≤ count after.dice
+        → after ≡ record b { links = after.links; dice = after.dice }
+        → Serves truth link left count files replica line.Refresh old b reply new after
+    serves_refresh result is does adds honest idle asked later kept = record {
+      does = (result, is, does);
+      adds = adds;
+      spent = subst (λ r. EndsFor line.Refresh old r) (sym is)
+          (ends_refresh line.Refresh old old.seat result
+          (refresh_spent truth link left count replica old b.links b.dice new after.links after.dice
+          result does));
+      honest = honest;
+      idle = subst (λ r. IsIdleAt r new) (sym is) (idle_refresh old.seat result new idle);
+      asked_only = asked;
+      later = later;
+      pages = ap (λ (s : BenchState L D). size_of s.pages) kept;
+    }
+
+    drive_adds : (result : Result Report (Report × CallNo))
+        → IsDrive truth link left count replica [] old b.links b.dice result new after.links
+        after.dice → AddsFor line.Rewrite old new
+    drive_adds (Ok report) d = drive_for (4 * length d.steps + 4) old new d.ends.few
+    drive_adds (Err cut) (inl d) = drive_for (4 * length d.steps + 4) old new d.ends.few
+    drive_adds (Err cut) (inr d) = subst (λ (c : Caller). AddsFor line.Rewrite old c) (sym d.same)
+        (nothing_for line.Rewrite old)
+
+    pub serves_rewrite : (result : Result Report (Report × CallNo))
+        → reply ≡ told_of_drive old.seat result
+        → IsDrive truth link left count replica [] old b.links b.dice result new after.links
+        after.dice → KeepsToldHonesty truth old new → IsIdleAtEnd result new
+        → AskedOnly link (names_of link b.links) b.links after.links
+        → count b.dice ≤ count after.dice → size_of after.pages ≡ size_of b.pages
+        → Serves truth link left count files replica line.Rewrite old b reply new after
+    serves_rewrite result is does honest idle asked later pages = record {
+      does = (result, is, does);
+      adds = drive_adds result does;
+      spent = subst (λ r. EndsFor line.Rewrite old r) (sym is) (ends_drive old old.seat result);
+      honest = honest;
+      idle = subst (λ r. IsIdleAt r new) (sym is) (idle_drive old.seat result new idle);
+      asked_only = asked;
+      later = later;
+      pages = pages;
+    }
+
+    pub serves_reload : (named : ℕ) (file : List ℕ) (rows : List Row) (names : List (List ℕ))
+        (result : Result Loaded CallNo) → rows_at files file ≡ Some rows
+        → reply ≡ told_of_reload old.seat result
+        → IsReload truth link left count rows named old b.links b.dice result new after.links
+        after.dice → AddsWithin 1 1 [] old new → KeepsToldHonesty truth old new
+        → holding new.mine ≡ None → AskedOnly link names b.links after.links
+        → count b.dice ≤ count after.dice
+        → after ≡ record b { links = after.links; dice = after.dice }
+        → Serves truth link left count files replica (line.Reload named file) old b reply new after
+    serves_reload named file rows names result read is does adds honest idle asked later kept =
+        record {
+          does = subst (λ (r : Option (List Row)). IfRead r (λ rows.
+              DoesReload truth link left count named rows (place_of old b) reply (place_of new after)))
+              (sym read) (inr (result, is, does));
+          adds = adds;
+          spent = subst (λ r. EndsFor (line.Reload named file) old r) (sym is)
+              (ends_reload (line.Reload named file) old old.seat result
+              (reload_spent truth link left count rows named old b.links b.dice new after.links
+              after.dice result does));
+          honest = honest;
+          idle = idle_always reply new idle;
+          asked_only = asked_all link names b.links after.links asked;
+          later = later;
+          pages = ap (λ (s : BenchState L D). size_of s.pages) kept;
+        }
+
+    pub serves_join : (named : ℕ) (file : List ℕ) (rows : List Row) (names : List (List ℕ))
+        (result : Result Joining CallNo) → rows_at files file ≡ Some rows
+        → reply ≡ told_of_join old.seat result
+        → IsJoin truth link left count rows named old b.links b.dice result new after.links
+        after.dice → AddsWithin 1 1 [] old new → KeepsToldHonesty truth old new
+        → holding new.mine ≡ None → AskedOnly link names b.links after.links
+        → count b.dice ≤ count after.dice
+        → after ≡ record b { links = after.links; dice = after.dice }
+        → Serves truth link left count files replica (line.Join named file) old b reply new after
+    serves_join named file rows names result read is does adds honest idle asked later kept =
+        record {
+          does = subst (λ (r : Option (List Row)). IfRead r (λ rows.
+              DoesJoin truth link left count named rows (place_of old b) reply (place_of new after)))
+              (sym read) (inr (result, is, does));
+          adds = adds;
+          spent = subst (λ r. EndsFor (line.Join named file) old r) (sym is)
+              (ends_join (line.Join named file) old old.seat result
+              (join_spent truth link left count rows named old b.links b.dice new after.links
+              after.dice result does));
+          honest = honest;
+          idle = idle_always reply new idle;
+          asked_only = asked_all link names b.links after.links asked;
+          later = later;
+          pages = ap (λ (s : BenchState L D). size_of s.pages) kept;
+        }
+
+  module _ (old new : Caller) (b : BenchState L D) (reply : Reply) where
+    pub serves_delete : (path : List ℕ) (result : Result (Option ℕ) CallNo)
+        → reply ≡ told_of_delete old.seat result → IsDelete path old result new
+        → AddsWithin 1 0 [] old new → KeepsHonesty old new → holding new.mine ≡ None
+        → Serves truth link left count files replica (line.Delete path) old b reply new b
+    serves_delete path result is does adds honest idle = record {
+      does = (result, is, does, (refl, refl));
+      adds = adds;
+      spent = subst (λ r. EndsFor (line.Delete path) old r) (sym is)
+          (ends_delete (line.Delete path) old old.seat result
+          (delete_spent path old new result does));
+      honest = told_honesty truth old new honest;
+      idle = idle_always reply new idle;
+      asked_only = asked_none link (names_of link b.links) b.links;
+      later = omega arith;
+      pages = refl;
+    }
+
+    pub serves_leave : (named : ℕ) (result : Result (Option ℕ) CallNo)
+        → reply ≡ told_of_leave old.seat result → IsLeave named old result new
+        → AddsWithin 1 0 [] old new → KeepsHonesty old new → holding new.mine ≡ None
+        → Serves truth link left count files replica (line.Leave named) old b reply new b
+    serves_leave named result is does adds honest idle = record {
+      does = (result, is, does, (refl, refl));
+      adds = adds;
+      spent = subst (λ r. EndsFor (line.Leave named) old r) (sym is)
+          (ends_leave (line.Leave named) old old.seat result
+          (leave_spent named old new result does));
+      honest = told_honesty truth old new honest;
+      idle = idle_always reply new idle;
+      asked_only = asked_none link (names_of link b.links) b.links;
+      later = omega arith;
+      pages = refl;
+    }
+
+-- ---- settings that were read
+
+pub read_rows : (names : List (List ℕ)) (files : List SettingsFile) (file lent : List ℕ)
+    (rows found : List Row) → lent ≡ file → rows_at files file ≡ Some rows
+    → rows_at files lent ≡ Some found → NamesAmong names rows → NamesAmong names found
+read_rows names files file lent rows found same read is h = subst (NamesAmong names)
+    (same_Some rows found (sym read ∙ ap (rows_at files) (sym same) ∙ is)) h
+
+module _ {L D : Type 0} (truth : Truth) (link : L → Link) (left : D → Option (List ℕ))
+    (count : D → ℕ) (files : List SettingsFile) (replica : ℕ) (c : Caller) (b : BenchState L D)
+  where
+    pub unread_reload : (named : ℕ) (file : List ℕ) (rows : List Row)
+        → rows_at files file ≡ Some rows → holding c.mine ≡ None
+        → Serves truth link left count files replica (line.Reload named file) c b (Ok told.Memory) c b
+    unread_reload named file rows read idle = serves_nothing truth link left count files replica
+        (line.Reload named file) c b (subst (λ (r : Option (List Row)). IfRead r (λ rows.
+        DoesReload truth link left count named rows (place_of c b) (Ok told.Memory) (place_of c b)))
+        (sym read) (inl (refl, refl))) idle
+
+    pub unread_join : (named : ℕ) (file : List ℕ) (rows : List Row)
+        → rows_at files file ≡ Some rows → holding c.mine ≡ None
+        → Serves truth link left count files replica (line.Join named file) c b (Ok told.Memory) c b
+    unread_join named file rows read idle = serves_nothing truth link left count files replica
+        (line.Join named file) c b (subst (λ (r : Option (List Row)). IfRead r (λ rows.
+        DoesJoin truth link left count named rows (place_of c b) (Ok told.Memory) (place_of c b)))
+        (sym read) (inl (refl, refl))) idle
+
+    -- no copy of the data
+    pub uncopied_put : (resource path plain : List ℕ) → holding c.mine ≡ None
+        → Serves truth link left count files replica (line.Put resource path plain) c b
+        (Ok told.Memory) c b
+    uncopied_put resource path plain idle = serves_nothing truth link left count files replica
+        (line.Put resource path plain) c b (Err refusal.NoMemory, refl, inl (inl refl, refl), refl)
+        idle
+
+    -- what was lent is what stands in the line
+    pub put_as_lent : (new : Caller) (after : BenchState L D) (reply : Reply)
+        (resource path plain own at it : List ℕ) → resource ≡ own → path ≡ at → plain ≡ it
+        → Serves truth link left count files replica (line.Put resource path plain) c b reply new after
+        → Serves truth link left count files replica (line.Put own at it) c b reply new after
+    put_as_lent new after reply resource path plain own at it r p d s = subst
+        (λ x. Serves truth link left count files replica (line.Put own at x) c b reply new after) d
+        (subst (λ x. Serves truth link left count files replica (line.Put own x plain) c b reply new
+        after) p
+        (subst (λ x. Serves truth link left count files replica (line.Put x path plain) c b reply new
+        after) r s))

@@ -1,0 +1,10 @@
+-- The budgets of the parts so far, and what room is left.
+use Rattle.std.proofs.Common.{◌≡◌, ◌+◌, sum, take}
+use Rattle.kr_workers.specs.Budgets.{all_reloads, budgets_of, journal_limit}
+use Rattle.kr_workers.proofs.budget.budgets_for.Given as goal
+
+abbrev pub invariant-loop-part : goal.invariant-loop-part
+invariant-loop-part l =
+    (l.budgets.entries.items ≡ take l.part-index (budgets_of l.paths l.parts))
+    × (l.budgets.reloads.items ≡ take l.part-index (all_reloads l.parts))
+    × (l.room + sum (take l.part-index (budgets_of l.paths l.parts)) ≡ journal_limit)

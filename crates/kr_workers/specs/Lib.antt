@@ -1,0 +1,12 @@
+-- The definitions that public contracts and laws name.
+pub mod Replies
+pub mod Files
+pub mod ScriptLines
+pub mod Serving
+pub mod Runs
+pub mod Workers
+pub mod Budgets
+pub mod Histories
+pub mod Gets
+pub mod Endings
+pub mod inner

@@ -1,0 +1,23 @@
+//! The workers of a fleet: each does the lines of its part of a fleet file at a core that all of
+//! them act on, and tells a reply of each line.
+#![tactic(auto)]
+
+mod budget;
+mod ending;
+mod files;
+mod laws;
+mod line;
+mod lines;
+mod team;
+mod told;
+mod worker;
+mod workers;
+
+pub use budget::{BudgetNo, Budgets, budgets_of};
+pub use ending::{Ending, ending_of};
+pub use files::{SettingsFile, settings_at};
+pub use laws::gets_tell_content;
+pub use line::serve_line;
+pub use lines::serve_lines;
+pub use team::run_fleet;
+pub use worker::Worker;
