@@ -8,6 +8,8 @@ use kr_base::{
 use kr_kms::World;
 use kr_top::{MemWorld, run};
 use std::alloc::Global;
+use std::sync::Wait;
+use std::thread::Threads;
 
 /// What a call left.
 #[derive(Drop)]
@@ -40,7 +42,11 @@ pub struct TapeLeft {
 }
 
 /// Makes the case's call.
-pub fn left_by(alloc: Global, case: &Case) -> Result<Left, NoMemory> {
+pub fn left_by<R: Threads + Wait + Sync>(
+    rt: &R,
+    alloc: Global,
+    case: &Case,
+) -> Result<Left, NoMemory> {
     let mut world = world_of(alloc, case)?;
     let mut input = SteppedSource {
         source: MemSource::new(
@@ -52,6 +58,7 @@ pub fn left_by(alloc: Global, case: &Case) -> Result<Left, NoMemory> {
     let mut output = sink(alloc, case, Object::Output, case.room)?;
     let mut errors = sink(alloc, case, Object::Errors, 65536)?;
     let status = run(
+        rt,
         alloc,
         case.words.as_slice(),
         &mut world,
