@@ -103,15 +103,18 @@ module _ {L D : Type 0} (truth : Truth) (link : L → Link) (left : D → Option
     ends_by : (ended : Result Step CallNo)
         → IsStep truth link left count replica at now links drawn ended new news after
         → AddsWithin 4 0 [] now new
+        → AskedOnly link (names_of link olds) olds links → count dice ≤ count drawn
         → EndsBy truth link left count replica above w.steps old olds dice ended report new news
         after
-    ends_by ended s f = record {
+    ends_by ended s f asked later = record {
       counts = w.counts;
       middle = now;
       mids = links;
       between = drawn;
       walks = w.walks;
       walks_few = w.few;
+      walks_asked = asked;
+      walks_later = later;
       ends = from_last ended s;
       few = within_behind (4 * length w.steps) 4 0 0 [] old now new w.few f;
     }
@@ -119,8 +122,12 @@ module _ {L D : Type 0} (truth : Truth) (link : L → Link) (left : D → Option
     pub walked_cut : (why : CallNo)
         → IsStep truth link left count replica at now links drawn (Err why) new news after
         → AddsWithin 4 0 [] now new
+        → AskedOnly link (names_of link olds) olds links → count dice ≤ count drawn
         → IsCut truth link left count replica above old olds dice why report new news after
-    walked_cut why s f = record { steps = w.steps; ends = ends_by (Err why) s f }
+    walked_cut why s f asked later = record {
+      steps = w.steps;
+      ends = ends_by (Err why) s f asked later;
+    }
 
     covers_all : TakesStep (last_of above w.steps) now new step.End
         → CoversLive above w.steps old new
@@ -133,10 +140,11 @@ module _ {L D : Type 0} (truth : Truth) (link : L → Link) (left : D → Option
 
     drives : IsStep truth link left count replica at now links drawn (Ok step.End) new news after
         → AddsWithin 4 0 [] now new
+        → AskedOnly link (names_of link olds) olds links → count dice ≤ count drawn
         → Drives truth link left count replica above old olds dice report new news after
-    drives s f = record {
+    drives s f asked later = record {
       steps = w.steps;
-      ends = ends_by (Ok step.End) s f;
+      ends = ends_by (Ok step.End) s f asked later;
       covers = covers_all (takes_step truth link left count replica (last_of above w.steps) now
           new links news drawn after step.End (from_last (Ok step.End) s));
       settles = settles truth link left count replica above w.steps report old now olds links dice
@@ -147,13 +155,14 @@ module _ {L D : Type 0} (truth : Truth) (link : L → Link) (left : D → Option
         → CountsStep report taken found next → found ≡ false
         → IsStep truth link left count replica at now links drawn (Ok taken) new news after
         → AddsWithin 4 0 [] now new
+        → AskedOnly link (names_of link olds) olds links → count dice ≤ count drawn
         → Drives truth link left count replica above old olds dice next new news after
-    walked_end taken found next c is s f =
+    walked_end taken found next c is s f asked later =
         let e = ends_there taken found report next c is in
         subst (λ (r : Report). Drives truth link left count replica above old olds dice r new news
         after) (sym e.same)
         (drives (subst (λ t. IsStep truth link left count replica at now links drawn (Ok t) new
-        news after) e.end s) f)
+        news after) e.end s) f asked later)
 
 -- ---- the path to go on from
 

@@ -1,11 +1,13 @@
 -- `drive`: steps, each from the path of the row that the one before found, up to the end or the
 -- first that is cut short.
-use Rattle.std.specs.Prelude.{◌≡◌, ◌⊎◌, ℕ, ◌+◌, ◌*◌, ◌-◌, ◌^◌, Bool, true, false, List, [], ◌∷◌, ◌++◌, length, map, count_by, min, All, Contains, Option, None, IsSome, Result, Ok, Err, ⊤}
+use Rattle.std.specs.Prelude.{◌≡◌, ◌⊎◌, ℕ, ◌≤◌, ◌+◌, ◌*◌, ◌-◌, ◌^◌, Bool, true, false, List, [], ◌∷◌, ◌++◌, length, map, count_by, min, All, Contains, Option, None, IsSome, Result, Ok, Err, ⊤}
 use Rattle.std.specs.declared.cmp.Ordering.TheVariants.{Less}
 use Rattle.std.specs.Ordering.{nat_cmp}
 use Rattle.std.specs.Cmp.Lexicographic.{slice_cmp}
 use Rattle.kr_kms.specs.Calls.{Link}
 use Rattle.kr_kms.specs.Truth.{Truth}
+use Rattle.kr_provider.specs.AskedLinks.{AskedOnly}
+use Rattle.kr_provider.specs.Names.{names_of}
 use Rattle.kr_store.specs.Rows.{live}
 use Rattle.kr_rollout.specs.declared.call.CallNo.{CallNo}
 use Rattle.kr_rollout.specs.declared.call.CallNo.TheVariants as refusal
@@ -129,7 +131,8 @@ module _ {L D : Type 0} (truth : Truth) (link : L → Link) (left : D → Option
       Goes above taken old olds dice (λ middle mids between.
       Walks (path_of above taken) steps middle mids between new news after)
 
-  -- these steps, and one that ended so. Each adds at most four entries
+  -- these steps, and one that ended so. Each adds at most four entries; meanwhile each link stays
+  -- the same plugin's, and no count of faults falls
   pub record EndsBy (above : List ℕ) (steps : List Step) (old : Caller) (olds : List L) (dice : D)
       (ended : Result Step CallNo) (report : Report) (new : Caller) (news : List L) (after : D)
       : Type 0 where
@@ -139,6 +142,8 @@ module _ {L D : Type 0} (truth : Truth) (link : L → Link) (left : D → Option
     pub between : D
     pub walks : Walks above steps old olds dice middle mids between
     pub walks_few : AddsWithin (4 * length steps) 0 [] old middle
+    pub walks_asked : AskedOnly link (names_of link olds) olds mids
+    pub walks_later : count dice ≤ count between
     pub ends : IsStep truth link left count replica (last_of above steps) middle mids between ended
         new news after
     pub few : AddsWithin (4 * length steps + 4) 0 [] old new

@@ -132,7 +132,13 @@ module _ {L D : Type 0} (truth : Truth) (link : L → Link) (left : D → Option
                     ∙ sym (take_more lines k asked below);
                 does = does_more (place_of old bench) going.run (place_of c now) done
                     (place_of new after) going.does
-                    (record { does = s.does; adds = s.adds.1; within = s.adds.2 });
+                    (record {
+                      does = s.does;
+                      adds = s.adds.1;
+                      within = s.adds.2;
+                      asked_only = s.asked_only;
+                      later = s.later;
+                    });
                 opening = ap (λ (d : Caller). d.opening) s.adds.1.new_is ∙ going.opening;
                 seat = ap (λ (d : Caller). d.seat) s.adds.1.new_is ∙ going.seat;
                 idle = s.idle;

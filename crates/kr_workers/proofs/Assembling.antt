@@ -1,5 +1,5 @@
 -- The workers' runs, put together to one history.
-use Rattle.std.specs.Prelude.{All, Contains, is_some, slice_index, slice_index_or, sum}
+use Rattle.std.specs.Prelude.{All, Contains, IsSome, is_some, slice_index, slice_index_or, sum}
 use Rattle.std.proofs.lemmas.Bool.{false≢true}
 use Rattle.std.proofs.Common.{◌≡◌, ℕ, zero, suc, ◌<◌, ◌≤◌, ◌+◌, true, List, [], ◌∷◌, ◌++◌, length, map, get_or, Option, None, Some, Result, Ok, Err, refl, ap, sym, subst, ◌∙◌, arith}
 use Rattle.std.specs.List.{range_with_len, slice_get}
@@ -14,6 +14,7 @@ use Rattle.kr_kms.specs.Truth.{Opens, Truth}
 use Rattle.kr_provider.specs.AskedLinks.{AskedOnly}
 use Rattle.kr_provider.specs.BenchState.{BenchState}
 use Rattle.kr_provider.specs.Names.{names_of}
+use Rattle.kr_store.specs.declared.rows.LogRow.{LogRow}
 use Rattle.kr_store.specs.declared.rows.Row.{Row}
 use Rattle.kr_store.specs.Stores.{IsListing}
 use Rattle.kr_rollout.specs.declared.line.Did.{Did}
@@ -166,15 +167,25 @@ module _ {S : Type 0} (home : Home Opening) (count : ℕ)
       let inside : i < length seats = omega (arith, l, long) in
       sym (get_or-map number_of seats i d 0 inside)
       ∙ ap (λ ns. get_or ns i 0) fresh.numbers
-      ∙ get_or-range_with_len 0 count i 0 l
+      ∙ get_or-range_with_len 0 count i 0 l ∙ (let e : 0 + i ≡ i = omega arith in e)
 
   pub fresh_at : (i : ℕ) (d : Place S Entry Opening) → i < count
       → IsFresh home (get_or seats i d)
   fresh_at i d l =
       let long = seats_long in fresh.each i d (omega (arith, l, long))
 
+module _ {T L D : Type 0} (link : L → Link) (names : List (List ℕ)) (parts : List Part)
+    (workers : List (Worker T L D)) (many : length workers ≡ length parts)
+    (begin : (i : ℕ) (part : Part) (worker : Worker T L D) → i < length parts
+    → MayBegin link names (slice_index_or parts i part) (slice_index_or workers i worker)) where
+  -- none has a seat yet
+  pub none_yet : All (λ (w : Worker T L D). w.seat ≡ None) workers
+  none_yet k d l =
+      let in_parts : k < length parts = omega (arith, l, many) in
+      (begin k (at_of parts k in_parts) d in_parts).no_seat
+
 module _ {T L D : Type 0} (link : L → Link) (files : List SettingsFile) (parts : List Part)
-    (home : Home Opening) (o : Opening) (budgets : List ℕ)
+    (home : Home Opening) (o : Opening)
     (seats : List (Place (SharedCore T) Entry Opening)) (workers : List (Worker T L D))
     (basis : home.terms.basis ≡ o) (fresh : AreFresh home (length parts) seats)
     (many : length workers ≡ length parts)
@@ -184,7 +195,7 @@ module _ {T L D : Type 0} (link : L → Link) (files : List SettingsFile) (parts
     (begin : (i : ℕ) (part : Part) (worker : Worker T L D) → i < length parts
     → MayBegin link o.names (slice_index_or parts i part) (slice_index_or workers i worker))
     (reloads : o.reloads ≡ all_reloads parts) where
-  as_many : length seats ≡ length workers
+  pub as_many : length seats ≡ length workers
   as_many = seats_long home (length parts) seats fresh ∙ sym many
 
   ready_at : (k : ℕ) (part : Part) (worker : Worker T L D)
@@ -211,6 +222,10 @@ module _ {T L D : Type 0} (link : L → Link) (files : List SettingsFile) (parts
             (names_of link (get_or workers k worker).bench.links)) (sym basis) start.links;
         pages = start.pages;
       }
+
+  pub some_seated : 1 ≤ length parts → 0 < length (seated seats workers)
+  some_seated some = let long = seated_long seats workers as_many in
+      omega (arith, some, long, many)
 
   -- each worker with its seat is ready
   pub all_ready : All (IsReadyWorker home files parts link) (seated seats workers)
@@ -239,6 +254,23 @@ module _ {T L D : Type 0} (link : L → Link) (files : List SettingsFile) (parts
 
 -- ---- after they have worked
 
+-- each has its seat again
+pub done_seated : {T L D : Type 0} (truth : Truth) (link : L → Link) (left : D → Option (List ℕ))
+    (count : D → ℕ) (files : List SettingsFile) (parts : List Part) (home : Home Opening)
+    (sitting done : List (Worker T L D)) → length done ≡ length sitting
+    → ((i : ℕ) (d : Worker T L D) → i < length sitting
+    → HasWorked home files parts truth link left count (slice_index_or sitting i d)
+    (slice_index_or done i d))
+    → All (λ (w : Worker T L D). IsSome w.seat) done
+done_seated truth link left count files parts home sitting done long worked = λ k d l.
+    let h = worked k d (omega (arith, l, long)) in
+    subst (λ s. IsSome s) (sym h.after_is) refl
+
+pub budgets_many : (rows : List LogRow) (parts : List Part) (budgets : List ℕ)
+    → AreBudgets rows parts budgets → length budgets ≡ length parts
+budgets_many rows parts budgets are = ap length are.2
+    ∙ length-map parts (λ (p : Part). budget_of (are.0 + put_lines parts) p.lines.0)
+
 module _ {T L D : Type 0} (truth : Truth) (link : L → Link) (left : D → Option (List ℕ))
     (count : D → ℕ) (files : List SettingsFile) (parts : List Part) (home : Home Opening)
     (o : Opening) (budgets : List ℕ) (seats : List (Place (SharedCore T) Entry Opening))
@@ -255,6 +287,28 @@ module _ {T L D : Type 0} (truth : Truth) (link : L → Link) (left : D → Opti
         → HasWorked home files parts truth link left count
         (slice_index_or (seated seats workers) i d) (slice_index_or done i d)
     pub back_are : map Some back ≡ map (λ (w : Worker T L D). w.seat) done
+
+  pub have_worked : (rows : List LogRow) (room : ℕ) (sitting : List (Worker T L D))
+      → home.terms ≡ record { basis = o; room = room; budgets = budgets }
+      → AreBudgets rows parts budgets → AreFresh home (length budgets) seats
+      → length workers ≡ length parts → sitting ≡ seated seats workers
+      → length done ≡ length sitting
+      → ((i : ℕ) (d : Worker T L D) → i < length sitting
+      → HasWorked home files parts truth link left count (slice_index_or sitting i d)
+      (slice_index_or done i d))
+      → map Some back ≡ map (λ (w : Worker T L D). w.seat) done → HaveWorked
+  have_worked rows room sitting terms are fresh many is long worked back_are = record {
+    basis = ap (λ (t : Terms Opening). t.basis) terms;
+    shares = ap (λ (t : Terms Opening). t.budgets) terms;
+    as_many = budgets_many rows parts budgets are;
+    fresh = subst (λ n. AreFresh home n seats) (budgets_many rows parts budgets are) fresh;
+    many = many;
+    long = long ∙ ap length is;
+    worked = subst (λ ws. (i : ℕ) (d : Worker T L D) → i < length ws
+        → HasWorked home files parts truth link left count (slice_index_or ws i d)
+        (slice_index_or done i d)) is worked;
+    back_are = back_are;
+  }
 
 module _ {T L D : Type 0} (truth : Truth) (link : L → Link) (left : D → Option (List ℕ))
     (count : D → ℕ) (files : List SettingsFile) (parts : List Part) (home : Home Opening)
@@ -319,32 +373,30 @@ module _ {T L D : Type 0} (truth : Truth) (link : L → Link) (left : D → Opti
     worker_at : (k : ℕ) → k < length parts → Worker T L D
     worker_at k l = let done_is = done_long in at_of done k (omega (arith, l, done_is))
 
-    -- what a seat that came back is
-    record IsBack (seat : Place (SharedCore T) Entry Opening) : Type 0 where
-      place : ℕ
-      below : place < length parts
+    -- what a seat that came back at a place is
+    record IsBack (seat : Place (SharedCore T) Entry Opening) (k : ℕ) : Type 0 where
+      below : k < length parts
       worker : Worker T L D
-      at : WorkedAt place worker
+      at : WorkedAt k worker
       is : at.has.after ≡ seat
 
     is_back : (seat : Place (SharedCore T) Entry Opening) (k : ℕ) → k < length back
-        → (s : Place (SharedCore T) Entry Opening) → get_or back k s ≡ seat → IsBack seat
+        → (s : Place (SharedCore T) Entry Opening) → get_or back k s ≡ seat → IsBack seat k
     is_back seat k l s e =
         let back_is = back_long in
         let below : k < length parts = omega (arith, l, back_is) in
         let worker = worker_at k below in
         let at = worked_at k worker below in
         record {
-          place = k;
           below = below;
           worker = worker;
           at = at;
           is = back_at k s worker below at ∙ e;
         }
 
-    back_number : (seat : Place (SharedCore T) Entry Opening) (b : IsBack seat)
-        → number_of seat ≡ b.place
-    back_number seat b = ap number_of (sym b.is) ∙ b.at.has.same ∙ b.at.number
+    back_number : (seat : Place (SharedCore T) Entry Opening) (k : ℕ) → IsBack seat k
+        → number_of seat ≡ k
+    back_number seat k b = ap number_of (sym b.is) ∙ b.at.has.same ∙ b.at.number
 
     pub back_its : All (IsFleetSeat home) back
     back_its k s l =
@@ -367,7 +419,7 @@ module _ {T L D : Type 0} (truth : Truth) (link : L → Link) (left : D → Opti
             number,
             omega (arith, inside, map_is),
             get_or-map number_of back number s number inside
-                ∙ back_number (get_or back number s) b,
+                ∙ back_number (get_or back number s) number b,
           );
     }
 
@@ -391,7 +443,7 @@ module _ {T L D : Type 0} (truth : Truth) (link : L → Link) (left : D → Opti
       no_other k e l =
           let a = added k e l in
           let b = is_back a.0 a.1.0 a.1.1 a.0 a.1.2 in
-          let number = back_number a.0 b in
+          let number = back_number a.0 a.1.0 b in
           let below = b.below in
           let seat_is = a.2 in omega (arith, number, below, seat_is)
 
@@ -409,10 +461,10 @@ module _ {T L D : Type 0} (truth : Truth) (link : L → Link) (left : D → Opti
           let own = puts_with_entry (mine a.0) p.entry d a.3 p.puts in
           put_in_part parts (number_of h.before) h.part path h.part_is
           (runs_put path resource plain truth link left count files h.part.replica h.part.lines.0
-          (caller_of home h.before) (get_or (seated seats workers) b.place b.worker).bench
-          (get_or done b.place b.worker).told.0 (caller_of home h.after)
-          (get_or done b.place b.worker).bench b.at.fresh.none_mine
-          (get_or done b.place b.worker).ended h.runs
+          (caller_of home h.before) (get_or (seated seats workers) a.1.0 b.worker).bench
+          (get_or done a.1.0 b.worker).told.0 (caller_of home h.after)
+          (get_or done a.1.0 b.worker).bench b.at.fresh.none_mine
+          (get_or done a.1.0 b.worker).ended h.runs
           (subst (λ (s : Place (SharedCore T) Entry Opening). Contains (written_puts (mine s)) d)
           (sym b.is) own))
 
@@ -523,7 +575,8 @@ module _ {T L D : Type 0} (truth : Truth) (link : L → Link) (left : D → Opti
 
 -- ---- the workers afterwards
 
-pub none_seated_now : {T L D : Type 0} (done : List (Worker T L D))
-    → All (λ (w : Worker T L D). w.seat ≡ None) (map unseated done)
-none_seated_now done = All-map (λ (w : Worker T L D). w.seat ≡ None) unseated done
-    (λ k d l. refl)
+module _ {T L D : Type 0} where
+  pub none_seated_now : (done : List (Worker T L D))
+      → All (λ (w : Worker T L D). w.seat ≡ None) (map unseated done)
+  none_seated_now done = All-map (λ (w : Worker T L D). w.seat ≡ None) unseated done
+      (λ k d l. refl)

@@ -6,6 +6,10 @@ pub mod Looking
 pub mod OneLine
 pub mod AllLines
 pub mod Getting
+pub mod Causing
+pub mod CausingLoads
+pub mod CausingRewrites
+pub mod CausingRuns
 pub mod Budgeting
 pub mod Assembling
 pub mod Seating

@@ -172,6 +172,20 @@ paths_joined [] back = refl
 paths_joined (asked ∷ front) back = ap (λ l. path_put asked ++ l) (paths_joined front back)
     ∙ sym (append_assoc (path_put asked) (paths_put front) (paths_put back))
 
+-- ---- what runs added
+
+module _ {L D : Type 0} (truth : Truth) (link : L → Link) (left : D → Option (List ℕ))
+    (count : D → ℕ) (files : List SettingsFile) (replica : ℕ) where
+  -- the parts are what the seat added
+  pub parts_added : (first : Workplace L D) (run : List LineDone) (last : Workplace L D)
+      → DoesAll truth link left count files replica first run last
+      → last.caller.mine ≡ first.caller.mine ++ entries_in run
+  parts_added first [] last same = ap (λ (w : Workplace L D). w.caller.mine) same
+      ∙ sym (append-nil first.caller.mine)
+  parts_added first (done ∷ run) last does = parts_added does.0 run last does.2
+      ∙ ap (λ l. l ++ entries_in run) (ap (λ (c : Caller). c.mine) does.1.adds.new_is)
+      ∙ append_assoc first.caller.mine done.part (entries_in run)
+
 -- ---- what a worker put is the path of one of its lines
 
 abbrev path_in : Did → List ℕ
@@ -224,16 +238,6 @@ module _ (path resource plain : List ℕ) where
         by (inr behind) later = Contains-append_right (path_put done.line)
             (paths_put (lines_in run)) path (later behind)
 
-    -- the parts are what the seat added
-    pub parts_added : (first : Workplace L D) (run : List LineDone) (last : Workplace L D)
-        → DoesAll truth link left count files replica first run last
-        → last.caller.mine ≡ first.caller.mine ++ entries_in run
-    parts_added first [] last same = ap (λ (w : Workplace L D). w.caller.mine) same
-        ∙ sym (append-nil first.caller.mine)
-    parts_added first (done ∷ run) last does = parts_added does.0 run last does.2
-        ∙ ap (λ l. l ++ entries_in run) (ap (λ (c : Caller). c.mine) does.1.adds.new_is)
-        ∙ append_assoc first.caller.mine done.part (entries_in run)
-
     module _ (lines : List ScriptLine) (old : Caller) (bench : BenchState L D)
         (replies : List Told) (new : Caller) (after : BenchState L D) (none : old.mine ≡ []) where
       ends_put : (ended : Result (Unit {0}) Spent) (run : List LineDone) (middle : Workplace L D)
@@ -244,7 +248,7 @@ module _ (path resource plain : List ℕ) where
       ends_put (Ok done) run middle does ends c =
           let mine : new.mine ≡ entries_in run =
           ap (λ (w : Workplace L D). w.caller.mine) ends.1
-          ∙ parts_added (place_of old bench) run middle does
+          ∙ parts_added truth link left count files replica (place_of old bench) run middle does
           ∙ ap (λ l. l ++ entries_in run) none in
           subst (λ ls. Contains (paths_put ls) path) ends.0
           (of_run (place_of old bench) run middle does
@@ -252,7 +256,7 @@ module _ (path resource plain : List ℕ) where
       ends_put (Err spent) run middle does cut c =
           let mine : new.mine ≡ entries_in run ++ cut.part =
           ap (λ (d : Caller). d.mine) cut.adds.new_is
-          ∙ ap (λ l. l ++ cut.part) (parts_added (place_of old bench) run middle does
+          ∙ ap (λ l. l ++ cut.part) (parts_added truth link left count files replica (place_of old bench) run middle does
           ∙ ap (λ l. l ++ entries_in run) none) in
           let puts : written_puts new.mine
           ≡ written_puts (entries_in run) ++ written_puts cut.part =

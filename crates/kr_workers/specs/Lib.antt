@@ -8,5 +8,6 @@ pub mod Workers
 pub mod Budgets
 pub mod Histories
 pub mod Gets
+pub mod Causes
 pub mod Endings
 pub mod inner

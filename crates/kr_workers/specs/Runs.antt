@@ -52,13 +52,15 @@ pub record AreReady {L D : Type 0} (link : L → Link) (files : List SettingsFil
 
 module _ {L D : Type 0} (truth : Truth) (link : L → Link) (left : D → Option (List ℕ))
     (count : D → ℕ) (files : List SettingsFile) (replica : ℕ) where
-  -- the line was done so; its part is what it added to the history, and no more than it may. Of a
-  -- rewrite no bound is said here
+  -- the line was done so; its part is what it added to the history, and no more than it may (of a
+  -- rewrite no bound is said here). Each link stays the same plugin's, and no count of faults falls
   pub record IsDone (old : Workplace L D) (done : LineDone) (new : Workplace L D) : Type 0 where
     pub does : Does truth link left count files replica done.line old (Ok done.reply) new
     pub adds : Adds old.caller done.part new.caller
     pub within : IsWithin (entries_of (length done.part) done.line) (brought_by done.line)
         (puts_of done.line) done.part
+    pub asked_only : AskedOnly link (names_of link old.links) old.links new.links
+    pub later : count old.dice ≤ count new.dice
 
   -- these lines, one behind another
   abbrev pub DoesAll : Workplace L D → List LineDone → Workplace L D → Type 0

@@ -57,7 +57,7 @@ returns-in-Err-clause-goes_on g c =
     (g.A.Acts.caller c.rewrite_next.new.acts) c.loop-step.bench.links
     c.rewrite_next.new.bench.links c.loop-step.bench.dice c.rewrite_next.new.bench.dice
     c.loop-step.invariant.0 c.as_str.result.now c.as_str.ensures c.in-Err.why
-    c.in-Err.ensures.steps c.in-Err.ensures.adds
+    c.in-Err.ensures.steps c.in-Err.ensures.adds c.loop-step.invariant.3 c.loop-step.invariant.4
 
 pub returns-in-Err-clause-honest : goal.returns-in-Err-clause-honest
 returns-in-Err-clause-honest g c = λ told keeps. c.in-Err.ensures.honest told
@@ -87,7 +87,7 @@ returns-then-not-found-clause-goes_on g c =
     c.rewrite_next.new.bench.links c.loop-step.bench.dice c.rewrite_next.new.bench.dice
     c.loop-step.invariant.0 c.as_str.result.now c.as_str.ensures c.in-Ok.step c.count-found.result
     c.count-found.new.self c.count-found.ensures c.if-not-found.true c.in-Ok.ensures.steps
-    c.in-Ok.ensures.adds
+    c.in-Ok.ensures.adds c.loop-step.invariant.3 c.loop-step.invariant.4
 
 pub returns-then-not-found-clause-honest : goal.returns-then-not-found-clause-honest
 returns-then-not-found-clause-honest g c = λ told keeps. c.in-Ok.ensures.honest told

@@ -1,6 +1,5 @@
 -- `reseal`: what was sealed is offered in the row's place.
-use Rattle.std.proofs.Common.{◌≡◌, [], Err, Ok, inr, refl, sym, ◌∙◌}
-use Rattle.std.specs.Prelude.{IfOk}
+use Rattle.std.proofs.Common.{[], Err, Ok, inr, refl, ◌∙◌}
 use Rattle.kr_provider.specs.Publication.{writer_at}
 use Rattle.kr_provider.specs.Sealing.{IsSealing, Seals}
 use Rattle.kr_rollout.specs.declared.call.CallNo.TheVariants as refusal

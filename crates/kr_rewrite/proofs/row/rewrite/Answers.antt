@@ -1,5 +1,5 @@
 -- `rewrite`: the value that was found is unsealed, and sealed anew where it is stale.
-use Rattle.std.proofs.Common.{◌≡◌, ◌≤◌, [], Err, Ok, ap, inr, refl, subst, sym, ◌∙◌}
+use Rattle.std.proofs.Common.{◌≤◌, [], Err, Ok, ap, inr, refl, subst, sym, ◌∙◌}
 use Rattle.std.specs.Prelude.{IfSome}
 use Rattle.kr_base.specs.Rules.{IsPath}
 use Rattle.kr_provider.proofs.AskedLists.{asked_none}

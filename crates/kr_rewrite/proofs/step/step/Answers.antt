@@ -1,11 +1,9 @@
 -- `step`: what was looked for is rewritten.
-use Rattle.std.proofs.Common.{◌≡◌, [], Err, Ok, Some, arith, ap, refl, subst, sym, ◌∙◌}
-use Rattle.std.specs.Prelude.{IfSome}
+use Rattle.std.proofs.Common.{[], Err, Ok, Some, arith, ap, subst, sym, ◌∙◌}
 use Rattle.kr_provider.proofs.AskedLists.{asked_none}
 use Rattle.kr_provider.specs.Names.{names_of}
 use Rattle.kr_store.specs.Rows.{IsRow}
 use Rattle.kr_store.specs.declared.rows.Row.{Row}
-use Rattle.kr_rollout.specs.Callers.{found_in}
 use Rattle.kr_rollout.proofs.PartsAdd.{within_behind, within_more}
 use Rattle.kr_rewrite.specs.declared.outcome.Step.TheVariants as step
 use Rattle.kr_rewrite.specs.Rewrites.{Rewrites, Steps}

@@ -1,0 +1,373 @@
+-- Each reply has its cause, by the relation of its line's call: of calls that publish nothing.
+use Rattle.std.specs.Prelude.{⊤}
+use Rattle.std.proofs.Common.{◌≡◌, ℕ, ◌≤◌, Bool, true, false, List, [], ◌∷◌, ◌++◌, Option, None, Some, Result, Ok, Err, inl, inr, refl, ap, sym, subst, ◌∙◌, arith}
+use Rattle.std.proofs.lemmas.Bool.{false≢true}
+use Rattle.std.proofs.lemmas.List.{append_assoc}
+use Rattle.kr_base.proofs.Counting.{Rose-later}
+use Rattle.kr_base.specs.Faults.{Rose}
+use Rattle.kr_base.specs.declared.errors.Spent.{Spent}
+use Rattle.kr_kms.specs.Calls.{Link}
+use Rattle.kr_kms.specs.Truth.{Truth}
+use Rattle.kr_provider.specs.AskedLinks.{AskedOnly, FaultRose}
+use Rattle.kr_provider.specs.Publication.{Publication}
+use Rattle.kr_provider.specs.declared.refusal.ValueNo.TheVariants as value
+use Rattle.kr_provider.proofs.AskedLists.{rose_later}
+use Rattle.kr_rollout.specs.declared.answer.Answer.TheVariants as answer
+use Rattle.kr_rollout.specs.declared.call.CallNo.{CallNo}
+use Rattle.kr_rollout.specs.declared.call.CallNo.TheVariants as refusal
+use Rattle.kr_rollout.specs.declared.event.Event.{Event}
+use Rattle.kr_rollout.specs.declared.event.Event.TheVariants as event
+use Rattle.kr_rollout.specs.declared.opening.Entry.{Entry}
+use Rattle.kr_rollout.specs.declared.opening.Opening.{Opening}
+use Rattle.kr_rollout.specs.Acting.{AddsEntry, Caller}
+use Rattle.kr_rollout.specs.Calls.{AdoptsNothing, HoldsMeanwhile, LetsGo}
+use Rattle.kr_rollout.specs.Histories.{state_of}
+use Rattle.kr_rollout.specs.Parts.{Adds}
+use Rattle.kr_rollout.specs.Writes.{Writes}
+use Rattle.kr_rollout.proofs.PartsAdd.{parts_follow}
+use Rattle.kr_fleet.specs.declared.outcome.Read.{Read}
+use Rattle.kr_fleet.specs.declared.outcome.Read.TheVariants as found
+use Rattle.kr_fleet.specs.SingleCalls.{IsDelete, IsLeave}
+use Rattle.kr_fleet.specs.ReadCalls.{Finds, IsRead}
+use Rattle.kr_fleet.specs.WriteCalls.{IsWrite, Puts}
+use Rattle.kr_script.specs.declared.script.ScriptLine.{ScriptLine}
+use Rattle.kr_script.specs.declared.script.ScriptLine.TheVariants as line
+use Rattle.kr_script.specs.declared.told.Told.{Told}
+use Rattle.kr_script.specs.declared.told.Told.TheVariants as told
+use Rattle.kr_workers.specs.Causes.{HasCause, IsDefined, StoreFails}
+use Rattle.kr_workers.specs.Replies.{Reply, told_of_delete, told_of_leave, told_of_read, told_of_refusal, told_of_write}
+use Rattle.kr_workers.specs.ScriptLines.{Workplace}
+
+-- ---- results
+
+abbrev reply_in : Told → Reply → Told
+reply_in other (Ok reply) = reply
+reply_in other (Err spent) = other
+
+abbrev is_told : Reply → Bool
+is_told (Ok reply) = true
+is_told (Err spent) = false
+
+abbrev why_in : {T : Type 0} → CallNo → Result T CallNo → CallNo
+why_in other (Ok done) = other
+why_in other (Err why) = why
+
+abbrev pub is_done : {T : Type 0} → Result T CallNo → Bool
+is_done (Ok done) = true
+is_done (Err why) = false
+
+-- ---- the entry at which the store failed
+
+pub store_failed : (old new : Caller) (asked : Event) → AddsEntry old asked answer.StoreFailed new
+    → StoreFails old new
+store_failed old new asked a = record {
+  before = a.others;
+  entry = a.entry;
+  behind = [];
+  there = ap (λ (c : Caller). c.seen) a.new_is;
+  own = a.records.seat_is;
+  says = a.records.gave_is;
+  rose = (subst (λ g. Writes g old.opening (state_of old.opening (old.seen ++ a.others)) a.entry)
+      a.records.gave_is a.step.writes).3;
+}
+
+-- it is one of what is added before and behind it too
+pub store_within : (a b c d : Caller) (p q : List Entry) → Adds a p b → StoreFails b c → Adds c q d
+    → StoreFails a d
+store_within a b c d p q x s y =
+    let starts : b.seen ++ s.before ≡ a.seen ++ (x.more ++ s.before) =
+    ap (λ l. l ++ s.before) (ap (λ (c : Caller). c.seen) x.new_is)
+    ∙ append_assoc a.seen x.more s.before in record {
+      before = x.more ++ s.before;
+      entry = s.entry;
+      behind = s.behind ++ y.more;
+      there = ap (λ (c : Caller). c.seen) y.new_is
+          ∙ ap (λ l. l ++ y.more) (s.there ∙ ap (λ l. l ++ s.entry ∷ s.behind) starts)
+          ∙ append_assoc (a.seen ++ (x.more ++ s.before)) (s.entry ∷ s.behind) y.more;
+      own = s.own ∙ ap (λ (c : Caller). c.seat) x.new_is;
+      says = s.says;
+      rose = subst (λ (o : Opening). Rose (state_of o (a.seen ++ (x.more ++ s.before))).count
+          s.entry.line.faults) (ap (λ (c : Caller). c.opening) x.new_is)
+          (subst (λ l. Rose (state_of b.opening l).count s.entry.line.faults) starts s.rose);
+    }
+
+-- ---- why a call was cut short
+
+module _ {L D : Type 0} (link : L → Link) (count : D → ℕ) (asked : ScriptLine) where
+  abbrev pub Causes : Caller → List L → D → CallNo → Caller → List L → D → Type 0
+  Causes old olds dice (refusal.Refused why) new news after = IsDefined asked (told.Value why)
+  Causes old olds dice (refusal.PluginFailed name) new news after = FaultRose link name olds news
+  Causes old olds dice refusal.DiceFailed new news after = Rose (count dice) (count after)
+  Causes old olds dice refusal.StoreFailed new news after = StoreFails old new
+  Causes old olds dice (refusal.StoreFull needed) new news after = IsDefined asked told.Full
+  Causes old olds dice (refusal.Unhealthy name field text) new news after =
+      IsDefined asked (told.Unhealthy name field text)
+  Causes old olds dice refusal.Gone new news after = IsDefined asked told.Gone
+  Causes old olds dice refusal.Spent new news after = ⊤
+  Causes old olds dice refusal.NoMemory new news after = ⊤
+
+  -- the reply that tells it
+  module _ (old new : Workplace L D) (reply : Told) where
+    pub told_caused : (other : Told) → ◌≡◌ {A = Reply} (Ok reply) (Ok other)
+        → HasCause link count asked old other new → HasCause link count asked old reply new
+    told_caused other is h = subst (λ (r : Told). HasCause link count asked old r new)
+        (sym (ap (reply_in reply) is)) h
+
+    pub refused_caused : (why : CallNo) → Ok reply ≡ told_of_refusal old.caller.seat why
+        → Causes old.caller old.links old.dice why new.caller new.links new.dice
+        → HasCause link count asked old reply new
+    refused_caused (refusal.Refused why) is h = told_caused (told.Value why) is h
+    refused_caused (refusal.PluginFailed name) is h = told_caused (told.FaultPlugin name) is h
+    refused_caused refusal.DiceFailed is h =
+        told_caused (told.FaultDice old.caller.seat) is (refl, h)
+    refused_caused refusal.StoreFailed is h = told_caused told.FaultStore is h
+    refused_caused (refusal.StoreFull needed) is h = told_caused told.Full is h
+    refused_caused (refusal.Unhealthy name field text) is h =
+        told_caused (told.Unhealthy name field text) is h
+    refused_caused refusal.Gone is h = told_caused told.Gone is h
+    refused_caused refusal.Spent is h = absurd (false≢true (sym (ap is_told is)))
+    refused_caused refusal.NoMemory is h = told_caused told.Memory is tt
+
+  -- what is added before and behind changes no cause
+  pub caused_within : (a b c d : Caller) (p q : List Entry) → Adds a p b → Adds c q d
+      → (olds news : List L) (dice after : D) (why : CallNo) → Causes b olds dice why c news after
+      → Causes a olds dice why d news after
+  caused_within a b c d p q x y olds news dice after (refusal.Refused why) h = h
+  caused_within a b c d p q x y olds news dice after (refusal.PluginFailed name) h = h
+  caused_within a b c d p q x y olds news dice after refusal.DiceFailed h = h
+  caused_within a b c d p q x y olds news dice after refusal.StoreFailed h =
+      store_within a b c d p q x h y
+  caused_within a b c d p q x y olds news dice after (refusal.StoreFull needed) h = h
+  caused_within a b c d p q x y olds news dice after (refusal.Unhealthy name field text) h = h
+  caused_within a b c d p q x y olds news dice after refusal.Gone h = h
+  caused_within a b c d p q x y olds news dice after refusal.Spent h = h
+  caused_within a b c d p q x y olds news dice after refusal.NoMemory h = h
+
+  -- nor does what links and random source did before
+  pub caused_later : (old new : Caller) (names : List (List ℕ)) (olds mids news : List L)
+      (dice between after : D) → AskedOnly link names olds mids → count dice ≤ count between
+      → (why : CallNo) → Causes old mids between why new news after
+      → Causes old olds dice why new news after
+  caused_later old new names olds mids news dice between after a l (refusal.Refused why) h = h
+  caused_later old new names olds mids news dice between after a l (refusal.PluginFailed name) h =
+      rose_later link names name olds mids news a h
+  caused_later old new names olds mids news dice between after a l refusal.DiceFailed h =
+      Rose-later (count dice) (count between) (count after) l h
+  caused_later old new names olds mids news dice between after a l refusal.StoreFailed h = h
+  caused_later old new names olds mids news dice between after a l (refusal.StoreFull needed) h = h
+  caused_later old new names olds mids news dice between after a l
+      (refusal.Unhealthy name field text) h = h
+  caused_later old new names olds mids news dice between after a l refusal.Gone h = h
+  caused_later old new names olds mids news dice between after a l refusal.Spent h = h
+  caused_later old new names olds mids news dice between after a l refusal.NoMemory h = h
+
+  -- ---- where nothing was adopted, and where something was meanwhile
+
+  pub early_caused : IsDefined asked told.Gone → (replica : ℕ) (old new : Caller) (olds news : List L)
+      (dice after : D) (why : CallNo) → AdoptsNothing replica old why new
+      → Causes old olds dice why new news after
+  early_caused gone replica old new olds news dice after (refusal.Refused why) e = absurd e
+  early_caused gone replica old new olds news dice after (refusal.PluginFailed name) e = absurd e
+  early_caused gone replica old new olds news dice after refusal.DiceFailed e = absurd e
+  early_caused gone replica old new olds news dice after refusal.StoreFailed e = absurd e
+  early_caused gone replica old new olds news dice after (refusal.StoreFull needed) e = absurd e
+  early_caused gone replica old new olds news dice after (refusal.Unhealthy name field text) e =
+      absurd e
+  early_caused gone replica old new olds news dice after refusal.Gone e = gone
+  early_caused gone replica old new olds news dice after refusal.Spent e = tt
+  early_caused gone replica old new olds news dice after refusal.NoMemory e = tt
+
+  pub spent_caused : {T : Type 0} → (old new : Caller) (olds news : List L) (dice after : D)
+      (why other : CallNo) → ◌≡◌ {A = Result T CallNo} (Err why) (Err other)
+      → Causes old olds dice other new news after → Causes old olds dice why new news after
+  spent_caused old new olds news dice after why other is h =
+      subst (λ (w : CallNo). Causes old olds dice w new news after)
+      (sym (ap (why_in why) is)) h
+
+  pub held_caused : {T : Type 0}
+      → (Does : (number : ℕ) → Publication → Caller → Result T CallNo → Caller → Type 0)
+      (replica : ℕ) (old new : Caller) (olds news : List L) (dice after : D) (why : CallNo)
+      → HoldsMeanwhile Does replica old (Err why) new
+      → ((number : ℕ) (p : Publication) (from to : Caller) → Does number p from (Err why) to
+      → Causes from olds dice why to news after)
+      → Causes old olds dice why new news after
+  held_caused {T} Does replica old new olds news dice after why h by = go h.lets_go
+    where
+      go : LetsGo h.acted h.done (Err why) new → Causes old olds dice why new news after
+      go (inl g) = caused_within old h.adopted h.acted new (h.adopts.entry ∷ [])
+          (g.0.entry ∷ [])
+          (parts_follow.one old h.adopted (event.Adopt replica)
+          (answer.Adopted h.number h.p) h.adopts)
+          (parts_follow.one h.acted new event.LetGo answer.Released g.0) olds news dice after why
+          (by h.number h.p h.adopted h.acted (subst
+          (λ (d : Result T CallNo). Does h.number h.p h.adopted d h.acted) (sym g.1) h.does))
+      go (inr n) = spent_caused {T = T} old new olds news dice after why refusal.Spent n.1 tt
+
+-- ---- a put
+
+module _ {L D : Type 0} (truth : Truth) (link : L → Link) (left : D → Option (List ℕ))
+    (count : D → ℕ) where
+  puts_caused : (resource path plain : List ℕ) (p : Publication) (old new : Caller)
+      (olds news : List L) (dice after : D) (why : CallNo)
+      → Puts left count resource path plain p old dice (Err why) new after
+      → Causes link count (line.Put resource path plain) old olds dice why new news after
+  puts_caused resource path plain p old new olds news dice after (refusal.Refused value.Short) d =
+      absurd d
+  puts_caused resource path plain p old new olds news dice after (refusal.Refused value.BadBlock)
+      d = absurd d
+  puts_caused resource path plain p old new olds news dice after
+      (refusal.Refused value.BadPadding) d = absurd d
+  puts_caused resource path plain p old new olds news dice after (refusal.Refused value.BadTag) d =
+      absurd d
+  puts_caused resource path plain p old new olds news dice after (refusal.Refused value.Wire) d =
+      absurd d
+  puts_caused resource path plain p old new olds news dice after (refusal.Refused value.KeyId) d =
+      absurd d
+  puts_caused resource path plain p old new olds news dice after (refusal.Refused value.Source) d =
+      absurd d
+  puts_caused resource path plain p old new olds news dice after
+      (refusal.Refused value.Annotations) d = absurd d
+  puts_caused resource path plain p old new olds news dice after
+      (refusal.Refused value.SourceType) d = absurd d
+  puts_caused resource path plain p old new olds news dice after (refusal.Refused value.NoData) d =
+      absurd d
+  puts_caused resource path plain p old new olds news dice after (refusal.Refused value.NotUtf8) d =
+      absurd d
+  puts_caused resource path plain p old new olds news dice after
+      (refusal.Refused value.SeedLength) d = absurd d
+  puts_caused resource path plain p old new olds news dice after
+      (refusal.Refused value.NoProvider) d = absurd d
+  puts_caused resource path plain p old new olds news dice after
+      (refusal.Refused value.LooksEncrypted) d = tt
+  puts_caused resource path plain p old new olds news dice after (refusal.Refused value.TooLarge)
+      d = tt
+  puts_caused resource path plain p old new olds news dice after (refusal.PluginFailed name) d =
+      absurd d
+  puts_caused resource path plain p old new olds news dice after refusal.DiceFailed d = d.0.2
+  puts_caused resource path plain p old new olds news dice after refusal.StoreFailed d =
+      store_failed old new (event.Put path resource plain d.stored) d.put
+  puts_caused resource path plain p old new olds news dice after (refusal.StoreFull needed) d = tt
+  puts_caused resource path plain p old new olds news dice after
+      (refusal.Unhealthy name field text) d = absurd d
+  puts_caused resource path plain p old new olds news dice after refusal.Gone d = absurd d
+  puts_caused resource path plain p old new olds news dice after refusal.Spent d = tt
+  puts_caused resource path plain p old new olds news dice after refusal.NoMemory d = tt
+
+  write_caused : (resource path plain : List ℕ) (replica : ℕ) (old new : Caller)
+      (olds news : List L) (dice after : D) (why : CallNo)
+      → IsWrite left count resource path plain replica old dice (Err why) new after
+      → Causes link count (line.Put resource path plain) old olds dice why new news after
+  write_caused resource path plain replica old new olds news dice after why (inl e) =
+      early_caused link count (line.Put resource path plain) tt replica old new olds news dice after
+      why e.0
+  write_caused resource path plain replica old new olds news dice after why (inr h) =
+      held_caused link count (line.Put resource path plain)
+      (λ (number : ℕ) (p : Publication) (from : Caller) (done : Result ℕ CallNo) (to : Caller).
+      Puts left count resource path plain p from dice done to after) replica old new olds news dice
+      after why h (λ number p from to d.
+      puts_caused resource path plain p from to olds news dice after why d)
+
+  pub put_caused : (resource path plain : List ℕ) (replica : ℕ) (old new : Workplace L D)
+      (reply : Told) (result : Result ℕ CallNo)
+      → Ok reply ≡ told_of_write old.caller.seat result
+      → IsWrite left count resource path plain replica old.caller old.dice result new.caller
+      new.dice → HasCause link count (line.Put resource path plain) old reply new
+  put_caused resource path plain replica old new reply (Ok revision) is w =
+      told_caused link count (line.Put resource path plain) old new reply (told.Put revision) is tt
+  put_caused resource path plain replica old new reply (Err why) is w =
+      refused_caused link count (line.Put resource path plain) old new reply why is
+      (write_caused resource path plain replica old.caller new.caller old.links new.links old.dice
+      new.dice why w)
+
+-- ---- a get
+
+  finds_caused : (path : List ℕ) (p : Publication) (old new : Caller) (olds news : List L)
+      (dice after : D) (why : CallNo) → Finds truth link path p old olds (Err why) new news
+      → Causes link count (line.Get path) old olds dice why new news after
+  finds_caused path p old new olds news dice after (refusal.Refused why) d = d.1.content.0
+  finds_caused path p old new olds news dice after (refusal.PluginFailed name) d =
+      d.1.unseals.rose
+  finds_caused path p old new olds news dice after refusal.DiceFailed d = absurd d
+  finds_caused path p old new olds news dice after refusal.StoreFailed d = absurd d
+  finds_caused path p old new olds news dice after (refusal.StoreFull needed) d = absurd d
+  finds_caused path p old new olds news dice after (refusal.Unhealthy name field text) d = absurd d
+  finds_caused path p old new olds news dice after refusal.Gone d = absurd d
+  finds_caused path p old new olds news dice after refusal.Spent d = tt
+  finds_caused path p old new olds news dice after refusal.NoMemory d = tt
+
+  read_caused : (path : List ℕ) (replica : ℕ) (old new : Caller) (olds news : List L)
+      (dice after : D) (why : CallNo)
+      → IsRead truth link path replica old olds (Err why) new news
+      → Causes link count (line.Get path) old olds dice why new news after
+  read_caused path replica old new olds news dice after why (inl e) =
+      early_caused link count (line.Get path) tt replica old new olds news dice after why e.0
+  read_caused path replica old new olds news dice after why (inr h) =
+      held_caused link count (line.Get path)
+      (λ (number : ℕ) (p : Publication) (from : Caller) (done : Result Read CallNo) (to : Caller).
+      Finds truth link path p from olds done to news) replica old new olds news dice after why h
+      (λ number p from to d. finds_caused path p from to olds news dice after why d)
+
+  pub get_caused : (path : List ℕ) (replica : ℕ) (old new : Workplace L D) (reply : Told)
+      (result : Result Read CallNo) → Ok reply ≡ told_of_read old.caller.seat result
+      → IsRead truth link path replica old.caller old.links result new.caller new.links
+      → HasCause link count (line.Get path) old reply new
+  get_caused path replica old new reply (Ok found.Absent) is r =
+      told_caused link count (line.Get path) old new reply told.Absent is tt
+  get_caused path replica old new reply (Ok (found.Value revision plain stale)) is r =
+      told_caused link count (line.Get path) old new reply (told.Got revision plain) is tt
+  get_caused path replica old new reply (Err why) is r =
+      refused_caused link count (line.Get path) old new reply why is
+      (read_caused path replica old.caller new.caller old.links new.links old.dice new.dice why r)
+
+-- ---- a delete and a leave
+
+  delete_caused : (path : List ℕ) (old new : Caller) (olds news : List L) (dice after : D)
+      (why : CallNo) → IsDelete path old (Err why) new
+      → Causes link count (line.Delete path) old olds dice why new news after
+  delete_caused path old new olds news dice after (refusal.Refused why) d = absurd d
+  delete_caused path old new olds news dice after (refusal.PluginFailed name) d = absurd d
+  delete_caused path old new olds news dice after refusal.DiceFailed d = absurd d
+  delete_caused path old new olds news dice after refusal.StoreFailed d =
+      store_failed old new (event.Delete path) d
+  delete_caused path old new olds news dice after (refusal.StoreFull needed) d = tt
+  delete_caused path old new olds news dice after (refusal.Unhealthy name field text) d = absurd d
+  delete_caused path old new olds news dice after refusal.Gone d = absurd d
+  delete_caused path old new olds news dice after refusal.Spent d = tt
+  delete_caused path old new olds news dice after refusal.NoMemory d = tt
+
+  pub deleted_caused : (path : List ℕ) (old new : Workplace L D) (reply : Told)
+      (result : Result (Option ℕ) CallNo) → Ok reply ≡ told_of_delete old.caller.seat result
+      → IsDelete path old.caller result new.caller
+      → HasCause link count (line.Delete path) old reply new
+  deleted_caused path old new reply (Ok None) is d =
+      told_caused link count (line.Delete path) old new reply told.Absent is tt
+  deleted_caused path old new reply (Ok (Some revision)) is d =
+      told_caused link count (line.Delete path) old new reply (told.Deleted revision) is tt
+  deleted_caused path old new reply (Err why) is d =
+      refused_caused link count (line.Delete path) old new reply why is
+      (delete_caused path old.caller new.caller old.links new.links old.dice new.dice why d)
+
+  leave_caused : (named : ℕ) (old new : Caller) (olds news : List L) (dice after : D)
+      (why : CallNo) → IsLeave named old (Err why) new
+      → Causes link count (line.Leave named) old olds dice why new news after
+  leave_caused named old new olds news dice after (refusal.Refused why) d = absurd d
+  leave_caused named old new olds news dice after (refusal.PluginFailed name) d = absurd d
+  leave_caused named old new olds news dice after refusal.DiceFailed d = absurd d
+  leave_caused named old new olds news dice after refusal.StoreFailed d = absurd d
+  leave_caused named old new olds news dice after (refusal.StoreFull needed) d = absurd d
+  leave_caused named old new olds news dice after (refusal.Unhealthy name field text) d = absurd d
+  leave_caused named old new olds news dice after refusal.Gone d = absurd d
+  leave_caused named old new olds news dice after refusal.Spent d = tt
+  leave_caused named old new olds news dice after refusal.NoMemory d = absurd d
+
+  pub left_caused : (named : ℕ) (old new : Workplace L D) (reply : Told)
+      (result : Result (Option ℕ) CallNo) → Ok reply ≡ told_of_leave old.caller.seat result
+      → IsLeave named old.caller result new.caller
+      → HasCause link count (line.Leave named) old reply new
+  left_caused named old new reply (Ok None) is d =
+      told_caused link count (line.Leave named) old new reply told.Gone is tt
+  left_caused named old new reply (Ok (Some number)) is d =
+      told_caused link count (line.Leave named) old new reply (told.Left number) is tt
+  left_caused named old new reply (Err why) is d =
+      refused_caused link count (line.Leave named) old new reply why is
+      (leave_caused named old.caller new.caller old.links new.links old.dice new.dice why d)

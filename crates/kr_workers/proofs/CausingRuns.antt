@@ -1,0 +1,164 @@
+-- The cause of a reply, by the whole of its worker's run.
+use Rattle.std.proofs.Common.{◌≡◌, ℕ, zero, suc, ◌<◌, ◌≤◌, List, [], ◌∷◌, ◌++◌, Contains, Option, inl, inr, refl, ap, sym, subst, ◌∙◌, arith}
+use Rattle.std.proofs.Math.Nat.{eq-or-lt_of_le}
+use Rattle.kr_base.proofs.Counting.{Rose-later}
+use Rattle.kr_base.specs.Faults.{Rose}
+use Rattle.kr_kms.specs.Calls.{IsSameLink, Link}
+use Rattle.kr_kms.specs.Truth.{Truth}
+use Rattle.kr_provider.specs.AskedLinks.{AskedOnly, FaultRose}
+use Rattle.kr_provider.specs.Names.{names_of}
+use Rattle.kr_provider.proofs.AskedLists.{asked_none, asked_then, names_stay, rose_later}
+use Rattle.kr_rollout.specs.declared.opening.Entry.{Entry}
+use Rattle.kr_rollout.specs.Acting.{Caller}
+use Rattle.kr_rollout.specs.Parts.{Adds}
+use Rattle.kr_rollout.proofs.PartsAdd.{parts_follow}
+use Rattle.kr_script.specs.declared.script.ScriptLine.{ScriptLine}
+use Rattle.kr_script.specs.declared.told.Told.{Told}
+use Rattle.kr_script.specs.declared.told.Told.TheVariants as told
+use Rattle.kr_workers.specs.declared.files.SettingsFile.{SettingsFile}
+use Rattle.kr_workers.specs.Causes.{HasCause, RepliesHaveCauses}
+use Rattle.kr_workers.specs.Runs.{DoesAll, IsDone, LineDone}
+use Rattle.kr_workers.specs.ScriptLines.{Workplace}
+use Rattle.kr_workers.proofs.Causing.{store_within}
+use Rattle.kr_workers.proofs.CausingRewrites.{line_caused}
+
+-- ---- a count that rose stays risen
+
+rose_still : (a b c : ℕ) → Rose a b → b ≤ c → Rose a c
+rose_still a b c (inl r) h = inl (omega (arith, r, h))
+rose_still a b c (inr r) h = elim (eq-or-lt_of_le h) [
+  inl e ↦ inr (r.0, omega (arith, e, r.1)) | inr l ↦ inl (omega (arith, r.0, r.1, l)) ]
+
+-- the link that this one became
+became : {L : Type 0} (link : L → Link) (names : List (List ℕ)) (xs ys : List L) (x : L)
+    → AskedOnly link names xs ys → Contains xs x
+    → (y : L) × Contains ys y × IsSameLink (link x) (link y)
+became link names [] ys x a c = absurd (omega (arith, c.1))
+became link names (z ∷ zs) [] x a c = absurd a
+became link names (z ∷ zs) (y ∷ ys) x a (zero, l, e) =
+    (y, (0, omega arith, refl), subst (λ v. IsSameLink (link v) (link y)) e a.0)
+became link names (z ∷ zs) (y ∷ ys) x a (suc k, l, e) =
+    let t = became link names zs ys x a.2 (k, omega (arith, l), e) in
+    (t.0, (suc t.1.0, omega (arith, t.1.1), t.1.2), t.2)
+
+fault_still : {L : Type 0} (link : L → Link) (names : List (List ℕ)) (name : List ℕ)
+    (xs ys zs : List L) → FaultRose link name xs ys → AskedOnly link names ys zs
+    → FaultRose link name xs zs
+fault_still link names name xs ys zs f a = let t = became link names ys zs f.new a f.new_there in
+    record {
+      old = f.old;
+      new = t.0;
+      old_there = f.old_there;
+      new_there = t.1;
+      old_named = f.old_named;
+      new_named = t.2.name ∙ f.new_named;
+      rose = rose_still (link f.old).count (link f.new).count (link t.0).count f.rose t.2.later;
+    }
+
+-- ---- a workplace later on
+
+record HasGone {L D : Type 0} (link : L → Link) (count : D → ℕ) (old new : Workplace L D)
+    : Type 0 where
+  part : List Entry
+  adds : Adds old.caller part new.caller
+  asked : AskedOnly link (names_of link old.links) old.links new.links
+  later : count old.dice ≤ count new.dice
+
+module _ {L D : Type 0} (link : L → Link) (count : D → ℕ) where
+  gone_none : (w : Workplace L D) → HasGone link count w w
+  gone_none w = record {
+    part = [];
+    adds = parts_follow.none w.caller;
+    asked = asked_none link (names_of link w.links) w.links;
+    later = omega arith;
+  }
+
+  gone_then : (a b c : Workplace L D) → HasGone link count a b → HasGone link count b c
+      → HasGone link count a c
+  gone_then a b c s t = record {
+    part = s.part ++ t.part;
+    adds = parts_follow.both a.caller b.caller c.caller s.part t.part s.adds t.adds;
+    asked = asked_then link (names_of link a.links) a.links b.links c.links s.asked
+        (subst (λ names. AskedOnly link names b.links c.links)
+        (names_stay link (names_of link a.links) a.links b.links s.asked) t.asked);
+    later = omega (arith, s.later, t.later);
+  }
+
+  -- a cause in the midst is one of the whole
+  cause_within : (asked : ScriptLine) (a b c d : Workplace L D) (reply : Told)
+      → HasGone link count a b → HasGone link count c d → HasCause link count asked b reply c
+      → HasCause link count asked a reply d
+  cause_within asked a b c d (told.Put revision) s t h = h
+  cause_within asked a b c d (told.Got revision plain) s t h = h
+  cause_within asked a b c d (told.Deleted revision) s t h = h
+  cause_within asked a b c d told.Absent s t h = h
+  cause_within asked a b c d (told.Rewritten rewritten fresh changed left) s t h = h
+  cause_within asked a b c d (told.Reloaded generation) s t h = h
+  cause_within asked a b c d (told.Joined generation) s t h = h
+  cause_within asked a b c d (told.Present generation) s t h = h
+  cause_within asked a b c d (told.Left generation) s t h = h
+  cause_within asked a b c d told.Gone s t h = h
+  cause_within asked a b c d (told.Refused verdict) s t h = h
+  cause_within asked a b c d (told.Refreshed generation) s t h = h
+  cause_within asked a b c d told.Unchanged s t h = h
+  cause_within asked a b c d (told.Moved generation) s t h = h
+  cause_within asked a b c d (told.Value why) s t h = h
+  cause_within asked a b c d (told.Unhealthy name field text) s t h = h
+  cause_within asked a b c d (told.FaultPlugin name) s t h =
+      fault_still link (names_of link c.links) name a.links c.links d.links
+      (rose_later link (names_of link a.links) name a.links b.links c.links s.asked h) t.asked
+  cause_within asked a b c d (told.FaultDice seat) s t h = (
+    h.0 ∙ ap (λ (w : Caller). w.seat) s.adds.new_is,
+    rose_still (count a.dice) (count c.dice) (count d.dice)
+        (Rose-later (count a.dice) (count b.dice) (count c.dice) s.later h.1) t.later,
+  )
+  cause_within asked a b c d told.FaultStore s t h =
+      store_within a.caller b.caller c.caller d.caller s.part t.part s.adds h t.adds
+  cause_within asked a b c d told.Full s t h = h
+  cause_within asked a b c d told.Memory s t h = h
+
+-- ---- a run
+
+module _ {L D : Type 0} (truth : Truth) (link : L → Link) (left : D → Option (List ℕ))
+    (count : D → ℕ) (files : List SettingsFile) (replica : ℕ) where
+  gone_by : (old new : Workplace L D) (done : LineDone)
+      → IsDone truth link left count files replica old done new → HasGone link count old new
+  gone_by old new done d = record {
+    part = done.part;
+    adds = d.adds;
+    asked = d.asked_only;
+    later = d.later;
+  }
+
+  gone_all : (first : Workplace L D) (run : List LineDone) (last : Workplace L D)
+      → DoesAll truth link left count files replica first run last
+      → HasGone link count first last
+  gone_all first [] last same =
+      subst (λ w. HasGone link count first w) (sym same) (gone_none link count first)
+  gone_all first (done ∷ run) last does = gone_then link count first does.0 last
+      (gone_by first does.0 done does.1) (gone_all does.0 run last does.2)
+
+  run_caused : (first : Workplace L D) (run : List LineDone) (last : Workplace L D)
+      → DoesAll truth link left count files replica first run last → (done : LineDone)
+      → Contains run done → HasCause link count done.line first done.reply last
+  run_caused first [] last does done c = absurd (omega (arith, c.1))
+  run_caused first (one ∷ run) last does done (zero, l, e) =
+      subst (λ (o : LineDone). HasCause link count o.line first o.reply last) e
+      (cause_within link count one.line first first does.0 last one.reply
+      (gone_none link count first) (gone_all does.0 run last does.2)
+      (line_caused truth link left count files replica one.line first does.0 one.reply
+      does.1.does))
+  run_caused first (one ∷ run) last does done (suc k, l, e) =
+      cause_within link count done.line first does.0 last last done.reply
+      (gone_by first does.0 one does.1) (gone_none link count last)
+      (run_caused does.0 run last does.2 done (k, omega (arith, l), e))
+
+pub replies_have_causes : {L D : Type 0} → (truth : Truth) (link : L → Link)
+    (left : D → Option (List ℕ)) (count : D → ℕ) (files : List SettingsFile)
+    → RepliesHaveCauses truth link left count files
+replies_have_causes truth link left count files = record {
+  each = λ replica old new done d. line_caused truth link left count files replica done.line old
+      new done.reply d.does;
+  whole = λ history part first replies after stands done there. run_caused truth link left count
+      files part.replica first stands.run stands.last stands.does done there;
+}

@@ -1,0 +1,100 @@
+-- Why a line has another reply than it asks for: each line has its defined replies, and a reply that
+-- names an object as its fault is told only where the count of that very object rose meanwhile.
+use Rattle.std.specs.Prelude.{◌≡◌, ℕ, List, ◌∷◌, ◌++◌, Contains, Option, ⊤}
+use Rattle.kr_base.specs.Faults.{Rose}
+use Rattle.kr_kms.specs.Calls.{Link}
+use Rattle.kr_kms.specs.Truth.{Truth}
+use Rattle.kr_provider.specs.AskedLinks.{FaultRose}
+use Rattle.kr_provider.specs.BenchState.{BenchState}
+use Rattle.kr_provider.specs.declared.refusal.ValueNo.{ValueNo}
+use Rattle.kr_provider.specs.declared.refusal.ValueNo.TheVariants.{LooksEncrypted, TooLarge}
+use Rattle.kr_rollout.specs.declared.line.Gave.TheVariants as gave
+use Rattle.kr_rollout.specs.declared.opening.Entry.{Entry}
+use Rattle.kr_rollout.specs.Acting.{Caller}
+use Rattle.kr_rollout.specs.Histories.{state_of}
+use Rattle.kr_fleet.specs.ReadCalls.{IsOfValue}
+use Rattle.kr_script.specs.declared.script.Part.{Part}
+use Rattle.kr_script.specs.declared.script.ScriptLine.{ScriptLine}
+use Rattle.kr_script.specs.declared.script.ScriptLine.TheVariants as line
+use Rattle.kr_script.specs.declared.told.Told.{Told}
+use Rattle.kr_script.specs.declared.told.Told.TheVariants as told
+use Rattle.kr_workers.specs.declared.files.SettingsFile.{SettingsFile}
+use Rattle.kr_workers.specs.Histories.{StandsIn}
+use Rattle.kr_workers.specs.Runs.{IsDone, LineDone}
+use Rattle.kr_workers.specs.ScriptLines.{Workplace}
+
+-- ---- the defined replies of a line; faults and want of memory stand beside them
+
+-- data that aren't sealed
+abbrev pub IsOfData : ValueNo → Type 0
+IsOfData LooksEncrypted = ⊤
+IsOfData TooLarge = ⊤
+IsOfData why = ⊥
+
+abbrev pub IsDefined : ScriptLine → Told → Type 0
+IsDefined (line.Put resource path plain) (told.Put revision) = ⊤
+IsDefined (line.Put resource path plain) (told.Value why) = IsOfData why
+IsDefined (line.Put resource path plain) told.Full = ⊤
+IsDefined (line.Put resource path plain) told.Gone = ⊤
+IsDefined (line.Get path) (told.Got revision plain) = ⊤
+IsDefined (line.Get path) told.Absent = ⊤
+IsDefined (line.Get path) (told.Value why) = IsOfValue why
+IsDefined (line.Get path) told.Gone = ⊤
+IsDefined (line.Delete path) (told.Deleted revision) = ⊤
+IsDefined (line.Delete path) told.Absent = ⊤
+IsDefined (line.Delete path) told.Full = ⊤
+IsDefined line.Rewrite (told.Rewritten rewritten fresh changed left) = ⊤
+IsDefined line.Rewrite told.Full = ⊤
+IsDefined line.Rewrite told.Gone = ⊤
+IsDefined (line.Reload replica file) (told.Reloaded generation) = ⊤
+IsDefined (line.Reload replica file) (told.Refused verdict) = ⊤
+IsDefined (line.Reload replica file) (told.Unhealthy name field text) = ⊤
+IsDefined (line.Reload replica file) told.Gone = ⊤
+IsDefined line.Refresh (told.Refreshed generation) = ⊤
+IsDefined line.Refresh told.Unchanged = ⊤
+IsDefined line.Refresh (told.Moved generation) = ⊤
+IsDefined line.Refresh (told.Unhealthy name field text) = ⊤
+IsDefined line.Refresh told.Gone = ⊤
+IsDefined (line.Join replica file) (told.Joined generation) = ⊤
+IsDefined (line.Join replica file) (told.Present generation) = ⊤
+IsDefined (line.Join replica file) (told.Refused verdict) = ⊤
+IsDefined (line.Join replica file) (told.Unhealthy name field text) = ⊤
+IsDefined (line.Leave replica) (told.Left generation) = ⊤
+IsDefined (line.Leave replica) told.Gone = ⊤
+IsDefined asked reply = ⊥
+
+-- ---- faults
+
+-- an own entry says that the store failed, and the store's count rose there
+pub record StoreFails (old new : Caller) : Type 0 where
+  pub before : List Entry
+  pub entry : Entry
+  pub behind : List Entry
+  pub there : new.seen ≡ (old.seen ++ before) ++ entry ∷ behind
+  pub own : entry.line.seat ≡ old.seat
+  pub says : entry.line.gave ≡ gave.StoreFailed
+  pub rose : Rose (state_of old.opening (old.seen ++ before)).count entry.line.faults
+
+module _ {L D : Type 0} (link : L → Link) (count : D → ℕ) where
+  -- the reply is want of memory, or names the plugin, the seat's own random source or the store,
+  -- whose count rose meanwhile; or it is one of the line's defined replies
+  abbrev pub HasCause : ScriptLine → Workplace L D → Told → Workplace L D → Type 0
+  HasCause asked old told.Memory new = ⊤
+  HasCause asked old (told.FaultPlugin name) new = FaultRose link name old.links new.links
+  HasCause asked old (told.FaultDice seat) new =
+      (seat ≡ old.caller.seat) × Rose (count old.dice) (count new.dice)
+  HasCause asked old told.FaultStore new = StoreFails old.caller new.caller
+  HasCause asked old reply new = IsDefined asked reply
+
+-- so has each reply to a line that was done, while the line was done; and then also by the whole of
+-- its worker's run, from the worker's begin to its end
+pub record RepliesHaveCauses {L D : Type 0} (truth : Truth) (link : L → Link)
+    (left : D → Option (List ℕ)) (count : D → ℕ) (files : List SettingsFile) : Type 0 where
+  pub each : (replica : ℕ) (old new : Workplace L D) (done : LineDone)
+      → IsDone truth link left count files replica old done new
+      → HasCause link count done.line old done.reply new
+  pub whole : (history : List Entry) (part : Part) (first : Workplace L D) (replies : List Told)
+      (after : BenchState L D)
+      → (stands : StandsIn truth link left count files history part first replies after)
+      → (done : LineDone) → Contains stands.run done
+      → HasCause link count done.line first done.reply stands.last
