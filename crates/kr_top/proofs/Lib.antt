@@ -2,6 +2,9 @@
 mod Rooms
 pub mod Asked
 pub mod Decided
+pub mod FleetAsked
+pub mod FleetLoads
+pub mod FleetPrograms
 pub mod Frames
 pub mod Goes
 pub mod Listed

@@ -2,9 +2,11 @@
 -- their plugins.
 use Rattle.std.specs.Prelude.{◌≡◌, ℕ, ◌<◌, ◌≤◌, ◌⊎◌, List, [], ◌∷◌, ◌++◌, length, map, codes, Option, None, Some, Result, Ok, Err, ⊤, if◌then◌else◌}
 use Rattle.std.specs.List.{flat_map}
+use Rattle.std.specs.Option.{option_map}
+use Rattle.std.specs.Prelude as std
 use Rattle.std.specs.Str.{bytes_eq}
 use Rattle.kr_base.specs.Limits.{store_limit}
-use Rattle.kr_config.specs.Kept.{Row}
+use Rattle.kr_config.specs.Kept.{Row, rows_of}
 use Rattle.kr_provider.specs.PluginOrder.{plugin_order}
 use Rattle.kr_script.specs.Fleets.{Fleet, Worker}
 use Rattle.kr_script.specs.Meanings.{Means}
@@ -12,6 +14,7 @@ use Rattle.kr_script.specs.declared.script.ScriptLine.{ScriptLine}
 use Rattle.kr_script.specs.declared.script.ScriptLine.TheVariants as line
 use Rattle.kr_script.specs.declared.script.ScriptNo.{ScriptNo}
 use Rattle.kr_script.specs.declared.script.ScriptNo.TheVariants as no
+use Rattle.kr_workers.specs.declared.files.SettingsFile.{SettingsFile}
 use Rattle.kr_top.specs.Commands.{by_result, configuration, with_memory}
 use Rattle.kr_top.specs.Plugins.{programs_of}
 use Rattle.kr_top.specs.Steps.{Steps, load, find, give, and_then}
@@ -76,10 +79,13 @@ mentioned fleet = flat_map file_of_replica fleet.replicas
 abbrev pub NamedRows : Type 0
 NamedRows = List ℕ × List Row
 
+abbrev pub named_rows : SettingsFile → NamedRows
+named_rows file = (file.name, rows_of file.settings.entries.0)
+
 -- the entries of the file of a name, if it was read
 abbrev pub rows_at : List NamedRows → (name : List ℕ) → Option (List Row)
-rows_at [] name = None
-rows_at (file ∷ files) name = if bytes_eq file.0 name then Some file.1 else rows_at files name
+rows_at files name = option_map (λ (file : NamedRows). file.1)
+    (std.find (λ (file : NamedRows). bytes_eq file.0 name) files)
 
 -- these steps, unless the file was read already
 abbrev pub unless_read : Option (List Row) → Steps (List NamedRows) → Steps (List NamedRows)

@@ -3,6 +3,7 @@ pub mod Around
 pub mod Check
 pub mod Command
 pub mod Commands
+pub mod FleetAsked
 pub mod FleetFiles
 pub mod Fleets
 pub mod Configuration

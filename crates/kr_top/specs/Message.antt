@@ -14,7 +14,7 @@ use Rattle.kr_provider.specs.Refusals.{number_of, name_of}
 use Rattle.kr_top.specs.declared.refusal.Object.{Object}
 use Rattle.kr_top.specs.declared.refusal.Object.TheVariants.{Input, Output, Files, Dice, Store, Plugin}
 use Rattle.kr_top.specs.declared.refusal.Refusal.{Refusal}
-use Rattle.kr_top.specs.declared.refusal.Refusal.TheVariants.{Absent, Configuration, Limit, Value, Placed, Broken, NoPlugin, Unhealthy, Stray, OtherSecret, Unfit}
+use Rattle.kr_top.specs.declared.refusal.Refusal.TheVariants.{Absent, Configuration, Limit, Value, Placed, Broken, NoPlugin, Unhealthy, Stray, OtherSecret, Unfit, Script}
 use Rattle.kr_top.specs.declared.refusal.Limit as limits
 use Rattle.kr_top.specs.declared.refusal.Limit.TheVariants as limit
 use Rattle.kr_top.specs.declared.refusal.Breach.{Breach}

@@ -2,4 +2,5 @@
 pub mod Phases
 pub mod Tapes
 pub mod Judging
+pub mod FleetFiles
 pub mod Plugins

@@ -1,18 +1,24 @@
 //! The call that does a command.
-ghost use Rattle.std.specs.Prelude.{Some};
-ghost use Rattle.kr_top.specs.Around.{around};
+ghost use Rattle.std.specs.Prelude.{◌≡◌, ◌≤◌, Some};
+ghost use Rattle.kr_words.specs.Grammar.{texts};
+ghost use Rattle.kr_top.specs.Around.{Around, around, with_world};
 ghost use Rattle.kr_top.specs.Commands.{steps};
+ghost use Rattle.kr_top.specs.FleetAsked.{AskNoFleet, AsksFleet};
+ghost use Rattle.kr_top.specs.Fleets.{RanFleet};
+ghost use Rattle.kr_top.specs.Ran.{receipt, Answers, Ran, Readings};
+ghost use Rattle.kr_top.specs.declared.fleet_words.FleetWords.{FleetWords};
 ghost use Rattle.kr_top.specs.inner.Phases.{Does, HasShortPath};
 
 use crate::check::check;
-use crate::command::{Asked, Command, FleetWords, read_asked};
+use crate::command::{Command, read_command};
 use crate::convert::convert;
 use crate::fleet::fleet;
+use crate::fleet_words::{FleetWords, read_fleet};
 use crate::inspect::inspect;
 use crate::judge::judge;
 use crate::message::tell;
 use crate::phases::write_output;
-use crate::refusal::{Outcome, Stop};
+use crate::refusal::{Done, Outcome, Stop};
 use crate::rows::list;
 use kr_base::{Sink, Source};
 use kr_kms::World;
@@ -25,7 +31,8 @@ use std::thread::Threads;
 /// together, 4 an object of the outside failed, 5 want of memory, 6 a limit was passed. Each status
 /// other than 0 has one line on `errors`, but for a reload that was refused and for those that a
 /// fleet's replies decide, of which the output says why; where the line can't be written the status
-/// is 4. A fleet's workers wait for each other by `rt`.
+/// is 4. A fleet's workers wait for each other by `rt`. `readings` is what follows from `ran`, for
+/// readers.
 pub fn run<R: Threads + Wait + Sync, W: World, I: Source, O: Sink, E: Sink>(
     rt: &R,
     alloc: Global,
@@ -34,16 +41,42 @@ pub fn run<R: Threads + Wait + Sync, W: World, I: Source, O: Sink, E: Sink>(
     input: &mut I,
     output: &mut O,
     errors: &mut E,
-) -> u8 {
-    match read_asked(alloc, words) {
-        Ok(Asked::Alone(command)) => done_alone(alloc, &command, world, input, output, errors),
-        Ok(Asked::Fleet(words)) => done_fleet(rt, alloc, &words, world, output, errors),
+) -> u8
+    ensures ran { AskNoFleet (texts words.now) → Ran (texts words.now)
+        (around W.Link.truth (W.told world.old) (I.left input.old)
+        (I.count input.old))
+        (around W.Link.truth (W.told world.new) (I.left input.new)
+        (I.count input.new))
+        (receipt (O.held output.old) (O.held output.new) (O.count output.old) (O.count output.new))
+        (receipt (E.held errors.old) (E.held errors.new) (E.count errors.old) (E.count errors.new))
+        result }
+    ensures readings { AskNoFleet (texts words.now) → Readings (texts words.now)
+        (around W.Link.truth (W.told world.old) (I.left input.old)
+        (I.count input.old))
+        (around W.Link.truth (W.told world.new) (I.left input.new)
+        (I.count input.new))
+        (receipt (O.held output.old) (O.held output.new) (O.count output.old) (O.count output.new))
+        (receipt (E.held errors.old) (E.held errors.new) (E.count errors.old) (E.count errors.new))
+        result }
+    ensures fleet { (asked : FleetWords) → AsksFleet (texts words.now) asked
+        → RanFleet W.Tap W.Link.truth W.Link.link W.Rand.left W.Rand.count asked
+        (around W.Link.truth (W.told world.old) (I.left input.old)
+        (I.count input.old))
+        (around W.Link.truth (W.told world.new) (I.left input.new)
+        (I.count input.new))
+        (receipt (O.held output.old) (O.held output.new) (O.count output.old) (O.count output.new))
+        (receipt (E.held errors.old) (E.held errors.new) (E.count errors.old) (E.count errors.new))
+        result }
+{
+    match read_fleet(alloc, words) {
+        Ok(Some(asked)) => run_fleet(rt, alloc, &asked, world, output, errors),
+        Ok(None) => alone(alloc, words, world, input, output, errors),
         Err(stop) => tell(errors, &Err(stop)),
     }
 }
 
-/// The same for each command that no one waits in. Where the words ask for a fleet, nothing is
-/// done.
+/// The same for each command but `fleet`. Where the words ask for a fleet nothing is done, and there
+/// is no status.
 pub fn run_alone<W: World, I: Source, O: Sink, E: Sink>(
     alloc: Global,
     words: &[String],
@@ -52,42 +85,88 @@ pub fn run_alone<W: World, I: Source, O: Sink, E: Sink>(
     output: &mut O,
     errors: &mut E,
 ) -> Option<u8> {
-    match read_asked(alloc, words) {
-        Ok(Asked::Alone(command)) => {
-            Some(done_alone(alloc, &command, world, input, output, errors))
-        }
-        Ok(Asked::Fleet(_words)) => None,
+    match read_fleet(alloc, words) {
+        Ok(Some(_asked)) => None,
+        Ok(None) => Some(alone(alloc, words, world, input, output, errors)),
         Err(stop) => Some(tell(errors, &Err(stop))),
     }
 }
 
-/// Does a command, writes what it made, and tells how it ended.
-fn done_alone<W: World, I: Source, O: Sink, E: Sink>(
+/// Runs a fleet, and tells how it ended where its replies don't.
+fn run_fleet<R: Threads + Wait + Sync, W: World, O: Sink, E: Sink>(
+    rt: &R,
     alloc: Global,
-    command: &Command,
+    asked: &FleetWords,
+    world: &mut W,
+    output: &mut O,
+    errors: &mut E,
+) -> u8
+    ensures { (a : Around) → a.truth ≡ W.Link.truth
+        → RanFleet W.Tap W.Link.truth W.Link.link W.Rand.left W.Rand.count asked.now
+        (with_world (W.told world.old) a) (with_world (W.told world.new) a)
+        (receipt (O.held output.old) (O.held output.new) (O.count output.old) (O.count output.new))
+        (receipt (E.held errors.old) (E.held errors.new) (E.count errors.old) (E.count errors.new))
+        result }
+{
+    match fleet(rt, alloc, asked, world, output) {
+        Ok(ending) => ending.status(),
+        Err(stop) => tell(errors, &Err(stop)),
+    }
+}
+
+/// Does a command that no one waits in. Words that ask for a fleet mean none here.
+fn alone<W: World, I: Source, O: Sink, E: Sink>(
+    alloc: Global,
+    words: &[String],
     world: &mut W,
     input: &mut I,
     output: &mut O,
     errors: &mut E,
-) -> u8 {
-    let made = perform(alloc, command, world, input);
-    let answer = write_output(output, made);
+) -> u8
+    ensures ran { Ran (texts words.now)
+        (around W.Link.truth (W.told world.old) (I.left input.old)
+        (I.count input.old))
+        (around W.Link.truth (W.told world.new) (I.left input.new)
+        (I.count input.new))
+        (receipt (O.held output.old) (O.held output.new) (O.count output.old) (O.count output.new))
+        (receipt (E.held errors.old) (E.held errors.new) (E.count errors.old) (E.count errors.new))
+        result }
+    ensures readings { Readings (texts words.now)
+        (around W.Link.truth (W.told world.old) (I.left input.old)
+        (I.count input.old))
+        (around W.Link.truth (W.told world.new) (I.left input.new)
+        (I.count input.new))
+        (receipt (O.held output.old) (O.held output.new) (O.count output.old) (O.count output.new))
+        (receipt (E.held errors.old) (E.held errors.new) (E.count errors.old) (E.count errors.new))
+        result }
+{
+    let answer = answer(alloc, words, world, input, output);
     tell(errors, &answer)
 }
 
-/// Runs a fleet, and tells how it ended where its replies don't.
-fn done_fleet<R: Threads + Wait + Sync, W: World, O: Sink, E: Sink>(
-    rt: &R,
+/// Does the command that the words mean, and writes what it made.
+fn answer<W: World, I: Source, O: Sink>(
     alloc: Global,
-    words: &FleetWords,
+    words: &[String],
     world: &mut W,
+    input: &mut I,
     output: &mut O,
-    errors: &mut E,
-) -> u8 {
-    match fleet(rt, alloc, words, world, output) {
-        Ok(ending) => ending.status(),
-        Err(stop) => tell(errors, &Err(stop)),
-    }
+) -> Result<Done, Stop>
+    ensures answers { Answers (texts words.now)
+        (around W.Link.truth (W.told world.old) (I.left input.old)
+        (I.count input.old))
+        (around W.Link.truth (W.told world.new) (I.left input.new)
+        (I.count input.new))
+        (receipt (O.held output.old) (O.held output.new) (O.count output.old) (O.count output.new))
+        result }
+    ensures later { O.count output.old ≤ O.count output.new }
+{
+    let command = match read_command(alloc, words) {
+        Ok(command) => command,
+        Err(stop) => return Err(stop),
+    };
+    let made = perform(alloc, &command, world, input);
+    write_output(output, made)
 }
 
 /// Does a command up to its value.

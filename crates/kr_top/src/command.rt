@@ -47,27 +47,7 @@ pub struct Judgement {
     pub options: Options,
 }
 
-/// Which fleet is to be run.
-#[derive(Debug, Drop)]
-pub struct FleetWords {
-    /// The name of the fleet file.
-    pub file: Text,
-    /// The name of the store's file.
-    pub store: Text,
-    /// All options of the words, which give the programs of plugins.
-    pub options: Options,
-}
-
-/// What words ask for.
-#[derive(Debug, Drop)]
-pub enum Asked {
-    /// A command that is done by one worker alone.
-    Alone(Command),
-    /// The workers of a fleet.
-    Fleet(FleetWords),
-}
-
-/// A command with what its words say, which is done by one worker alone.
+/// A command with what its words say.
 #[derive(Debug, Drop)]
 pub enum Command {
     /// Encrypts or decrypts the input.
@@ -90,8 +70,10 @@ pub enum Command {
     Judge(Judgement),
 }
 
-/// Reads the words.
-pub fn read_asked(alloc: Global, words: &[String]) -> Result<Asked, Stop> {
+/// Reads the words as a command.
+pub fn read_command(alloc: Global, words: &[String]) -> Result<Command, Stop>
+    ensures { IsReadAs (texts words.now) result }
+{
     let words = match read_words(alloc, words) {
         Ok(words) => words,
         Err(WordsNo::Usage) => return Err(Stop::Words(BadWords::Usage)),
@@ -99,33 +81,6 @@ pub fn read_asked(alloc: Global, words: &[String]) -> Result<Asked, Stop> {
         Err(WordsNo::Size) => return Err(Stop::Words(BadWords::Size)),
         Err(WordsNo::NoMemory) => return Err(Stop::NoMemory),
     };
-    match words.verb {
-        Verb::Fleet => match fleet_of(alloc, words) {
-            Ok(words) => Ok(Asked::Fleet(words)),
-            Err(_) => Err(Stop::NoMemory),
-        },
-        _ => match read_command(alloc, words) {
-            Ok(command) => Ok(Asked::Alone(command)),
-            Err(stop) => Err(stop),
-        },
-    }
-}
-
-/// The words of `fleet`.
-fn fleet_of(alloc: Global, words: kr_words::Command) -> Result<FleetWords, NoMemory> {
-    let file = value_of(alloc, &words, "file")?;
-    let store = value_of(alloc, &words, "store")?;
-    let Some(file) = file else { unreachable!() };
-    let Some(store) = store else { unreachable!() };
-    Ok(FleetWords {
-        file,
-        store,
-        options: Options::new(words),
-    })
-}
-
-/// The command of the words, where it is built.
-fn read_command(alloc: Global, words: kr_words::Command) -> Result<Command, Stop> {
     let command = match command_of(alloc, words) {
         Ok(command) => command,
         Err(_) => return Err(Stop::NoMemory),

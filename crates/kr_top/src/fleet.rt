@@ -1,8 +1,16 @@
 //! `fleet`: the fleet file and the configurations that it names, the store, each worker's random
 //! source and links, what each replica publishes, and the workers at one core.
-use crate::command::FleetWords;
+ghost use Rattle.std.specs.Prelude.{◌≡◌, ◌≤◌};
+ghost use Rattle.kr_script.specs.Fleets.{fleet_of};
+ghost use Rattle.kr_script.specs.Output.{fleet_output};
+ghost use Rattle.kr_top.specs.Around.{Around, with_world};
+ghost use Rattle.kr_top.specs.Fleets.{DidFleet, WritesFleet};
+ghost use Rattle.kr_top.specs.Ran.{receipt};
+ghost use Rattle.kr_workers.specs.Endings.{ending_of};
+
 use crate::crew::{Crew, hire};
 use crate::fleet_file::{NO_FILE, Plan, load_plan};
+use crate::fleet_words::FleetWords;
 use crate::outfit::{Outfit, close_outfits, open_outfits};
 use crate::programs::Program;
 use crate::publication::publish_by;
@@ -35,7 +43,14 @@ pub fn fleet<R: Threads + Wait + Sync, W: World, O: Sink>(
     words: &FleetWords,
     world: &mut W,
     output: &mut O,
-) -> Result<Ending, Stop> {
+) -> Result<Ending, Stop>
+    ensures did { (a : Around) → a.truth ≡ W.Link.truth
+        → DidFleet W.Tap W.Link.truth W.Link.link W.Rand.left W.Rand.count words.now
+        (with_world (W.told world.old) a) (with_world (W.told world.new) a)
+        (receipt (O.held output.old) (O.held output.new) (O.count output.old) (O.count output.new))
+        result }
+    ensures later { O.count output.old ≤ O.count output.new }
+{
     let plan = match load_plan(alloc, words.file.as_str(), &words.options, world) {
         Ok(plan) => plan,
         Err(stop) => return Err(stop),
@@ -300,7 +315,13 @@ fn write_record<O: Sink>(
     script: &Script,
     record: &Record,
     output: &mut O,
-) -> Result<Ending, Stop> {
+) -> Result<Ending, Stop>
+    ensures written { WritesFleet
+        (fleet_output (fleet_of script.now) record.now.lines.0 record.now.replies.0)
+        (ending_of record.now.replies.0) (receipt (O.held output.old) (O.held output.new)
+        (O.count output.old) (O.count output.new)) result }
+    ensures later { O.count output.old ≤ O.count output.new }
+{
     let lines = record.lines.as_slice();
     let replies = record.replies.as_slice();
     match write_fleet(alloc, output, script, lines, replies) {

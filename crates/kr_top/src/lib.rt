@@ -9,6 +9,7 @@ mod convert;
 mod crew;
 mod fleet;
 mod fleet_file;
+mod fleet_words;
 mod inspect;
 mod judge;
 mod listing;

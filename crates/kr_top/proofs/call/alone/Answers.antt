@@ -1,5 +1,5 @@
 use Rattle.kr_top.proofs.Readings.{readings}
-use Rattle.kr_top.proofs.call.run.Goals as goal
+use Rattle.kr_top.proofs.call.alone.Goals as goal
 
 pub returns-clause-readings : goal.returns-clause-readings
 returns-clause-readings g c =
