@@ -5,6 +5,7 @@ pub mod Decided
 pub mod FleetAsked
 pub mod FleetLoads
 pub mod FleetPrograms
+pub mod FleetRuns
 pub mod Frames
 pub mod Goes
 pub mod Listed

@@ -34,10 +34,11 @@ use Rattle.kr_workers.specs.declared.files.SettingsFile.{SettingsFile}
 use Rattle.kr_workers.specs.declared.worker.Worker as fleet_worker
 use Rattle.kr_top.specs.Around.{Around, Ends, IsHome, Reaches, left_of}
 use Rattle.kr_top.specs.Commands.{by_result, stored_on, tape_for, with_memory}
+use Rattle.kr_top.specs.FleetAsked.{AsksFleet}
 use Rattle.kr_top.specs.FleetFiles.{FleetPlan, NamedRows, named_rows, no_file, planning, rows_at}
 use Rattle.kr_top.specs.Judgements.{start_refusal}
 use Rattle.kr_top.specs.Plugins.{make_seeds}
-use Rattle.kr_top.specs.Ran.{IsIdle, Receipt, Tells}
+use Rattle.kr_top.specs.Ran.{IsIdle, IsUntouched, Ran, Readings, Receipt, Tells}
 use Rattle.kr_top.specs.Message.{line_of, status_of as stop_status}
 use Rattle.kr_top.specs.Steps.{Steps, borrow_dice, borrow_link, find, gives, give, and_then}
 use Rattle.kr_top.specs.StoreFiles.{Stored}
@@ -138,24 +139,26 @@ beginning plan stored =
     (and_then (publishing plan.files [] plan.fleet.replicas)
     (starting plan stored budgets)))
 
+-- a fleet by its plan, over the store of this name
+abbrev pub over_store : (store : List ℕ) → FleetPlan → Steps Begun
+over_store store plan = tape_for store true (and_then (stored_on Store store) (beginning plan))
+
 abbrev pub fleet_steps : FleetWords → Steps Begun
-fleet_steps words =
-    and_then (planning words.file words.options) (λ plan.
-    tape_for words.store true (and_then (stored_on Store words.store) (beginning plan)))
+fleet_steps words = and_then (planning words.file words.options) (over_store words.store)
 
 -- ---- once the workers were started
 
 -- what the core begins with: the rows of the store's file and what the replicas published, a gap
 -- for one that isn't in; a configuration may name the plugins of all that the fleet file names
-abbrev pub opening_of : FleetWords → Begun → Around → Opening
-opening_of words begun mid = record {
+abbrev pub opening_of : (store : List ℕ) → Begun → Around → Opening
+opening_of store begun mid = record {
   format = begun.stored.format;
   rows = begun.stored.rows;
   replicas = begun.replicas;
   names = map (λ (program : Program). program.plugin) begun.plan.programs;
   reloads = all_reloads (parts_of begun.plan.fleet);
   limit = store_limit;
-  count = mid.world.tapes.faults words.store;
+  count = mid.world.tapes.faults store;
   torn = false;
 }
 
@@ -186,7 +189,7 @@ HasRows None begun rows = ⊤
 -- legal, honest, with the lines of each worker and nothing else. The store has the opening's rows
 -- and the written entries', and what the workers had is back.
 pub record RunsFleet {T L D : Type 0} (truth : Truth) (link : L → Link)
-    (left : D → Option (List ℕ)) (count : D → ℕ) (words : FleetWords) (begun : Begun)
+    (left : D → Option (List ℕ)) (count : D → ℕ) (store : List ℕ) (begun : Begun)
     (mid new : Around) (history : List Entry) (ended : List (fleet_worker.Worker T L D))
     : Type 0 where
   pub parts : List Part
@@ -195,12 +198,12 @@ pub record RunsFleet {T L D : Type 0} (truth : Truth) (link : L → Link)
   pub files_are : map named_rows files ≡ begun.plan.files
   pub workers : List (fleet_worker.Worker T L D)
   pub before : AreEquipped link left count begun.plan.programs mid workers
-  pub one : IsOneHistory truth link left count files history (opening_of words begun mid) parts
+  pub one : IsOneHistory truth link left count files history (opening_of store begun mid) parts
       begun.budgets workers ended
-  pub opens : truth.told ≡ true → IsHonest truth.opens (opening_of words begun mid) []
+  pub opens : truth.told ≡ true → IsHonest truth.opens (opening_of store begun mid) []
   pub after : AreEquipped link left count begun.plan.programs new ended
-  pub stored : HasRows (new.world.tapes.told words.store) begun
-      (state_of (opening_of words begun mid) history).rows
+  pub stored : HasRows (new.world.tapes.told store) begun
+      (state_of (opening_of store begun mid) history).rows
 
 -- the journal and the replies
 abbrev pub text_of : {T L D : Type 0} → Fleet → List Entry → List (fleet_worker.Worker T L D)
@@ -229,7 +232,7 @@ module _ (T : Type 0) {L D : Type 0} (truth : Truth) (link : L → Link)
     pub reaches : Reaches (fleet_steps words) (left_of old) mid (gives begun)
     pub history : List Entry
     pub ended : List (fleet_worker.Worker T L D)
-    pub runs : RunsFleet truth link left count words begun mid new history ended
+    pub runs : RunsFleet truth link left count words.store begun mid new history ended
     pub writes : WritesFleet (text_of begun.plan.fleet history ended)
         (ending_of (map (λ (w : fleet_worker.Worker T L D). w.told) ended)) output result
 
@@ -266,3 +269,11 @@ pub record RanFleet (T : Type 0) {L D : Type 0} (truth : Truth) (link : L → Li
   pub tells : TellsFleet result errors status
   pub written : output.old_faults ≤ output.new_faults
   pub told : errors.old_faults ≤ errors.new_faults
+
+-- what a call did where no one may wait: for a fleet nothing
+abbrev pub RanAlone : (words : List (List ℕ)) → (old new : Around) → (output errors : Receipt)
+    → Option ℕ → Type 0
+RanAlone words old new output errors (Some status) =
+    Ran words old new output errors status × Readings words old new output errors status
+RanAlone words old new output errors None =
+    ((asked : FleetWords) × AsksFleet words asked) × IsUntouched old new output × IsIdle errors

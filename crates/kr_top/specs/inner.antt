@@ -3,4 +3,5 @@ pub mod Phases
 pub mod Tapes
 pub mod Judging
 pub mod FleetFiles
+pub mod Fleets
 pub mod Plugins

@@ -4,7 +4,7 @@ ghost use Rattle.kr_words.specs.Grammar.{texts};
 ghost use Rattle.kr_top.specs.Around.{Around, around, with_world};
 ghost use Rattle.kr_top.specs.Commands.{steps};
 ghost use Rattle.kr_top.specs.FleetAsked.{AskNoFleet, AsksFleet};
-ghost use Rattle.kr_top.specs.Fleets.{RanFleet};
+ghost use Rattle.kr_top.specs.Fleets.{RanAlone, RanFleet};
 ghost use Rattle.kr_top.specs.Ran.{receipt, Answers, Ran, Readings};
 ghost use Rattle.kr_top.specs.declared.fleet_words.FleetWords.{FleetWords};
 ghost use Rattle.kr_top.specs.inner.Phases.{Does, HasShortPath};
@@ -84,7 +84,16 @@ pub fn run_alone<W: World, I: Source, O: Sink, E: Sink>(
     input: &mut I,
     output: &mut O,
     errors: &mut E,
-) -> Option<u8> {
+) -> Option<u8>
+    ensures { RanAlone (texts words.now)
+        (around W.Link.truth (W.told world.old) (I.left input.old)
+        (I.count input.old))
+        (around W.Link.truth (W.told world.new) (I.left input.new)
+        (I.count input.new))
+        (receipt (O.held output.old) (O.held output.new) (O.count output.old) (O.count output.new))
+        (receipt (E.held errors.old) (E.held errors.new) (E.count errors.old) (E.count errors.new))
+        result }
+{
     match read_fleet(alloc, words) {
         Ok(Some(_asked)) => None,
         Ok(None) => Some(alone(alloc, words, world, input, output, errors)),

@@ -6,6 +6,8 @@ ghost use Rattle.kr_script.specs.Output.{fleet_output};
 ghost use Rattle.kr_top.specs.Around.{Around, with_world};
 ghost use Rattle.kr_top.specs.Fleets.{DidFleet, WritesFleet};
 ghost use Rattle.kr_top.specs.Ran.{receipt};
+ghost use Rattle.kr_top.specs.inner.FleetFiles.{plan_of};
+ghost use Rattle.kr_top.specs.inner.Fleets.{RunsOver};
 ghost use Rattle.kr_workers.specs.Endings.{ending_of};
 
 use crate::crew::{Crew, hire};
@@ -69,7 +71,12 @@ fn fleet_by<R: Threads + Wait + Sync, W: World>(
     store: &str,
     plan: &Plan,
     world: &mut W,
-) -> Result<Record, Stop> {
+) -> Result<Record, Stop>
+    ensures { (a : Around) → a.truth ≡ W.Link.truth
+        → RunsOver W.Tap W.Link.truth W.Link.link W.Rand.left W.Rand.count store.now
+        (plan_of plan.now) (with_world (W.told world.old) a) (with_world (W.told world.new) a)
+        result }
+{
     let tape = match open_tape(alloc, world, store, true) {
         Ok(tape) => tape,
         Err(stop) => return Err(stop),
