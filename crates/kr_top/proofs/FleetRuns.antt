@@ -1,27 +1,42 @@
 -- How a fleet goes on from its plan, and how a call ends that a fleet was asked of.
-use Rattle.std.proofs.Common.{◌≡◌, ℕ, ◌⊎◌, List, map, codes, Option, None, Some, Result, Ok, Err, refl, sym, ◌∙◌, ap, subst, inl, inr, arith}
+use Rattle.std.proofs.Common.{◌≡◌, ℕ, ◌+◌, ◌<◌, ◌≤◌, ◌⊎◌, List, [], ◌∷◌, map, codes, Option, None, Some, Result, Ok, Err, refl, sym, ◌∙◌, ap, subst, inl, inr, arith}
+use Rattle.std.specs.Prelude.{true, sum, count_by}
+use Rattle.kr_kms.specs.Outside.{Outside}
 use Rattle.kr_kms.specs.Calls.{Link}
 use Rattle.kr_kms.specs.Truth.{Truth}
 use Rattle.kr_rollout.specs.declared.opening.Entry.{Entry}
+use Rattle.kr_script.specs.Fleets.{worker_of}
 use Rattle.kr_script.specs.Output.{fleet_output}
+use Rattle.kr_script.specs.declared.script.Part.{Part}
+use Rattle.kr_store.specs.Stores.{IsLiveCount}
+use Rattle.kr_store.specs.declared.rows.LogRow.{LogRow}
 use Rattle.kr_words.specs.declared.command.Verb.TheVariants as verbs
 use Rattle.kr_words.proofs.Meanings.{mean_one}
 use Rattle.kr_words.specs.Options.{value_of}
+use Rattle.kr_workers.specs.Budgets.{AreBudgets, budget_of, budgets_of, is_put, journal_limit, put_lines}
 use Rattle.kr_workers.specs.Endings.{ending_of}
+use Rattle.kr_workers.specs.declared.budget.BudgetNo.{BudgetNo}
+use Rattle.kr_workers.specs.declared.budget.BudgetNo.TheVariants as budget
 use Rattle.kr_workers.specs.declared.ending.Ending.{Ending}
 use Rattle.kr_workers.specs.declared.worker.Worker as fleet_worker
-use Rattle.kr_top.specs.Around.{Around, left_of}
+use Rattle.kr_top.specs.Around.{Around, left_of, with_lent_tape, with_world}
+use Rattle.kr_top.specs.Commands.{tape_for}
 use Rattle.kr_top.specs.FleetAsked.{AsksFleet, IsFleetAsked}
 use Rattle.kr_top.specs.FleetFiles.{FleetPlan, planning}
-use Rattle.kr_top.specs.Fleets.{DidFleet, WritesFleet, over_store}
+use Rattle.kr_top.specs.Fleets.{Begun, DidFleet, WritesFleet, budgeting, over_store, parts_of}
 use Rattle.kr_top.specs.Ran.{IsIdle, Receipt, StopsAtOnce}
+use Rattle.kr_top.specs.Steps.{Steps, and_then}
 use Rattle.kr_top.specs.declared.fleet.Record.{Record}
 use Rattle.kr_top.specs.declared.fleet_words.FleetWords.{FleetWords}
+use Rattle.kr_top.specs.declared.refusal.Limit.TheVariants as limit
+use Rattle.kr_top.specs.declared.refusal.Refusal.TheVariants.{Limit}
 use Rattle.kr_top.specs.declared.refusal.Stop.{Stop}
 use Rattle.kr_top.specs.declared.refusal.Stop.TheVariants.{Words, Refused, Fault, NoMemory}
-use Rattle.kr_top.specs.inner.Fleets.{LacksWorkers, LeavesRecord}
+use Rattle.kr_top.specs.inner.Fleets.{LacksWorkers, LeavesRecord, RunsBy, budget_stop}
 use Rattle.kr_top.specs.inner.Phases.{Does}
+use Rattle.kr_top.specs.inner.Tapes.{LentTape, ReturnedTape}
 use Rattle.kr_top.proofs.Goes.{goes_on, home_refl, home_trans, reach, stays_refl, stops}
+use Rattle.kr_top.proofs.Tapes.{came_back, lent, nothing}
 
 module _ (T : Type 0) {L D : Type 0} (truth : Truth) (link : L → Link)
     (left : D → Option (List ℕ)) (count : D → ℕ) (words : FleetWords) where
@@ -41,7 +56,7 @@ module _ (T : Type 0) {L D : Type 0} (truth : Truth) (link : L → Link)
     -- the steps behind it ended the command, or want of memory did
     pub stopped : (stop : Stop) (output : Receipt)
         → Does (over_store words.store plan) now new (Err stop)
-        ⊎ LacksWorkers T truth link left count words.store plan now new stop
+        ⊎ LacksWorkers T truth link left count (over_store words.store plan) now new stop
         → IsIdle output → DidFleet T truth link left count words old new output (Err stop)
     stopped stop output (inl e) idle =
         let all = goes_on (planning words.file words.options) (over_store words.store) plan d e in
@@ -60,7 +75,8 @@ module _ (T : Type 0) {L D : Type 0} (truth : Truth) (link : L → Link)
 
     -- the workers ran
     pub ran : (made : Record) (output : Receipt) (result : Result Ending Stop)
-        → LeavesRecord T truth link left count words.store plan now new made
+        → LeavesRecord T truth link left count (over_store words.store plan) words.store plan now
+        new made
         → WritesFleet (fleet_output plan.fleet made.lines.0 made.replies.0)
         (ending_of made.replies.0) output result
         → DidFleet T truth link left count words old new output result
@@ -86,6 +102,112 @@ module _ (T : Type 0) {L D : Type 0} (truth : Truth) (link : L → Link)
                 (ending_of told) output result) (sym l.plan_is) by_replies;
           });
         }
+
+-- ---- phases up to the workers
+
+module _ (T : Type 0) {L D : Type 0} (truth : Truth) (link : L → Link)
+    (left : D → Option (List ℕ)) (count : D → ℕ) (store : List ℕ) (plan : FleetPlan) where
+  abbrev Runs : Steps Begun → (old new : Around) → Result Record Stop → Type 0
+  Runs steps old new result = RunsBy T truth link left count steps store plan old new result
+
+  module _ {A : Type 0} (first : Steps A) (others : A → Steps Begun) where
+    -- the first steps gave something, and the fleet ran by the others
+    pub before : (x : A) {old mid new : Around} → Does first old mid (Ok x)
+        → (result : Result Record Stop) → Runs (others x) mid new result
+        → Runs (and_then first others) old new result
+    before x d (Ok made) l = record {
+      begun = l.begun;
+      plan_is = l.plan_is;
+      mid = l.mid;
+      does = goes_on first others x d l.does;
+      history = l.history;
+      ended = l.ended;
+      runs = l.runs;
+      lines = l.lines;
+      replies = l.replies;
+      home = home_trans d.home l.home;
+    }
+    before x d (Err stop) (inl e) = inl (goes_on first others x d e)
+    before x d (Err stop) (inr l) = inr (record {
+      stops = l.stops;
+      begun = l.begun;
+      mid = l.mid;
+      does = goes_on first others x d l.does;
+      home = home_trans d.home l.home;
+    })
+
+    pub ends_before : {old new : Around} (stop : Stop) → Does first old new (Err stop)
+        → Runs (and_then first others) old new (Err stop)
+    ends_before stop d = inl (stops first others stop d)
+
+  module _ (steps : Steps Begun) (a : Around) where
+    -- the store's tape, closed, tells what the store told
+    pub runs_closed : (old : Around) {told back : Option (List ℕ)} {n last : ℕ}
+        (result : Result Record Stop) → back ≡ told → last ≡ n
+        → Runs steps old (with_lent_tape store told n a) result
+        → Runs steps old (with_lent_tape store back last a) result
+    runs_closed old {told} {last = last} result t e r =
+        subst (λ b. Runs steps old (with_lent_tape store b last a) result) (sym t)
+        (subst (λ m. Runs steps old (with_lent_tape store told m a) result) (sym e) r)
+
+    -- the tape is borrowed for it, and comes back
+    pub over_tape : {old out mid new : Outside} {given back : Option (List ℕ)} {first n : ℕ}
+        (result : Result Record Stop) → LentTape store true old out given first
+        → ReturnedTape store mid new back n
+        → Runs steps (with_lent_tape store given first (with_world out a))
+        (with_lent_tape store back n (with_world mid a)) result
+        → Runs (tape_for store true steps) (with_world old a) (with_world new a) result
+    over_tape {out = out} {given = given} {first = first} result h returned r =
+        before (tape_for store true nothing) (λ u. steps) tt (lent store true _ h a) result
+        (subst (λ b. Runs steps (with_lent_tape store given first (with_world out a)) b result)
+        (came_back store returned a) r)
+
+-- ---- budgets
+
+-- the parts, made again of the workers of a fleet
+abbrev parts_again : List Part → List Part
+parts_again parts = parts_of (record { replicas = []; workers = map worker_of parts })
+
+same_budgets : (paths : ℕ) (parts : List Part)
+    → budgets_of paths (parts_again parts) ≡ budgets_of paths parts
+same_budgets paths [] = refl
+same_budgets paths (part ∷ parts) =
+    ap (λ rest. budget_of paths part.lines.0 ∷ rest) (same_budgets paths parts)
+
+same_puts : (parts : List Part) → put_lines (parts_again parts) ≡ put_lines parts
+same_puts [] = refl
+same_puts (part ∷ parts) =
+    ap (λ rest. count_by is_put part.lines.0 + rest) (same_puts parts)
+
+module _ (rows : List LogRow) (parts : List Part) (live : ℕ) (is : IsLiveCount rows live) where
+  abbrev Needed : List ℕ
+  Needed = budgets_of (live + put_lines parts) parts
+
+  pub are_budgets : (budgets : List ℕ) → budgets ≡ Needed → AreBudgets rows parts budgets
+  are_budgets budgets e = (live, (is, e))
+
+  are_again : (budgets : List ℕ) → budgets ≡ Needed → AreBudgets rows (parts_again parts) budgets
+  are_again budgets e = (live, (is, e ∙ sym (same_budgets (live + put_lines parts) parts)
+      ∙ ap (λ n. budgets_of (live + n) (parts_again parts)) (sym (same_puts parts))))
+
+  pub budgeted : (budgets : List ℕ) → budgets ≡ Needed → sum budgets ≤ journal_limit
+      → (a : Around) → Does (budgeting rows (parts_again parts)) a a (Ok budgets)
+  budgeted budgets e few a = record {
+    home = home_refl a;
+    ends = λ l s. reach l (inr (Ok budgets, (are_again budgets e, few), (refl, refl))) s;
+  }
+
+  pub not_budgeted : (why : BudgetNo) → (why ≡ budget.TooMany → journal_limit < sum Needed)
+      → (a : Around) → Does (budgeting rows (parts_again parts)) a a (Err (budget_stop why))
+  not_budgeted budget.TooMany many a = record {
+    home = home_refl a;
+    ends = λ l s. reach l
+        (inr (Err (Limit limit.Journal), (refl, (Needed, are_again Needed refl, many refl)),
+        (refl, refl)))
+        s;
+  }
+  not_budgeted budget.NoMemory many a =
+      record { home = home_refl a; ends = λ l s. inr (reach l (inl (refl, refl)) s) }
 
 -- ---- what the words ask for
 

@@ -132,12 +132,14 @@ starting plan stored budgets replicas =
       replicas = replicas;
     })))
 
+-- with an outfit for each worker
+abbrev pub equipped : FleetPlan → Stored → List ℕ → Steps Begun
+equipped plan stored budgets = equipping plan.programs 0 (length plan.fleet.workers)
+    (and_then (publishing plan.files [] plan.fleet.replicas) (starting plan stored budgets))
+
 abbrev pub beginning : FleetPlan → Stored → Steps Begun
 beginning plan stored =
-    and_then (budgeting stored.rows (parts_of plan.fleet)) (λ budgets.
-    equipping plan.programs 0 (length plan.fleet.workers)
-    (and_then (publishing plan.files [] plan.fleet.replicas)
-    (starting plan stored budgets)))
+    and_then (budgeting stored.rows (parts_of plan.fleet)) (equipped plan stored)
 
 -- a fleet by its plan, over the store of this name
 abbrev pub over_store : (store : List ℕ) → FleetPlan → Steps Begun

@@ -1,13 +1,17 @@
 //! `fleet`: the fleet file and the configurations that it names, the store, each worker's random
 //! source and links, what each replica publishes, and the workers at one core.
-ghost use Rattle.std.specs.Prelude.{◌≡◌, ◌≤◌};
+ghost use Rattle.std.specs.Prelude.{◌≡◌, ◌≤◌, List, ℕ, sum};
 ghost use Rattle.kr_script.specs.Fleets.{fleet_of};
 ghost use Rattle.kr_script.specs.Output.{fleet_output};
-ghost use Rattle.kr_top.specs.Around.{Around, with_world};
-ghost use Rattle.kr_top.specs.Fleets.{DidFleet, WritesFleet};
+ghost use Rattle.kr_top.specs.Around.{Around, with_lent_tape, with_world};
+ghost use Rattle.kr_top.specs.Commands.{stored_on};
+ghost use Rattle.kr_top.specs.Fleets.{DidFleet, WritesFleet, beginning, equipped, over_store};
 ghost use Rattle.kr_top.specs.Ran.{receipt};
+ghost use Rattle.kr_top.specs.Steps.{and_then};
 ghost use Rattle.kr_top.specs.inner.FleetFiles.{plan_of};
-ghost use Rattle.kr_top.specs.inner.Fleets.{RunsOver};
+ghost use Rattle.kr_top.specs.inner.Fleets.{RunsBy, budget_stop};
+ghost use Rattle.kr_top.specs.inner.Tapes.{stored_of};
+ghost use Rattle.kr_workers.specs.Budgets.{AreBudgets, all_reloads, journal_limit};
 ghost use Rattle.kr_workers.specs.Endings.{ending_of};
 
 use crate::crew::{Crew, hire};
@@ -73,9 +77,9 @@ fn fleet_by<R: Threads + Wait + Sync, W: World>(
     world: &mut W,
 ) -> Result<Record, Stop>
     ensures { (a : Around) → a.truth ≡ W.Link.truth
-        → RunsOver W.Tap W.Link.truth W.Link.link W.Rand.left W.Rand.count store.now
-        (plan_of plan.now) (with_world (W.told world.old) a) (with_world (W.told world.new) a)
-        result }
+        → RunsBy W.Tap W.Link.truth W.Link.link W.Rand.left W.Rand.count
+        (over_store store.now (plan_of plan.now)) store.now (plan_of plan.now)
+        (with_world (W.told world.old) a) (with_world (W.told world.new) a) result }
 {
     let tape = match open_tape(alloc, world, store, true) {
         Ok(tape) => tape,
@@ -93,7 +97,17 @@ fn fleet_on<R: Threads + Wait + Sync, W: World>(
     plan: &Plan,
     tape: W::Tap,
     world: &mut W,
-) -> (Result<Record, Stop>, W::Tap) {
+) -> (Result<Record, Stop>, W::Tap)
+    ensures made { (name : List ℕ) (a : Around) → a.truth ≡ W.Link.truth
+        → RunsBy W.Tap W.Link.truth W.Link.link W.Rand.left W.Rand.count
+        (and_then (stored_on Object.Store name) (beginning (plan_of plan.now))) name
+        (plan_of plan.now)
+        (with_lent_tape name (W.Tap.told tape) (W.Tap.count tape)
+        (with_world (W.told world.old) a))
+        (with_lent_tape name (W.Tap.told result.1) (W.Tap.count result.1)
+        (with_world (W.told world.new) a)) result.0 }
+    ensures out { (W.told world.new).tapes ≡ (W.told world.old).tapes }
+{
     let store = match load_store(alloc, tape, Object::Store) {
         Ok(store) => store,
         Err((stop, tape)) => return (Err(stop), tape),
@@ -106,7 +120,10 @@ fn fleet_on<R: Threads + Wait + Sync, W: World>(
     (made, store.close())
 }
 
-fn budget_stop(why: BudgetNo) -> Stop {
+/// Why there are no budgets, as a command says it.
+fn budget_stop(why: BudgetNo) -> Stop
+    ensures { result ≡ budget_stop why }
+{
     match why {
         BudgetNo::TooMany => Stop::Refused(Refusal::Limit(Limit::Journal)),
         BudgetNo::NoMemory => Stop::NoMemory,
@@ -121,7 +138,19 @@ fn fleet_with<R: Threads + Wait + Sync, W: World>(
     budgets: &Budgets,
     store: Store<W::Tap>,
     world: &mut W,
-) -> (Result<Record, Stop>, Store<W::Tap>) {
+) -> (Result<Record, Stop>, Store<W::Tap>)
+    requires entries { AreBudgets store.rows plan.now.script.workers.0 budgets.now.entries.items }
+    requires reloads { budgets.now.reloads.items ≡ all_reloads plan.now.script.workers.0 }
+    requires few { sum budgets.now.entries.items ≤ journal_limit }
+    ensures made { (name : List ℕ) (a : Around) → a.truth ≡ W.Link.truth
+        → RunsBy W.Tap W.Link.truth W.Link.link W.Rand.left W.Rand.count
+        (equipped (plan_of plan.now) (stored_of store) budgets.now.entries.items) name
+        (plan_of plan.now)
+        (with_lent_tape name store.told store.count (with_world (W.told world.old) a))
+        (with_lent_tape name result.1.told result.1.count (with_world (W.told world.new) a))
+        result.0 }
+    ensures out { (W.told world.new).tapes ≡ (W.told world.old).tapes }
+{
     let mut outfits = List::new(alloc);
     let seats = plan.script.workers.as_slice().len() as u32;
     let opened = open_outfits(alloc, world, plan.programs.as_slice(), seats, &mut outfits);
