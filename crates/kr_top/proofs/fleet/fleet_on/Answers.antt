@@ -1,7 +1,7 @@
 -- `fleet_on`: the store on the tape, the budgets, and the workers.
-use Rattle.std.proofs.Common.{◌≡◌, ◌+◌, ◌<◌, Err, sym, subst}
+use Rattle.std.proofs.Common.{◌≡◌, ◌+◌, ◌<◌, Err, sym, ap, subst}
 use Rattle.std.specs.Prelude.{sum}
-use Rattle.kr_workers.specs.Budgets.{budgets_of, put_lines}
+use Rattle.kr_workers.specs.Budgets.{budgets_of, journal_limit, put_lines}
 use Rattle.kr_top.specs.Around.{with_lent_tape, with_world}
 use Rattle.kr_top.specs.Commands.{stored_on}
 use Rattle.kr_top.specs.Fleets.{beginning, budgeting, equipped, parts_of}
@@ -47,8 +47,8 @@ returns-in-Err-budgets_of-clause-made g c name a truth =
     (subst (λ s. Does (budgeting store.rows (parts_of plan.fleet)) now now (Err s))
     (sym c.budget_stop.ensures)
     (not_budgeted store.rows parts c.live_count.result c.live_count.ensures why
-    (subst (λ p. why ≡ _ → _ < sum (budgets_of (c.live_count.result + put_lines p) p))
-    c.as_slice.ensures c.in-Err-budgets_of.ensures.many) now))))
+    (λ is. subst (λ p. journal_limit < sum (budgets_of (c.live_count.result + put_lines p) p))
+    c.as_slice.ensures (c.in-Err-budgets_of.ensures.many (ap Err is))) now))))
 
 pub returns-clause-made : goal.returns-clause-made
 returns-clause-made g c name a truth =
