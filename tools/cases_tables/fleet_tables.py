@@ -70,13 +70,12 @@ def add_refusals(book):
     book.case("fleet_40", ["fleet", "--file", "fleet", "--store", "s"], tapes=(("s", b""),))
     fleet(book, "fleet_40_configuration", ["a one"], ["reload a old"], files=("one",))
     for at, script in enumerate(
-        ("fleet 2\n", "fleet 1\n", "fleet 1\nreplica a one\n", "fleet 1\nreplica a -\nworker w a\n", "fleet 1\nreplica a one\nworker w b\n", "fleet 1\nreplica a one\nworker w a\nget s\n")
+        ("fleet 2\n", "fleet 1\n", "fleet 1\nreplica a one\n", "fleet 1\nreplica a -\nworker w a\n", "fleet 1\nreplica a one\nworker w b\n", "fleet 1\nreplica a one\nworker w a\nget\n")
     ):
         book.case(f"fleet_47_{at}", ["fleet", "--file", "fleet", "--store", "s"], files=(("fleet", script), ("one", config(ONE))), tapes=(("s", b""),))
     fleet(book, "fleet_limit_replicas", [f"r{at} one" for at in range(17)], [], worker="w r0")
     fleet(book, "fleet_limit_workers", ["a one"], [f"worker w{at} a" for at in range(64)])
     fleet(book, "fleet_limit_journal", ["a one"], [f"put secrets /{at} -" for at in range(1000)] + ["rewrite"] * 1000)
-    fleet(book, "fleet_no_plugin_44", ["a one"], [], files=("one",))
 
 
 def add_faults(book):

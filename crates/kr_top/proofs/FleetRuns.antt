@@ -23,7 +23,7 @@ use Rattle.kr_top.specs.Around.{Around, left_of, with_lent_tape, with_world}
 use Rattle.kr_top.specs.Commands.{tape_for}
 use Rattle.kr_top.specs.FleetAsked.{AsksFleet, IsFleetAsked}
 use Rattle.kr_top.specs.FleetFiles.{FleetPlan, planning}
-use Rattle.kr_top.specs.Fleets.{Begun, DidFleet, WritesFleet, budgeting, over_store, parts_of}
+use Rattle.kr_top.specs.Fleets.{Begun, DidFleet, RanFleet, WritesFleet, budgeting, over_store, parts_of}
 use Rattle.kr_top.specs.Ran.{IsIdle, Receipt, StopsAtOnce}
 use Rattle.kr_top.specs.Steps.{Steps, and_then}
 use Rattle.kr_top.specs.declared.fleet.Record.{Record}
@@ -107,7 +107,7 @@ module _ (T : Type 0) {L D : Type 0} (truth : Truth) (link : L → Link)
 
 module _ (T : Type 0) {L D : Type 0} (truth : Truth) (link : L → Link)
     (left : D → Option (List ℕ)) (count : D → ℕ) (store : List ℕ) (plan : FleetPlan) where
-  abbrev Runs : Steps Begun → (old new : Around) → Result Record Stop → Type 0
+  abbrev pub Runs : Steps Begun → (old new : Around) → Result Record Stop → Type 0
   Runs steps old new result = RunsBy T truth link left count steps store plan old new result
 
   module _ {A : Type 0} (first : Steps A) (others : A → Steps Begun) where
@@ -165,7 +165,7 @@ module _ (T : Type 0) {L D : Type 0} (truth : Truth) (link : L → Link)
 -- ---- budgets
 
 -- the parts, made again of the workers of a fleet
-abbrev parts_again : List Part → List Part
+abbrev pub parts_again : List Part → List Part
 parts_again parts = parts_of (record { replicas = []; workers = map worker_of parts })
 
 same_budgets : (paths : ℕ) (parts : List Part)
@@ -180,7 +180,7 @@ same_puts (part ∷ parts) =
     ap (λ rest. count_by is_put part.lines.0 + rest) (same_puts parts)
 
 module _ (rows : List LogRow) (parts : List Part) (live : ℕ) (is : IsLiveCount rows live) where
-  abbrev Needed : List ℕ
+  abbrev pub Needed : List ℕ
   Needed = budgets_of (live + put_lines parts) parts
 
   pub are_budgets : (budgets : List ℕ) → budgets ≡ Needed → AreBudgets rows parts budgets
@@ -211,7 +211,7 @@ module _ (rows : List LogRow) (parts : List Part) (live : ℕ) (is : IsLiveCount
 
 -- ---- what the words ask for
 
-abbrev fleet_words : (file store : List ℕ) → List (List ℕ × List ℕ) → FleetWords
+abbrev pub fleet_words : (file store : List ℕ) → List (List ℕ × List ℕ) → FleetWords
 fleet_words file store options = record { file = file; store = store; options = options }
 
 inside : {A : Type 0} {x y : A} → Some x ≡ Some y → x ≡ y
@@ -226,6 +226,14 @@ one_fleet words a b p q =
     ap (λ f. fleet_words f a.store a.options) (inside file)
     ∙ ap (λ s. fleet_words b.file s a.options) (inside store)
     ∙ ap (fleet_words b.file b.store) same
+
+pub for_asked : {T L D : Type 0} {truth : Truth} {link : L → Link} {left : D → Option (List ℕ)}
+    {count : D → ℕ} {a b : FleetWords} {old new : Around} {output errors : Receipt} {status : ℕ}
+    → a ≡ b → RanFleet T truth link left count a old new output errors status
+    → RanFleet T truth link left count b old new output errors status
+for_asked {T} {truth = truth} {link = link} {left = left} {count = count} {old = old} {new = new}
+    {output = output} {errors = errors} {status = status} e r =
+    subst (λ w. RanFleet T truth link left count w old new output errors status) e r
 
 -- ---- the words stop the call
 

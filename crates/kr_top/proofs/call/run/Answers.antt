@@ -1,9 +1,8 @@
 -- `run`: a fleet, or another command, or words that mean none.
-use Rattle.std.proofs.Common.{Err, refl, inl, subst, arith}
+use Rattle.std.proofs.Common.{Err, refl, inl, arith}
 use Rattle.kr_words.specs.Grammar.{texts}
 use Rattle.kr_top.specs.Around.{around}
-use Rattle.kr_top.specs.Fleets.{RanFleet}
-use Rattle.kr_top.proofs.FleetRuns.{at_once, one_fleet, unread}
+use Rattle.kr_top.proofs.FleetRuns.{at_once, for_asked, one_fleet, unread}
 use Rattle.kr_top.proofs.Readings.{readings}
 use Rattle.kr_top.proofs.call.run.Goals as goal
 
@@ -16,7 +15,7 @@ returns-in-Ok-Some-clause-readings g c none =
 
 pub returns-in-Ok-Some-clause-fleet : goal.returns-in-Ok-Some-clause-fleet
 returns-in-Ok-Some-clause-fleet g c asked asks =
-    subst (λ w. RanFleet _ _ _ _ _ w _ _ _ _ _)
+    for_asked
     (one_fleet (texts c.args.words.now) c.in-Ok-Some.asked asked c.in-Ok-Some.ensures asks)
     (c.run_fleet.ensures (around g.W.Link.Kms.truth (g.W.World.told c.args.world.now)
     (g.I.Source.left c.args.input.now) (g.I.Source.count c.args.input.now)) refl)

@@ -18,7 +18,7 @@ returns-in-Err g c a truth = inl (not_lent c.in-Err.ensures.files c.in-Err.ensur
 pub close_tape-requires-clause-out : goal.close_tape-requires-clause-out
 close_tape-requires-clause-out g c = λ κs lives.
     let name = c.args.store.now in
-    subst (λ tapes. 0 < tapes.out name) (sym c.fleet_on.ensures.out)
+    subst (λ tapes. 0 < tapes.out name) (sym c.fleet_on-made.ensures.out)
     (is_out name c.in-Ok.ensures.lent)
 
 pub returns : goal.returns
@@ -27,4 +27,4 @@ returns g c a truth =
     let plan = plan_of c.args.plan.now in
     over_tape _ _ _ _ _ name plan (and_then (stored_on Store name) (beginning plan)) a _
     c.in-Ok.ensures.lent c.close_tape.ensures
-    (c.fleet_on.ensures.made name a truth)
+    (c.fleet_on-made.ensures.made name a truth)

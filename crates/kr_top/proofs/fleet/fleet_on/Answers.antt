@@ -58,9 +58,9 @@ returns-clause-made g c name a truth =
     let budgets = c.in-Ok-budgets_of.budgets.entries.items in
     let here = with_world (g.W.World.told c.args.world.now) a in
     let now = with_lent_tape name store.told store.count here in
-    runs_closed _ _ _ _ _ name plan _ (with_world (g.W.World.told c.fleet_with.new.world) a)
+    runs_closed _ _ _ _ _ name plan _ (with_world (g.W.World.told c.fleet_with-made.new.world) a)
     (with_lent_tape name (g.W.Tap.Tape.told c.args.tape) (g.W.Tap.Tape.count c.args.tape) here) _
-    c.close-fleet_with.ensures.told c.close-fleet_with.ensures.count
+    c.close.ensures.told c.close.ensures.count
     (before _ _ _ _ _ name plan (stored_on Store name) (beginning plan) (stored_of store)
     (c.in-Ok.ensures.ok name here) _
     (before _ _ _ _ _ name plan (budgeting store.rows (parts_of plan.fleet))
@@ -68,4 +68,4 @@ returns-clause-made g c name a truth =
     (budgeted store.rows parts c.live_count.result c.live_count.ensures budgets
     (subst (λ p. budgets ≡ budgets_of (c.live_count.result + put_lines p) p)
     c.as_slice.ensures c.in-Ok-budgets_of.ensures.entries) c.in-Ok-budgets_of.ensures.few now)
-    _ (c.fleet_with.ensures.made name a truth)))
+    _ (c.fleet_with-made.ensures.made name a truth)))
