@@ -9,6 +9,8 @@ use kr_base::{
 use kr_kms::{Kms, TablePlugin, World, WorldCall};
 use kr_top::{MemWorld, run};
 use std::alloc::Global;
+use std::sync::Wait;
+use std::thread::Threads;
 
 /// What a call left.
 #[derive(Drop)]
@@ -69,10 +71,15 @@ struct Streams {
 }
 
 /// Makes the case's call.
-pub fn left_by(alloc: Global, case: &Case) -> Result<Left, NoMemory> {
+pub fn left_by<R: Threads + Wait + Sync>(
+    rt: &R,
+    alloc: Global,
+    case: &Case,
+) -> Result<Left, NoMemory> {
     let mut world = world_of(alloc, case)?;
     let mut streams = streams_of(alloc, case)?;
     let status = run(
+        rt,
         alloc,
         case.words.as_slice(),
         &mut world,

@@ -3,6 +3,10 @@ mod Rooms
 pub mod Apart
 pub mod Asked
 pub mod Decided
+pub mod FleetAsked
+pub mod FleetLoads
+pub mod FleetPrograms
+pub mod FleetRuns
 pub mod Found
 pub mod Frames
 pub mod Goes

@@ -117,10 +117,10 @@ is_out name {old = old} {out} h = omega (
 )
 
 -- steps that give nothing
-abbrev nothing : Steps (Unit {0})
+abbrev pub nothing : Steps (Unit {0})
 nothing = give tt
 
-lent : (name : List ℕ) (make : Bool) (absent : Refusal) {old out : Outside}
+pub lent : (name : List ℕ) (make : Bool) (absent : Refusal) {old out : Outside}
     {held : Option (List ℕ)} {count : ℕ} → LentTape name make old out held count → (a : Around)
     → Does (borrow_tape name make absent nothing) (with_world old a)
     (with_lent_tape name held count (with_world out a)) (Ok tt)
@@ -150,7 +150,7 @@ lent name make absent {old} {out} {held} {count} h a = record {
       });
 }
 
-came_back : (name : List ℕ) {out new : Outside} {held : Option (List ℕ)} {count : ℕ}
+pub came_back : (name : List ℕ) {out new : Outside} {held : Option (List ℕ)} {count : ℕ}
     → ReturnedTape name out new held count → (a : Around)
     → with_lent_tape name held count (with_world out a) ≡ with_world new a
 came_back name h a = λ i. record a {

@@ -3,6 +3,9 @@ pub mod Around
 pub mod Check
 pub mod Command
 pub mod Commands
+pub mod FleetAsked
+pub mod FleetFiles
+pub mod Fleets
 pub mod Configuration
 pub mod Inspect
 pub mod Judgements

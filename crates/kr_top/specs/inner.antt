@@ -2,4 +2,6 @@
 pub mod Phases
 pub mod Tapes
 pub mod Judging
+pub mod FleetFiles
+pub mod Fleets
 pub mod Plugins

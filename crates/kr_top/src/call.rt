@@ -1,14 +1,19 @@
 //! The call that does a command.
 ghost use Rattle.std.specs.Prelude.{◌≡◌, ◌≤◌, Some};
 ghost use Rattle.kr_words.specs.Grammar.{texts};
-ghost use Rattle.kr_top.specs.Around.{around};
+ghost use Rattle.kr_top.specs.Around.{Around, around, with_world};
 ghost use Rattle.kr_top.specs.Commands.{steps};
+ghost use Rattle.kr_top.specs.FleetAsked.{AskNoFleet, AsksFleet};
+ghost use Rattle.kr_top.specs.Fleets.{RanAlone, RanFleet};
 ghost use Rattle.kr_top.specs.Ran.{receipt, Answers, Ran, Readings};
+ghost use Rattle.kr_top.specs.declared.fleet_words.FleetWords.{FleetWords};
 ghost use Rattle.kr_top.specs.inner.Phases.{Does, HasShortPath};
 
 use crate::check::check;
 use crate::command::{Command, read_command};
 use crate::convert::convert;
+use crate::fleet::fleet;
+use crate::fleet_words::{FleetWords, read_fleet};
 use crate::inspect::inspect;
 use crate::judge::judge;
 use crate::lookup::get;
@@ -19,14 +24,110 @@ use crate::rows::list;
 use kr_base::{Sink, Source};
 use kr_kms::World;
 use std::alloc::Global;
+use std::sync::Wait;
+use std::thread::Threads;
 
 /// Does the command that the words mean, and answers its status: 0 done, 1 a value or a reload was
 /// refused, 2 the words mean no command, 3 a configuration or a store is not read, or they don't go
 /// together, 4 an object of the outside failed, 5 want of memory, 6 a limit was passed. Each status
-/// other than 0 has one line on `errors`, but for a reload that was refused, of which the output
-/// says why; where the line can't be written the status is 4. `readings` is what follows from `ran`,
-/// for readers, and so is that no tape changed, whatever the status is.
-pub fn run<W: World, I: Source, O: Sink, E: Sink>(
+/// other than 0 has one line on `errors`, but for a reload that was refused and for those that a
+/// fleet's replies decide, of which the output says why; where the line can't be written the status
+/// is 4. A fleet's workers wait for each other by `rt`. `readings` is what follows from `ran`, for
+/// readers, and so is that no tape changed, whatever the status is.
+pub fn run<R: Threads + Wait + Sync, W: World, I: Source, O: Sink, E: Sink>(
+    rt: &R,
+    alloc: Global,
+    words: &[String],
+    world: &mut W,
+    input: &mut I,
+    output: &mut O,
+    errors: &mut E,
+) -> u8
+    ensures ran { AskNoFleet (texts words.now) → Ran (texts words.now)
+        (around W.Link.truth (W.told world.old) (I.left input.old)
+        (I.count input.old))
+        (around W.Link.truth (W.told world.new) (I.left input.new)
+        (I.count input.new))
+        (receipt (O.held output.old) (O.held output.new) (O.count output.old) (O.count output.new))
+        (receipt (E.held errors.old) (E.held errors.new) (E.count errors.old) (E.count errors.new))
+        result }
+    ensures readings { AskNoFleet (texts words.now) → Readings (texts words.now)
+        (around W.Link.truth (W.told world.old) (I.left input.old)
+        (I.count input.old))
+        (around W.Link.truth (W.told world.new) (I.left input.new)
+        (I.count input.new))
+        (receipt (O.held output.old) (O.held output.new) (O.count output.old) (O.count output.new))
+        (receipt (E.held errors.old) (E.held errors.new) (E.count errors.old) (E.count errors.new))
+        result }
+    ensures tapes { AskNoFleet (texts words.now)
+        → (W.told world.new).tapes.told ≡ (W.told world.old).tapes.told }
+    ensures fleet { (asked : FleetWords) → AsksFleet (texts words.now) asked
+        → RanFleet W.Tap W.Link.truth W.Link.link W.Rand.left W.Rand.count asked
+        (around W.Link.truth (W.told world.old) (I.left input.old)
+        (I.count input.old))
+        (around W.Link.truth (W.told world.new) (I.left input.new)
+        (I.count input.new))
+        (receipt (O.held output.old) (O.held output.new) (O.count output.old) (O.count output.new))
+        (receipt (E.held errors.old) (E.held errors.new) (E.count errors.old) (E.count errors.new))
+        result }
+{
+    match read_fleet(alloc, words) {
+        Ok(Some(asked)) => run_fleet(rt, alloc, &asked, world, output, errors),
+        Ok(None) => alone(alloc, words, world, input, output, errors),
+        Err(stop) => tell(errors, &Err(stop)),
+    }
+}
+
+/// The same for each command but `fleet`. Where the words ask for a fleet nothing is done, and there
+/// is no status.
+pub fn run_alone<W: World, I: Source, O: Sink, E: Sink>(
+    alloc: Global,
+    words: &[String],
+    world: &mut W,
+    input: &mut I,
+    output: &mut O,
+    errors: &mut E,
+) -> Option<u8>
+    ensures { RanAlone (texts words.now)
+        (around W.Link.truth (W.told world.old) (I.left input.old)
+        (I.count input.old))
+        (around W.Link.truth (W.told world.new) (I.left input.new)
+        (I.count input.new))
+        (receipt (O.held output.old) (O.held output.new) (O.count output.old) (O.count output.new))
+        (receipt (E.held errors.old) (E.held errors.new) (E.count errors.old) (E.count errors.new))
+        result }
+{
+    match read_fleet(alloc, words) {
+        Ok(Some(_asked)) => None,
+        Ok(None) => Some(alone(alloc, words, world, input, output, errors)),
+        Err(stop) => Some(tell(errors, &Err(stop))),
+    }
+}
+
+/// Runs a fleet, and tells how it ended where its replies don't.
+fn run_fleet<R: Threads + Wait + Sync, W: World, O: Sink, E: Sink>(
+    rt: &R,
+    alloc: Global,
+    asked: &FleetWords,
+    world: &mut W,
+    output: &mut O,
+    errors: &mut E,
+) -> u8
+    ensures { (a : Around) → a.truth ≡ W.Link.truth
+        → RanFleet W.Tap W.Link.truth W.Link.link W.Rand.left W.Rand.count asked.now
+        (with_world (W.told world.old) a) (with_world (W.told world.new) a)
+        (receipt (O.held output.old) (O.held output.new) (O.count output.old) (O.count output.new))
+        (receipt (E.held errors.old) (E.held errors.new) (E.count errors.old) (E.count errors.new))
+        result }
+{
+    match fleet(rt, alloc, asked, world, output) {
+        Ok(ending) => ending.status(),
+        Err(stop) => tell(errors, &Err(stop)),
+    }
+}
+
+/// Does a command that no one waits in. Words that ask for a fleet mean none here.
+fn alone<W: World, I: Source, O: Sink, E: Sink>(
     alloc: Global,
     words: &[String],
     world: &mut W,

@@ -56,6 +56,7 @@ fn status_of_refusal(why: &Refusal) -> u8
         Refusal::Stray(_) => 3,
         Refusal::OtherSecret(_) => 3,
         Refusal::Unfit(_, _) => 3,
+        Refusal::Script(_) => 3,
         Refusal::NoPlugin(_) => 3,
         Refusal::Unhealthy(_, _, _) => 3,
         Refusal::Configuration(why) => status_of_configuration(*why),
@@ -149,6 +150,7 @@ fn write_refusal<E: Sink>(errors: &mut E, why: &Refusal) -> Result<(), Failed>
             write_each(errors, &["kmsrest: text 51 ", path.as_str(), "\n"])
         }
         Refusal::Unfit(replica, verdict) => write_unfit(errors, *replica, verdict),
+        Refusal::Script(line) => write_counted(errors, "kmsrest: text ", "47", *line),
     }
 }
 
@@ -197,6 +199,10 @@ fn limit_text(which: Limit) -> &'static str
         Limit::Data => "data",
         Limit::Value => "value",
         Limit::Store => "store",
+        Limit::Script => "script",
+        Limit::Replicas => "replicas",
+        Limit::Workers => "workers",
+        Limit::Journal => "journal",
     }
 }
 
@@ -208,6 +214,10 @@ fn limit_size(which: Limit) -> u64
         Limit::Data => DATA_LIMIT,
         Limit::Value => VALUE_LIMIT,
         Limit::Store => STORE_LIMIT,
+        Limit::Script => STORE_LIMIT,
+        Limit::Replicas => 16,
+        Limit::Workers => 64,
+        Limit::Journal => 4_000_000,
     }
 }
 

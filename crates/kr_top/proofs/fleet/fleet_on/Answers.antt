@@ -1,0 +1,71 @@
+-- `fleet_on`: the store on the tape, the budgets, and the workers.
+use Rattle.std.proofs.Common.{◌≡◌, ◌+◌, ◌<◌, Err, sym, ap, subst}
+use Rattle.std.specs.Prelude.{sum}
+use Rattle.kr_workers.specs.Budgets.{budgets_of, journal_limit, put_lines}
+use Rattle.kr_top.specs.Around.{with_lent_tape, with_world}
+use Rattle.kr_top.specs.Commands.{stored_on}
+use Rattle.kr_top.specs.Fleets.{beginning, budgeting, equipped, parts_of}
+use Rattle.kr_top.specs.Steps.{and_then}
+use Rattle.kr_top.specs.inner.FleetFiles.{plan_of}
+use Rattle.kr_top.specs.inner.Phases.{Does}
+use Rattle.kr_top.specs.inner.Tapes.{stored_of}
+use Rattle.kr_top.specs.declared.refusal.Object.TheVariants.{Store}
+use Rattle.kr_top.proofs.FleetRuns.{are_budgets, before, budgeted, ends_before, not_budgeted, runs_closed}
+use Rattle.kr_top.proofs.fleet.fleet_on.Goals as goal
+
+pub fleet_with-requires-clause-entries : goal.fleet_with-requires-clause-entries
+fleet_with-requires-clause-entries g c = λ κs lives.
+    let store = c.in-Ok.store in
+    let parts = c.args.plan.now.script.workers.0 in
+    are_budgets store.rows parts c.live_count.result c.live_count.ensures
+    c.in-Ok-budgets_of.budgets.entries.items
+    (subst (λ p. c.in-Ok-budgets_of.budgets.entries.items
+    ≡ budgets_of (c.live_count.result + put_lines p) p) c.as_slice.ensures
+    c.in-Ok-budgets_of.ensures.entries)
+
+pub returns-in-Err-clause-made : goal.returns-in-Err-clause-made
+returns-in-Err-clause-made g c name a truth =
+    ends_before _ _ _ _ _ name (plan_of c.args.plan.now) (stored_on Store name)
+    (beginning (plan_of c.args.plan.now)) c.in-Err.stop
+    (c.in-Err.ensures.err name (with_world (g.W.World.told c.args.world.now) a))
+
+pub returns-in-Err-budgets_of-clause-made : goal.returns-in-Err-budgets_of-clause-made
+returns-in-Err-budgets_of-clause-made g c name a truth =
+    let store = c.in-Ok.store in
+    let plan = plan_of c.args.plan.now in
+    let parts = c.args.plan.now.script.workers.0 in
+    let here = with_world (g.W.World.told c.args.world.now) a in
+    let now = with_lent_tape name store.told store.count here in
+    let why = c.in-Err-budgets_of.why in
+    runs_closed _ _ _ _ _ name plan _ here
+    (with_lent_tape name (g.W.Tap.Tape.told c.args.tape) (g.W.Tap.Tape.count c.args.tape) here) _
+    c.close.ensures.told c.close.ensures.count
+    (before _ _ _ _ _ name plan (stored_on Store name) (beginning plan) (stored_of store)
+    (c.in-Ok.ensures.ok name here) _
+    (ends_before _ _ _ _ _ name plan (budgeting store.rows (parts_of plan.fleet))
+    (equipped plan (stored_of store)) c.budget_stop.result
+    (subst (λ s. Does (budgeting store.rows (parts_of plan.fleet)) now now (Err s))
+    (sym c.budget_stop.ensures)
+    (not_budgeted store.rows parts c.live_count.result c.live_count.ensures why
+    (λ is. subst (λ p. journal_limit < sum (budgets_of (c.live_count.result + put_lines p) p))
+    c.as_slice.ensures (c.in-Err-budgets_of.ensures.many (ap Err is))) now))))
+
+pub returns-clause-made : goal.returns-clause-made
+returns-clause-made g c name a truth =
+    let store = c.in-Ok.store in
+    let plan = plan_of c.args.plan.now in
+    let parts = c.args.plan.now.script.workers.0 in
+    let budgets = c.in-Ok-budgets_of.budgets.entries.items in
+    let here = with_world (g.W.World.told c.args.world.now) a in
+    let now = with_lent_tape name store.told store.count here in
+    runs_closed _ _ _ _ _ name plan _ (with_world (g.W.World.told c.fleet_with-made.new.world) a)
+    (with_lent_tape name (g.W.Tap.Tape.told c.args.tape) (g.W.Tap.Tape.count c.args.tape) here) _
+    c.close.ensures.told c.close.ensures.count
+    (before _ _ _ _ _ name plan (stored_on Store name) (beginning plan) (stored_of store)
+    (c.in-Ok.ensures.ok name here) _
+    (before _ _ _ _ _ name plan (budgeting store.rows (parts_of plan.fleet))
+    (equipped plan (stored_of store)) budgets
+    (budgeted store.rows parts c.live_count.result c.live_count.ensures budgets
+    (subst (λ p. budgets ≡ budgets_of (c.live_count.result + put_lines p) p)
+    c.as_slice.ensures c.in-Ok-budgets_of.ensures.entries) c.in-Ok-budgets_of.ensures.few now)
+    _ (c.fleet_with-made.ensures.made name a truth)))

@@ -1,0 +1,120 @@
+//! The workers of a fleet: an outfit becomes a worker's bench, and comes back with its replies.
+use crate::outfit::Outfit;
+use kr_base::{Dice, List, NoMemory, Tape};
+use kr_kms::Kms;
+use kr_provider::Bench;
+use kr_script::{Part, Told};
+use kr_workers::Worker;
+use std::alloc::Global;
+
+/// How many keys a worker's bench holds expanded, and how many unwrapped seeds.
+const PAGES: u32 = 64;
+
+const CACHE: u32 = 64;
+
+/// The workers of a fleet, in the order of their seats, with room for the replies of each.
+pub struct Crew<T: Tape, L: Kms, D: Dice> {
+    pub workers: Vec<Worker<T, L, D>>,
+    outfits: List<Outfit<L, D>>,
+    replies: List<List<Told>>,
+}
+
+/// Makes a worker for each part. Where there is no memory the outfits come back.
+pub fn hire<T: Tape, L: Kms, D: Dice>(
+    alloc: Global,
+    parts: &[Part],
+    outfits: List<Outfit<L, D>>,
+) -> Result<Crew<T, L, D>, (NoMemory, List<Outfit<L, D>>)> {
+    let mut workers = List::new(alloc);
+    let mut replies: List<List<Told>> = List::new(alloc);
+    if workers.reserve(parts.len()).is_err() || replies.reserve(parts.len()).is_err() {
+        workers.end();
+        return Err((NoMemory, outfits));
+    }
+    let mut outfits = in_turn(outfits);
+    let hired = hire_each(alloc, parts, &mut outfits, &mut workers);
+    let crew = Crew {
+        workers: workers.into_vec(),
+        outfits,
+        replies,
+    };
+    match hired {
+        Ok(()) => Ok(crew),
+        Err(NoMemory) => {
+            let (outfits, _replies) = crew.part();
+            Err((NoMemory, outfits))
+        }
+    }
+}
+
+/// The outfits from the last to the first.
+fn in_turn<L: Kms, D: Dice>(outfits: List<Outfit<L, D>>) -> List<Outfit<L, D>> {
+    let mut outfits = outfits.into_vec();
+    outfits.reverse();
+    List::from_vec(outfits)
+}
+
+/// Makes the workers, the one of the first seat first.
+fn hire_each<T: Tape, L: Kms, D: Dice>(
+    alloc: Global,
+    parts: &[Part],
+    outfits: &mut List<Outfit<L, D>>,
+    workers: &mut List<Worker<T, L, D>>,
+) -> Result<(), NoMemory> {
+    for part in parts {
+        let Some(outfit) = outfits.pop() else {
+            return Ok(());
+        };
+        match hire_one(alloc, part.lines.as_slice().len(), outfit) {
+            Ok(worker) => workers.push_in_room(worker),
+            Err((NoMemory, outfit)) => {
+                outfits.push_in_room(outfit);
+                return Err(NoMemory);
+            }
+        }
+    }
+    Ok(())
+}
+
+fn hire_one<T: Tape, L: Kms, D: Dice>(
+    alloc: Global,
+    lines: usize,
+    outfit: Outfit<L, D>,
+) -> Result<Worker<T, L, D>, (NoMemory, Outfit<L, D>)> {
+    let Outfit { links, dice } = outfit;
+    let bench = match Bench::new(alloc, links, dice, PAGES, CACHE) {
+        Ok(bench) => bench,
+        Err((_, links, dice)) => return Err((NoMemory, Outfit { links, dice })),
+    };
+    match Worker::new(alloc, bench, lines) {
+        Ok(worker) => Ok(worker),
+        Err((_, bench)) => {
+            let (links, dice) = bench.close();
+            Err((NoMemory, Outfit { links, dice }))
+        }
+    }
+}
+
+impl<T: Tape, L: Kms, D: Dice> Crew<T, L, D> {
+    /// Lets the workers go: their outfits and their replies, in the order of their seats.
+    pub fn part(self) -> (List<Outfit<L, D>>, List<List<Told>>) {
+        let Crew {
+            workers,
+            outfits,
+            replies,
+        } = self;
+        let mut workers = List::from_vec(workers);
+        let mut outfits = outfits;
+        let mut replies = replies;
+        while let Some(worker) = workers.pop() {
+            let (bench, told) = worker.into_parts();
+            let (links, dice) = bench.close();
+            outfits.push_in_room(Outfit { links, dice });
+            replies.push_in_room(told);
+        }
+        workers.end();
+        let mut replies = replies.into_vec();
+        replies.reverse();
+        (in_turn(outfits), List::from_vec(replies))
+    }
+}

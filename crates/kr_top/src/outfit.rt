@@ -1,0 +1,106 @@
+//! What a worker has of the world: a random source, and a link to each plugin.
+use crate::phases::{close_dice, close_link, open_dice, open_link};
+use crate::programs::Program;
+use crate::refusal::Stop;
+use kr_base::{Dice, List, NoMemory};
+use kr_kms::{Kms, World};
+use kr_provider::Links;
+use std::alloc::Global;
+
+/// What a worker has of the world. It can't be dropped: it goes back.
+pub struct Outfit<L: Kms, D: Dice> {
+    pub links: Links<L>,
+    pub dice: D,
+}
+
+/// Borrows an outfit for each seat from 0 on, behind each other. After a refusal those of the first
+/// seats are there.
+pub fn open_outfits<W: World>(
+    alloc: Global,
+    world: &mut W,
+    programs: &[Program],
+    seats: u32,
+    outfits: &mut List<Outfit<W::Link, W::Rand>>,
+) -> Result<(), Stop> {
+    match outfits.reserve(seats as usize) {
+        Ok(()) => {}
+        Err(NoMemory) => return Err(Stop::NoMemory),
+    }
+    for seat in 0..seats {
+        match open_outfit(alloc, world, programs, seat) {
+            Ok(outfit) => outfits.push_in_room(outfit),
+            Err(stop) => return Err(stop),
+        }
+    }
+    Ok(())
+}
+
+/// Gives all outfits back, that of the last seat first.
+pub fn close_outfits<W: World>(world: &mut W, outfits: List<Outfit<W::Link, W::Rand>>) {
+    let mut outfits = outfits;
+    while let Some(outfit) = outfits.pop() {
+        let seat = outfits.as_slice().len() as u32;
+        close_outfit(world, seat, outfit);
+    }
+    outfits.end();
+}
+
+/// Borrows the random source of the seat, and a link of it to each plugin.
+fn open_outfit<W: World>(
+    alloc: Global,
+    world: &mut W,
+    programs: &[Program],
+    seat: u32,
+) -> Result<Outfit<W::Link, W::Rand>, Stop> {
+    let dice = match open_dice(alloc, world, seat) {
+        Ok(dice) => dice,
+        Err(stop) => return Err(stop),
+    };
+    let mut links = Links::<W::Link>::new(alloc);
+    match open_links(alloc, world, programs, seat, &mut links) {
+        Ok(()) => Ok(Outfit { links, dice }),
+        Err(stop) => {
+            close_outfit(world, seat, Outfit { links, dice });
+            Err(stop)
+        }
+    }
+}
+
+fn open_links<W: World>(
+    alloc: Global,
+    world: &mut W,
+    programs: &[Program],
+    seat: u32,
+    links: &mut Links<W::Link>,
+) -> Result<(), Stop> {
+    for program in programs {
+        let link = match open_link(
+            alloc,
+            world,
+            seat,
+            program.plugin.as_str(),
+            program.file.as_str(),
+        ) {
+            Ok(link) => link,
+            Err(stop) => return Err(stop),
+        };
+        match links.add(link) {
+            Ok(()) => {}
+            Err((_, link)) => {
+                close_link(world, seat, link);
+                return Err(Stop::NoMemory);
+            }
+        }
+    }
+    Ok(())
+}
+
+fn close_outfit<W: World>(world: &mut W, seat: u32, outfit: Outfit<W::Link, W::Rand>) {
+    let Outfit { links, dice } = outfit;
+    let mut links = links;
+    while let Some(link) = links.take() {
+        close_link(world, seat, link);
+    }
+    links.end();
+    close_dice(world, seat, dice);
+}
