@@ -31,6 +31,16 @@ around truth world input faults =
 abbrev pub with_world : Outside → Around → Around
 with_world world a = record a { world = world }
 
+-- the name of a file, and tapes by their names
+abbrev pub Name : Type 0
+Name = List ℕ
+
+abbrev pub Tapes : Type 0
+Tapes = Objects Name (Option (Option (List ℕ)))
+
+abbrev pub with_tapes : Tapes → Outside → Outside
+with_tapes tapes world = record world { tapes = tapes }
+
 abbrev pub with_told_input : Option (List ℕ) → ℕ → Around → Around
 with_told_input input faults a = record a { input = input; faults = faults }
 

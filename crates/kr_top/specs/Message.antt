@@ -13,7 +13,7 @@ use Rattle.kr_provider.specs.Refusals.{number_of, name_of}
 use Rattle.kr_top.specs.declared.refusal.Object.{Object}
 use Rattle.kr_top.specs.declared.refusal.Object.TheVariants.{Input, Output, Files, Dice, Store, Plugin}
 use Rattle.kr_top.specs.declared.refusal.Refusal.{Refusal}
-use Rattle.kr_top.specs.declared.refusal.Refusal.TheVariants.{Absent, Configuration, Limit, Value, Placed, Broken, NoPlugin, Unhealthy}
+use Rattle.kr_top.specs.declared.refusal.Refusal.TheVariants.{Absent, Configuration, Limit, Value, Placed, Broken, NoPath, NoPlugin, Unhealthy}
 use Rattle.kr_top.specs.declared.refusal.Limit as limits
 use Rattle.kr_top.specs.declared.refusal.Limit.TheVariants as limit
 use Rattle.kr_top.specs.declared.refusal.Breach.{Breach}
@@ -50,6 +50,7 @@ status_of_refusal (Limit which) = 6
 status_of_refusal (Value why) = 1
 status_of_refusal (Placed why at) = 1
 status_of_refusal (Broken why) = 3
+status_of_refusal (NoPath path) = 1
 
 abbrev pub status_of : Result Done Stop → ℕ
 status_of (Ok done) = status_of_done done
@@ -134,6 +135,7 @@ refusal_line (Placed why at) =
     codes "kmsrest: refused " ++ (decimal (number_of why)
     ++ (codes " " ++ (name_of why ++ (codes " " ++ (decimal at ++ codes "\n")))))
 refusal_line (Broken why) = counted_line (codes "kmsrest: text ") (broken_code why) (place_of why)
+refusal_line (NoPath path) = codes "kmsrest: absent " ++ (path ++ codes "\n")
 
 abbrev pub object_text : Object → List ℕ
 object_text Input = codes "input"

@@ -8,6 +8,7 @@ mod command;
 mod convert;
 mod inspect;
 mod listing;
+mod lookup;
 mod message;
 mod options;
 mod phases;

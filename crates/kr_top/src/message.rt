@@ -48,6 +48,7 @@ fn status_of_refusal(why: &Refusal) -> u8
     match why {
         Refusal::Value(_) => 1,
         Refusal::Placed(_, _) => 1,
+        Refusal::NoPath(_) => 1,
         Refusal::Absent(_) => 3,
         Refusal::Broken(_) => 3,
         Refusal::NoPlugin(_) => 3,
@@ -136,6 +137,7 @@ fn write_refusal<E: Sink>(errors: &mut E, why: &Refusal) -> Result<(), Failed>
         Refusal::Value(why) => write_value(errors, *why),
         Refusal::Placed(why, at) => write_placed(errors, *why, *at),
         Refusal::Broken(why) => write_broken(errors, *why),
+        Refusal::NoPath(path) => write_each(errors, &["kmsrest: absent ", path.as_str(), "\n"]),
     }
 }
 

@@ -78,6 +78,8 @@ pub enum Refusal {
     Placed(ValueNo, u64),
     /// The file of a store is none.
     Broken(Breach),
+    /// The store has no value at this path.
+    NoPath(Text),
 }
 
 /// Why a command wasn't done.

@@ -23,7 +23,7 @@ use Rattle.kr_top.specs.Configuration.{Entries, IsConfiguration}
 use Rattle.kr_top.specs.Ran.{Receipt}
 use Rattle.kr_top.specs.Steps.{Steps, Left}
 use Rattle.kr_top.specs.declared.command.Command.{Command}
-use Rattle.kr_top.specs.declared.command.Command.TheVariants.{Convert, Check, Inspect, Rows}
+use Rattle.kr_top.specs.declared.command.Command.TheVariants.{Convert, Check, Inspect, Get, Rows}
 use Rattle.kr_top.specs.declared.refusal.Object.TheVariants.{Input, Files, Dice}
 use Rattle.kr_top.specs.declared.refusal.Outcome.{Outcome}
 use Rattle.kr_top.specs.declared.refusal.Refusal.{Refusal}
@@ -46,6 +46,7 @@ HasShortPath None = ⊤
 HasShortPath (Some (Convert words)) = length words.path ≤ path_limit
 HasShortPath (Some (Check config resource)) = ⊤
 HasShortPath (Some Inspect) = ⊤
+HasShortPath (Some (Get words)) = length words.path ≤ path_limit
 HasShortPath (Some (Rows store)) = ⊤
 
 -- the words ask for the command, or stop the call
