@@ -1,9 +1,11 @@
-"""Stores: their files, and what is listed of them."""
+"""Stores: their files, what is listed of them, and what is judged by them."""
+
+import base64
 
 from reference.store import Row, row_bytes, written
-from reference.values import MARK, prefix
+from reference.values import MARK, check_of, prefix
 
-from .form import spell
+from .form import SECRETS, config, spell
 
 CHECK = bytes(range(8))
 HI = Row(b"/s", b"secrets", b"hi", bytes(8))
@@ -79,8 +81,76 @@ def add_faults(book):
     listed(book, "list_fault_of_the_line", b"KRSTORE3", fails=(("errors", 4),))
 
 
+OLD = "secrets: aescbc:key1=S1, identity"
+BOTH = "secrets: aescbc:key1=S1, aescbc:key2=S2, identity"
+NEW = "secrets: aescbc:key2=S2, aescbc:key1=S1, identity"
+LAST = "secrets: aescbc:key2=S2, identity"
+PLAIN = "secrets: identity"
+GROUPS = "*.apps: aesgcm:g=Z16, identity | *.*: identity"
+REST = "*.*: aesgcm:g=Z16, identity"
+TWICE = "secrets: identity, identity"
+
+
+def sealed(path, provider, resource="secrets", check=None):
+    """A put under a provider, `KIND:NAME=SECRET` or `identity`."""
+    kind, _, rest = provider.partition(":")
+    name, _, secret = rest.partition("=")
+    who = (kind, name, base64.b64decode(SECRETS[secret])) if secret else (kind, name)
+    value = b"hi" if kind == "identity" else prefix(who) + bytes(40)
+    return put(path, value, resource, check_of(who) if check is None else check)
+
+
+def judged(book, name, replicas, reload, rows=(), content=None, form=2, **more):
+    """A judgement of a reload `N=CONFIGURATION`."""
+    number, _, new = reload.partition("=")
+    files = [(f"r{at}", config(text)) for at, text in enumerate(replicas)] + [("new", config(new))]
+    words = ["judge", "--store", "s"] + [word for at in range(len(replicas)) for word in ("--replica", f"r{at}")]
+    tape = written(form, list(rows)) if content is None else content
+    book.case(name, words + ["--reload", f"{number}=new"], files=files, tapes=(("s", tape),), **more)
+
+
+def add_judgements(book):
+    key1 = "aescbc:key1=S1"
+    judged(book, "judge_pass", [NEW, BOTH], f"0={BOTH}", content=b"")
+    judged(book, "judge_drops_writer", [NEW, BOTH], f"0={LAST}", content=b"")
+    judged(book, "judge_unread", [OLD, OLD], f"0={NEW}", content=b"")
+    judged(book, "judge_alone", [OLD], f"0={LAST}", content=b"")
+    judged(book, "judge_drops_stored", [OLD], f"0={LAST}", [sealed("/b", key1), sealed("/a", key1)])
+    judged(book, "judge_drops_stored_before_writer", [OLD, OLD], f"0={LAST}", [sealed("/s", key1)])
+    judged(book, "judge_reads_stored", [OLD], f"0={NEW}", [sealed("/s", key1), sealed("/t", "identity")])
+    judged(book, "judge_deleted_is_not_needed", [OLD], f"0={LAST}", [sealed("/s", key1), delete("/s")])
+    judged(book, "judge_group", [GROUPS, GROUPS], f"1={REST}", content=b"")
+    judged(book, "judge_rest", [REST, REST], "1=*.*: identity, aesgcm:g=K32", content=b"")
+    judged(book, "judge_other_secret_of_one_name", [OLD], "0=secrets: aescbc:key1=S2, identity", [sealed("/s", key1)])
+    judged(book, "judge_48_stray", [PLAIN], f"0={PLAIN}", [sealed("/t", key1), sealed("/s", key1)])
+    judged(book, "judge_48_before_51", [PLAIN], f"0={PLAIN}", [sealed("/a", "identity", check=CHECK), sealed("/s", key1)])
+    judged(book, "judge_51_other_secret", [OLD], f"0={OLD}", [sealed("/t", "aescbc:key1=S2"), sealed("/s", "aescbc:key1=S2"), sealed("/a", key1)])
+    judged(book, "judge_51_before_49", [PLAIN, LAST], f"0={PLAIN}", [sealed("/s", "identity", check=CHECK)])
+    judged(book, "judge_format_1_keeps_no_check", [OLD], f"0={OLD}", [sealed("/s", "aescbc:key1=S2")], form=1)
+    judged(book, "judge_49_drops_writer", [OLD, LAST], f"0={OLD}", content=b"")
+    judged(book, "judge_49_drops_stored", [OLD, PLAIN], f"0={OLD}", [sealed("/s", key1)])
+    judged(book, "judge_49_unread", [PLAIN, OLD], f"0={OLD}", content=b"")
+    judged(book, "judge_49_third", [NEW, BOTH, LAST], f"0={BOTH}", content=b"")
+    judged(book, "judge_16_replicas", [NEW] * 16, f"15={BOTH}", content=b"")
+    judged(book, "judge_store_first", ["secrets: kms:p, kms:p", OLD], f"0={OLD}", content=b"KRSTORE3")
+    judged(book, "judge_configurations_in_order", [PLAIN, "secrets: kms:p, kms:p"], f"0={TWICE}", content=b"")
+    judged(book, "judge_new_configuration_before_48", [PLAIN], f"0={TWICE}", [sealed("/s", key1)])
+    judged(book, "judge_plugin", ["secrets: kms:p, identity"], f"0={PLAIN}", content=b"")
+    judged(book, "judge_fault_store", [PLAIN], f"0={PLAIN}", [sealed("/s", "identity")], fails=(("reads:s", 1),))
+    judged(book, "judge_fault_second_file", [NEW, BOTH], f"0={BOTH}", content=b"", fails=(("files", 3),))
+    judged(book, "judge_fault_new_file", [NEW, BOTH], f"0={BOTH}", content=b"", fails=(("files", 4),))
+    judged(book, "judge_fault_output", [NEW, BOTH], f"0={LAST}", content=b"", fails=(("output", 2),))
+    files, tapes = (("r", config(PLAIN)), ("a=b", config(PLAIN))), (("s", b""),)
+    book.case("judge_absent_store", ["judge", "--store", "t", "--replica", "r", "--reload", "0=r"], files=files, tapes=tapes)
+    book.case("judge_file_with_equals", ["judge", "--store", "s", "--replica", "a=b", "--reload", "0=a=b"], files=files, tapes=tapes)
+    absent = ["judge", "--store", "s", "--replica", "r", "--replica", "q", "--reload", "0=x"]
+    book.case("judge_absent_replica", absent, files=files, tapes=tapes)
+
+
 def add_all(book):
     book.title("list")
     add_files(book)
     add_listings(book)
     add_faults(book)
+    book.title("judge")
+    add_judgements(book)

@@ -1,7 +1,8 @@
 """Whole calls: the outside in memory, and the steps of the commands."""
 
 from . import configuration, store
-from .values import Refused, inspected, printed, seal, unseal
+from .board import Board
+from .values import Refused, check_of, inspected, printed, reader_of, seal, unseal
 from .words import Usage, WordsLimit, command_of
 
 MOST_DATA = 2_097_152
@@ -158,7 +159,7 @@ def check(options, world, output):
             f"entry {number}: {','.join(patterns)}: {','.join(map(provider_text, providers))}" for number, (patterns, providers) in enumerate(entries)
         ]
     output.write_all("".join(line + "\n" for line in lines).encode())
-    return b""
+    return b"", 0
 
 
 def settings_of_object(options, world):
@@ -181,7 +182,7 @@ def encrypt(options, world, source, output):
     dice = world.dice_of(0)
     writer = configuration.list_for(entries, options["resource"])[0]
     output.write_all(seal(writer, options["path"].encode(), data, dice.draw))
-    return b""
+    return b"", 0
 
 
 def decrypt(options, world, source, output):
@@ -190,22 +191,51 @@ def decrypt(options, world, source, output):
     world.dice_of(0)
     data, is_stale = unseal(configuration.list_for(entries, options["resource"]), options["path"].encode(), value)
     output.write_all(data)
-    return b"stale\n" if is_stale else b"fresh\n"
+    return b"stale\n" if is_stale else b"fresh\n", 0
 
 
 def inspect(source, output):
     output.write_all(inspected(source.read_all(MOST_VALUE, "value")))
-    return b""
+    return b"", 0
 
 
 def list_rows(options, world, output):
     _form, rows = world.tape(options["store"]).load()
     output.write_all(store.listing(rows))
-    return b""
+    return b"", 0
+
+
+def board_of(rows, replicas):
+    """The board of the stored rows and of the replicas' configurations, of which each is judged beside those before it."""
+    board = Board(len(replicas))
+    readers = {path: reader_of(configuration.list_for(replicas[0], row.resource.decode()), row.value) for path, (_, row) in store.live(rows).items()}
+    stray = sorted(path for path, provider in readers.items() if provider is None)
+    if stray:
+        raise Stop(3, f"text 48 {stray[0].decode()}")
+    for path, (_, row) in sorted(store.live(rows).items()):
+        if row.check is not None and row.check != check_of(readers[path]):
+            raise Stop(3, f"text 51 {path.decode()}")
+        board.needs[path.decode()] = (row.resource.decode(), readers[path])
+    for number, entries in enumerate(replicas):
+        verdict = board.verdict(number, entries)
+        if verdict != "pass":
+            raise Stop(3, f"text 49 {number} {verdict}")
+        board.add(number, entries)
+    return board
+
+
+def judge(options, world, output):
+    _form, rows = world.tape(options["store"]).load()
+    replicas = [load_settings(world, name) for name in options["replica"]]
+    number, _, name = options["reload"].partition("=")
+    entries = load_settings(world, name)
+    verdict = board_of(rows, replicas).verdict(int(number), entries)
+    output.write_all(verdict.encode() + b"\n")
+    return b"", 0 if verdict == "pass" else 1
 
 
 def answer(words, world, source, output):
-    """Does what the words ask for, and gives what is told on the errors."""
+    """Does what the words ask for, and gives what is told on the errors, and the status."""
     try:
         command, options = command_of(words)
     except Usage:
@@ -215,6 +245,8 @@ def answer(words, world, source, output):
     try:
         if command == "check":
             return check(options, world, output)
+        if command == "judge":
+            return judge(options, world, output)
         if command == "list":
             return list_rows(options, world, output)
         if command == "inspect":
@@ -227,8 +259,7 @@ def answer(words, world, source, output):
 def run(words, world, source, output, errors):
     """The status of the call."""
     try:
-        told = answer(words, world, source, output)
-        status = 0
+        told, status = answer(words, world, source, output)
     except Stop as stop:
         told, status = f"kmsrest: {stop.line}\n".encode(), stop.status
     try:

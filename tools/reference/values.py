@@ -1,5 +1,7 @@
 """Stored values: sealing, reading, and the encrypted object of a plugin."""
 
+import hashlib
+import hmac
 import re
 
 MARK = b"k8s:enc:"
@@ -37,6 +39,21 @@ def split(value):
         if found:
             return kind, found[1], value[found.end() :]
     return None
+
+
+def reader_of(providers, value):
+    """The provider of the list that reads the value, or None."""
+    for provider in providers:
+        if not value.startswith(MARK) if provider[0] == "identity" else value.startswith(prefix(provider)):
+            return provider
+    return None
+
+
+def check_of(provider):
+    """What a store keeps beside a value, so that another secret of the same name is told."""
+    if len(provider) < 3 or not provider[2]:
+        return bytes(8)
+    return hmac.new(provider[2], provider[1].encode(), hashlib.sha256).digest()[:8]
 
 
 # ---- sealing and reading

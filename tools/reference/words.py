@@ -16,7 +16,7 @@ OPTIONS = {
     "fleet": (("file", "store"), ("plugin",)),
     "gen": (("seed", "size", "store"), ()),
 }
-BUILT = ("encrypt", "decrypt", "check", "inspect", "list")
+BUILT = ("encrypt", "decrypt", "check", "inspect", "list", "judge")
 REPEATED = ("plugin", "replica")
 MOST_REPLICAS = 16
 MOST_SIZE = 10_000
@@ -122,4 +122,4 @@ def command_of(words):
         raise WordsLimit(f"size {MOST_SIZE}")
     if command not in BUILT:
         raise Usage
-    return command, {name: values[0] for name, values in found.items()}
+    return command, {name: values if name in REPEATED else values[0] for name, values in found.items()}

@@ -11,6 +11,9 @@ pub mod Listings
 pub mod OnePoint
 pub mod Pieces
 pub mod Loading
+pub mod Loads
+pub mod Judging
+pub mod ReplicaLists
 pub mod Lending
 pub mod Linked
 pub mod Links

@@ -86,3 +86,50 @@ spoke-all {a} {b} {pieces} {i} s h = record {
   err = tt;
   cause = record { later = s.later; failed = tt };
 }
+
+-- ---- one text behind another
+
+front_of_both : {a b : Option (List ℕ)} (text more : List ℕ) → AppendsFront a b text
+    → AppendsFront a b (text ++ more)
+front_of_both {a} {b} text more (n, short, appended) = (
+  n,
+  omega (arith, short, length-append text more),
+  subst (Appends a b) (sym (take-append-le n text more short)) appended,
+)
+
+front_behind : {a b c : Option (List ℕ)} (text more : List ℕ) → Appends a b text
+    → AppendsFront b c more → AppendsFront a c (text ++ more)
+front_behind {a} {b} {c} text more written (n, short, appended) = (
+  length text + n,
+  omega (arith, short, length-append text more),
+  subst (Appends a c) (sym (take-append-add text more n))
+      (Appends-trans a b c _ _ written appended),
+)
+
+-- a fault in the first text
+pub says_cut : {T E : Type 0} {x : E} {sink : Receipt} (text more : List ℕ)
+    → Says {T = T} {E = E} sink text (Err x) → Says {T = T} {E = E} sink (text ++ more) (Err x)
+says_cut {sink = sink} text more s = record {
+  ok = tt;
+  err = front_of_both {a = sink.old} {b = sink.new} text more s.err;
+  cause = s.cause;
+}
+
+-- the first text was written, and the other so
+pub says_behind : {T E : Type 0} {a b c : Option (List ℕ)} {faults count after : ℕ}
+    (text more : List ℕ) (result : Result T E) → Appends a b text → faults ≤ count
+    → Says (receipt b c count after) more result
+    → Says (receipt a c faults after) (text ++ more) result
+says_behind {a = a} {b} {c} text more (Ok x) written later s = record {
+  ok = Appends-trans a b c _ _ written s.ok;
+  err = tt;
+  cause = record { later = omega (arith, later, s.cause.later); failed = tt };
+}
+says_behind {a = a} {b} {c} text more (Err x) written later s = record {
+  ok = tt;
+  err = front_behind {a = a} {b = b} {c = c} text more written s.err;
+  cause = record {
+    later = omega (arith, later, s.cause.later);
+    failed = Rose-later _ _ _ later s.cause.failed;
+  };
+}

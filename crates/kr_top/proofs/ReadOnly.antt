@@ -1,8 +1,9 @@
 -- Steps that make and write no tape leave all tapes.
-use Rattle.std.proofs.Common.{◌≡◌, ℕ, zero, suc, List, [], ◌∷◌, Bool, true, false, Option, None, Some, Result, Ok, Err, refl, sym, ◌∙◌, ap, subst, inl, inr}
+use Rattle.std.proofs.Common.{◌≡◌, ℕ, zero, suc, List, [], ◌∷◌, ◌++◌, Bool, true, false, Option, None, Some, Result, Ok, Err, refl, sym, ◌∙◌, ap, subst, inl, inr}
 use Rattle.kr_config.specs.Kept.{Row}
 use Rattle.kr_config.specs.Lists.{list_of}
 use Rattle.kr_store.specs.Rows.{live}
+use Rattle.kr_store.specs.declared.rows.LogRow.{LogRow}
 use Rattle.kr_config.specs.declared.who.Who.{Who}
 use Rattle.kr_envelope.specs.declared.object.EncryptedObject.{EncryptedObject}
 use Rattle.kr_envelope.specs.declared.object.ObjectNo.{ObjectNo}
@@ -20,7 +21,8 @@ use Rattle.kr_provider.specs.Reading.{Reading, data_of, refused, unopened, value
 use Rattle.kr_provider.specs.Readers.{reader_in, writer_of}
 use Rattle.kr_provider.specs.Sealing.{draw_size, sealed_by}
 use Rattle.kr_top.specs.Check.{listing}
-use Rattle.kr_top.specs.Commands.{by_result, configuration, bench_steps, draw_some, input_of, linking_programs, opening, published_source, read_with, reading_steps, row_found, row_on, sealing, show, silently, source_steps, steps, tape_for, unsealing, value_steps, with_memory, working, working_by}
+use Rattle.kr_top.specs.Commands.{by_result, configuration, configurations, judgement_on, judging_at, judging_by, telling, bench_steps, draw_some, input_of, linking_programs, opening, published_source, read_with, reading_steps, row_found, row_on, sealing, show, silently, source_steps, steps, tape_for, unsealing, value_steps, with_memory, working, working_by}
+use Rattle.kr_top.specs.Command.{replica_names, reload_in, reload_number, reload_file}
 use Rattle.kr_top.specs.Inspect.{Inspects}
 use Rattle.kr_top.specs.RowLines.{ShowsRows}
 use Rattle.kr_top.specs.Around.{Around, Ends, Reaches, left_of}
@@ -28,7 +30,7 @@ use Rattle.kr_top.specs.Plugins.{borrow_links, make_seed, make_seeds, programs_o
 use Rattle.kr_top.specs.Ran.{Answers, Receipt}
 use Rattle.kr_top.specs.Steps.{Steps, load, take_input, borrow_dice, borrow_tape, read_tape, draw, borrow_link, ask_status, wrap, unwrap, note, find, refuse, give, and_then, Point, Left, Goes}
 use Rattle.kr_top.specs.declared.command.Command.{Command}
-use Rattle.kr_top.specs.declared.command.Command.TheVariants.{Convert, Check, Inspect, Get, Rows}
+use Rattle.kr_top.specs.declared.command.Command.TheVariants.{Convert, Check, Inspect, Get, Rows, Judge}
 use Rattle.kr_top.specs.declared.command.Direction.{Direction}
 use Rattle.kr_top.specs.declared.command.Direction.TheVariants.{Encrypt, Decrypt}
 use Rattle.kr_top.specs.declared.programs.Program.{Program}
@@ -220,6 +222,30 @@ row_reads store path = λ bytes read. both_read
     (λ held. λ u. result_reads (row_found path (live held.rows path))) (by_result read)
     (result_reads read)
 
+configurations_read : (read : List (Option (List Row))) (names : List (List ℕ))
+    → IsReadOnly (configurations read names)
+configurations_read read [] = λ u. tt
+configurations_read read (name ∷ names) = both_read
+    (λ rows. configurations (read ++ Some rows ∷ []) names)
+    (λ rows. configurations_read (read ++ Some rows ∷ []) names)
+    (configuration name) (configuration_reads name)
+
+judgement_reads : (stored : List LogRow) (replicas : List (Option (List Row))) (replica : ℕ)
+    (rows : List Row) → IsReadOnly (judging_at stored replicas replica rows)
+judgement_reads stored replicas replica rows = both_read telling (λ verdict u. tt)
+    (judgement_on stored replicas replica rows) (λ read. result_reads read)
+
+judging_reads : (options : List (List ℕ × List ℕ)) (stored : List LogRow)
+    → IsReadOnly (judging_by options stored)
+judging_reads options stored =
+    let file = reload_file (reload_in options) in
+    let replica = reload_number (reload_in options) in
+    both_read (λ replicas. and_then (configuration file) (judging_at stored replicas replica))
+    (λ replicas. both_read (judging_at stored replicas replica)
+    (judgement_reads stored replicas replica) (configuration file) (configuration_reads file))
+    (configurations [] (replica_names options))
+    (configurations_read [] (replica_names options))
+
 pub command_reads : (command : Command) → IsReadOnly (steps command)
 command_reads (Convert words) = both_read
     (λ rows. and_then (linking_programs words.options rows) (λ programs.
@@ -253,6 +279,13 @@ command_reads (Rows store) = (
   refl,
   λ bytes read. both_read
       (λ held. show (ShowsRows held.rows)) (λ held. shows_read (ShowsRows held.rows))
+      (by_result read) (result_reads read),
+)
+command_reads (Judge words) = (
+  refl,
+  λ bytes read. both_read
+      (λ held. judging_by words.options held.rows)
+      (λ held. judging_reads words.options held.rows)
       (by_result read) (result_reads read),
 )
 

@@ -1,5 +1,5 @@
 -- What readers take from the relation of a call, whose result decides the status.
-use Rattle.std.proofs.Common.{◌≡◌, ℕ, ◌+◌, ◌-◌, ◌^◌, ◌≤◌, ◌⊎◌, min, List, length, take_all, Option, Result, Ok, Err, refl, sym, subst, inl, inr, arith}
+use Rattle.std.proofs.Common.{◌≡◌, ℕ, ◌+◌, ◌-◌, ◌^◌, ◌≤◌, ◌⊎◌, min, List, length, take_all, Option, Result, Ok, Err, refl, sym, ◌∙◌, subst, inl, inr, arith}
 use Rattle.std.specs.Io.KnownBytes.{Appends}
 use Rattle.kr_base.specs.Faults.{Rose}
 use Rattle.kr_base.specs.Streams.{AppendsFront}
@@ -18,11 +18,11 @@ use Rattle.kr_top.specs.declared.refusal.BadWords.TheVariants.{Usage, Replicas, 
 use Rattle.kr_top.specs.declared.refusal.Object.{Object}
 use Rattle.kr_top.specs.declared.refusal.Object.TheVariants.{Output}
 use Rattle.kr_top.specs.declared.refusal.Refusal.{Refusal}
-use Rattle.kr_top.specs.declared.refusal.Refusal.TheVariants.{Absent, Configuration, Limit, Value, Placed, Broken, NoPath, NoPlugin, Unhealthy}
+use Rattle.kr_top.specs.declared.refusal.Refusal.TheVariants.{Absent, Configuration, Limit, Value, Placed, Broken, NoPath, NoPlugin, Unhealthy, Stray, OtherSecret, Unfit}
 use Rattle.kr_top.specs.declared.refusal.Stop.{Stop}
 use Rattle.kr_top.specs.declared.refusal.Stop.TheVariants.{Words, Refused, Fault, NoMemory}
 use Rattle.kr_top.specs.declared.refusal.Done.{Done}
-use Rattle.kr_top.specs.declared.refusal.Done.TheVariants.{Silent, Fresh, Stale}
+use Rattle.kr_top.specs.declared.refusal.Done.TheVariants.{Silent, Fresh, Stale, Blocked}
 use Rattle.kr_top.specs.declared.refusal.Outcome.{Outcome}
 use Rattle.kr_top.proofs.Decided.{asks_something, no_stop, same_end}
 
@@ -47,11 +47,15 @@ status_in (Value number) = inl refl
 status_in (Placed number at) = inl refl
 status_in (Broken why) = inr (inl refl)
 status_in (NoPath path) = inl refl
+status_in (Stray path) = inr (inl refl)
+status_in (OtherSecret path) = inr (inl refl)
+status_in (Unfit replica verdict) = inr (inl refl)
 
-done_zero : (done : Done) → status_of_done done ≡ 0
-done_zero Silent = refl
-done_zero Fresh = refl
-done_zero Stale = refl
+done_in : (done : Done) → (status_of_done done ≡ 0) ⊎ (status_of_done done ≡ 1)
+done_in Silent = inl refl
+done_in Fresh = inl refl
+done_in Stale = inl refl
+done_in Blocked = inr refl
 
 -- ---- counts and texts
 
@@ -148,13 +152,13 @@ module _ (words : List (List ℕ)) (old new : Around) (output errors : Receipt) 
 
   at_value : (made : Outcome) → Comes words old new (gives made)
       → Appends output.old output.new made.bytes → Told (Ok made.done) → AreRead
-  at_value made comes whole t = let z = done_zero made.done in record {
+  at_value made comes whole t = let z = done_in made.done in record {
     usage = (λ two. absurd (omega (arith, t.0, two, z)), λ none. absurd (asks_something comes.asks none));
     caused = λ four. absurd (omega (arith, t.0, four, z));
     refused = λ which. inr (inl (made, comes, sym t.0, whole, t.1));
     decided = λ command point end asks tells would at.
         inl (subst Told (sym (same_end point end (Ok made.done) asks tells would comes at refl)) t);
-    done = λ zero_is. (made, comes, z, whole, t.1);
+    done = λ zero_is. (made, comes, sym t.0 ∙ zero_is, whole, t.1);
     written = record {
       front = inr (inr (made, comes, whole_front output.old output.new made.bytes whole));
       usage = λ two. absurd (omega (arith, t.0, two, z));

@@ -1,5 +1,5 @@
 -- What each command's steps find is one thing, and what they draw decides nothing but the value.
-use Rattle.std.proofs.Common.{◌≡◌, ℕ, zero, suc, List, [], ◌∷◌, length, map, Bool, true, false, Option, None, Some, Ok, Err, Contains, refl, sym, ◌∙◌, ap, subst, inl, inr, arith}
+use Rattle.std.proofs.Common.{◌≡◌, ℕ, zero, suc, List, [], ◌∷◌, ◌++◌, length, map, Bool, true, false, Option, None, Some, Ok, Err, Contains, refl, sym, ◌∙◌, ap, subst, inl, inr, arith}
 use Rattle.std.specs.Prelude.{codes, cond, not, ◌||◌, Result, IsSome, is_some, nat_lt, if◌then◌else◌}
 use Rattle.std.specs.List.{list_any}
 use Rattle.std.specs.Option.{option_map}
@@ -35,16 +35,17 @@ use Rattle.kr_provider.proofs.Lists.{no_names}
 use Rattle.kr_provider.proofs.OneReading.{IsNoPlugin, any_envelope, no_plugin}
 use Rattle.kr_provider.proofs.WithoutPlugins.{none_listed}
 use Rattle.kr_provider.specs.Sealing.{draw_size, sealed_by}
-use Rattle.kr_top.specs.Commands.{by_result, value_steps, draw_some, input_of, linking_programs, opening, read_with, reading_steps, unsealing, working, working_by, converting, steps, bench_steps, configuration, getting, row_found, row_on, tape_for, with_memory}
+use Rattle.kr_top.specs.Commands.{by_result, value_steps, draw_some, input_of, linking_programs, opening, read_with, reading_steps, unsealing, working, working_by, converting, steps, bench_steps, configuration, getting, row_found, row_on, tape_for, with_memory, configurations, judging_at, judging_by, telling}
 use Rattle.kr_store.specs.Rows.{live}
 use Rattle.kr_store.specs.declared.rows.Row as stored
+use Rattle.kr_store.specs.declared.rows.LogRow.{LogRow}
 use Rattle.kr_top.specs.Configuration.{IsConfiguration}
 use Rattle.kr_top.specs.Inspect.{Inspects, ShowsBody, ShowsObject}
 use Rattle.kr_top.specs.Plugins.{borrow_links, make_seeds, programs_of, seed_row, unless_breach, wrap_seed}
 use Rattle.kr_top.specs.Steps.{Steps, load, take_input, borrow_dice, borrow_tape, read_tape, draw, borrow_link, ask_status, wrap, unwrap, note, find, refuse, give, and_then, Left, with_asked, with_dice}
 use Rattle.kr_top.specs.Texts.{line, word_and_number}
 use Rattle.kr_top.specs.declared.command.Command.{Command}
-use Rattle.kr_top.specs.declared.command.Command.TheVariants.{Convert, Check, Inspect, Get, Rows}
+use Rattle.kr_top.specs.declared.command.Command.TheVariants.{Convert, Check, Inspect, Get, Rows, Judge}
 use Rattle.kr_top.specs.declared.command.Conversion.{Conversion}
 use Rattle.kr_top.specs.declared.command.Lookup.{Lookup}
 use Rattle.kr_top.specs.declared.command.Direction.{Direction}
@@ -54,8 +55,10 @@ use Rattle.kr_top.specs.declared.refusal.Refusal.{Refusal}
 use Rattle.kr_top.specs.declared.refusal.Refusal.TheVariants.{Configuration}
 use Rattle.kr_top.specs.declared.refusal.Outcome.{Outcome}
 use Rattle.kr_top.specs.Around.{Around, left_of}
-use Rattle.kr_top.specs.Ran.{IsTelling, ArePluginsTold}
+use Rattle.kr_top.specs.Command.{replica_names, reload_in, reload_number, reload_file}
+use Rattle.kr_top.specs.Ran.{IsTelling, ArePluginsTold, AreTold}
 use Rattle.kr_top.proofs.Listed.{one_stored, one_shown}
+use Rattle.kr_top.proofs.Judging.{one_judged, read_then}
 use Rattle.kr_top.proofs.OnePoint.{IsSettled}
 
 settled_result : {A : Type 0} (left right : Left) (r : Result A Refusal) (next : A → Steps Outcome)
@@ -81,6 +84,69 @@ one_configuration name (Some bytes) a b (inr h) (inl k) = absurd (omega (arith, 
 one_configuration name (Some bytes) a b (inr h) (inr k) = h.3
     ∙ ap (λ r. result_map_both (λ x. x) Configuration r) (one_meaning bytes h.1 k.1 h.2 k.2)
     ∙ sym k.3
+
+-- ---- judge
+
+-- one configuration, and what follows from it in two parts
+settled_parts : (left : Left) (a b : Result (List Row) Refusal)
+    (others : List Row → Steps (List (Option (List Row))))
+    (next : List (Option (List Row)) → Steps Outcome) → a ≡ b
+    → ((rows : List Row) → IsSettled (and_then (others rows) next) (and_then (others rows) next)
+    left left)
+    → IsSettled (and_then (and_then (by_result a) others) next)
+    (and_then (and_then (by_result b) others) next) left left
+settled_parts left a b others next e s = subst (λ r. IsSettled
+    (and_then (and_then (by_result a) others) next)
+    (and_then (and_then (by_result r) others) next) left left) e (alike a)
+  where
+    alike : (r : Result (List Row) Refusal) → IsSettled
+        (and_then (and_then (by_result r) others) next)
+        (and_then (and_then (by_result r) others) next) left left
+    alike (Ok rows) = s rows
+    alike (Err why) = refl
+
+settled_all : (names : List (List ℕ)) (read : List (Option (List Row))) (left : Left)
+    (next : List (Option (List Row)) → Steps Outcome) → AreTold left.file names
+    → ((now : Left) (read : List (Option (List Row))) → now.file ≡ left.file
+    → IsSettled (next read) (next read) now now)
+    → IsSettled (and_then (configurations read names) next)
+    (and_then (configurations read names) next) left left
+settled_all [] read left next told s = λ u v t w. s left read refl
+settled_all (name ∷ names) read left next told s = (
+  told.0,
+  refl,
+  λ bytes agrees a b x y.
+      let now : Left = with_asked (File name) left in
+      settled_parts now a b (λ rows. configurations (read ++ Some rows ∷ []) names) next
+      (one_configuration name bytes a b x y)
+      (λ rows. settled_all names (read ++ Some rows ∷ []) now next told.1 s),
+)
+
+settled_judgement : (options : List (List ℕ × List ℕ)) (stored : List LogRow)
+    (replicas : List (Option (List Row))) (left : Left)
+    → IsSome (left.file (reload_file (reload_in options)))
+    → IsSettled (read_then options stored replicas) (read_then options stored replicas) left left
+settled_judgement options stored replicas left told = (
+  told,
+  refl,
+  λ file agrees a b x y.
+      let name = reload_file (reload_in options) in
+      let replica = reload_number (reload_in options) in
+      let now : Left = with_asked (File name) left in
+      settled_by now now a b (judging_at stored replicas replica)
+      (one_configuration name file a b x y) (λ rows. λ c d h k.
+      settled_by now now c d telling (one_judged stored replicas replica rows c d h k)
+      (λ verdict. λ u v t w. refl)),
+)
+
+settled_judging : (options : List (List ℕ × List ℕ)) (stored : List LogRow) (left : Left)
+    → AreTold left.file (replica_names options)
+    → IsSome (left.file (reload_file (reload_in options)))
+    → IsSettled (judging_by options stored) (judging_by options stored) left left
+settled_judging options stored left names file =
+    settled_all (replica_names options) [] left (read_then options stored) names
+    (λ now replicas same. settled_judgement options stored replicas now
+    (subst (λ files. IsSome (files (reload_file (reload_in options)))) (sym same) file))
 
 -- ---- inspect
 
@@ -490,6 +556,18 @@ settled (Rows store) old told = (
     refl,
     λ bytes a b x y. settled_by _ _ a b _ (one_stored bytes a b x y) (λ stored.
         λ c d h k. settled_by _ _ c d _ (one_shown stored.rows c d h k) (λ text. refl)),
+  ),
+)
+settled (Judge words) old (tape, names, file) = (
+  tape,
+  refl,
+  refl,
+  refl,
+  (
+    tape,
+    refl,
+    λ bytes a b x y. settled_by _ _ a b _ (one_stored bytes a b x y)
+        (λ stored. settled_judging words.options stored.rows _ names file),
   ),
 )
 settled Inspect old input = (

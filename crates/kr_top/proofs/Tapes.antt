@@ -8,7 +8,7 @@ use Rattle.kr_base.specs.Told.{Agrees}
 use Rattle.kr_kms.specs.Outside.{Outside, Objects, with_call, same_name, at_key, HandsOut, IsTape, KeepsFiles, KeepsObjects}
 use Rattle.kr_kms.specs.declared.world.WorldCall.TheVariants.{Tape}
 use Rattle.kr_kms.proofs.Lent.{names_decide}
-use Rattle.kr_top.specs.Around.{Around, with_world, with_lent, with_lent_tape, Stays, Reaches}
+use Rattle.kr_top.specs.Around.{Around, with_world, with_lent, with_lent_tape, with_tapes, Stays, Reaches}
 use Rattle.kr_top.specs.Commands.{tape_for}
 use Rattle.kr_top.specs.Steps.{Steps, borrow_tape, give, lending, Point, awaits, Left, MayBorrow, or_empty, tapes_with, with_asked, with_tape}
 use Rattle.kr_top.specs.inner.Phases.{Does, AskedUnless}
@@ -176,3 +176,17 @@ lends_tape name make {old} a {next = next} {result} h returned works =
     subst (λ b. Does (tape_for name make next) (with_world old a) b result)
     (came_back name returned a)
     (goes_on (tape_for name make nothing) (λ u. next) tt (lent name make _ h a) works)
+
+-- what leaves the tapes, done while this one is out
+pub behind_tape : (name : List ℕ) (told : Option (List ℕ)) (count : ℕ) {old new : Outside}
+    (a : Around) {B : Type 0} {next : Steps B} {result : Result B Stop} → new.tapes ≡ old.tapes
+    → Does next
+    (with_world (with_tapes (with_lent same_name name (option_map Some told) count old.tapes) old) a)
+    (with_world (with_tapes (with_lent same_name name (option_map Some told) count old.tapes) new) a)
+    result
+    → Does next (with_lent_tape name told count (with_world old a))
+    (with_lent_tape name told count (with_world new a)) result
+behind_tape name told count {old} {new} a {next = next} {result} same d =
+    subst (λ t. Does next (with_lent_tape name told count (with_world old a))
+    (with_world (with_tapes (with_lent same_name name (option_map Some told) count t) new) a)
+    result) (sym same) d

@@ -1,11 +1,13 @@
 -- The commands that are built, and the words that mean them.
-use Rattle.std.specs.Prelude.{◌≡◌, ℕ, ◌≤◌, ◌<◌, List, codes, Option, Some, None}
+use Rattle.std.specs.Prelude.{◌≡◌, ℕ, ◌≤◌, ◌<◌, List, [], codes, Option, Some, None}
 use Rattle.kr_words.specs.Grammar.{Means, replica_limit, replicas_of, IsAboveSize, IsWithinSize}
-use Rattle.kr_words.specs.Options.{value_of}
+use Rattle.std.specs.Str.Parse.{digits_value}
+use Rattle.kr_words.specs.Options.{value_of, values_of}
+use Rattle.kr_words.specs.Rules.{before_equals, after_equals}
 use Rattle.kr_words.specs.declared.command.Verb.{Verb}
 use Rattle.kr_words.specs.declared.command.Verb.TheVariants as verbs
 use Rattle.kr_top.specs.declared.command.Command.{Command}
-use Rattle.kr_top.specs.declared.command.Command.TheVariants.{Convert, Check, Inspect, Get, Rows}
+use Rattle.kr_top.specs.declared.command.Command.TheVariants.{Convert, Check, Inspect, Get, Rows, Judge}
 use Rattle.kr_top.specs.declared.command.Direction.{Direction}
 use Rattle.kr_top.specs.declared.command.Direction.TheVariants.{Encrypt, Decrypt}
 use Rattle.kr_top.specs.declared.refusal.BadWords.{BadWords}
@@ -42,6 +44,29 @@ abbrev pub listing_of : (store : Option (List ℕ)) → Option Command
 listing_of None = None
 listing_of (Some store) = Some (Rows store)
 
+-- ---- judge
+
+-- the files of the replicas
+abbrev pub replica_names : (options : List (List ℕ × List ℕ)) → List (List ℕ)
+replica_names options = values_of options (codes "replica")
+
+-- the replica that is to be reloaded, and its new file: `N=FILE`
+abbrev pub reload_in : (options : List (List ℕ × List ℕ)) → Option (List ℕ)
+reload_in options = value_of options (codes "reload")
+
+abbrev pub reload_number : (reload : Option (List ℕ)) → ℕ
+reload_number None = 0
+reload_number (Some reload) = digits_value 10 (before_equals reload)
+
+abbrev pub reload_file : (reload : Option (List ℕ)) → List ℕ
+reload_file None = []
+reload_file (Some reload) = after_equals reload
+
+abbrev pub judgement_of : (options : List (List ℕ × List ℕ)) → (store : Option (List ℕ))
+    → Option Command
+judgement_of options None = None
+judgement_of options (Some store) = Some (Judge (record { store = store; options = options }))
+
 -- the command of a verb with its options, where it is built
 abbrev pub command_of : Verb → List (List ℕ × List ℕ) → Option Command
 command_of verbs.Encrypt options =
@@ -57,6 +82,7 @@ command_of verbs.Get options =
     lookup_of options (value_of options (codes "config")) (value_of options (codes "store"))
     (value_of options (codes "path"))
 command_of verbs.Rows options = listing_of (value_of options (codes "store"))
+command_of verbs.Judge options = judgement_of options (value_of options (codes "store"))
 command_of other options = None
 
 -- the words mean the command, and no limit of the command line is passed

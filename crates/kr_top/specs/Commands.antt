@@ -1,5 +1,5 @@
 -- The steps of each command, and the phases that they are made of.
-use Rattle.std.specs.Prelude.{◌≡◌, ℕ, zero, suc, Bool, false, List, [], Option, Some, None, Result, Ok, Err, ⊤, if◌then◌else◌}
+use Rattle.std.specs.Prelude.{◌≡◌, ℕ, zero, suc, Bool, false, List, [], ◌∷◌, ◌++◌, Option, Some, None, Result, Ok, Err, ⊤, if◌then◌else◌}
 use Rattle.kr_base.specs.Limits.{data_limit, value_limit}
 use Rattle.kr_config.specs.Kept.{Row}
 use Rattle.kr_config.specs.Lists.{list_of}
@@ -20,17 +20,22 @@ use Rattle.kr_provider.specs.Sealing.{draw_size, sealed_by}
 use Rattle.kr_provider.specs.declared.refusal.ValueNo.TheVariants.{LooksEncrypted}
 use Rattle.kr_store.specs.Rows.{live}
 use Rattle.kr_store.specs.declared.rows.Row as stored
+use Rattle.kr_judge.specs.declared.verdict.Verdict.{Verdict}
+use Rattle.kr_store.specs.declared.rows.LogRow.{LogRow}
 use Rattle.kr_top.specs.Check.{listing}
+use Rattle.kr_top.specs.Command.{replica_names, reload_in, reload_number, reload_file}
 use Rattle.kr_top.specs.Configuration.{Entries, IsConfiguration}
 use Rattle.kr_top.specs.Inspect.{Inspects}
+use Rattle.kr_top.specs.Judgements.{IsJudged, verdict_outcome}
 use Rattle.kr_top.specs.RowLines.{ShowsRows}
 use Rattle.kr_top.specs.StoreFiles.{Stored, IsStored}
 use Rattle.kr_top.specs.Steps.{Steps, load, take_input, borrow_dice, borrow_tape, read_tape, draw, find, refuse, give, and_then, unwrap}
 use Rattle.kr_top.specs.Plugins.{borrow_links, make_seeds, programs_of}
 use Rattle.kr_top.specs.declared.command.Command.{Command}
-use Rattle.kr_top.specs.declared.command.Command.TheVariants.{Convert, Check, Inspect, Get, Rows}
+use Rattle.kr_top.specs.declared.command.Command.TheVariants.{Convert, Check, Inspect, Get, Rows, Judge}
 use Rattle.kr_top.specs.declared.command.Conversion.{Conversion}
 use Rattle.kr_top.specs.declared.command.Lookup.{Lookup}
+use Rattle.kr_top.specs.declared.command.Judgement.{Judgement}
 use Rattle.kr_top.specs.declared.command.Direction.{Direction}
 use Rattle.kr_top.specs.declared.command.Direction.TheVariants.{Encrypt, Decrypt}
 use Rattle.kr_top.specs.Texts.{visible}
@@ -207,6 +212,42 @@ getting words =
 abbrev pub listing_on : List ℕ → Steps Outcome
 listing_on name = and_then (stored_on Store name) (λ stored. show (ShowsRows stored.rows))
 
+-- ---- judge
+
+-- the configurations in files, one behind another; each is that of a replica that is in
+abbrev pub configurations : (read : List (Option (List Row))) → (names : List (List ℕ))
+    → Steps (List (Option (List Row)))
+configurations read [] = with_memory (give read)
+configurations read (name ∷ names) = and_then (configuration name)
+    (λ rows. configurations (read ++ Some rows ∷ []) names)
+
+abbrev pub judgement_on : List LogRow → (replicas : List (Option (List Row))) → (replica : ℕ)
+    → List Row → Steps Verdict
+judgement_on stored replicas replica rows =
+    find (Result Verdict Refusal) (IsJudged stored replicas replica rows) by_result
+
+abbrev pub telling : Verdict → Steps Outcome
+telling verdict = with_memory (give (verdict_outcome verdict))
+
+-- what is written of the verdict on the replica's new configuration
+abbrev pub judging_at : List LogRow → (replicas : List (Option (List Row))) → (replica : ℕ)
+    → List Row → Steps Outcome
+judging_at stored replicas replica rows =
+    and_then (judgement_on stored replicas replica rows) telling
+
+abbrev pub judging_by : (options : List (List ℕ × List ℕ)) → List LogRow → Steps Outcome
+judging_by options stored =
+    and_then (configurations [] (replica_names options)) (λ replicas.
+    and_then (configuration (reload_file (reload_in options)))
+    (judging_at stored replicas (reload_number (reload_in options))))
+
+abbrev pub judging_on : (name : List ℕ) → (options : List (List ℕ × List ℕ)) → Steps Outcome
+judging_on name options =
+    and_then (stored_on Store name) (λ stored. judging_by options stored.rows)
+
+abbrev pub judging : Judgement → Steps Outcome
+judging words = tape_for words.store false (judging_on words.store words.options)
+
 -- ---- the commands
 
 abbrev pub steps : Command → Steps Outcome
@@ -215,4 +256,5 @@ steps (Check config resource) =
     and_then (configuration config) (λ rows. show (λ shown. shown ≡ Ok (listing rows resource)))
 steps (Get words) = getting words
 steps (Rows store) = tape_for store false (listing_on store)
+steps (Judge words) = judging words
 steps Inspect = and_then (input_of Decrypt) (λ bytes. show (Inspects bytes))

@@ -5,6 +5,7 @@ pub mod Command
 pub mod Commands
 pub mod Configuration
 pub mod Inspect
+pub mod Judgements
 pub mod Message
 pub mod Plugins
 pub mod Ran

@@ -7,13 +7,14 @@ use Rattle.kr_config.specs.declared.refusal.ConfigNo.TheVariants as config
 use Rattle.kr_config.specs.declared.refusal.Counted.{Counted}
 use Rattle.kr_config.specs.declared.refusal.Counted.TheVariants.{Entries, Patterns, Keys, Plugins}
 use Rattle.kr_config.specs.Refusals.{limit_of, code_of, first_number, second_number}
+use Rattle.kr_judge.specs.Texts.{verdict_text}
 use Rattle.kr_kms.specs.declared.health.Field.{Field}
 use Rattle.kr_kms.specs.declared.health.Field.TheVariants.{Version, Healthz, KeyId}
 use Rattle.kr_provider.specs.Refusals.{number_of, name_of}
 use Rattle.kr_top.specs.declared.refusal.Object.{Object}
 use Rattle.kr_top.specs.declared.refusal.Object.TheVariants.{Input, Output, Files, Dice, Store, Plugin}
 use Rattle.kr_top.specs.declared.refusal.Refusal.{Refusal}
-use Rattle.kr_top.specs.declared.refusal.Refusal.TheVariants.{Absent, Configuration, Limit, Value, Placed, Broken, NoPath, NoPlugin, Unhealthy}
+use Rattle.kr_top.specs.declared.refusal.Refusal.TheVariants.{Absent, Configuration, Limit, Value, Placed, Broken, NoPath, NoPlugin, Unhealthy, Stray, OtherSecret, Unfit}
 use Rattle.kr_top.specs.declared.refusal.Limit as limits
 use Rattle.kr_top.specs.declared.refusal.Limit.TheVariants as limit
 use Rattle.kr_top.specs.declared.refusal.Breach.{Breach}
@@ -23,7 +24,7 @@ use Rattle.kr_top.specs.declared.refusal.BadWords.TheVariants.{Usage, Replicas, 
 use Rattle.kr_top.specs.declared.refusal.Stop.{Stop}
 use Rattle.kr_top.specs.declared.refusal.Stop.TheVariants.{Words, Refused, Fault, NoMemory}
 use Rattle.kr_top.specs.declared.refusal.Done.{Done}
-use Rattle.kr_top.specs.declared.refusal.Done.TheVariants.{Silent, Fresh, Stale}
+use Rattle.kr_top.specs.declared.refusal.Done.TheVariants.{Silent, Fresh, Stale, Blocked}
 
 abbrev pub status_of_words : BadWords → ℕ
 status_of_words Usage = 2
@@ -35,6 +36,7 @@ abbrev pub status_of_done : Done → ℕ
 status_of_done Silent = 0
 status_of_done Fresh = 0
 status_of_done Stale = 0
+status_of_done Blocked = 1
 
 abbrev pub status_of_configuration : ConfigNo → ℕ
 status_of_configuration (config.Breach broken place) = 3
@@ -51,6 +53,9 @@ status_of_refusal (Value why) = 1
 status_of_refusal (Placed why at) = 1
 status_of_refusal (Broken why) = 3
 status_of_refusal (NoPath path) = 1
+status_of_refusal (Stray path) = 3
+status_of_refusal (OtherSecret path) = 3
+status_of_refusal (Unfit replica verdict) = 3
 
 abbrev pub status_of : Result Done Stop → ℕ
 status_of (Ok done) = status_of_done done
@@ -136,6 +141,10 @@ refusal_line (Placed why at) =
     ++ (codes " " ++ (name_of why ++ (codes " " ++ (decimal at ++ codes "\n")))))
 refusal_line (Broken why) = counted_line (codes "kmsrest: text ") (broken_code why) (place_of why)
 refusal_line (NoPath path) = codes "kmsrest: absent " ++ (path ++ codes "\n")
+refusal_line (Stray path) = codes "kmsrest: text 48 " ++ (path ++ codes "\n")
+refusal_line (OtherSecret path) = codes "kmsrest: text 51 " ++ (path ++ codes "\n")
+refusal_line (Unfit replica verdict) = codes "kmsrest: text 49 " ++ (decimal replica
+    ++ (codes " " ++ (verdict_text verdict ++ codes "\n")))
 
 abbrev pub object_text : Object → List ℕ
 object_text Input = codes "input"
@@ -153,6 +162,7 @@ abbrev pub done_line : Done → List ℕ
 done_line Silent = []
 done_line Fresh = codes "fresh\n"
 done_line Stale = codes "stale\n"
+done_line Blocked = []
 
 abbrev pub line_of : Result Done Stop → List ℕ
 line_of (Ok done) = done_line done

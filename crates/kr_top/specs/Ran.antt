@@ -8,13 +8,13 @@ use Rattle.kr_config.specs.Kept.{Row}
 use Rattle.kr_provider.specs.PluginOrder.{plugin_order}
 use Rattle.kr_provider.specs.Publication.{names_plugin}
 use Rattle.kr_top.specs.Around.{Around, left_of, faults_at, count_at, Reaches, IsHome, Ends}
-use Rattle.kr_top.specs.Command.{Asks, AskNothing, AskReplicas, AskSize, AskBadly}
+use Rattle.kr_top.specs.Command.{replica_names, reload_in, reload_file, Asks, AskNothing, AskReplicas, AskSize, AskBadly}
 use Rattle.kr_top.specs.Commands.{steps}
 use Rattle.kr_top.specs.Configuration.{IsConfiguration}
 use Rattle.kr_top.specs.Message.{status_of, status_of_done, status_of_refusal, line_of, refusal_line, fault_line, done_line}
 use Rattle.kr_top.specs.Steps.{Call, object_of, Point, awaits, refuses, gives, Left, Goes}
 use Rattle.kr_top.specs.declared.command.Command.{Command}
-use Rattle.kr_top.specs.declared.command.Command.TheVariants.{Convert, Check, Inspect, Get, Rows}
+use Rattle.kr_top.specs.declared.command.Command.TheVariants.{Convert, Check, Inspect, Get, Rows, Judge}
 use Rattle.kr_top.specs.declared.command.Direction.{Direction}
 use Rattle.kr_top.specs.declared.command.Direction.TheVariants.{Encrypt, Decrypt}
 use Rattle.kr_top.specs.declared.refusal.Object.TheVariants.{Output}
@@ -171,6 +171,11 @@ ArePluginsTold Encrypt old rows = (plugin : List ℕ) → Contains (plugin_order
     → IsSome (old.world.links.told (0, plugin))
 ArePluginsTold Decrypt old rows = names_plugin rows ≡ false
 
+-- each of the files is told
+abbrev pub AreTold : (List ℕ → Option (Option (List ℕ))) → (names : List (List ℕ)) → Type 0
+AreTold file [] = ⊤
+AreTold file (name ∷ names) = IsSome (file name) × AreTold file names
+
 -- what the command touches of the files, the tapes, the input and the plugins is told
 abbrev pub IsTelling : Command → Around → Type 0
 IsTelling (Convert words) old = IsSome (old.world.file words.config) × IsSome old.input
@@ -183,6 +188,10 @@ IsTelling (Get words) old = IsSome (old.world.file words.config)
     × ((file : Option (List ℕ)) (rows : List Row) → IsConfiguration words.config file (Ok rows)
     → Agrees (old.world.file words.config) file → ArePluginsTold Decrypt old rows)
 IsTelling (Rows store) old = IsSome (old.world.tapes.told store)
+IsTelling (Judge words) old =
+    IsSome (old.world.tapes.told words.store)
+    × AreTold old.world.file (replica_names words.options)
+    × IsSome (old.world.file (reload_file (reload_in words.options)))
 
 -- the steps of a command over the told files, tapes and input, and some drawn bytes, come to this
 -- point

@@ -10,6 +10,7 @@ use crate::check::check;
 use crate::command::{Command, read_command};
 use crate::convert::convert;
 use crate::inspect::inspect;
+use crate::judge::judge;
 use crate::lookup::get;
 use crate::message::tell;
 use crate::phases::write_output;
@@ -19,11 +20,12 @@ use kr_base::{Sink, Source};
 use kr_kms::World;
 use std::alloc::Global;
 
-/// Does the command that the words mean, and answers its status: 0 done, 1 a value was refused, 2
-/// the words mean no command, 3 a configuration is not read, 4 an object of the outside failed, 5
-/// want of memory, 6 a limit was passed. Each status other than 0 has one line on `errors`; where
-/// that can't be written the status is 4. `readings` is what follows from `ran`, for readers, and
-/// so is that no tape changed, whatever the status is.
+/// Does the command that the words mean, and answers its status: 0 done, 1 a value or a reload was
+/// refused, 2 the words mean no command, 3 a configuration or a store is not read, or they don't go
+/// together, 4 an object of the outside failed, 5 want of memory, 6 a limit was passed. Each status
+/// other than 0 has one line on `errors`, but for a reload that was refused, of which the output
+/// says why; where the line can't be written the status is 4. `readings` is what follows from `ran`,
+/// for readers, and so is that no tape changed, whatever the status is.
 pub fn run<W: World, I: Source, O: Sink, E: Sink>(
     alloc: Global,
     words: &[String],
@@ -100,5 +102,6 @@ fn perform<W: World, I: Source>(
         Command::Inspect => inspect(alloc, input),
         Command::Get(words) => get(alloc, words, world),
         Command::Rows { store } => list(alloc, store.as_str(), world),
+        Command::Judge(words) => judge(alloc, words, world),
     }
 }

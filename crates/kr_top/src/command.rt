@@ -1,10 +1,11 @@
 //! The commands that are built.
 ghost use Rattle.std.specs.Prelude.{◌≡◌, ◌≤◌, Some, IfOk, IfSome, codes, length};
 ghost use Rattle.kr_base.specs.Limits.{path_limit};
-ghost use Rattle.kr_words.specs.Grammar.{texts};
+ghost use Rattle.kr_words.specs.Grammar.{texts, replicas_of, replica_limit};
+ghost use Rattle.kr_words.specs.declared.command.Verb.{Verb};
 ghost use Rattle.kr_words.specs.Options.{value_of};
 ghost use Rattle.kr_words.specs.Rules.{IsCommand};
-ghost use Rattle.kr_top.specs.Command.{command_of, conversion_of, check_of, lookup_of, listing_of};
+ghost use Rattle.kr_top.specs.Command.{command_of, conversion_of, check_of, lookup_of, listing_of, judgement_of};
 ghost use Rattle.kr_top.specs.inner.Phases.{IsReadAs, HasShortPath};
 
 use crate::options::Options;
@@ -50,6 +51,15 @@ pub struct Lookup {
     pub options: Options,
 }
 
+/// Which reload is to be judged.
+#[derive(Debug, Drop)]
+pub struct Judgement {
+    /// The name of the store's file.
+    pub store: Text,
+    /// All options of the words, which name the replicas' files and the reload.
+    pub options: Options,
+}
+
 /// A command with what its words say.
 #[derive(Debug, Drop)]
 pub enum Command {
@@ -71,6 +81,8 @@ pub enum Command {
         /// The name of the store's file.
         store: Text,
     },
+    /// Judges a reload.
+    Judge(Judgement),
 }
 
 /// Reads the words as a command.
@@ -96,7 +108,8 @@ pub fn read_command(alloc: Global, words: &[String]) -> Result<Command, Stop>
 
 /// The command of a verb with its options, where it is built.
 fn command_of(alloc: Global, words: kr_words::Command) -> Result<Option<Command>, NoMemory>
-    requires { IsCommand words.verb words.options.0 }
+    requires command { IsCommand words.verb words.options.0 }
+    requires few { replicas_of words.options.0 ≤ replica_limit }
     ensures command { IfOk result (λ command. command ≡ command_of words.verb words.options.0) }
     ensures path { IfOk result HasShortPath }
 {
@@ -107,6 +120,7 @@ fn command_of(alloc: Global, words: kr_words::Command) -> Result<Option<Command>
         Verb::Inspect => Ok(Some(Command::Inspect)),
         Verb::Get => lookup_of(alloc, words),
         Verb::Rows => listing_of(alloc, &words),
+        Verb::Judge => judgement_of(alloc, words),
         _ => Ok(None),
     }
 }
@@ -232,6 +246,27 @@ fn listing_of(alloc: Global, words: &kr_words::Command) -> Result<Option<Command
 {
     match value_of(alloc, words, "store")? {
         Some(store) => Ok(Some(Command::Rows { store })),
+        None => Ok(None),
+    }
+}
+
+/// The words of `judge`.
+fn judgement_of(alloc: Global, words: kr_words::Command) -> Result<Option<Command>, NoMemory>
+    requires command { IsCommand words.verb words.options.0 }
+    requires few { replicas_of words.options.0 ≤ replica_limit }
+    requires verb { words.verb ≡ Verb.Judge }
+    ensures command { IfOk result (λ command. command ≡ judgement_of words.options.0
+        (value_of words.options.0 (codes "store"))) }
+    ensures path { IfOk result HasShortPath }
+{
+    let Some(_reload) = words.reload() else {
+        unreachable!();
+    };
+    match value_of(alloc, &words, "store")? {
+        Some(store) => Ok(Some(Command::Judge(Judgement {
+            store,
+            options: Options::new(words),
+        }))),
         None => Ok(None),
     }
 }

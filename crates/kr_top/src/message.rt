@@ -9,6 +9,7 @@ use crate::refusal::{BadWords, Breach, Done, Limit, Object, Refusal, Stop};
 use itoa::Buffer;
 use kr_base::{CONFIG_LIMIT, DATA_LIMIT, Failed, STORE_LIMIT, Sink, Text, VALUE_LIMIT, write_all};
 use kr_config::{ConfigNo, Counted};
+use kr_judge::Verdict;
 use kr_kms::Field;
 use kr_provider::ValueNo;
 
@@ -29,6 +30,7 @@ fn status_of_done(done: Done) -> u8
         Done::Silent => 0,
         Done::Fresh => 0,
         Done::Stale => 0,
+        Done::Blocked => 1,
     }
 }
 
@@ -51,6 +53,9 @@ fn status_of_refusal(why: &Refusal) -> u8
         Refusal::NoPath(_) => 1,
         Refusal::Absent(_) => 3,
         Refusal::Broken(_) => 3,
+        Refusal::Stray(_) => 3,
+        Refusal::OtherSecret(_) => 3,
+        Refusal::Unfit(_, _) => 3,
         Refusal::NoPlugin(_) => 3,
         Refusal::Unhealthy(_, _, _) => 3,
         Refusal::Configuration(why) => status_of_configuration(*why),
@@ -106,6 +111,7 @@ fn done_line(done: Done) -> &'static str
         Done::Silent => "",
         Done::Fresh => "fresh\n",
         Done::Stale => "stale\n",
+        Done::Blocked => "",
     }
 }
 
@@ -138,6 +144,11 @@ fn write_refusal<E: Sink>(errors: &mut E, why: &Refusal) -> Result<(), Failed>
         Refusal::Placed(why, at) => write_placed(errors, *why, *at),
         Refusal::Broken(why) => write_broken(errors, *why),
         Refusal::NoPath(path) => write_each(errors, &["kmsrest: absent ", path.as_str(), "\n"]),
+        Refusal::Stray(path) => write_each(errors, &["kmsrest: text 48 ", path.as_str(), "\n"]),
+        Refusal::OtherSecret(path) => {
+            write_each(errors, &["kmsrest: text 51 ", path.as_str(), "\n"])
+        }
+        Refusal::Unfit(replica, verdict) => write_unfit(errors, *replica, verdict),
     }
 }
 
@@ -245,6 +256,25 @@ fn write_broken<E: Sink>(errors: &mut E, why: Breach) -> Result<(), Failed>
         (refusal_line (Refusal.Broken why)) result }
 {
     write_counted(errors, "kmsrest: text ", broken_code(why), place_of(why))
+}
+
+/// Writes the line of a replica that is refused.
+fn write_unfit<E: Sink>(errors: &mut E, replica: u32, verdict: &Verdict) -> Result<(), Failed>
+    ensures { Says (receipt (E.held errors.old) (E.held errors.new)
+        (E.count errors.old) (E.count errors.new))
+        (refusal_line (Refusal.Unfit replica verdict.now)) result }
+{
+    let mut buffer = Buffer::new();
+    let digits = buffer.format(replica);
+    match write_each(errors, &["kmsrest: text 49 ", digits, " "]) {
+        Ok(()) => {}
+        Err(Failed) => return Err(Failed),
+    }
+    match verdict.write(errors) {
+        Ok(()) => {}
+        Err(Failed) => return Err(Failed),
+    }
+    write_text(errors, "\n")
 }
 
 fn broken_code(why: Breach) -> &'static str

@@ -27,7 +27,7 @@ pub fn configure<W: World>(alloc: Global, world: &mut W, name: &str) -> Result<S
 
 /// Loads a configuration. What is printed where there is no such file is made first, so that this
 /// refusal needs no memory.
-fn load_settings<W: World>(alloc: Global, world: &mut W, name: &str) -> Result<Settings, Stop>
+pub fn load_settings<W: World>(alloc: Global, world: &mut W, name: &str) -> Result<Settings, Stop>
     ensures settings { Configures (W.told world.old) (W.told world.new) name.now result }
     ensures asked { AskedFor (W.told world.old).asked (W.told world.new).asked
         (WorldCall.File name.now) result }

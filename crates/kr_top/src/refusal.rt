@@ -2,6 +2,7 @@
 
 use kr_base::{Bytes, Text};
 use kr_config::ConfigNo;
+use kr_judge::Verdict;
 use kr_kms::Field;
 use kr_provider::ValueNo;
 
@@ -80,6 +81,12 @@ pub enum Refusal {
     Broken(Breach),
     /// The store has no value at this path.
     NoPath(Text),
+    /// No provider of the first replica reads what is stored at this path.
+    Stray(Text),
+    /// What is stored at this path was sealed with another secret of the same name.
+    OtherSecret(Text),
+    /// The configuration of this replica is refused beside those before it.
+    Unfit(u32, Verdict),
 }
 
 /// Why a command wasn't done.
@@ -104,6 +111,8 @@ pub enum Done {
     Fresh,
     /// The value is of another provider than the writer.
     Stale,
+    /// The verdict isn't `pass`.
+    Blocked,
 }
 
 /// What a command makes: the bytes of its output, and what is said beside them.

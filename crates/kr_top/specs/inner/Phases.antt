@@ -21,9 +21,10 @@ use Rattle.kr_top.specs.Command.{Asks, AskBadly}
 use Rattle.kr_top.specs.Commands.{silently}
 use Rattle.kr_top.specs.Configuration.{Entries, IsConfiguration}
 use Rattle.kr_top.specs.Ran.{Receipt}
+use Rattle.kr_top.specs.inner.Judging.{HasReplicas}
 use Rattle.kr_top.specs.Steps.{Steps, Left}
 use Rattle.kr_top.specs.declared.command.Command.{Command}
-use Rattle.kr_top.specs.declared.command.Command.TheVariants.{Convert, Check, Inspect, Get, Rows}
+use Rattle.kr_top.specs.declared.command.Command.TheVariants.{Convert, Check, Inspect, Get, Rows, Judge}
 use Rattle.kr_top.specs.declared.refusal.Object.TheVariants.{Input, Files, Dice}
 use Rattle.kr_top.specs.declared.refusal.Outcome.{Outcome}
 use Rattle.kr_top.specs.declared.refusal.Refusal.{Refusal}
@@ -48,6 +49,7 @@ HasShortPath (Some (Check config resource)) = ⊤
 HasShortPath (Some Inspect) = ⊤
 HasShortPath (Some (Get words)) = length words.path ≤ path_limit
 HasShortPath (Some (Rows store)) = ⊤
+HasShortPath (Some (Judge words)) = HasReplicas words.options
 
 -- the words ask for the command, or stop the call
 abbrev pub IsReadAs : List (List ℕ) → Result Command Stop → Type 0

@@ -43,3 +43,12 @@ returns-in-Rows g c = does_by
     (ap (λ name. Rows name) c.as_str-in-Rows.ensures ∙ sym c.in-Rows.is)
     (c.list.ensures (around g.W.Link.Kms.truth (g.W.World.told c.args.world.now)
     (g.I.Source.left c.args.input.now) (g.I.Source.count c.args.input.now)))
+
+pub judge-requires : goal.judge-requires
+judge-requires g c = λ κs lives.
+    subst (λ k. HasShortPath (Some k)) c.in-Judge.is c.requires.path
+
+pub returns-in-Judge : goal.returns-in-Judge
+returns-in-Judge g c = does_by (sym c.in-Judge.is)
+    (c.judge.ensures (around g.W.Link.Kms.truth (g.W.World.told c.args.world.now)
+    (g.I.Source.left c.args.input.now) (g.I.Source.count c.args.input.now)))
