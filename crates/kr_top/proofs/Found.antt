@@ -16,9 +16,9 @@ use Rattle.kr_top.proofs.Made.{remembers}
 use Rattle.kr_top.proofs.Works.{lacks}
 
 pub refused_so : {A : Type 0} (why other : Refusal) (a : Around) → why ≡ other
-    → Does (refuse {A} other) a a (Err (Refused why))
+    → Does {A = A} (refuse other) a a (Err (Refused why))
 refused_so {A} why other a same =
-    subst (λ x. Does (refuse {A} x) a a (Err (Refused why))) same
+    subst (λ x. Does {A = A} (refuse x) a a (Err (Refused why))) same
     (record { home = home_refl a; ends = λ left s. reach left (refl, refl) s })
 
 pub looks_up : (path : List ℕ) (rows : List LogRow) (a : Around) (result : Result Row Stop)

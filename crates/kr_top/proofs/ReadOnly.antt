@@ -289,21 +289,21 @@ command_reads (Judge words) = (
       (by_result read) (result_reads read),
 )
 
-reaches_kept : (command : Command) {old new : Around} {point : Point Outcome}
+reaches_kept : (command : Command) (old : Around) {new : Around} {point : Point Outcome}
     → Reaches (steps command) (left_of old) new point
     → new.world.tapes.told ≡ old.world.tapes.told
-reaches_kept command {old} {new} {point} r = r.stays.tapes
+reaches_kept command old {new} {point} r = r.stays.tapes
     ∙ leaves_tapes point r.end (steps command) (left_of old) (command_reads command) r.goes
 
 ends_kept : (command : Command) (old new : Around) (made : Result Outcome Stop)
     → Ends (steps command) (left_of old) old new made
     → new.world.tapes.told ≡ old.world.tapes.told
-ends_kept command old new (Ok x) r = reaches_kept command r
+ends_kept command old new (Ok x) r = reaches_kept command old r
 ends_kept command old new (Err (Words why)) r = absurd r
-ends_kept command old new (Err (Refused why)) r = reaches_kept command r
-ends_kept command old new (Err (Fault object count)) (call, r, f) = reaches_kept command r
-ends_kept command old new (Err NoMemory) (inl (call, r)) = reaches_kept command r
-ends_kept command old new (Err NoMemory) (inr r) = reaches_kept command r
+ends_kept command old new (Err (Refused why)) r = reaches_kept command old r
+ends_kept command old new (Err (Fault object count)) (call, r, f) = reaches_kept command old r
+ends_kept command old new (Err NoMemory) (inl (call, r)) = reaches_kept command old r
+ends_kept command old new (Err NoMemory) (inr r) = reaches_kept command old r
 
 -- whatever a call did, the tapes are as they were
 pub tapes_kept : (words : List (List ℕ)) (old new : Around) (output : Receipt)
