@@ -79,12 +79,12 @@ unlent {next = next} {old} {new} {result} a same d =
     subst (λ t. Does next (with_world old a) (with_world (with_tapes t new) a) result) (sym same) d
 
 -- what a bench does of equal parts is the same
-pub bench_by : {programs others : List Program} {direction : Direction} {rows : List Row}
+pub bench_by : {programs others : List Program} (direction : Direction) (rows : List Row)
     {resource path bytes r p b : List ℕ} {old new : Around} {result : Result Outcome Stop}
     → others ≡ programs → r ≡ resource → p ≡ path → b ≡ bytes
     → Does (bench_steps others direction r p rows b) old new result
     → Does (bench_steps programs direction resource path rows bytes) old new result
-bench_by {programs} {others} {direction} {rows} {resource} {path} {bytes} {r} {p} {b} {old} {new}
+bench_by {programs} {others} direction rows {resource} {path} {bytes} {r} {p} {b} {old} {new}
     {result} programs_are resource_is path_is bytes_are d =
     subst (λ x. Does (bench_steps x direction resource path rows bytes) old new result) programs_are
     (subst (λ x. Does (bench_steps others direction x path rows bytes) old new result) resource_is

@@ -82,5 +82,6 @@ returns g c =
     (goes_on (input_of words.direction) (taken_up words rows programs) c.in-Ok-take_input.bytes
     (c.in-Ok-take_input.ensures.does now)
     (unlent taken c.make.ensures.tapes
-    (bench_by c.as_slice-2.ensures c.as_str-2.ensures c.as_str-3.ensures c.as_slice.ensures
+    (bench_by words.direction rows c.as_slice-2.ensures c.as_str-2.ensures c.as_str-3.ensures
+    c.as_slice.ensures
     (c.make.ensures.made (g.W.World.told c.configure.new.world).tapes taken refl)))))

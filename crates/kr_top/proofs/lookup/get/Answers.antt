@@ -83,7 +83,7 @@ returns g c a t =
     (goes_on (tape_for words.store false (row_on words.store words.path))
     (read_so words rows programs) c.in-Ok-find_row.row (c.in-Ok-find_row.ensures.does a)
     (unlent a c.make.ensures.tapes
-    (bench_by c.as_slice-2.ensures
+    (bench_by Decrypt rows c.as_slice-2.ensures
     (c.as_str-2.ensures ∙ ap (λ (r : stored.Row). r.resource) c.get-found.ensures)
     c.as_str-3.ensures
     (c.as_slice.ensures ∙ ap (λ (r : stored.Row). r.stored) c.get-found.ensures)
