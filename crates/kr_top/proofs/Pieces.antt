@@ -89,17 +89,17 @@ spoke-all {a} {b} {pieces} {i} s h = record {
 
 -- ---- one text behind another
 
-front_of_both : {a b : Option (List ℕ)} (text more : List ℕ) → AppendsFront a b text
+front_of_both : (a b : Option (List ℕ)) (text more : List ℕ) → AppendsFront a b text
     → AppendsFront a b (text ++ more)
-front_of_both {a} {b} text more (n, short, appended) = (
+front_of_both a b text more (n, short, appended) = (
   n,
   omega (arith, short, length-append text more),
   subst (Appends a b) (sym (take-append-le n text more short)) appended,
 )
 
-front_behind : {a b c : Option (List ℕ)} (text more : List ℕ) → Appends a b text
+front_behind : (a b c : Option (List ℕ)) (text more : List ℕ) → Appends a b text
     → AppendsFront b c more → AppendsFront a c (text ++ more)
-front_behind {a} {b} {c} text more written (n, short, appended) = (
+front_behind a b c text more written (n, short, appended) = (
   length text + n,
   omega (arith, short, length-append text more),
   subst (Appends a c) (sym (take-append-add text more n))
@@ -111,7 +111,7 @@ pub says_cut : {T E : Type 0} {x : E} {sink : Receipt} (text more : List ℕ)
     → Says {T = T} {E = E} sink text (Err x) → Says {T = T} {E = E} sink (text ++ more) (Err x)
 says_cut {sink = sink} text more s = record {
   ok = tt;
-  err = front_of_both {a = sink.old} {b = sink.new} text more s.err;
+  err = front_of_both sink.old sink.new text more s.err;
   cause = s.cause;
 }
 
@@ -127,7 +127,7 @@ says_behind {a = a} {b} {c} text more (Ok x) written later s = record {
 }
 says_behind {a = a} {b} {c} text more (Err x) written later s = record {
   ok = tt;
-  err = front_behind {a = a} {b = b} {c = c} text more written s.err;
+  err = front_behind a b c text more written s.err;
   cause = record {
     later = omega (arith, later, s.cause.later);
     failed = Rose-later _ _ _ later s.cause.failed;

@@ -13,11 +13,11 @@ use Rattle.kr_top.proofs.ReplicaLists.{first_in}
 use Rattle.kr_top.proofs.judge.judge_by.Goals as goal
 
 pub outcome_on-requires-clause-first : goal.outcome_on-requires-clause-first
-outcome_on-requires-clause-first g c = λ κs lives.
+outcome_on-requires-clause-first g c =
     first_in _ c.in-Ok.replicas.0 c.in-Ok.ensures.are_in c.requires.some
 
 pub outcome_on-requires-clause-few : goal.outcome_on-requires-clause-few
-outcome_on-requires-clause-few g c = λ κs lives.
+outcome_on-requires-clause-few g c =
     omega (arith, c.in-Ok.ensures.are_in.0, c.requires.few)
 
 pub returns-in-Err-clause-made : goal.returns-in-Err-clause-made

@@ -31,7 +31,7 @@ loop-number-init g c =
 
 pub unreachable-requires : goal.unreachable-requires
 unreachable-requires g c = name_there c.args.options.now c.loop-number.number
-    (omega (arith, c.loop-number-test.true, c.replicas.ensures)) c.in_default.ensures
+    (omega (arith, c.loop-number-test.true, c.replicas-number-end.ensures)) c.in_default.ensures
 
 pub returns-in-Err-clause-loads : goal.returns-in-Err-clause-loads
 returns-in-Err-clause-loads g c =
@@ -86,12 +86,12 @@ loop-number-preserved g c =
 
 pub returns-clause-loads : goal.returns-clause-loads
 returns-clause-loads g c = loads_all c.loop-number.invariant.0
-    (omega (arith, count_is c.args.options.now, c.replicas.ensures, c.loop-number-test.false))
+    (omega (arith, count_is c.args.options.now, c.replicas-number-end.ensures, c.loop-number-test.false))
 
 pub returns-clause-are_in : goal.returns-clause-are_in
 returns-clause-are_in g c =
     subst (λ n. AreIn n c.loop-number.replicas.0)
-    (omega (arith, c.replicas.ensures, c.loop-number-test.false, c.loop-number.auto.number-end))
+    (omega (arith, c.replicas-number-end.ensures, c.loop-number-test.false, c.loop-number.auto.number-end))
     c.loop-number.invariant.1
 
 pub returns-clause-objects : goal.returns-clause-objects
