@@ -24,7 +24,7 @@ use std::alloc::Global;
 
 /// Judges the reload.
 pub fn judge<W: World>(alloc: Global, words: &Judgement, world: &mut W) -> Result<Outcome, Stop>
-    requires { HasReplicas words.now.options }
+    requires replicas { HasReplicas words.now.options }
     ensures { (a : Around) → Does (judging words.now)
         (with_world (W.told world.old) a) (with_world (W.told world.new) a) result }
 {

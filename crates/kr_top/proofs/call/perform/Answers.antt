@@ -44,8 +44,8 @@ returns-in-Rows g c = does_by
     (c.list.ensures (around g.W.Link.Kms.truth (g.W.World.told c.args.world.now)
     (g.I.Source.left c.args.input.now) (g.I.Source.count c.args.input.now)))
 
-pub judge-requires : goal.judge-requires
-judge-requires g c = λ κs lives.
+pub judge-requires-clause-replicas : goal.judge-requires-clause-replicas
+judge-requires-clause-replicas g c = λ κs lives.
     subst (λ k. HasShortPath (Some k)) c.in-Judge.is c.requires.path
 
 pub returns-in-Judge : goal.returns-in-Judge
