@@ -1,5 +1,5 @@
 -- Steps that make and write no tape leave all tapes.
-use Rattle.std.proofs.Common.{◌≡◌, ℕ, zero, suc, List, [], ◌∷◌, ◌++◌, Bool, true, false, Option, None, Some, Result, Ok, Err, refl, sym, ◌∙◌, ap, subst, inl, inr}
+use Rattle.std.proofs.Common.{◌≡◌, ℕ, zero, suc, List, [], ◌∷◌, ◌++◌, Bool, true, false, Option, None, Some, Result, Ok, Err, refl, ◌∙◌, ap, inl, inr}
 use Rattle.kr_config.specs.Kept.{Row}
 use Rattle.kr_config.specs.Lists.{list_of}
 use Rattle.kr_store.specs.Rows.{live}
@@ -21,7 +21,7 @@ use Rattle.kr_provider.specs.Reading.{Reading, data_of, refused, unopened, value
 use Rattle.kr_provider.specs.Readers.{reader_in, writer_of}
 use Rattle.kr_provider.specs.Sealing.{draw_size, sealed_by}
 use Rattle.kr_top.specs.Check.{listing}
-use Rattle.kr_top.specs.Commands.{by_result, configuration, configurations, judgement_on, judging_at, judging_by, telling, bench_steps, draw_some, input_of, linking_programs, opening, published_source, read_with, reading_steps, row_found, row_on, sealing, show, silently, source_steps, steps, tape_for, unsealing, value_steps, with_memory, working, working_by}
+use Rattle.kr_top.specs.Commands.{by_result, configuration, configurations, judgement_on, judging_at, judging_by, telling, bench_steps, draw_some, input_of, linking_programs, opening, published_source, read_with, reading_steps, row_found, row_on, show, silently, source_steps, steps, tape_for, unsealing, value_steps, with_memory, working, working_by}
 use Rattle.kr_top.specs.Command.{replica_names, reload_in, reload_number, reload_file}
 use Rattle.kr_top.specs.Inspect.{Inspects}
 use Rattle.kr_top.specs.RowLines.{ShowsRows}

@@ -1,5 +1,5 @@
 -- `get`: each phase goes on from the one before.
-use Rattle.std.proofs.Common.{◌≡◌, ℕ, ◌≤◌, List, false, length, refl, sym, ◌∙◌, ap, subst}
+use Rattle.std.proofs.Common.{◌≡◌, ◌≤◌, List, false, length, sym, ◌∙◌, ap, subst}
 use Rattle.kr_base.specs.Limits.{path_limit, value_limit}
 use Rattle.kr_config.specs.Kept.{Row, rows_of}
 use Rattle.kr_provider.specs.PluginOrder.{plugin_order}
