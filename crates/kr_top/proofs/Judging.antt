@@ -1,8 +1,7 @@
 -- How a verdict ends the steps of `judge`, and that there is one alone.
-use Rattle.std.proofs.Common.{◌≡◌, ◌≢◌, ℕ, List, Option, None, Some, Result, Ok, Err, refl, sym, ◌∙◌, ap, subst, inl, inr, arith}
+use Rattle.std.proofs.Common.{◌≡◌, ◌≢◌, ℕ, List, Option, None, Some, Result, Ok, Err, refl, sym, ◌∙◌, ap, subst, inl, inr}
 use Rattle.kr_config.specs.Kept.{Row}
 use Rattle.kr_judge.specs.declared.verdict.Verdict.{Verdict}
-use Rattle.kr_rollout.specs.Starts.{MayStart, IsNoStart}
 use Rattle.kr_rollout.specs.declared.opening_board.StartNo.{StartNo}
 use Rattle.kr_rollout.specs.declared.opening_board.StartNo.TheVariants as no
 use Rattle.kr_rollout.proofs.Causes.{one_cause}
@@ -11,7 +10,7 @@ use Rattle.kr_store.specs.declared.rows.LogRow.{LogRow}
 use Rattle.kr_top.specs.Around.{Around, Stays, Ends}
 use Rattle.kr_top.specs.Command.{reload_in, reload_number, reload_file}
 use Rattle.kr_top.specs.Commands.{configuration, judgement_on, judging_at, telling}
-use Rattle.kr_top.specs.Judgements.{IsJudged, start_refusal, verdict_outcome}
+use Rattle.kr_top.specs.Judgements.{IsJudged, start_refusal}
 use Rattle.kr_top.specs.Steps.{Steps, Left, and_then}
 use Rattle.kr_top.specs.inner.Judging.{Judges, IsOutcome}
 use Rattle.kr_top.specs.inner.Phases.{Does}

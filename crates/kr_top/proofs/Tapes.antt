@@ -1,11 +1,11 @@
 -- A tape that is borrowed, and comes back.
 use Rattle.std.proofs.Common.{◌≡◌, ◌≢◌, ℕ, List, Option, None, Some, Result, Ok, Err, refl, sym, ◌∙◌, ap, subst, inl, inr, arith}
-use Rattle.std.specs.Prelude.{Bool, true, false, ◌-◌, ◌<◌, ◌≤◌, if◌then◌else◌}
+use Rattle.std.specs.Prelude.{Bool, true, false, ◌<◌, if◌then◌else◌}
 use Rattle.std.specs.Io.KnownBytes.{Keeps}
 use Rattle.std.proofs.lemmas.Slice.Eq.{bytes_eq-Decides}
 use Rattle.std.specs.Option.{option_map}
 use Rattle.kr_base.specs.Told.{Agrees}
-use Rattle.kr_kms.specs.Outside.{Outside, Objects, with_call, same_name, at_key, HandsOut, IsTape, KeepsFiles, KeepsObjects}
+use Rattle.kr_kms.specs.Outside.{Outside, Objects, with_call, same_name, HandsOut, IsTape, KeepsFiles, KeepsObjects}
 use Rattle.kr_kms.specs.declared.world.WorldCall.TheVariants.{Tape}
 use Rattle.kr_kms.proofs.Lent.{names_decide}
 use Rattle.kr_top.specs.Around.{Around, with_world, with_lent, with_lent_tape, with_tapes, Stays, Reaches}

@@ -1,5 +1,5 @@
 -- What `judge` finds out of a reload, and what it writes.
-use Rattle.std.specs.Prelude.{◌≡◌, ℕ, List, map, codes, ◌++◌, Option, None, Some, Result, Ok, Err}
+use Rattle.std.specs.Prelude.{◌≡◌, ℕ, List, Option, None, Some, Result, Ok, Err}
 use Rattle.kr_config.specs.Kept.{Row}
 use Rattle.kr_judge.specs.Texts.{verdict_text}
 use Rattle.kr_judge.specs.Verdicts.{verdict_of}

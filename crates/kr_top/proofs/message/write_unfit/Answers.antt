@@ -1,5 +1,5 @@
 -- `write_unfit`: the begin of the line, the verdict, the line's end.
-use Rattle.std.proofs.Common.{◌≡◌, ℕ, List, [], ◌++◌, ◌∙◌, ap, append_assoc, codes, decimal, Err}
+use Rattle.std.proofs.Common.{◌≡◌, ℕ, List, [], ◌++◌, ◌∙◌, ap, append_assoc, codes, decimal}
 use Rattle.kr_judge.specs.Texts.{verdict_text}
 use Rattle.kr_judge.specs.declared.verdict.Verdict.{Verdict}
 use Rattle.kr_top.specs.Message.{refusal_line}

@@ -1,6 +1,5 @@
 -- `load_replicas`: each turn loads the configuration of the next name.
-use Rattle.std.proofs.Common.{◌≡◌, ℕ, ◌+◌, List, [], ◌∷◌, ◌++◌, Option, Some, Err, sym, ◌∙◌, ap, subst, arith}
-use Rattle.kr_config.specs.Kept.{Row}
+use Rattle.std.proofs.Common.{◌≡◌, ℕ, ◌+◌, List, [], ◌∷◌, ◌++◌, Option, Some, sym, ◌∙◌, ap, subst, arith}
 use Rattle.kr_config.specs.declared.settings.Settings.{Settings}
 use Rattle.kr_kms.specs.Outside.{Outside}
 use Rattle.kr_rollout.specs.Openings.{rows_in}
