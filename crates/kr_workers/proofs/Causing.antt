@@ -58,7 +58,7 @@ is_done (Err why) = false
 -- ---- the entry at which the store failed
 
 pub store_failed : (old new : Caller) (asked : Event) → AddsEntry old asked answer.StoreFailed new
-    → StoreFails old new
+    → StoreFails old new.seen
 store_failed old new asked a = record {
   before = a.others;
   entry = a.entry;
@@ -71,24 +71,30 @@ store_failed old new asked a = record {
 }
 
 -- it is one of what is added before and behind it too
-pub store_within : (a b c d : Caller) (p q : List Entry) → Adds a p b → StoreFails b c → Adds c q d
-    → StoreFails a d
-store_within a b c d p q x s y =
+pub store_within : (a b : Caller) (p seen rest all : List Entry) → Adds a p b → StoreFails b seen
+    → all ≡ seen ++ rest → StoreFails a all
+store_within a b p seen rest all x s is =
     let starts : b.seen ++ s.before ≡ a.seen ++ (x.more ++ s.before) =
     ap (λ l. l ++ s.before) (ap (λ (c : Caller). c.seen) x.new_is)
     ∙ append_assoc a.seen x.more s.before in record {
       before = x.more ++ s.before;
       entry = s.entry;
-      behind = s.behind ++ y.more;
-      there = ap (λ (c : Caller). c.seen) y.new_is
-          ∙ ap (λ l. l ++ y.more) (s.there ∙ ap (λ l. l ++ s.entry ∷ s.behind) starts)
-          ∙ append_assoc (a.seen ++ (x.more ++ s.before)) (s.entry ∷ s.behind) y.more;
+      behind = s.behind ++ rest;
+      there = is ∙ ap (λ l. l ++ rest) (s.there ∙ ap (λ l. l ++ s.entry ∷ s.behind) starts)
+          ∙ append_assoc (a.seen ++ (x.more ++ s.before)) (s.entry ∷ s.behind) rest;
       own = s.own ∙ ap (λ (c : Caller). c.seat) x.new_is;
       says = s.says;
       rose = subst (λ (o : Opening). Rose (state_of o (a.seen ++ (x.more ++ s.before))).count
           s.entry.line.faults) (ap (λ (c : Caller). c.opening) x.new_is)
           (subst (λ l. Rose (state_of b.opening l).count s.entry.line.faults) starts s.rose);
     }
+
+-- ---- the cause of a reply, from one workplace to another
+
+abbrev pub HasCauseAt : {L D : Type 0} → (L → Link) → (D → ℕ) → ScriptLine → Workplace L D → Told
+    → Workplace L D → Type 0
+HasCauseAt link count asked old reply new =
+    HasCause link count asked old reply new.caller.seen new.links new.dice
 
 -- ---- why a call was cut short
 
@@ -97,7 +103,7 @@ module _ {L D : Type 0} (link : L → Link) (count : D → ℕ) (asked : ScriptL
   Causes old olds dice (refusal.Refused why) new news after = IsDefined asked (told.Value why)
   Causes old olds dice (refusal.PluginFailed name) new news after = FaultRose link name olds news
   Causes old olds dice refusal.DiceFailed new news after = Rose (count dice) (count after)
-  Causes old olds dice refusal.StoreFailed new news after = StoreFails old new
+  Causes old olds dice refusal.StoreFailed new news after = StoreFails old new.seen
   Causes old olds dice (refusal.StoreFull needed) new news after = IsDefined asked told.Full
   Causes old olds dice (refusal.Unhealthy name field text) new news after =
       IsDefined asked (told.Unhealthy name field text)
@@ -108,13 +114,13 @@ module _ {L D : Type 0} (link : L → Link) (count : D → ℕ) (asked : ScriptL
   -- the reply that tells it
   module _ (old new : Workplace L D) (reply : Told) where
     pub told_caused : (other : Told) → ◌≡◌ {A = Reply} (Ok reply) (Ok other)
-        → HasCause link count asked old other new → HasCause link count asked old reply new
-    told_caused other is h = subst (λ (r : Told). HasCause link count asked old r new)
+        → HasCauseAt link count asked old other new → HasCauseAt link count asked old reply new
+    told_caused other is h = subst (λ (r : Told). HasCauseAt link count asked old r new)
         (sym (ap (reply_in reply) is)) h
 
     pub refused_caused : (why : CallNo) → Ok reply ≡ told_of_refusal old.caller.seat why
         → Causes old.caller old.links old.dice why new.caller new.links new.dice
-        → HasCause link count asked old reply new
+        → HasCauseAt link count asked old reply new
     refused_caused (refusal.Refused why) is h = told_caused (told.Value why) is h
     refused_caused (refusal.PluginFailed name) is h = told_caused (told.FaultPlugin name) is h
     refused_caused refusal.DiceFailed is h =
@@ -135,7 +141,7 @@ module _ {L D : Type 0} (link : L → Link) (count : D → ℕ) (asked : ScriptL
   caused_within a b c d p q x y olds news dice after (refusal.PluginFailed name) h = h
   caused_within a b c d p q x y olds news dice after refusal.DiceFailed h = h
   caused_within a b c d p q x y olds news dice after refusal.StoreFailed h =
-      store_within a b c d p q x h y
+      store_within a b p c.seen y.more d.seen x h (ap (λ (e : Caller). e.seen) y.new_is)
   caused_within a b c d p q x y olds news dice after (refusal.StoreFull needed) h = h
   caused_within a b c d p q x y olds news dice after (refusal.Unhealthy name field text) h = h
   caused_within a b c d p q x y olds news dice after refusal.Gone h = h
@@ -270,7 +276,7 @@ module _ {L D : Type 0} (truth : Truth) (link : L → Link) (left : D → Option
       (reply : Told) (result : Result ℕ CallNo)
       → Ok reply ≡ told_of_write old.caller.seat result
       → IsWrite left count resource path plain replica old.caller old.dice result new.caller
-      new.dice → HasCause link count (line.Put resource path plain) old reply new
+      new.dice → HasCauseAt link count (line.Put resource path plain) old reply new
   put_caused resource path plain replica old new reply (Ok revision) is w =
       told_caused link count (line.Put resource path plain) old new reply (told.Put revision) is tt
   put_caused resource path plain replica old new reply (Err why) is w =
@@ -309,7 +315,7 @@ module _ {L D : Type 0} (truth : Truth) (link : L → Link) (left : D → Option
   pub get_caused : (path : List ℕ) (replica : ℕ) (old new : Workplace L D) (reply : Told)
       (result : Result Read CallNo) → Ok reply ≡ told_of_read old.caller.seat result
       → IsRead truth link path replica old.caller old.links result new.caller new.links
-      → HasCause link count (line.Get path) old reply new
+      → HasCauseAt link count (line.Get path) old reply new
   get_caused path replica old new reply (Ok found.Absent) is r =
       told_caused link count (line.Get path) old new reply told.Absent is tt
   get_caused path replica old new reply (Ok (found.Value revision plain stale)) is r =
@@ -337,7 +343,7 @@ module _ {L D : Type 0} (truth : Truth) (link : L → Link) (left : D → Option
   pub deleted_caused : (path : List ℕ) (old new : Workplace L D) (reply : Told)
       (result : Result (Option ℕ) CallNo) → Ok reply ≡ told_of_delete old.caller.seat result
       → IsDelete path old.caller result new.caller
-      → HasCause link count (line.Delete path) old reply new
+      → HasCauseAt link count (line.Delete path) old reply new
   deleted_caused path old new reply (Ok None) is d =
       told_caused link count (line.Delete path) old new reply told.Absent is tt
   deleted_caused path old new reply (Ok (Some revision)) is d =
@@ -362,7 +368,7 @@ module _ {L D : Type 0} (truth : Truth) (link : L → Link) (left : D → Option
   pub left_caused : (named : ℕ) (old new : Workplace L D) (reply : Told)
       (result : Result (Option ℕ) CallNo) → Ok reply ≡ told_of_leave old.caller.seat result
       → IsLeave named old.caller result new.caller
-      → HasCause link count (line.Leave named) old reply new
+      → HasCauseAt link count (line.Leave named) old reply new
   left_caused named old new reply (Ok None) is d =
       told_caused link count (line.Leave named) old new reply told.Gone is tt
   left_caused named old new reply (Ok (Some number)) is d =

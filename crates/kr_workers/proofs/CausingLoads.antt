@@ -21,10 +21,10 @@ use Rattle.kr_script.specs.declared.script.ScriptLine.{ScriptLine}
 use Rattle.kr_script.specs.declared.script.ScriptLine.TheVariants as line
 use Rattle.kr_script.specs.declared.told.Told.{Told}
 use Rattle.kr_script.specs.declared.told.Told.TheVariants as told
-use Rattle.kr_workers.specs.Causes.{HasCause, IsDefined}
+use Rattle.kr_workers.specs.Causes.{IsDefined}
 use Rattle.kr_workers.specs.Replies.{told_of_join, told_of_refresh, told_of_reload}
 use Rattle.kr_workers.specs.ScriptLines.{DoesJoin, DoesReload, IfRead, Workplace}
-use Rattle.kr_workers.proofs.Causing.{Causes, caused_later, early_caused, held_caused, is_done, refused_caused, told_caused}
+use Rattle.kr_workers.proofs.Causing.{Causes, HasCauseAt, caused_later, early_caused, held_caused, is_done, refused_caused, told_caused}
 
 module _ {L D : Type 0} (truth : Truth) (link : L → Link) (left : D → Option (List ℕ))
     (count : D → ℕ) where
@@ -62,7 +62,7 @@ module _ {L D : Type 0} (truth : Truth) (link : L → Link) (left : D → Option
       (reply : Told) (result : Result Loaded CallNo)
       → Ok reply ≡ told_of_reload old.caller.seat result
       → IsReload truth link left count rows named old.caller old.links old.dice result new.caller
-      new.links new.dice → HasCause link count (line.Reload named file) old reply new
+      new.links new.dice → HasCauseAt link count (line.Reload named file) old reply new
   reload_caused named file rows old new reply (Ok (loaded.Generation number)) is r = told_caused
       link count (line.Reload named file) old new reply (told.Reloaded number) is tt
   reload_caused named file rows old new reply (Ok (loaded.Refused verdict)) is r = told_caused
@@ -78,7 +78,7 @@ module _ {L D : Type 0} (truth : Truth) (link : L → Link) (left : D → Option
   pub reloaded_caused : (named : ℕ) (file : List ℕ) (found : Option (List Row))
       (old new : Workplace L D) (reply : Told)
       → IfRead found (λ rows. DoesReload truth link left count named rows old (Ok reply) new)
-      → HasCause link count (line.Reload named file) old reply new
+      → HasCauseAt link count (line.Reload named file) old reply new
   reloaded_caused named file None old new reply d = absurd d
   reloaded_caused named file (Some rows) old new reply (inl none) = told_caused link count
       (line.Reload named file) old new reply told.Memory none.0 tt
@@ -106,7 +106,7 @@ module _ {L D : Type 0} (truth : Truth) (link : L → Link) (left : D → Option
       (reply : Told) (result : Result Joining CallNo)
       → Ok reply ≡ told_of_join old.caller.seat result
       → IsJoin truth link left count rows named old.caller old.links old.dice result new.caller
-      new.links new.dice → HasCause link count (line.Join named file) old reply new
+      new.links new.dice → HasCauseAt link count (line.Join named file) old reply new
   join_caused named file rows old new reply (Ok (joining.Generation number)) is j = told_caused
       link count (line.Join named file) old new reply (told.Joined number) is tt
   join_caused named file rows old new reply (Ok (joining.Refused verdict)) is j = told_caused
@@ -121,7 +121,7 @@ module _ {L D : Type 0} (truth : Truth) (link : L → Link) (left : D → Option
   pub joined_caused : (named : ℕ) (file : List ℕ) (found : Option (List Row))
       (old new : Workplace L D) (reply : Told)
       → IfRead found (λ rows. DoesJoin truth link left count named rows old (Ok reply) new)
-      → HasCause link count (line.Join named file) old reply new
+      → HasCauseAt link count (line.Join named file) old reply new
   joined_caused named file None old new reply d = absurd d
   joined_caused named file (Some rows) old new reply (inl none) = told_caused link count
       (line.Join named file) old new reply told.Memory none.0 tt
@@ -174,7 +174,7 @@ module _ {L D : Type 0} (truth : Truth) (link : L → Link) (left : D → Option
   pub refresh_caused : (replica : ℕ) (old new : Workplace L D) (reply : Told)
       (result : Result Loaded CallNo) → Ok reply ≡ told_of_refresh old.caller.seat result
       → IsRefresh truth link left count replica old.caller old.links old.dice result new.caller
-      new.links new.dice → HasCause link count line.Refresh old reply new
+      new.links new.dice → HasCauseAt link count line.Refresh old reply new
   refresh_caused replica old new reply (Ok (loaded.Generation number)) is r = told_caused
       link count line.Refresh old new reply (told.Refreshed number) is tt
   refresh_caused replica old new reply (Ok (loaded.Refused verdict)) is (inl e) = absurd e

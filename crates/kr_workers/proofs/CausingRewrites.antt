@@ -30,11 +30,10 @@ use Rattle.kr_script.specs.declared.script.ScriptLine.TheVariants as line
 use Rattle.kr_script.specs.declared.told.Told.{Told}
 use Rattle.kr_script.specs.declared.told.Told.TheVariants as told
 use Rattle.kr_workers.specs.declared.files.SettingsFile.{SettingsFile}
-use Rattle.kr_workers.specs.Causes.{HasCause}
 use Rattle.kr_workers.specs.Files.{rows_at}
 use Rattle.kr_workers.specs.Replies.{told_of_drive}
 use Rattle.kr_workers.specs.ScriptLines.{Does, Workplace}
-use Rattle.kr_workers.proofs.Causing.{Causes, caused_later, caused_within, deleted_caused, early_caused, get_caused, held_caused, is_done, left_caused, put_caused, refused_caused, spent_caused, store_failed, told_caused}
+use Rattle.kr_workers.proofs.Causing.{Causes, HasCauseAt, caused_later, caused_within, deleted_caused, early_caused, get_caused, held_caused, is_done, left_caused, put_caused, refused_caused, spent_caused, store_failed, told_caused}
 use Rattle.kr_workers.proofs.CausingLoads.{joined_caused, refresh_caused, reloaded_caused}
 
 module _ {L D : Type 0} (truth : Truth) (link : L → Link) (left : D → Option (List ℕ))
@@ -199,7 +198,7 @@ module _ {L D : Type 0} (truth : Truth) (link : L → Link) (left : D → Option
       (result : Result Report (Report × CallNo))
       → Ok reply ≡ told_of_drive old.caller.seat result
       → IsDrive truth link left count replica [] old.caller old.links old.dice result new.caller
-      new.links new.dice → HasCause link count line.Rewrite old reply new
+      new.links new.dice → HasCauseAt link count line.Rewrite old reply new
   rewrite_caused replica old new reply (Ok report) is d =
       told_caused link count line.Rewrite old new reply
       (told.Rewritten report.rewritten report.fresh report.changed report.left) is tt
@@ -217,7 +216,7 @@ module _ {L D : Type 0} (truth : Truth) (link : L → Link) (left : D → Option
   pub line_caused : (files : List SettingsFile) (replica : ℕ) (asked : ScriptLine)
       (old new : Workplace L D) (reply : Told)
       → Does truth link left count files replica asked old (Ok reply) new
-      → HasCause link count asked old reply new
+      → HasCauseAt link count asked old reply new
   line_caused files replica (line.Put resource path plain) old new reply d =
       put_caused truth link left count resource path plain replica old new reply d.0 d.1 d.2
   line_caused files replica (line.Get path) old new reply d =

@@ -1,25 +1,29 @@
 -- The cause of a reply, by the whole of its worker's run.
-use Rattle.std.proofs.Common.{ℕ, zero, suc, ◌≤◌, List, [], ◌∷◌, ◌++◌, Contains, Option, inl, inr, refl, ap, sym, subst, ◌∙◌, arith}
+use Rattle.std.proofs.Common.{◌≡◌, ℕ, zero, suc, ◌≤◌, List, [], ◌∷◌, ◌++◌, Contains, Option, inl, inr, refl, ap, sym, subst, ◌∙◌, arith}
 use Rattle.std.proofs.Math.Nat.{eq-or-lt_of_le}
+use Rattle.std.proofs.lemmas.List.{append_assoc}
 use Rattle.kr_base.proofs.Counting.{Rose-later}
 use Rattle.kr_base.specs.Faults.{Rose}
 use Rattle.kr_kms.specs.Calls.{IsSameLink, Link}
 use Rattle.kr_kms.specs.Truth.{Truth}
 use Rattle.kr_provider.specs.AskedLinks.{AskedOnly, FaultRose}
+use Rattle.kr_provider.specs.BenchState.{BenchState}
 use Rattle.kr_provider.specs.Names.{names_of}
 use Rattle.kr_provider.proofs.AskedLists.{asked_none, asked_then, names_stay, rose_later}
 use Rattle.kr_rollout.specs.declared.opening.Entry.{Entry}
 use Rattle.kr_rollout.specs.Acting.{Caller}
 use Rattle.kr_rollout.specs.Parts.{Adds}
 use Rattle.kr_rollout.proofs.PartsAdd.{parts_follow}
+use Rattle.kr_script.specs.declared.script.Part.{Part}
 use Rattle.kr_script.specs.declared.script.ScriptLine.{ScriptLine}
 use Rattle.kr_script.specs.declared.told.Told.{Told}
 use Rattle.kr_script.specs.declared.told.Told.TheVariants as told
 use Rattle.kr_workers.specs.declared.files.SettingsFile.{SettingsFile}
 use Rattle.kr_workers.specs.Causes.{HasCause, RepliesHaveCauses}
+use Rattle.kr_workers.specs.Histories.{StandsIn}
 use Rattle.kr_workers.specs.Runs.{DoesAll, IsDone, LineDone}
 use Rattle.kr_workers.specs.ScriptLines.{Workplace}
-use Rattle.kr_workers.proofs.Causing.{store_within}
+use Rattle.kr_workers.proofs.Causing.{HasCauseAt, store_within}
 use Rattle.kr_workers.proofs.CausingRewrites.{line_caused}
 
 -- ---- a count that rose stays risen
@@ -66,6 +70,14 @@ record HasGone {L D : Type 0} (link : L → Link) (count : D → ℕ) (old new :
   asked : AskedOnly link (names_of link old.links) old.links new.links
   later : count old.dice ≤ count new.dice
 
+-- what is seen and had still later, at whatever place
+record IsFurther {L D : Type 0} (link : L → Link) (count : D → ℕ) (old : Workplace L D)
+    (seen : List Entry) (links : List L) (dice : D) : Type 0 where
+  rest : List Entry
+  seen_is : seen ≡ old.caller.seen ++ rest
+  asked : AskedOnly link (names_of link old.links) old.links links
+  later : count old.dice ≤ count dice
+
 module _ {L D : Type 0} (link : L → Link) (count : D → ℕ) where
   gone_none : (w : Workplace L D) → HasGone link count w w
   gone_none w = record {
@@ -86,38 +98,51 @@ module _ {L D : Type 0} (link : L → Link) (count : D → ℕ) where
     later = omega (arith, s.later, t.later);
   }
 
+  further_then : (a b : Workplace L D) (seen : List Entry) (links : List L) (dice : D)
+      → HasGone link count a b → IsFurther link count b seen links dice
+      → IsFurther link count a seen links dice
+  further_then a b seen links dice s t = record {
+    rest = s.adds.more ++ t.rest;
+    seen_is = t.seen_is ∙ ap (λ l. l ++ t.rest) (ap (λ (c : Caller). c.seen) s.adds.new_is)
+        ∙ append_assoc a.caller.seen s.adds.more t.rest;
+    asked = asked_then link (names_of link a.links) a.links b.links links s.asked
+        (subst (λ names. AskedOnly link names b.links links)
+        (names_stay link (names_of link a.links) a.links b.links s.asked) t.asked);
+    later = omega (arith, s.later, t.later);
+  }
+
   -- a cause in the midst is one of the whole
-  cause_within : (asked : ScriptLine) (a b c d : Workplace L D) (reply : Told)
-      → HasGone link count a b → HasGone link count c d → HasCause link count asked b reply c
-      → HasCause link count asked a reply d
-  cause_within asked a b c d (told.Put revision) s t h = h
-  cause_within asked a b c d (told.Got revision plain) s t h = h
-  cause_within asked a b c d (told.Deleted revision) s t h = h
-  cause_within asked a b c d told.Absent s t h = h
-  cause_within asked a b c d (told.Rewritten rewritten fresh changed left) s t h = h
-  cause_within asked a b c d (told.Reloaded generation) s t h = h
-  cause_within asked a b c d (told.Joined generation) s t h = h
-  cause_within asked a b c d (told.Present generation) s t h = h
-  cause_within asked a b c d (told.Left generation) s t h = h
-  cause_within asked a b c d told.Gone s t h = h
-  cause_within asked a b c d (told.Refused verdict) s t h = h
-  cause_within asked a b c d (told.Refreshed generation) s t h = h
-  cause_within asked a b c d told.Unchanged s t h = h
-  cause_within asked a b c d (told.Moved generation) s t h = h
-  cause_within asked a b c d (told.Value why) s t h = h
-  cause_within asked a b c d (told.Unhealthy name field text) s t h = h
-  cause_within asked a b c d (told.FaultPlugin name) s t h =
-      fault_still link (names_of link c.links) name a.links c.links d.links
+  cause_within : (asked : ScriptLine) (a b c : Workplace L D) (reply : Told) (seen : List Entry)
+      (links : List L) (dice : D) → HasGone link count a b → IsFurther link count c seen links dice
+      → HasCauseAt link count asked b reply c → HasCause link count asked a reply seen links dice
+  cause_within asked a b c (told.Put revision) seen links dice s t h = h
+  cause_within asked a b c (told.Got revision plain) seen links dice s t h = h
+  cause_within asked a b c (told.Deleted revision) seen links dice s t h = h
+  cause_within asked a b c told.Absent seen links dice s t h = h
+  cause_within asked a b c (told.Rewritten rewritten fresh changed left) seen links dice s t h = h
+  cause_within asked a b c (told.Reloaded generation) seen links dice s t h = h
+  cause_within asked a b c (told.Joined generation) seen links dice s t h = h
+  cause_within asked a b c (told.Present generation) seen links dice s t h = h
+  cause_within asked a b c (told.Left generation) seen links dice s t h = h
+  cause_within asked a b c told.Gone seen links dice s t h = h
+  cause_within asked a b c (told.Refused verdict) seen links dice s t h = h
+  cause_within asked a b c (told.Refreshed generation) seen links dice s t h = h
+  cause_within asked a b c told.Unchanged seen links dice s t h = h
+  cause_within asked a b c (told.Moved generation) seen links dice s t h = h
+  cause_within asked a b c (told.Value why) seen links dice s t h = h
+  cause_within asked a b c (told.Unhealthy name field text) seen links dice s t h = h
+  cause_within asked a b c (told.FaultPlugin name) seen links dice s t h =
+      fault_still link (names_of link c.links) name a.links c.links links
       (rose_later link (names_of link a.links) name a.links b.links c.links s.asked h) t.asked
-  cause_within asked a b c d (told.FaultDice seat) s t h = (
+  cause_within asked a b c (told.FaultDice seat) seen links dice s t h = (
     h.0 ∙ ap (λ (w : Caller). w.seat) s.adds.new_is,
-    rose_still (count a.dice) (count c.dice) (count d.dice)
+    rose_still (count a.dice) (count c.dice) (count dice)
         (Rose-later (count a.dice) (count b.dice) (count c.dice) s.later h.1) t.later,
   )
-  cause_within asked a b c d told.FaultStore s t h =
-      store_within a.caller b.caller c.caller d.caller s.part t.part s.adds h t.adds
-  cause_within asked a b c d told.Full s t h = h
-  cause_within asked a b c d told.Memory s t h = h
+  cause_within asked a b c told.FaultStore seen links dice s t h =
+      store_within a.caller b.caller s.part c.caller.seen t.rest seen s.adds h t.seen_is
+  cause_within asked a b c told.Full seen links dice s t h = h
+  cause_within asked a b c told.Memory seen links dice s t h = h
 
 -- ---- a run
 
@@ -140,20 +165,40 @@ module _ {L D : Type 0} (truth : Truth) (link : L → Link) (left : D → Option
   gone_all first (done ∷ run) last does = gone_then link count first does.0 last
       (gone_by first does.0 done does.1) (gone_all does.0 run last does.2)
 
-  run_caused : (first : Workplace L D) (run : List LineDone) (last : Workplace L D)
-      → DoesAll truth link left count files replica first run last → (done : LineDone)
-      → Contains run done → HasCause link count done.line first done.reply last
-  run_caused first [] last does done c = absurd (omega (arith, c.1))
-  run_caused first (one ∷ run) last does done (zero, l, e) =
-      subst (λ (o : LineDone). HasCause link count o.line first o.reply last) e
-      (cause_within link count one.line first first does.0 last one.reply
-      (gone_none link count first) (gone_all does.0 run last does.2)
-      (line_caused truth link left count files replica one.line first does.0 one.reply
+  run_caused : (first now : Workplace L D) → HasGone link count first now
+      → (run : List LineDone) (last : Workplace L D)
+      → DoesAll truth link left count files replica now run last → (done : LineDone)
+      → Contains run done → (seen : List Entry) (links : List L) (dice : D)
+      → IsFurther link count last seen links dice
+      → HasCause link count done.line first done.reply seen links dice
+  run_caused first now gone [] last does done c seen links dice f = absurd (omega (arith, c.1))
+  run_caused first now gone (one ∷ run) last does done (zero, l, e) seen links dice f =
+      subst (λ (o : LineDone). HasCause link count o.line first o.reply seen links dice) e
+      (cause_within link count one.line first now does.0 one.reply seen links dice gone
+      (further_then link count does.0 last seen links dice (gone_all does.0 run last does.2) f)
+      (line_caused truth link left count files replica one.line now does.0 one.reply
       does.1.does))
-  run_caused first (one ∷ run) last does done (suc k, l, e) =
-      cause_within link count done.line first does.0 last last done.reply
-      (gone_by first does.0 one does.1) (gone_none link count last)
-      (run_caused does.0 run last does.2 done (k, omega (arith, l), e))
+  run_caused first now gone (one ∷ run) last does done (suc k, l, e) seen links dice f =
+      run_caused first does.0 (gone_then link count first now does.0 gone
+      (gone_by now does.0 one does.1)) run last does.2 done (k, omega (arith, l), e) seen links
+      dice f
+
+  whole_caused : (history : List Entry) (part : Part) (first : Workplace L D)
+      (replies : List Told) (after : BenchState L D)
+      → (stands : StandsIn truth link left count files history part first replies after)
+      → part.replica ≡ replica → (done : LineDone) → Contains stands.run done
+      → HasCause link count done.line first done.reply history after.links after.dice
+  whole_caused history part first replies after stands same done there = run_caused first first
+      (gone_none link count first) stands.run stands.last
+      (subst (λ r. DoesAll truth link left count files r first stands.run stands.last) same
+      stands.does) done there history after.links after.dice (record {
+        rest = stands.front.0;
+        seen_is = sym stands.front.1;
+        asked = subst (λ ls. AskedOnly link (names_of link stands.last.links) stands.last.links ls)
+            (sym stands.links_are)
+            (asked_none link (names_of link stands.last.links) stands.last.links);
+        later = omega (arith, ap count stands.dice_are);
+      })
 
 pub replies_have_causes : {L D : Type 0} → (truth : Truth) (link : L → Link)
     (left : D → Option (List ℕ)) (count : D → ℕ) (files : List SettingsFile)
@@ -161,6 +206,6 @@ pub replies_have_causes : {L D : Type 0} → (truth : Truth) (link : L → Link)
 replies_have_causes truth link left count files = record {
   each = λ replica old new done d. line_caused truth link left count files replica done.line old
       new done.reply d.does;
-  whole = λ history part first replies after stands done there. run_caused truth link left count
-      files part.replica first stands.run stands.last stands.does done there;
+  whole = λ history part first replies after stands done there. whole_caused truth link left count
+      files part.replica history part first replies after stands refl done there;
 }

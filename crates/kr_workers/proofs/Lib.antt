@@ -9,6 +9,7 @@ pub mod Causing
 pub mod CausingLoads
 pub mod CausingRewrites
 pub mod CausingRuns
+pub mod Sentencing
 pub mod Budgeting
 pub mod Assembling
 pub mod Seating

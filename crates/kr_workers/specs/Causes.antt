@@ -65,36 +65,39 @@ IsDefined asked reply = ⊥
 
 -- ---- faults
 
--- an own entry says that the store failed, and the store's count rose there
-pub record StoreFails (old new : Caller) : Type 0 where
+-- an own entry says that the store failed, and the store's count rose there; it is one of those that
+-- are seen now and weren't before
+pub record StoreFails (old : Caller) (seen : List Entry) : Type 0 where
   pub before : List Entry
   pub entry : Entry
   pub behind : List Entry
-  pub there : new.seen ≡ (old.seen ++ before) ++ entry ∷ behind
+  pub there : seen ≡ (old.seen ++ before) ++ entry ∷ behind
   pub own : entry.line.seat ≡ old.seat
   pub says : entry.line.gave ≡ gave.StoreFailed
   pub rose : Rose (state_of old.opening (old.seen ++ before)).count entry.line.faults
 
-module _ {L D : Type 0} (link : L → Link) (count : D → ℕ) where
-  -- the reply is want of memory, or names the plugin, the seat's own random source or the store,
-  -- whose count rose meanwhile; or it is one of the line's defined replies
-  abbrev pub HasCause : ScriptLine → Workplace L D → Told → Workplace L D → Type 0
-  HasCause asked old told.Memory new = ⊤
-  HasCause asked old (told.FaultPlugin name) new = FaultRose link name old.links new.links
-  HasCause asked old (told.FaultDice seat) new =
-      (seat ≡ old.caller.seat) × Rose (count old.dice) (count new.dice)
-  HasCause asked old told.FaultStore new = StoreFails old.caller new.caller
-  HasCause asked old reply new = IsDefined asked reply
+module _ {L D : Type 0} (link : L → Link) (count : D → ℕ) (asked : ScriptLine)
+    (old : Workplace L D) where
+  -- from a workplace on up to such a history, such links and such a random source: the reply is want
+  -- of memory, or names the plugin, the seat's own random source or the store, whose count rose
+  -- meanwhile; or it is one of the line's defined replies
+  abbrev pub HasCause : Told → (seen : List Entry) → List L → D → Type 0
+  HasCause told.Memory seen links dice = ⊤
+  HasCause (told.FaultPlugin name) seen links dice = FaultRose link name old.links links
+  HasCause (told.FaultDice seat) seen links dice =
+      (seat ≡ old.caller.seat) × Rose (count old.dice) (count dice)
+  HasCause told.FaultStore seen links dice = StoreFails old.caller seen
+  HasCause reply seen links dice = IsDefined asked reply
 
--- so has each reply to a line that was done, while the line was done; and then also by the whole of
--- its worker's run, from the worker's begin to its end
+-- so has each reply to a line that was done, while the line was done; and by the whole of its
+-- worker's run too, up to the history and the bench at the end
 pub record RepliesHaveCauses {L D : Type 0} (truth : Truth) (link : L → Link)
     (left : D → Option (List ℕ)) (count : D → ℕ) (files : List SettingsFile) : Type 0 where
   pub each : (replica : ℕ) (old new : Workplace L D) (done : LineDone)
       → IsDone truth link left count files replica old done new
-      → HasCause link count done.line old done.reply new
+      → HasCause link count done.line old done.reply new.caller.seen new.links new.dice
   pub whole : (history : List Entry) (part : Part) (first : Workplace L D) (replies : List Told)
       (after : BenchState L D)
       → (stands : StandsIn truth link left count files history part first replies after)
       → (done : LineDone) → Contains stands.run done
-      → HasCause link count done.line first done.reply stands.last
+      → HasCause link count done.line first done.reply history after.links after.dice

@@ -3,8 +3,9 @@ ghost use Rattle.std.specs.Prelude.{List};
 ghost use Rattle.kr_workers.specs.declared.files.SettingsFile.{SettingsFile};
 ghost use Rattle.kr_workers.specs.Causes.{RepliesHaveCauses};
 ghost use Rattle.kr_workers.specs.Gets.{GetsTellContent};
+ghost use Rattle.kr_workers.specs.Sentences.{HistoriesTell};
 
-use kr_base::Dice;
+use kr_base::{Dice, Tape};
 use kr_kms::Kms;
 
 /// Each reply to a `get` tells the content of the path before its Fetch, or that there is none.
@@ -18,4 +19,11 @@ pub fn gets_tell_content<L: Kms, D: Dice>()
 pub fn replies_have_causes<L: Kms, D: Dice>()
     ensures { (files : List SettingsFile)
         → RepliesHaveCauses L.truth L.link D.left D.count files }
+{}
+
+/// Where the workers' lines stand in one history, as `run_fleet` says, each reply tells true: to a
+/// `get` it tells the content before its Fetch, and otherwise than by a defined reply none is
+/// answered but with want of memory or where the count of what it names rose.
+pub fn replies_are_true<T: Tape, L: Kms, D: Dice>()
+    ensures { HistoriesTell T L.truth L.link D.left D.count }
 {}

@@ -1,0 +1,154 @@
+-- The replies of a fleet, from its workers' runs.
+use Rattle.std.specs.Prelude.{is_some, slice_index}
+use Rattle.std.specs.List.{slice_get}
+use Rattle.std.proofs.Common.{◌≡◌, ℕ, zero, suc, ◌<◌, List, [], ◌∷◌, length, get_or, Contains, Option, Some, refl, ap, sym, subst, ◌∙◌, arith}
+use Rattle.std.proofs.lemmas.Bool.{false≢true}
+use Rattle.std.proofs.lemmas.List.{length-map}
+use Rattle.std.proofs.lemmas.Option.{same_Some}
+use Rattle.kr_kms.specs.Calls.{Link}
+use Rattle.kr_kms.specs.Truth.{Truth}
+use Rattle.kr_rollout.specs.declared.opening.Entry.{Entry}
+use Rattle.kr_rollout.specs.declared.opening.Opening.{Opening}
+use Rattle.kr_script.specs.declared.script.Part.{Part}
+use Rattle.kr_script.specs.declared.script.ScriptLine.{ScriptLine}
+use Rattle.kr_script.specs.declared.script.ScriptLine.TheVariants as line
+use Rattle.kr_script.specs.declared.told.Told.{Told}
+use Rattle.kr_workers.specs.declared.files.SettingsFile.{SettingsFile}
+use Rattle.kr_workers.specs.declared.worker.Worker.{Worker}
+use Rattle.kr_workers.specs.Causes.{HasCause}
+use Rattle.kr_workers.specs.Gets.{TellsContent}
+use Rattle.kr_workers.specs.Histories.{IsOneHistory, StandsIn, first_place}
+use Rattle.kr_workers.specs.Runs.{LineDone, lines_in, replies_in}
+use Rattle.kr_workers.specs.Sentences.{HistoriesTell, Replies, RepliesAreTrue}
+use Rattle.kr_workers.proofs.CausingRuns.{replies_have_causes}
+use Rattle.kr_workers.proofs.Getting.{gets_tell_content}
+
+-- ---- what stands at a place
+
+below_of : {X : Type 0} (xs : List X) (i : ℕ) (x : X) → slice_get xs i ≡ Some x → i < length xs
+below_of [] i x is = absurd (false≢true (ap is_some is))
+below_of (y ∷ xs) zero x is = omega arith
+below_of (y ∷ xs) (suc i) x is = let e = below_of xs i x is in omega (arith, e)
+
+there_of : {X : Type 0} (xs : List X) (i : ℕ) (x d : X) → slice_get xs i ≡ Some x
+    → get_or xs i d ≡ x
+there_of [] i x d is = absurd (false≢true (ap is_some is))
+there_of (y ∷ xs) zero x d is = same_Some y x is
+there_of (y ∷ xs) (suc i) x d is = there_of xs i x d is
+
+-- the line that was done at a place of a run
+record IsDoneAt (run : List LineDone) (asked : ScriptLine) (reply : Told) : Type 0 where
+  done : LineDone
+  there : Contains run done
+  line_is : done.line ≡ asked
+  reply_is : done.reply ≡ reply
+
+done_at : (run : List LineDone) (at : ℕ) (asked : ScriptLine) (reply : Told)
+    → slice_get (lines_in run) at ≡ Some asked → slice_get (replies_in run) at ≡ Some reply
+    → IsDoneAt run asked reply
+done_at [] at asked reply l r = absurd (false≢true (ap is_some l))
+done_at (done ∷ run) zero asked reply l r = record {
+  done = done;
+  there = (0, omega arith, refl);
+  line_is = same_Some done.line asked l;
+  reply_is = same_Some done.reply reply r;
+}
+done_at (done ∷ run) (suc at) asked reply l r = let d = done_at run at asked reply l r in record {
+  done = d.done;
+  there = (suc d.there.0, omega (arith, d.there.1), d.there.2);
+  line_is = d.line_is;
+  reply_is = d.reply_is;
+}
+
+-- ---- one worker's replies
+
+module _ {L D : Type 0} (truth : Truth) (link : L → Link) (left : D → Option (List ℕ))
+    (count : D → ℕ) (files : List SettingsFile) where
+  module _ {T : Type 0} (history : List Entry) (o : Opening) (parts : List Part)
+      (budgets : List ℕ) (old new : List (Worker T L D))
+      (one : IsOneHistory truth link left count files history o parts budgets old new) where
+    -- the run of a worker, by what stands at its number
+    stands_there : (number : ℕ) (part : Part) (before after : Worker T L D)
+        → slice_get parts number ≡ Some part → get_or old number before ≡ before
+        → slice_get new number ≡ Some after
+        → StandsIn truth link left count files history part
+        (first_place o number (slice_index budgets number) before.bench) after.told.0 after.bench
+    stands_there number part before after part_is before_is after_is = subst
+        (λ (p : Part). StandsIn truth link left count files history p
+        (first_place o number (slice_index budgets number) before.bench) after.told.0 after.bench)
+        (there_of parts number part part part_is)
+        (subst (λ (w : Worker T L D). StandsIn truth link left count files history
+        (get_or parts number part)
+        (first_place o number (slice_index budgets number) before.bench) w.told.0 w.bench)
+        (there_of new number after before after_is)
+        (subst (λ (w : Worker T L D). StandsIn truth link left count files history
+        (get_or parts number part)
+        (first_place o number (slice_index budgets number) w.bench)
+        (get_or new number before).told.0 (get_or new number before).bench) before_is
+        (one.each number part before (below_of parts number part part_is))))
+
+    as_many : (part : Part) (before after : Worker T L D) (number : ℕ)
+        → StandsIn truth link left count files history part
+        (first_place o number (slice_index budgets number) before.bench) after.told.0 after.bench
+        → length after.told.0 ≡ length part.lines.0
+    as_many part before after number s = ap length s.replies_are
+        ∙ length-map s.run (λ (d : LineDone). d.reply)
+        ∙ sym (length-map s.run (λ (d : LineDone). d.line)) ∙ ap length s.lines_are
+
+    -- the line at a place of its part was done
+    done_there : (number at : ℕ) (asked : ScriptLine) (reply : Told) (before : Worker T L D)
+        (r : Replies parts new number at asked reply)
+        → (s : StandsIn truth link left count files history r.part
+        (first_place o number (slice_index budgets number) before.bench) r.worker.told.0
+        r.worker.bench) → IsDoneAt s.run asked reply
+    done_there number at asked reply before r s = done_at s.run at asked reply
+        (ap (λ l. slice_get l at) s.lines_are ∙ r.line_is)
+        (ap (λ l. slice_get l at) (sym s.replies_are) ∙ r.reply_is)
+
+    -- there was a worker of each number
+    abbrev was : (number : ℕ) (after : Worker T L D) → Worker T L D
+    was number after = get_or old number after
+
+    still : (number : ℕ) (after : Worker T L D)
+        → get_or old number (was number after) ≡ was number after
+    still number after = by old number
+      where
+        by : (ws : List (Worker T L D)) (i : ℕ) → get_or ws i (get_or ws i after)
+            ≡ get_or ws i after
+        by [] i = refl
+        by (w ∷ ws) zero = refl
+        by (w ∷ ws) (suc i) = by ws i
+
+    pub replies_are_true : RepliesAreTrue truth link count history o parts budgets old new
+    replies_are_true = record {
+      each = λ number part worker part_is worker_is. as_many part (was number worker) worker number
+          (stands_there number part (was number worker) worker part_is (still number worker)
+          worker_is);
+      gets = λ number at path reply r.
+          let before = was number r.worker in
+          let s = stands_there number r.part before r.worker r.part_is (still number r.worker)
+          r.worker_is in
+          let d = done_there number at (line.Get path) reply before r s in
+          subst (λ (t : Told). TellsContent truth o history number path t) d.reply_is
+          (gets_tell_content truth link left count files history r.part
+          (first_place o number (slice_index budgets number) before.bench) r.worker.told.0
+          r.worker.bench s path d.done d.there d.line_is);
+      causes = λ number at asked reply before before_is r.
+          let s = stands_there number r.part before r.worker r.part_is
+          (there_of old number before before before_is) r.worker_is in
+          let d = done_there number at asked reply before r s in
+          subst (λ (a : ScriptLine). HasCause link count a
+          (first_place o number (slice_index budgets number) before.bench) reply history
+          r.worker.bench.links r.worker.bench.dice) d.line_is
+          (subst (λ (t : Told). HasCause link count d.done.line
+          (first_place o number (slice_index budgets number) before.bench) t history
+          r.worker.bench.links r.worker.bench.dice) d.reply_is
+          ((replies_have_causes truth link left count files).whole history r.part
+          (first_place o number (slice_index budgets number) before.bench) r.worker.told.0
+          r.worker.bench s d.done d.there));
+    }
+
+pub histories_tell : (T : Type 0) → {L D : Type 0} → (truth : Truth) (link : L → Link)
+    (left : D → Option (List ℕ)) (count : D → ℕ) → HistoriesTell T truth link left count
+histories_tell T truth link left count files history o parts budgets old new one =
+    replies_are_true truth link left count files history o parts budgets old new one
