@@ -11,19 +11,24 @@ stored answers, crates/kr_cases/stdout, with what it makes of the stored cases; 
     input CONTENT
     dice SEAT CONTENT     random bytes of a seat
     tape NAME CONTENT     a tape of the world
-    fails OBJECT N N ..   which calls of the object fail, from 1: input, output, errors, files, dice:SEAT, reads:TAPE or
-                          writes:TAPE
+    plugin SEAT NAME KEY_ID SALT
+                          a plugin in memory, of version v2 and health ok, to which there is a link of a seat
+    says VERSION HEALTHZ  what the plugin named last says in place of these
+    key N KEY_ID          another key id that the plugin named last has from its Nth call on
+    fails OBJECT N N ..   which calls of the object fail, from 1: input, output, errors, files, dice:SEAT, reads:TAPE,
+                          writes:TAPE, or plugin, which is the one named last
     room N                bytes that the output has room for
     step N                bytes that a call of input, output and errors carries at most, 1 if not said
 
-`files` numbers the world's calls for a file, a tape or a random source in one row. Lines that are empty or begin with `#` say
+`files` numbers the world's calls for a file, a tape, a random source or a link in one row. Lines that are empty or begin with `#` say
 nothing. In all texts a backslash begins what can't stand there: \\n, \\r, \\t, \\s and \\b are LF, CR, a tab, a space and a
 backslash, \\e is nothing, \\(HEX) is bytes in hex, \\(N*HEX) N times these.
 
 A line of the answer is NAME, and then: `status`; `output` and `errors` in hex, `-` for none, of more than 2,048 bytes their
 number and SHA-256; `left`, how many bytes of the input weren't taken; `faults` of input, output, errors and files; and for
-each seat how many random bytes are left and how often they failed; for each tape its bytes and how often it failed; `out` where
-they didn't come back.
+each seat how many random bytes are left and how often they failed; for each tape its bytes and how often it failed; for each link
+that was asked for its program; for each plugin how many calls were made on its link and how often they failed; `out` where they
+didn't come back.
 """
 
 import hashlib
@@ -33,7 +38,8 @@ from pathlib import Path
 
 sys.dont_write_bytecode = True
 
-from reference.calls import Dice, Sink, Source, Tape, World, run
+from reference.calls import Dice, Numbered, Sink, Source, Tape, World, run
+from reference.plugins import Plugin
 
 CRATE = Path(__file__).resolve().parent.parent / "crates" / "kr_cases"
 LETTERS = {"n": b"\n", "r": b"\r", "t": b"\t", "s": b" ", "b": b"\\", "e": b""}
@@ -58,7 +64,7 @@ def spelled(text):
 class Case:
     def __init__(self, name):
         self.name, self.words, self.files, self.input, self.dice, self.tapes = name, [], [], b"", [], []
-        self.fails, self.room, self.step = {}, ROOM, 1
+        self.plugins, self.fails, self.room, self.step = [], {}, ROOM, 1
 
     def add(self, key, rest):
         front, _, behind = rest.partition(" ")
@@ -75,6 +81,16 @@ class Case:
             self.dice.append((int(front), spelled(behind)))
         elif key == "tape":
             self.tapes.append((spelled(front).decode(), spelled(behind)))
+        elif key == "plugin":
+            name, key_id, salt = behind.split(" ")
+            told = {"seat": int(front), "name": spelled(name).decode(), "key_id": spelled(key_id).decode(), "salt": int(salt)}
+            self.plugins.append({**told, "status": ("v2", "ok"), "key_ids": {}, "fails": set()})
+        elif key == "says":
+            self.plugins[-1]["status"] = (spelled(front).decode(), spelled(behind).decode())
+        elif key == "key":
+            self.plugins[-1]["key_ids"][int(front)] = spelled(behind).decode()
+        elif key == "fails" and front == "plugin":
+            self.plugins[-1]["fails"].update(map(int, behind.split(" ")))
         elif key == "fails":
             self.fails.setdefault(front, set()).update(map(int, behind.split(" ")))
         elif key in ("room", "step"):
@@ -85,20 +101,29 @@ class Case:
     def fails_of(self, name):
         return self.fails.get(name, set())
 
+    def links(self):
+        return [
+            (it["seat"], Plugin(it["name"], it["key_id"], it["salt"], it["status"], it["key_ids"], Numbered(f"plugin {it['name']}", it["fails"])))
+            for it in self.plugins
+        ]
+
     def answer(self):
         """The line of what the call leaves."""
         source = Source(self.input, self.fails_of("input"))
         output, errors = Sink("output", self.room, self.fails_of("output")), Sink("errors", ERRORS_ROOM, self.fails_of("errors"))
         dice = [(seat, Dice(seat, content, self.fails_of(f"dice:{seat}"))) for seat, content in self.dice]
         tapes = [(name, Tape(content, self.fails_of(f"reads:{name}"), self.fails_of(f"writes:{name}"))) for name, content in self.tapes]
-        world = World(self.files, dice, tapes, self.fails_of("files"))
+        links = self.links()
+        world = World(self.files, dice, tapes, self.fails_of("files"), links)
         if self.step != 1 and (source.fails or output.fails or errors.fails or self.room != ROOM):
             raise ValueError(f"{self.name}: only with one byte a call is it known which call fails")
         status = run(self.words, world, source, output, errors)
         line = f"{self.name} status={status} output={printed(output.held)} errors={printed(errors.held)}"
         line += f" left={len(source.content) - source.taken} faults=" + ":".join(str(it.faults) for it in (source, output, errors, world))
         line += "".join(f" dice:{seat}={len(it.content)}:{it.faults}" for seat, it in dice)
-        return line + "".join(f" tape:{name}={printed(it.content)}:{it.faults + it.writes.faults}" for name, it in tapes)
+        line += "".join(f" tape:{name}={printed(it.content)}:{it.faults + it.writes.faults}" for name, it in tapes)
+        line += "".join(f" link:{seat}:{name}={program}" for seat, name, program in world.asked)
+        return line + "".join(f" plugin:{seat}:{it.name}={it.log.made}:{it.log.faults}" for seat, it in links)
 
 
 def printed(data):

@@ -65,8 +65,8 @@ class Book:
     def title(self, text):
         self.lines += ["", f"# ---- {text}", ""]
 
-    def case(self, name, words, files=(), data=b"", dice=None, fails=(), room=None, step=None, tapes=()):
-        """A case; `dice` are pairs of seats and bytes, `fails` pairs of objects and numbers."""
+    def case(self, name, words, files=(), data=b"", dice=None, fails=(), room=None, step=None, tapes=(), plugins=()):
+        """A case; `dice` are pairs of seats and bytes, `fails` pairs of objects and numbers, `plugins` the lines of plugins."""
         if name in self.names:
             raise ValueError(f"two cases of one name: {name}")
         self.names.add(name)
@@ -82,6 +82,7 @@ class Book:
             add(f"dice {seat} {spelled(content)}".rstrip(" "))
         for tape, content in tapes:
             add(f"tape {spell(tape, True)} {spelled(content)}".rstrip(" "))
+        self.lines += plugins
         for item, numbers in fails:
             add(f"fails {item} {numbers}")
         if room is not None:

@@ -1,6 +1,8 @@
 """Whole calls: the outside in memory, and the steps of the commands."""
 
-from . import configuration, store
+import functools
+
+from . import configuration, plugins, store
 from .board import Board
 from .values import Refused, check_of, inspected, printed, reader_of, seal, unseal
 from .words import Usage, WordsLimit, command_of
@@ -107,9 +109,9 @@ class Tape(Numbered):
 class World(Numbered):
     """Files and tapes by their names and random sources by their seats; the first of one name or seat counts."""
 
-    def __init__(self, files, dice, tapes, fails):
+    def __init__(self, files, dice, tapes, fails, links=()):
         super().__init__("files", fails)
-        self.files, self.dice, self.tapes = files, dice, tapes
+        self.files, self.dice, self.tapes, self.links, self.asked = files, dice, tapes, links, []
 
     def load(self, name, limit):
         self.call()
@@ -129,6 +131,12 @@ class World(Numbered):
 
     def dice_of(self, seat):
         found = next((dice for other, dice in self.dice if other == seat), None)
+        self.call(found is not None)
+        return found
+
+    def link_of(self, seat, name, program):
+        self.asked.append((seat, name, program))
+        found = next((link for other, link in self.links if (other, link.name) == (seat, name)), None)
         self.call(found is not None)
         return found
 
@@ -163,33 +171,48 @@ def check(options, world, output):
 
 
 def settings_of_object(options, world):
-    """The settings of `encrypt` and `decrypt`. The least name of a plugin without a program ends it; what plugins do isn't
-    here yet."""
+    """The settings of a call on an object, and the programs of the plugins that they name. The least name of a plugin without a
+    program ends it."""
     entries = load_settings(world, options["config"])
-    named = {provider[1] for _, providers in entries for provider in providers if provider[0] == "kms"}
-    given = {value.partition("=")[0] for value in options.get("plugin", ())}
-    for name in sorted(named, key=str.encode):
+    given = dict(value.split("=", 1) for value in options.get("plugin", ()))
+    names = plugins.names_in(entries)
+    for name in names:
         if name not in given:
             raise Stop(3, f"text 44 {name}")
-    if named:
-        raise NotImplementedError("a call with plugins")
-    return entries
+    return entries, {name: given[name] for name in names}
+
+
+class Bench:
+    """The random source and the links of seat 0, with a seed of each plugin that is published."""
+
+    def __init__(self, world, programs):
+        self.dice = world.dice_of(0)
+        self.links = {name: world.link_of(0, name, program) for name, program in programs.items()}
+        try:
+            self.published = plugins.publish(self.links, self.dice.draw)
+        except plugins.Unhealthy as no:
+            raise Stop(3, no.line()) from None
+
+    def seal(self, providers, path, data):
+        return seal(providers[0], path.encode(), data, self.dice.draw, functools.partial(plugins.seal, self.published))
+
+    def unseal(self, providers, path, value):
+        return unseal(providers, path.encode(), value, functools.partial(plugins.unseal, self.published, self.links))
 
 
 def encrypt(options, world, source, output):
-    entries = settings_of_object(options, world)
+    entries, programs = settings_of_object(options, world)
     data = source.read_all(MOST_DATA, "data")
-    dice = world.dice_of(0)
-    writer = configuration.list_for(entries, options["resource"])[0]
-    output.write_all(seal(writer, options["path"].encode(), data, dice.draw))
+    bench = Bench(world, programs)
+    output.write_all(bench.seal(configuration.list_for(entries, options["resource"]), options["path"], data))
     return b"", 0
 
 
 def decrypt(options, world, source, output):
-    entries = settings_of_object(options, world)
+    entries, programs = settings_of_object(options, world)
     value = source.read_all(MOST_VALUE, "value")
-    world.dice_of(0)
-    data, is_stale = unseal(configuration.list_for(entries, options["resource"]), options["path"].encode(), value)
+    bench = Bench(world, programs)
+    data, is_stale = bench.unseal(configuration.list_for(entries, options["resource"]), options["path"], value)
     output.write_all(data)
     return b"stale\n" if is_stale else b"fresh\n", 0
 
@@ -197,6 +220,18 @@ def decrypt(options, world, source, output):
 def inspect(source, output):
     output.write_all(inspected(source.read_all(MOST_VALUE, "value")))
     return b"", 0
+
+
+def get(options, world, output):
+    entries, programs = settings_of_object(options, world)
+    _form, rows = world.tape(options["store"]).load()
+    found = store.live(rows).get(options["path"].encode())
+    if found is None:
+        raise Stop(1, f"absent {options['path']}")
+    row = found[1]
+    data, is_stale = Bench(world, programs).unseal(configuration.list_for(entries, row.resource.decode()), options["path"], row.value)
+    output.write_all(data)
+    return b"stale\n" if is_stale else b"fresh\n", 0
 
 
 def list_rows(options, world, output):
@@ -249,6 +284,8 @@ def answer(words, world, source, output):
             return judge(options, world, output)
         if command == "list":
             return list_rows(options, world, output)
+        if command == "get":
+            return get(options, world, output)
         if command == "inspect":
             return inspect(source, output)
         return (encrypt if command == "encrypt" else decrypt)(options, world, source, output)

@@ -67,9 +67,18 @@ def run_cbc(secret, iv, data, opens):
     return step.update(data) + step.finalize()
 
 
-def seal(provider, path, data, draw):
-    """The value of the data by the writing provider; `draw` gives so many random bytes."""
+def seal_gcm(secret, nonce, data, path):
+    from cryptography.hazmat.primitives.ciphers.aead import AESGCM
+
+    return AESGCM(secret).encrypt(nonce, data, path)
+
+
+def seal(provider, path, data, draw, by_plugin=None):
+    """The value of the data by the writing provider; `draw` gives so many random bytes, and `by_plugin` seals by the plugin of a
+    name."""
     kind = provider[0]
+    if kind == "kms":
+        return by_plugin(provider[1], path, data, draw)
     if kind == "identity":
         if data.startswith(MARK):
             raise Refused(13)
@@ -77,10 +86,8 @@ def seal(provider, path, data, draw):
     if kind == "aescbc":
         iv, fill = draw(BLOCK), BLOCK - len(data) % BLOCK
         return prefix(provider) + iv + run_cbc(provider[2], iv, data + bytes([fill]) * fill, False)
-    from cryptography.hazmat.primitives.ciphers.aead import AESGCM
-
     nonce = draw(NONCE)
-    return prefix(provider) + nonce + AESGCM(provider[2]).encrypt(nonce, data, path)
+    return prefix(provider) + nonce + seal_gcm(provider[2], nonce, data, path)
 
 
 def open_cbc(secret, body):
@@ -107,14 +114,17 @@ def open_gcm(secret, path, body):
         raise Refused(4) from None
 
 
-def unseal(providers, path, value):
-    """The data of a value, and whether it is stale."""
+def unseal(providers, path, value, by_plugin=None):
+    """The data of a value, and whether it is stale; `by_plugin` reads a body by the plugin of a name."""
     for place, provider in enumerate(providers):
         if provider[0] == "identity":
             if not value.startswith(MARK):
                 return value, place > 0
         elif value.startswith(prefix(provider)):
             body = value[len(prefix(provider)) :]
+            if provider[0] == "kms":
+                data, is_stale = by_plugin(provider[1], path, body)
+                return data, is_stale or place > 0
             data = open_cbc(provider[2], body) if provider[0] == "aescbc" else open_gcm(provider[2], path, body)
             return data, place > 0
     raise Refused(12)

@@ -31,7 +31,22 @@ pub enum TapeCalls {
     Writes,
 }
 
-/// A call: its words, the named files and tapes, the input, and the random bytes of seats.
+/// A plugin in memory, to which there is a link of a seat.
+#[derive(Drop)]
+pub struct Plugin {
+    pub seat: u32,
+    pub name: String,
+    pub key_id: String,
+    pub salt: u8,
+    pub version: String,
+    pub healthz: String,
+    /// Further key ids, each with the number of the call from which on it has them.
+    pub key_ids: Vec<(u64, String)>,
+    /// Which calls fail, by their numbers from 1.
+    pub fails: Vec<u64>,
+}
+
+/// A call: its words, the named files and tapes, the input, the random bytes of seats, and plugins.
 #[derive(Drop)]
 pub struct Case {
     pub name: String,
@@ -41,6 +56,7 @@ pub struct Case {
     pub dice: Vec<(u32, Vec<u8>)>,
     /// The tapes by their names.
     pub tapes: Vec<(String, Vec<u8>)>,
+    pub plugins: Vec<Plugin>,
     /// Which calls fail, by their numbers from 1.
     pub fails: Vec<(Object, u64)>,
     /// The same of the tape of a name.
@@ -64,6 +80,7 @@ impl Case {
             input: Vec::new(alloc),
             dice: Vec::new(alloc),
             tapes: Vec::new(alloc),
+            plugins: Vec::new(alloc),
             fails: Vec::new(alloc),
             tape_fails: Vec::new(alloc),
             room: ROOM,

@@ -4,6 +4,7 @@
 
 mod calling;
 mod case;
+mod plugin;
 mod printing;
 mod reading;
 mod spelling;

@@ -39,7 +39,29 @@ pub fn line_of(alloc: Global, case: &Case, left: &Left) -> Result<String, AllocE
         };
         line.push_str(text.as_str())?;
     }
+    add_links(alloc, &mut line, left)?;
     Ok(line)
+}
+
+/// The links that were asked for, and what is left of those that there are.
+fn add_links(alloc: Global, line: &mut String, left: &Left) -> Result<(), AllocError> {
+    for asked in left.asked.as_slice() {
+        let name = asked.name.as_str();
+        let program = asked.program.as_str();
+        let text = format!(in alloc; " link:{}:{name}={program}", asked.seat)?;
+        line.push_str(text.as_str())?;
+    }
+    for link in left.links.as_slice() {
+        let name = link.name.as_str();
+        let text = match link.home {
+            Some((made, faults)) => {
+                format!(in alloc; " plugin:{}:{name}={made}:{faults}", link.seat)?
+            }
+            None => format!(in alloc; " plugin:{}:{name}=out", link.seat)?,
+        };
+        line.push_str(text.as_str())?;
+    }
+    Ok(())
 }
 
 /// Bytes in hex, `-` for none; of many their number and their SHA-256.

@@ -1,5 +1,5 @@
 //! The lines of a case: a key, and behind a space what it says.
-use crate::case::{Case, Object, TapeCalls, Wrong};
+use crate::case::{Case, Object, Plugin, TapeCalls, Wrong};
 use crate::spelling::{add_bytes, bytes_of};
 use std::alloc::{AllocError, Global};
 
@@ -22,6 +22,9 @@ pub fn add(alloc: Global, current: &mut Option<Case>, line: &str) -> Result<(), 
         "input" => add_bytes(alloc, &mut case.input, rest),
         "dice" => add_dice(alloc, case, rest),
         "tape" => add_tape(alloc, case, rest),
+        "plugin" => add_plugin(alloc, case, rest),
+        "says" => set_status(alloc, case, rest),
+        "key" => add_key_id(alloc, case, rest),
         "fails" => add_fails(alloc, case, rest),
         "room" => {
             case.room = size_of(rest)?;
@@ -105,6 +108,70 @@ fn add_dice(alloc: Global, case: &mut Case, rest: &str) -> Result<(), Wrong> {
     Ok(())
 }
 
+/// The seat of a plugin, its name, its key id and its salt. It is healthy.
+fn add_plugin(alloc: Global, case: &mut Case, rest: &str) -> Result<(), Wrong> {
+    let Some((seat, rest)) = rest.split_once(' ') else {
+        return Err(Wrong::Form);
+    };
+    let Some((name, rest)) = rest.split_once(' ') else {
+        return Err(Wrong::Form);
+    };
+    let Some((key_id, salt)) = rest.split_once(' ') else {
+        return Err(Wrong::Form);
+    };
+    let Ok(seat) = seat.parse::<u32>() else {
+        return Err(Wrong::Form);
+    };
+    let Ok(salt) = salt.parse::<u8>() else {
+        return Err(Wrong::Form);
+    };
+    let plugin = Plugin {
+        seat,
+        name: text_of(alloc, name)?,
+        key_id: text_of(alloc, key_id)?,
+        salt,
+        version: text_of(alloc, "v2")?,
+        healthz: text_of(alloc, "ok")?,
+        key_ids: Vec::new(alloc),
+        fails: Vec::new(alloc),
+    };
+    case.plugins.push(plugin).map_err(AllocError::from)?;
+    Ok(())
+}
+
+/// The version and the health of the plugin named last.
+fn set_status(alloc: Global, case: &mut Case, rest: &str) -> Result<(), Wrong> {
+    let Some((version, healthz)) = rest.split_once(' ') else {
+        return Err(Wrong::Form);
+    };
+    let Some(plugin) = case.plugins.last_mut() else {
+        return Err(Wrong::Form);
+    };
+    plugin.version = text_of(alloc, version)?;
+    plugin.healthz = text_of(alloc, healthz)?;
+    Ok(())
+}
+
+/// A further key id of the plugin named last, behind the number of the first call in which it has
+/// it.
+fn add_key_id(alloc: Global, case: &mut Case, rest: &str) -> Result<(), Wrong> {
+    let Some((number, key_id)) = rest.split_once(' ') else {
+        return Err(Wrong::Form);
+    };
+    let Ok(number) = number.parse::<u64>() else {
+        return Err(Wrong::Form);
+    };
+    let key_id = text_of(alloc, key_id)?;
+    let Some(plugin) = case.plugins.last_mut() else {
+        return Err(Wrong::Form);
+    };
+    plugin
+        .key_ids
+        .push((number, key_id))
+        .map_err(AllocError::from)?;
+    Ok(())
+}
+
 /// An object, and the numbers of its calls that fail.
 fn add_fails(alloc: Global, case: &mut Case, rest: &str) -> Result<(), Wrong> {
     let Some((name, numbers)) = rest.split_once(' ') else {
@@ -116,12 +183,29 @@ fn add_fails(alloc: Global, case: &mut Case, rest: &str) -> Result<(), Wrong> {
     if let Some(tape) = name.strip_prefix("writes:") {
         return add_tape_fails(alloc, case, TapeCalls::Writes, tape, numbers);
     }
+    if name == "plugin" {
+        return add_plugin_fails(case, numbers);
+    }
     let object = object_of(name)?;
     for number in numbers.split(' ') {
         let Ok(number) = number.parse::<u64>() else {
             return Err(Wrong::Form);
         };
         case.fails.push((object, number)).map_err(AllocError::from)?;
+    }
+    Ok(())
+}
+
+/// The numbers of the calls of the plugin named last that fail.
+fn add_plugin_fails(case: &mut Case, numbers: &str) -> Result<(), Wrong> {
+    let Some(plugin) = case.plugins.last_mut() else {
+        return Err(Wrong::Form);
+    };
+    for number in numbers.split(' ') {
+        let Ok(number) = number.parse::<u64>() else {
+            return Err(Wrong::Form);
+        };
+        plugin.fails.push(number).map_err(AllocError::from)?;
     }
     Ok(())
 }

@@ -1,8 +1,9 @@
 //! The world in memory, of which calls fail by their numbers too.
 ghost use Rattle.std.specs.Prelude.{None, Some};
 
+use crate::plugin::TurningPlugin;
 use kr_base::{Bytes, List, MemDice, MemTape, Text};
-use kr_kms::{FileFaults, FileNo, MemWorld, TablePlugin, World, WorldCall};
+use kr_kms::{FileFaults, FileNo, MemWorld, World, WorldCall};
 use std::alloc::Global;
 
 /// Which calls fail, by their numbers, the first being 1.
@@ -24,7 +25,7 @@ impl Numbering {
 /// keeps what it was asked for.
 #[derive(Drop)]
 pub struct FailingWorld {
-    inner: MemWorld<TablePlugin>,
+    inner: MemWorld<TurningPlugin>,
     calls: Numbering,
     asked: Vec<WorldCall>,
     faults: FileFaults,
@@ -32,7 +33,7 @@ pub struct FailingWorld {
 
 impl FailingWorld {
     /// The world in which the calls of these numbers fail; none was made so far.
-    pub fn new(alloc: Global, inner: MemWorld<TablePlugin>, fails: List<u64>) -> FailingWorld {
+    pub fn new(alloc: Global, inner: MemWorld<TurningPlugin>, fails: List<u64>) -> FailingWorld {
         FailingWorld {
             inner,
             calls: Numbering { fails, made: 0 },
@@ -50,6 +51,16 @@ impl FailingWorld {
     pub fn tape_of(&self, name: &str) -> Option<&MemTape> {
         self.inner.tape_of(name)
     }
+
+    /// Lends the link of the seat to the plugin, if it is there.
+    pub fn link_of(&self, seat: u32, plugin: &str) -> Option<&TurningPlugin> {
+        self.inner.link_of(seat, plugin)
+    }
+
+    /// What it was asked for so far.
+    pub fn asked(&self) -> &[WorldCall] {
+        self.asked.as_slice()
+    }
 }
 
 impl World for FailingWorld {
@@ -57,16 +68,16 @@ impl World for FailingWorld {
 
     type Rand = MemDice;
 
-    type Link = TablePlugin;
+    type Link = TurningPlugin;
 
     // It tells nothing of its files, since a load may fail.
     ghost told = { λ world. record {
       file = λ name. None;
       asked = Some world.asked.items;
       faults = world.faults;
-      dice = (⟦<MemWorld<TablePlugin> as World>⟧.told world.inner).dice;
-      tapes = (⟦<MemWorld<TablePlugin> as World>⟧.told world.inner).tapes;
-      links = (⟦<MemWorld<TablePlugin> as World>⟧.told world.inner).links;
+      dice = (⟦<MemWorld<TurningPlugin> as World>⟧.told world.inner).dice;
+      tapes = (⟦<MemWorld<TurningPlugin> as World>⟧.told world.inner).tapes;
+      links = (⟦<MemWorld<TurningPlugin> as World>⟧.told world.inner).links;
     } };
 
     fn faults(&self) -> u64 {
@@ -146,7 +157,7 @@ impl World for FailingWorld {
         seat: u32,
         plugin: &str,
         program: &str,
-    ) -> Result<TablePlugin, FileNo> {
+    ) -> Result<TurningPlugin, FileNo> {
         let Ok(plugin_copy) = Text::copy(alloc, plugin) else {
             return Err(FileNo::NoMemory);
         };
@@ -183,7 +194,7 @@ impl World for FailingWorld {
         self.inner.back_dice(seat, dice);
     }
 
-    fn back_link(&mut self, seat: u32, link: TablePlugin) {
+    fn back_link(&mut self, seat: u32, link: TurningPlugin) {
         self.inner.back_link(seat, link);
     }
 }
