@@ -222,6 +222,18 @@ def inspect(source, output):
     return b"", 0
 
 
+def get(options, world, output):
+    entries, programs = settings_of_object(options, world)
+    _form, rows = world.tape(options["store"]).load()
+    found = store.live(rows).get(options["path"].encode())
+    if found is None:
+        raise Stop(1, f"absent {options['path']}")
+    row = found[1]
+    data, is_stale = Bench(world, programs).unseal(configuration.list_for(entries, row.resource.decode()), options["path"], row.value)
+    output.write_all(data)
+    return b"stale\n" if is_stale else b"fresh\n", 0
+
+
 def list_rows(options, world, output):
     _form, rows = world.tape(options["store"]).load()
     output.write_all(store.listing(rows))
@@ -272,6 +284,8 @@ def answer(words, world, source, output):
             return judge(options, world, output)
         if command == "list":
             return list_rows(options, world, output)
+        if command == "get":
+            return get(options, world, output)
         if command == "inspect":
             return inspect(source, output)
         return (encrypt if command == "encrypt" else decrypt)(options, world, source, output)

@@ -1,7 +1,9 @@
 -- The lemmas that the answers cite.
 mod Rooms
+pub mod Apart
 pub mod Asked
 pub mod Decided
+pub mod Found
 pub mod Frames
 pub mod Goes
 pub mod Listed
@@ -17,6 +19,7 @@ pub mod Linked
 pub mod Links
 pub mod Made
 pub mod NamedPrograms
+pub mod ReadOnly
 pub mod Readings
 pub mod SeedSteps
 pub mod Settled

@@ -18,7 +18,7 @@ use Rattle.kr_top.specs.declared.refusal.BadWords.TheVariants.{Usage, Replicas, 
 use Rattle.kr_top.specs.declared.refusal.Object.{Object}
 use Rattle.kr_top.specs.declared.refusal.Object.TheVariants.{Output}
 use Rattle.kr_top.specs.declared.refusal.Refusal.{Refusal}
-use Rattle.kr_top.specs.declared.refusal.Refusal.TheVariants.{Absent, Configuration, Limit, Value, Placed, Broken, NoPlugin, Unhealthy, Stray, OtherSecret, Unfit}
+use Rattle.kr_top.specs.declared.refusal.Refusal.TheVariants.{Absent, Configuration, Limit, Value, Placed, Broken, NoPath, NoPlugin, Unhealthy, Stray, OtherSecret, Unfit}
 use Rattle.kr_top.specs.declared.refusal.Stop.{Stop}
 use Rattle.kr_top.specs.declared.refusal.Stop.TheVariants.{Words, Refused, Fault, NoMemory}
 use Rattle.kr_top.specs.declared.refusal.Done.{Done}
@@ -46,6 +46,7 @@ status_in (Limit which) = inr (inr refl)
 status_in (Value number) = inl refl
 status_in (Placed number at) = inl refl
 status_in (Broken why) = inr (inl refl)
+status_in (NoPath path) = inl refl
 status_in (Stray path) = inr (inl refl)
 status_in (OtherSecret path) = inr (inl refl)
 status_in (Unfit replica verdict) = inr (inl refl)

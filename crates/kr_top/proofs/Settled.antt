@@ -5,6 +5,7 @@ use Rattle.std.specs.List.{list_any}
 use Rattle.std.specs.Option.{option_map}
 use Rattle.std.specs.Str.{bytes_eq}
 use Rattle.kr_base.specs.Limits.{data_limit}
+use Rattle.kr_base.specs.Told.{Agrees}
 use Rattle.std.specs.Result.{result_map_both}
 use Rattle.kr_config.specs.Kept.{Row}
 use Rattle.kr_config.specs.Lists.{list_of}
@@ -27,23 +28,26 @@ use Rattle.kr_kms.specs.declared.seeds.SeedRow.{SeedRow}
 use Rattle.kr_kms.specs.declared.world.WorldCall.TheVariants.{File}
 use Rattle.kr_provider.specs.Envelopes.{Envelope}
 use Rattle.kr_provider.specs.PluginOrder.{in_order, plugin_order}
-use Rattle.kr_provider.specs.Publication.{seed_of}
+use Rattle.kr_provider.specs.Publication.{names_plugin, seed_of}
 use Rattle.kr_provider.specs.Reading.{Reading, data_of, refused, unopened, value_reading, is_rotated, is_stale}
 use Rattle.kr_provider.specs.Readers.{is_reader, reader_in, writer_of}
 use Rattle.kr_provider.proofs.Lists.{no_names}
 use Rattle.kr_provider.proofs.OneReading.{IsNoPlugin, any_envelope, no_plugin}
 use Rattle.kr_provider.proofs.WithoutPlugins.{none_listed}
 use Rattle.kr_provider.specs.Sealing.{draw_size, sealed_by}
+use Rattle.kr_top.specs.Commands.{by_result, value_steps, draw_some, input_of, linking_programs, opening, read_with, reading_steps, unsealing, working, working_by, converting, steps, bench_steps, configuration, getting, row_found, row_on, tape_for, with_memory, configurations, judging_at, judging_by, telling}
+use Rattle.kr_store.specs.Rows.{live}
+use Rattle.kr_store.specs.declared.rows.Row as stored
 use Rattle.kr_store.specs.declared.rows.LogRow.{LogRow}
-use Rattle.kr_top.specs.Commands.{by_result, value_steps, draw_some, input_of, linking_programs, opening, read_with, reading_steps, unsealing, working, working_by, converting, configurations, judging_at, judging_by, telling, steps}
 use Rattle.kr_top.specs.Configuration.{IsConfiguration}
 use Rattle.kr_top.specs.Inspect.{Inspects, ShowsBody, ShowsObject}
 use Rattle.kr_top.specs.Plugins.{borrow_links, make_seeds, programs_of, seed_row, unless_breach, wrap_seed}
 use Rattle.kr_top.specs.Steps.{Steps, load, take_input, borrow_dice, borrow_tape, read_tape, draw, borrow_link, ask_status, wrap, unwrap, note, find, refuse, give, and_then, Left, with_asked, with_dice}
 use Rattle.kr_top.specs.Texts.{line, word_and_number}
 use Rattle.kr_top.specs.declared.command.Command.{Command}
-use Rattle.kr_top.specs.declared.command.Command.TheVariants.{Convert, Check, Inspect, Rows, Judge}
+use Rattle.kr_top.specs.declared.command.Command.TheVariants.{Convert, Check, Inspect, Get, Rows, Judge}
 use Rattle.kr_top.specs.declared.command.Conversion.{Conversion}
+use Rattle.kr_top.specs.declared.command.Lookup.{Lookup}
 use Rattle.kr_top.specs.declared.command.Direction.{Direction}
 use Rattle.kr_top.specs.declared.command.Direction.TheVariants.{Encrypt, Decrypt}
 use Rattle.kr_top.specs.declared.programs.Program.{Program}
@@ -450,6 +454,88 @@ settled_converting old words (told, input, plugins) = (
       (subst (IsConfiguration words.config file) is x) agrees)),
 )
 
+-- ---- get
+
+-- what was read is one thing, from which the first steps go on, and then the others
+settled_pair : {A B : Type 0} (left right : Left) (a b : Result A Refusal) (f : A → Steps B)
+    (g : B → Steps Outcome) → a ≡ b
+    → ((x : A) → IsSettled (and_then (f x) g) (and_then (f x) g) left right)
+    → IsSettled (and_then (and_then (by_result a) f) g) (and_then (and_then (by_result b) f) g)
+    left right
+settled_pair {A} left right a b f g e s =
+    subst (λ r. IsSettled (and_then (and_then (by_result a) f) g)
+    (and_then (and_then (by_result r) f) g) left right) e (by_cases a)
+  where
+    by_cases : (r : Result A Refusal) → IsSettled (and_then (and_then (by_result r) f) g)
+        (and_then (and_then (by_result r) f) g) left right
+    by_cases (Ok x) = s x
+    by_cases (Err why) = refl
+
+-- the entries of a told configuration are one thing
+settled_configuration : (old : Around) (name : List ℕ) (next : List Row → Steps Outcome)
+    → IsSome (old.world.file name)
+    → ((file : Option (List ℕ)) (rows : List Row) → IsConfiguration name file (Ok rows)
+    → Agrees (old.world.file name) file
+    → IsSettled (next rows) (next rows) (with_asked (File name) (left_of old))
+    (with_asked (File name) (left_of old)))
+    → IsSettled (and_then (configuration name) next) (and_then (configuration name) next)
+    (left_of old) (left_of old)
+settled_configuration old name next told each = (
+  told,
+  refl,
+  λ file agrees a b x y. subst (λ r. IsSettled (and_then (by_result a) next)
+      (and_then (by_result r) next) now now) (one_configuration name file a b x y)
+      (by_cases a (λ rows is. each file rows (subst (IsConfiguration name file) is x) agrees)),
+)
+  where
+    now : Left
+    now = with_asked (File name) (left_of old)
+
+    by_cases : (r : Result (List Row) Refusal)
+        → ((rows : List Row) → r ≡ Ok rows → IsSettled (next rows) (next rows) now now)
+        → IsSettled (and_then (by_result r) next) (and_then (by_result r) next) now now
+    by_cases (Ok rows) s = s rows refl
+    by_cases (Err why) s = refl
+
+abbrev read_so : Lookup → List Row → List Program → stored.Row → Steps Outcome
+read_so words rows programs row =
+    bench_steps programs Decrypt row.resource words.path rows row.stored
+
+abbrev looked_up : Lookup → List Row → List Program → Steps Outcome
+looked_up words rows programs = and_then (tape_for words.store false
+    (row_on words.store words.path)) (read_so words rows programs)
+
+settled_row : (old : Around) (words : Lookup) (rows : List Row) (programs : List Program)
+    (left right : Left) → left.links ≡ old.world.links.told → right.links ≡ left.links
+    → names_plugin rows ≡ false → (row : stored.Row)
+    → IsSettled (read_so words rows programs row) (read_so words rows programs row) left right
+settled_row old words rows programs left right at same none row =
+    settled_links programs (working Decrypt row.resource words.path rows row.stored) _ _ same
+    (λ l r x y. settled_working l r old Decrypt row.resource words.path row.stored rows (x ∙ at)
+    (y ∙ at) none)
+
+settled_getting : (old : Around) (words : Lookup) → IsTelling (Get words) old
+    → IsSettled (getting words) (getting words) (left_of old) (left_of old)
+settled_getting old words (file, tape, plugins) = settled_configuration old words.config
+    (λ rows. and_then (linking_programs words.options rows) (looked_up words rows)) file
+    (λ file rows is agrees. λ u v h k. settled_result _ _
+    (programs_of words.options (plugin_order rows)) (looked_up words rows) (λ programs. (
+      tape,
+      refl,
+      refl,
+      refl,
+      (
+        tape,
+        refl,
+        λ bytes a b x y. settled_pair _ _ a b
+            (λ read. with_memory (by_result (row_found words.path (live read.rows words.path))))
+            (read_so words rows programs) (one_stored bytes a b x y) (λ read. λ s t p q.
+            settled_result _ _ (row_found words.path (live read.rows words.path))
+            (read_so words rows programs)
+            (settled_row old words rows programs _ _ refl refl (plugins file rows is agrees))),
+      ),
+    )))
+
 pub settled : (command : Command) (old : Around) → IsTelling command old
     → IsSettled (steps command) (steps command) (left_of old) (left_of old)
 settled (Convert words) old tells = settled_converting old words tells
@@ -459,6 +545,7 @@ settled (Check config resource) old told = (
   λ file agrees a b x y. settled_by _ _ a b _ (one_configuration config file a b x y) (λ rows.
       λ c d h k. settled_by _ _ c d _ (h ∙ sym k) (λ text. refl)),
 )
+settled (Get words) old tells = settled_getting old words tells
 settled (Rows store) old told = (
   told,
   refl,

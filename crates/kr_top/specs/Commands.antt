@@ -18,6 +18,8 @@ use Rattle.kr_provider.specs.Reading.{Reading, data_of, refused, unopened, value
 use Rattle.kr_provider.specs.Readers.{reader_in, writer_of}
 use Rattle.kr_provider.specs.Sealing.{draw_size, sealed_by}
 use Rattle.kr_provider.specs.declared.refusal.ValueNo.TheVariants.{LooksEncrypted}
+use Rattle.kr_store.specs.Rows.{live}
+use Rattle.kr_store.specs.declared.rows.Row as stored
 use Rattle.kr_judge.specs.declared.verdict.Verdict.{Verdict}
 use Rattle.kr_store.specs.declared.rows.LogRow.{LogRow}
 use Rattle.kr_top.specs.Check.{listing}
@@ -30,8 +32,9 @@ use Rattle.kr_top.specs.StoreFiles.{Stored, IsStored}
 use Rattle.kr_top.specs.Steps.{Steps, load, take_input, borrow_dice, borrow_tape, read_tape, draw, find, refuse, give, and_then, unwrap}
 use Rattle.kr_top.specs.Plugins.{borrow_links, make_seeds, programs_of}
 use Rattle.kr_top.specs.declared.command.Command.{Command}
-use Rattle.kr_top.specs.declared.command.Command.TheVariants.{Convert, Check, Inspect, Rows, Judge}
+use Rattle.kr_top.specs.declared.command.Command.TheVariants.{Convert, Check, Inspect, Get, Rows, Judge}
 use Rattle.kr_top.specs.declared.command.Conversion.{Conversion}
+use Rattle.kr_top.specs.declared.command.Lookup.{Lookup}
 use Rattle.kr_top.specs.declared.command.Judgement.{Judgement}
 use Rattle.kr_top.specs.declared.command.Direction.{Direction}
 use Rattle.kr_top.specs.declared.command.Direction.TheVariants.{Encrypt, Decrypt}
@@ -40,7 +43,7 @@ use Rattle.kr_top.specs.declared.refusal.Object.{Object}
 use Rattle.kr_top.specs.declared.refusal.Object.TheVariants.{Store}
 use Rattle.kr_top.specs.declared.programs.Program.{Program}
 use Rattle.kr_top.specs.declared.refusal.Refusal.{Refusal}
-use Rattle.kr_top.specs.declared.refusal.Refusal.TheVariants.{Absent, Limit, Value}
+use Rattle.kr_top.specs.declared.refusal.Refusal.TheVariants.{Absent, Limit, NoPath, Value}
 use Rattle.kr_top.specs.declared.refusal.Limit.TheVariants as limit
 use Rattle.kr_top.specs.declared.refusal.Done.{Done}
 use Rattle.kr_top.specs.declared.refusal.Done.TheVariants.{Silent, Fresh, Stale}
@@ -155,6 +158,12 @@ abbrev pub working : Direction → (resource path : List ℕ) → List Row → L
 working direction resource path rows bytes = with_memory
     (and_then (make_seeds (plugin_order rows)) (working_by direction resource path rows bytes))
 
+-- with the random source and the links that this wants
+abbrev pub bench_steps : List Program → Direction → (resource path : List ℕ) → List Row → List ℕ
+    → Steps Outcome
+bench_steps programs direction resource path rows bytes =
+    borrow_dice 0 (borrow_links programs (working direction resource path rows bytes))
+
 -- the most bytes of the input: of an object's data, or of a stored value
 abbrev pub limit_of : Direction → ℕ
 limit_of Encrypt = data_limit
@@ -176,8 +185,27 @@ converting words =
     and_then (configuration words.config) (λ rows.
     and_then (linking_programs words.options rows) (λ programs.
     and_then (input_of words.direction) (λ bytes.
-    borrow_dice 0 (borrow_links programs
-    (working words.direction words.resource words.path rows bytes)))))
+    bench_steps programs words.direction words.resource words.path rows bytes)))
+
+-- ---- get
+
+-- the row, where the path has one
+abbrev pub row_found : (path : List ℕ) → Option stored.Row → Result stored.Row Refusal
+row_found path None = Err (NoPath path)
+row_found path (Some row) = Ok row
+
+-- the live row of the path in the store on a tape that is lent
+abbrev pub row_on : (store path : List ℕ) → Steps stored.Row
+row_on store path = and_then (stored_on Store store)
+    (λ read. with_memory (by_result (row_found path (live read.rows path))))
+
+-- the tape is back before the value is read
+abbrev pub getting : Lookup → Steps Outcome
+getting words =
+    and_then (configuration words.config) (λ rows.
+    and_then (linking_programs words.options rows) (λ programs.
+    and_then (tape_for words.store false (row_on words.store words.path)) (λ row.
+    bench_steps programs Decrypt row.resource words.path rows row.stored)))
 
 -- ---- list
 
@@ -226,6 +254,7 @@ abbrev pub steps : Command → Steps Outcome
 steps (Convert words) = converting words
 steps (Check config resource) =
     and_then (configuration config) (λ rows. show (λ shown. shown ≡ Ok (listing rows resource)))
+steps (Get words) = getting words
 steps (Rows store) = tape_for store false (listing_on store)
 steps (Judge words) = judging words
 steps Inspect = and_then (input_of Decrypt) (λ bytes. show (Inspects bytes))

@@ -14,7 +14,7 @@ use Rattle.kr_provider.specs.Refusals.{number_of, name_of}
 use Rattle.kr_top.specs.declared.refusal.Object.{Object}
 use Rattle.kr_top.specs.declared.refusal.Object.TheVariants.{Input, Output, Files, Dice, Store, Plugin}
 use Rattle.kr_top.specs.declared.refusal.Refusal.{Refusal}
-use Rattle.kr_top.specs.declared.refusal.Refusal.TheVariants.{Absent, Configuration, Limit, Value, Placed, Broken, NoPlugin, Unhealthy, Stray, OtherSecret, Unfit}
+use Rattle.kr_top.specs.declared.refusal.Refusal.TheVariants.{Absent, Configuration, Limit, Value, Placed, Broken, NoPath, NoPlugin, Unhealthy, Stray, OtherSecret, Unfit}
 use Rattle.kr_top.specs.declared.refusal.Limit as limits
 use Rattle.kr_top.specs.declared.refusal.Limit.TheVariants as limit
 use Rattle.kr_top.specs.declared.refusal.Breach.{Breach}
@@ -52,6 +52,7 @@ status_of_refusal (Limit which) = 6
 status_of_refusal (Value why) = 1
 status_of_refusal (Placed why at) = 1
 status_of_refusal (Broken why) = 3
+status_of_refusal (NoPath path) = 1
 status_of_refusal (Stray path) = 3
 status_of_refusal (OtherSecret path) = 3
 status_of_refusal (Unfit replica verdict) = 3
@@ -139,6 +140,7 @@ refusal_line (Placed why at) =
     codes "kmsrest: refused " ++ (decimal (number_of why)
     ++ (codes " " ++ (name_of why ++ (codes " " ++ (decimal at ++ codes "\n")))))
 refusal_line (Broken why) = counted_line (codes "kmsrest: text ") (broken_code why) (place_of why)
+refusal_line (NoPath path) = codes "kmsrest: absent " ++ (path ++ codes "\n")
 refusal_line (Stray path) = codes "kmsrest: text 48 " ++ (path ++ codes "\n")
 refusal_line (OtherSecret path) = codes "kmsrest: text 51 " ++ (path ++ codes "\n")
 refusal_line (Unfit replica verdict) = codes "kmsrest: text 49 " ++ (decimal replica

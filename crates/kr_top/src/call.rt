@@ -1,5 +1,5 @@
 //! The call that does a command.
-ghost use Rattle.std.specs.Prelude.{◌≤◌, Some};
+ghost use Rattle.std.specs.Prelude.{◌≡◌, ◌≤◌, Some};
 ghost use Rattle.kr_words.specs.Grammar.{texts};
 ghost use Rattle.kr_top.specs.Around.{around};
 ghost use Rattle.kr_top.specs.Commands.{steps};
@@ -11,6 +11,7 @@ use crate::command::{Command, read_command};
 use crate::convert::convert;
 use crate::inspect::inspect;
 use crate::judge::judge;
+use crate::lookup::get;
 use crate::message::tell;
 use crate::phases::write_output;
 use crate::refusal::{Done, Outcome, Stop};
@@ -24,7 +25,7 @@ use std::alloc::Global;
 /// together, 4 an object of the outside failed, 5 want of memory, 6 a limit was passed. Each status
 /// other than 0 has one line on `errors`, but for a reload that was refused, of which the output
 /// says why; where the line can't be written the status is 4. `readings` is what follows from `ran`,
-/// for readers.
+/// for readers, and so is that no tape changed, whatever the status is.
 pub fn run<W: World, I: Source, O: Sink, E: Sink>(
     alloc: Global,
     words: &[String],
@@ -49,6 +50,7 @@ pub fn run<W: World, I: Source, O: Sink, E: Sink>(
         (receipt (O.held output.old) (O.held output.new) (O.count output.old) (O.count output.new))
         (receipt (E.held errors.old) (E.held errors.new) (E.count errors.old) (E.count errors.new))
         result }
+    ensures tapes { (W.told world.new).tapes.told ≡ (W.told world.old).tapes.told }
 {
     let answer = answer(alloc, words, world, input, output);
     tell(errors, &answer)
@@ -98,6 +100,7 @@ fn perform<W: World, I: Source>(
         Command::Convert(words) => convert(alloc, words, world, input),
         Command::Check { config, resource } => check(alloc, config.as_str(), resource, world),
         Command::Inspect => inspect(alloc, input),
+        Command::Get(words) => get(alloc, words, world),
         Command::Rows { store } => list(alloc, store.as_str(), world),
         Command::Judge(words) => judge(alloc, words, world),
     }

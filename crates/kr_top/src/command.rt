@@ -5,7 +5,7 @@ ghost use Rattle.kr_words.specs.Grammar.{texts, replicas_of, replica_limit};
 ghost use Rattle.kr_words.specs.declared.command.Verb.{Verb};
 ghost use Rattle.kr_words.specs.Options.{value_of};
 ghost use Rattle.kr_words.specs.Rules.{IsCommand};
-ghost use Rattle.kr_top.specs.Command.{command_of, conversion_of, check_of, listing_of, judgement_of};
+ghost use Rattle.kr_top.specs.Command.{command_of, conversion_of, check_of, lookup_of, listing_of, judgement_of};
 ghost use Rattle.kr_top.specs.inner.Phases.{IsReadAs, HasShortPath};
 
 use crate::options::Options;
@@ -38,6 +38,19 @@ pub struct Conversion {
     pub options: Options,
 }
 
+/// Which value of a store is to be read.
+#[derive(Debug, Drop)]
+pub struct Lookup {
+    /// The name of the configuration file.
+    pub config: Text,
+    /// The name of the store's file.
+    pub store: Text,
+    /// The path of the value.
+    pub path: Text,
+    /// All options of the words, which give the programs of plugins.
+    pub options: Options,
+}
+
 /// Which reload is to be judged.
 #[derive(Debug, Drop)]
 pub struct Judgement {
@@ -61,6 +74,8 @@ pub enum Command {
     },
     /// Shows what the input, a stored value, says of itself.
     Inspect,
+    /// Reads a value of a store.
+    Get(Lookup),
     /// Lists the rows of a store.
     Rows {
         /// The name of the store's file.
@@ -103,6 +118,7 @@ fn command_of(alloc: Global, words: kr_words::Command) -> Result<Option<Command>
         Verb::Decrypt => conversion_of(alloc, Direction::Decrypt, words),
         Verb::Check => check_of(alloc, &words),
         Verb::Inspect => Ok(Some(Command::Inspect)),
+        Verb::Get => lookup_of(alloc, words),
         Verb::Rows => listing_of(alloc, &words),
         Verb::Judge => judgement_of(alloc, words),
         _ => Ok(None),
@@ -181,6 +197,44 @@ fn check_of(alloc: Global, words: &kr_words::Command) -> Result<Option<Command>,
     match config {
         Some(config) => Ok(Some(Command::Check { config, resource })),
         None => Ok(None),
+    }
+}
+
+/// The words of `get`.
+fn lookup_of(alloc: Global, words: kr_words::Command) -> Result<Option<Command>, NoMemory>
+    requires { IsCommand words.verb words.options.0 }
+    ensures command { IfOk result (λ command. command ≡ lookup_of words.options.0
+        (value_of words.options.0 (codes "config"))
+        (value_of words.options.0 (codes "store"))
+        (value_of words.options.0 (codes "path"))) }
+    ensures path { IfOk result HasShortPath }
+{
+    let config = value_of(alloc, &words, "config")?;
+    let store = value_of(alloc, &words, "store")?;
+    let path = path_of(alloc, &words)?;
+    let Some(config) = config else {
+        return Ok(None);
+    };
+    let Some(store) = store else {
+        return Ok(None);
+    };
+    Ok(lookup_at(config, store, path, Options::new(words)))
+}
+
+/// A look-up of a path, where there is one.
+fn lookup_at(config: Text, store: Text, path: Option<Text>, options: Options) -> Option<Command>
+    requires { IfSome path (λ path. length path ≤ path_limit) }
+    ensures command { result ≡ lookup_of options (Some config) (Some store) path }
+    ensures path { HasShortPath result }
+{
+    match path {
+        Some(path) => Some(Command::Get(Lookup {
+            config,
+            store,
+            path,
+            options,
+        })),
+        None => None,
     }
 }
 

@@ -9,6 +9,7 @@ mod convert;
 mod inspect;
 mod judge;
 mod listing;
+mod lookup;
 mod message;
 mod options;
 mod phases;

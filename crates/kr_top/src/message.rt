@@ -50,6 +50,7 @@ fn status_of_refusal(why: &Refusal) -> u8
     match why {
         Refusal::Value(_) => 1,
         Refusal::Placed(_, _) => 1,
+        Refusal::NoPath(_) => 1,
         Refusal::Absent(_) => 3,
         Refusal::Broken(_) => 3,
         Refusal::Stray(_) => 3,
@@ -142,6 +143,7 @@ fn write_refusal<E: Sink>(errors: &mut E, why: &Refusal) -> Result<(), Failed>
         Refusal::Value(why) => write_value(errors, *why),
         Refusal::Placed(why, at) => write_placed(errors, *why, *at),
         Refusal::Broken(why) => write_broken(errors, *why),
+        Refusal::NoPath(path) => write_each(errors, &["kmsrest: absent ", path.as_str(), "\n"]),
         Refusal::Stray(path) => write_each(errors, &["kmsrest: text 48 ", path.as_str(), "\n"]),
         Refusal::OtherSecret(path) => {
             write_each(errors, &["kmsrest: text 51 ", path.as_str(), "\n"])

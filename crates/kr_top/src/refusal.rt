@@ -79,6 +79,8 @@ pub enum Refusal {
     Placed(ValueNo, u64),
     /// The file of a store is none.
     Broken(Breach),
+    /// The store has no value at this path.
+    NoPath(Text),
     /// No provider of the first replica reads what is stored at this path.
     Stray(Text),
     /// What is stored at this path was sealed with another secret of the same name.

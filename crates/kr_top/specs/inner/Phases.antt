@@ -24,7 +24,7 @@ use Rattle.kr_top.specs.Ran.{Receipt}
 use Rattle.kr_top.specs.inner.Judging.{HasReplicas}
 use Rattle.kr_top.specs.Steps.{Steps, Left}
 use Rattle.kr_top.specs.declared.command.Command.{Command}
-use Rattle.kr_top.specs.declared.command.Command.TheVariants.{Convert, Check, Inspect, Rows, Judge}
+use Rattle.kr_top.specs.declared.command.Command.TheVariants.{Convert, Check, Inspect, Get, Rows, Judge}
 use Rattle.kr_top.specs.declared.refusal.Object.TheVariants.{Input, Files}
 use Rattle.kr_top.specs.declared.refusal.Outcome.{Outcome}
 use Rattle.kr_top.specs.declared.refusal.Refusal.{Refusal}
@@ -47,6 +47,7 @@ HasShortPath None = ⊤
 HasShortPath (Some (Convert words)) = length words.path ≤ path_limit
 HasShortPath (Some (Check config resource)) = ⊤
 HasShortPath (Some Inspect) = ⊤
+HasShortPath (Some (Get words)) = length words.path ≤ path_limit
 HasShortPath (Some (Rows store)) = ⊤
 HasShortPath (Some (Judge words)) = HasReplicas words.options
 

@@ -1,4 +1,4 @@
-use Rattle.std.proofs.Common.{◌≡◌, Result, Some, sym, ◌∙◌, ap, subst}
+use Rattle.std.proofs.Common.{◌≡◌, Result, Some, refl, sym, ◌∙◌, ap, subst}
 use Rattle.kr_top.specs.Around.{Around, around}
 use Rattle.kr_top.specs.Commands.{steps}
 use Rattle.kr_top.specs.inner.Phases.{Does, HasShortPath}
@@ -29,6 +29,14 @@ pub returns-in-Inspect : goal.returns-in-Inspect
 returns-in-Inspect g c = does_by (sym c.in-Inspect.is)
     (c.inspect.ensures (around g.W.Link.Kms.truth (g.W.World.told c.args.world.now)
     (g.I.Source.left c.args.input.now) (g.I.Source.count c.args.input.now)))
+
+pub get-requires-clause-path : goal.get-requires-clause-path
+get-requires-clause-path g c = λ κs lives. subst (λ k. HasShortPath (Some k)) c.in-Get.is c.requires.path
+
+pub returns-in-Get : goal.returns-in-Get
+returns-in-Get g c = does_by (sym c.in-Get.is)
+    (c.get.ensures (around g.W.Link.Kms.truth (g.W.World.told c.args.world.now) (g.I.Source.left c.args.input.now)
+    (g.I.Source.count c.args.input.now)) refl)
 
 pub returns-in-Rows : goal.returns-in-Rows
 returns-in-Rows g c = does_by
