@@ -38,7 +38,8 @@ from pathlib import Path
 
 sys.dont_write_bytecode = True
 
-from reference.calls import Dice, Numbered, Sink, Source, Tape, World, run
+from reference.calls import run
+from reference.outside import Dice, Numbered, Sink, Source, Tape, World
 from reference.plugins import Plugin
 
 CRATE = Path(__file__).resolve().parent.parent / "crates" / "kr_cases"
