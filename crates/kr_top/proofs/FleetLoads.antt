@@ -106,7 +106,7 @@ module _ {old new : Outside} (files : KeepsFiles old new) (objects : KeepsObject
 -- ---- which files are there
 
 -- the file of the name was read
-abbrev IsRead : List NamedRows → List ℕ → Type 0
+abbrev pub IsRead : List NamedRows → List ℕ → Type 0
 IsRead files name = IsSome (rows_at files name)
 
 covers_none : (files : List NamedRows) → Covers files files []
@@ -307,8 +307,7 @@ module _ (files : List NamedRows) (name : List ℕ) where
         → GoesThrough files (files ++ (name, rows_of settings.entries.0) ∷ []) (name ∷ []) old new
         (Ok tt)
     loaded settings c q =
-        let file : NamedRows = (name, rows_of settings.entries.0) in
-        (
+        let file : NamedRows = (name, rows_of settings.entries.0) in (
           record {
             read = All-cons (IsRead (files ++ file ∷ [])) name []
                 (last_read files name (rows_of settings.entries.0))

@@ -28,7 +28,7 @@ use Rattle.kr_top.specs.Fleets.{rows_of_replica}
 use Rattle.kr_top.specs.declared.fleet_file.Plan.{Plan}
 use Rattle.kr_top.specs.inner.FleetFiles.{IsWholePlan, named, plan_of}
 use Rattle.kr_top.specs.inner.Outfits.{names_in}
-use Rattle.kr_top.proofs.FleetLoads.{same_rows}
+use Rattle.kr_top.proofs.FleetLoads.{IsRead, same_rows}
 
 -- ---- files that were read
 
@@ -44,6 +44,7 @@ rows_among (file ∷ files) name rows plugin e c =
     parted : plugins_in (all_rows (file ∷ files))
         ≡ plugins_in file.1 ++ plugins_in (all_rows files)
     parted = flat_map-append (λ (row : Row). plugins_among row.providers) file.1 (all_rows files)
+
     by : (b : Bool)
         → option_map (λ (f : NamedRows). f.1) (if b then Some file
         else find (λ (f : NamedRows). bytes_eq f.0 name) files) ≡ Some rows
@@ -66,10 +67,6 @@ halves P [] ys h = (All-nil P, h)
 halves P (x ∷ xs) ys h =
     let more = halves P xs ys (All-tail P x (xs ++ ys) h) in
     (All-cons P x xs (All-head P x (xs ++ ys) h) more.0, more.1)
-
--- the file of the name was read
-abbrev IsRead : List NamedRows → List ℕ → Type 0
-IsRead files name = IsSome (rows_at files name)
 
 module _ (files : List SettingsFile) (names : List (List ℕ)) (o : Opening) (many : ℕ)
     (names_are : o.names ≡ names) (replicas_are : length o.replicas ≡ many)
