@@ -14,6 +14,7 @@ pub mod Goes
 pub mod Listed
 pub mod Listings
 pub mod OnePoint
+pub mod Plans
 pub mod Pieces
 pub mod Loading
 pub mod Loads
