@@ -1,5 +1,5 @@
 -- `hire_each`: the next part's worker, and an outfit that is put back.
-use Rattle.std.proofs.Common.{◌≡◌, ◌+◌, ◌∙◌, [], ◌∷◌, ap, arith, length, refl, reverse, sym}
+use Rattle.std.proofs.Common.{◌+◌, ◌∙◌, [], ◌∷◌, ap, arith, length, refl, reverse}
 use Rattle.std.proofs.lemmas.List.{length-append, length-reverse}
 use Rattle.kr_top.proofs.Crews.{hired_back, hired_long, hired_next, none_hired, none_long}
 use Rattle.kr_top.proofs.crew.hire_each.Goals as goal

@@ -1,6 +1,6 @@
 -- `run_crew`: what the workers begin with, and what they leave.
-use Rattle.std.specs.Prelude.{All, slice_index_or}
-use Rattle.std.proofs.Common.{◌≡◌, ℕ, ◌<◌, ◌≤◌, ◌∙◌, [], ◌++◌, ap, append-nil, arith, length, refl, reverse, subst, sum, sym}
+use Rattle.std.specs.Prelude.{All}
+use Rattle.std.proofs.Common.{◌<◌, ◌∙◌, ◌++◌, ap, append-nil, arith, length, refl, reverse, subst, sum, sym}
 use Rattle.kr_script.specs.declared.script.Part.{Part}
 use Rattle.kr_workers.specs.Budgets.{AreBudgets, all_reloads}
 use Rattle.kr_workers.specs.ScriptLines.{MayDo}
