@@ -13,6 +13,7 @@ pub mod Goes
 pub mod Listed
 pub mod Listings
 pub mod OnePoint
+pub mod Outfits
 pub mod Pieces
 pub mod Loading
 pub mod Loads
