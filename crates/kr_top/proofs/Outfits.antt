@@ -1,15 +1,24 @@
 -- What is around while outfits are out, and what each worker then has of it.
 use Rattle.std.proofs.Common.{◌≡◌, ◌≢◌, ℕ, zero, suc, ◌+◌, ◌<◌, ◌≤◌, List, [], ◌∷◌, ◌++◌, length, get_or, Option, Contains, refl, sym, ◌∙◌, ap, subst, arith}
-use Rattle.std.specs.Prelude.{All, Bool, if◌then◌else◌, ◌-◌}
-use Rattle.std.specs.List.{IsDistinct}
+use Rattle.std.specs.Prelude.{Bool, true, false, if◌then◌else◌, ◌-◌}
+use Rattle.std.specs.List.{AllByRecursion, IsDistinct}
+use Rattle.std.specs.List.Sorted.{IsStrictlySortedBy}
+use Rattle.std.specs.Ordering.{is_lt}
 use Rattle.std.specs.Str.{bytes_eq}
+use Rattle.std.specs.declared.cmp.Ordering.TheVariants.{Less}
 use Rattle.std.proofs.lemmas.List.Elements.{Contains-get_or}
+use Rattle.std.proofs.lemmas.Slice.Eq.{bytes_eq-Decides}
+use Rattle.kr_config.specs.Kept.{Row, plugins_in}
+use Rattle.kr_config.specs.Nexts.{name_cmp}
 use Rattle.kr_kms.specs.Calls.{Link}
 use Rattle.kr_kms.specs.Outside.{Objects, at_key, link_at, same_link, same_seat}
 use Rattle.kr_kms.specs.declared.plugin.Status.{Status}
 use Rattle.kr_kms.proofs.Lent.{links_decide, seats_decide}
 use Rattle.kr_provider.specs.AskedLinks.{AskedOnly}
 use Rattle.kr_provider.specs.Names.{AreDistinct, names_of}
+use Rattle.kr_provider.specs.PluginOrder.{plugin_order}
+use Rattle.kr_provider.proofs.NameOrder.{is_before, not_itself, to_false}
+use Rattle.kr_provider.proofs.PluginOrder.{order_ascends}
 use Rattle.kr_provider.proofs.AskedLists.{asked_none, asked_then, names_stay}
 use Rattle.kr_top.specs.Around.{Around, AreHome, IsHome, lent_links, with_lent}
 use Rattle.kr_top.specs.Fleets.{IsEquipped}
@@ -114,20 +123,21 @@ module _ {L D : Type 0} (link : L → Link) (left : D → Option (List ℕ)) (co
       → AreNamed link names (outfit ∷ outfits) → AreNamed link names outfits
   named_rest names outfit outfits n = λ k d lt. n (suc k) d (omega (arith, lt))
 
+  named_both : (names : List (List ℕ)) (outfit : Outfit L D) (outfits : List (Outfit L D))
+      → names_of link outfit.links ≡ names → AreNamed link names outfits
+      → AreNamed link names (outfit ∷ outfits)
+  named_both names outfit outfits first rest zero d lt = first
+  named_both names outfit outfits first rest (suc k) d lt = rest k d (omega (arith, lt))
+
   pub later_named : (names : List (List ℕ)) (olds news : List (Outfit L D))
       → AreLater link count olds news → AreNamed link names olds → AreNamed link names news
   later_named names [] [] p n = n
   later_named names [] (new ∷ news) p n = absurd p
   later_named names (old ∷ olds) [] p n = absurd p
-  later_named names (old ∷ olds) (new ∷ news) p n = all
-    where
-      rest : AreNamed link names news
-      rest = later_named names olds news p.1 (named_rest names old olds n)
-
-      all : AreNamed link names (new ∷ news)
-      all zero d lt = names_stay link (names_of link old.links) old.links new.links p.0.links
-          ∙ n zero d (omega arith)
-      all (suc k) d lt = rest k d (omega (arith, lt))
+  later_named names (old ∷ olds) (new ∷ news) p n = named_both names new news
+      (names_stay link (names_of link old.links) old.links new.links p.0.links
+      ∙ n zero old (omega arith))
+      (later_named names olds news p.1 (named_rest names old olds n))
 
   -- ---- what is around them
 
@@ -276,3 +286,28 @@ module _ {L D : Type 0} (link : L → Link) (left : D → Option (List ℕ)) (co
         left_is = sym (dice_told a 0 at at outfits o here lt);
         count_is = sym (dice_count a 0 at at outfits o here lt);
       }
+
+-- ---- the names of the programs' plugins
+
+none_less : (name : List ℕ) (names : List (List ℕ))
+    → AllByRecursion (λ other. name_cmp name other ≡ Less) names
+    → AllByRecursion (λ other. bytes_eq name other ≡ false) names
+none_less name [] a = tt
+none_less name (other ∷ names) a = (
+  to_false (bytes_eq name other) (λ same. not_itself name
+      (subst (λ n. is_before name n ≡ true) (sym ((bytes_eq-Decides name other).0 same))
+      (ap is_lt a.0))),
+  none_less name names a.1,
+)
+
+differ_in_order : (names : List (List ℕ)) → IsStrictlySortedBy name_cmp names
+    → IsDistinct bytes_eq names
+unfolding IsDistinct IsStrictlySortedBy
+differ_in_order [] s = tt
+differ_in_order (name ∷ names) s = (none_less name names s.0, differ_in_order names s.1)
+
+-- they differ
+pub names_differ : (programs : List Program) (rows : List Row)
+    → names_in programs ≡ plugin_order rows → IsDistinct bytes_eq (names_in programs)
+names_differ programs rows is = subst (IsDistinct bytes_eq) (sym is)
+    (differ_in_order (plugin_order rows) (order_ascends (plugins_in rows)))
