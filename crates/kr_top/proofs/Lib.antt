@@ -14,6 +14,7 @@ pub mod Listed
 pub mod Listings
 pub mod OnePoint
 pub mod Outfits
+pub mod Outfitting
 pub mod Pieces
 pub mod Loading
 pub mod Loads
