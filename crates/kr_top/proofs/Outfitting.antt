@@ -245,6 +245,14 @@ not_its seat other n = by_key seats_decide (λ (b : ℕ). b ≡ 0) seat other 1 
 at_itself : (key : ℕ × List ℕ) → at_key same_link key 1 key ≡ 1
 at_itself key = ap (λ (b : Bool). if b then 1 else 0) ((links_decide key key).1 refl)
 
+pub dice_out : {seat count : ℕ} {old new : Objects ℕ (Option (List ℕ))}
+    → HandsOut same_seat old new seat count → 0 < new.out seat
+dice_out {seat} h = omega (
+  arith,
+  h.out seat,
+  ap {B = ℕ} (λ (b : Bool). if b then 1 else 0) ((seats_decide seat seat).1 refl),
+)
+
 module _ {seat : ℕ} where
   pub others_trans : {a b c : Outside} → KeepsOthers seat a b → KeepsOthers seat b c
       → KeepsOthers seat a c
