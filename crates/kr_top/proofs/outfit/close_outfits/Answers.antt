@@ -14,7 +14,13 @@ loop-outfit-init g c = (
 )
 
 pub overflow_cast-seat : goal.overflow_cast-seat
-overflow_cast-seat g c = ?
+overflow_cast-seat g c = omega (
+  arith,
+  ap length c.as_slice.ensures,
+  ap length c.in-Some.ensures.items ∙ length_push c.pop.new.self.0 c.in-Some.outfit,
+  c.loop-outfit.invariant.1.few,
+  c.requires.few,
+)
 
 pub close_outfit-requires-clause-out : goal.close_outfit-requires-clause-out
 close_outfit-requires-clause-out g c = λ κs within.
