@@ -15,6 +15,7 @@ pub mod Listings
 pub mod OnePoint
 pub mod Outfits
 pub mod Outfitting
+pub mod Plans
 pub mod Pieces
 pub mod Loading
 pub mod Loads
