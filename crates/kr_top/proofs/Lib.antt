@@ -5,6 +5,7 @@ pub mod Asked
 pub mod Decided
 pub mod FleetAsked
 pub mod FleetLoads
+pub mod FleetOutfits
 pub mod FleetPrograms
 pub mod FleetRuns
 pub mod Found

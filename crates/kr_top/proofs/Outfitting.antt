@@ -230,7 +230,6 @@ module _ {L D : Type 0} (link : L → Link) (left : D → Option (List ℕ)) (co
 
 -- ---- links one behind another
 
-
 -- ---- what is out of other seats
 
 not_at : (seat other : ℕ) (plugin name : List ℕ) → other ≢ seat

@@ -35,9 +35,9 @@ pub loop-outfit-preserved : goal.loop-outfit-preserved
 loop-outfit-preserved g c = (
   c.loop-outfit.invariant.0,
   one_closed g.W.Link.Kms.link g.W.Rand.Dice.left g.W.Rand.Dice.count
-    c.loop-outfit.invariant.0 c.args.outfits.0 (g.W.World.told c.args.world.now)
-    c.loop-outfit.outfits.0 c.pop.new.self.0 c.in-Some.outfit
-    (g.W.World.told c.loop-outfit.world) c.loop-outfit.invariant.1 c.in-Some.ensures.items
+      c.loop-outfit.invariant.0 c.args.outfits.0 (g.W.World.told c.args.world.now)
+      c.loop-outfit.outfits.0 c.pop.new.self.0 c.in-Some.outfit
+      (g.W.World.told c.loop-outfit.world) c.loop-outfit.invariant.1 c.in-Some.ensures.items
       (g.W.World.told c.close_outfit.new.world)
       (subst (λ seat. OutfitReturn g.W.Link.Kms.link g.W.Rand.Dice.left g.W.Rand.Dice.count seat
       (g.W.World.told c.loop-outfit.world) (g.W.World.told c.close_outfit.new.world)

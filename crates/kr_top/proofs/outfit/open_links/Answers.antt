@@ -31,7 +31,7 @@ returns-in-Err-clause-out g c = λ name there.
     (c.loop-program.invariant.out name there)
 
 pub returns-in-Err-clause-others : goal.returns-in-Err-clause-others
-returns-in-Err-clause-others g c = 
+returns-in-Err-clause-others g c =
     others_trans c.loop-program.invariant.others (others_same c.in-Err.ensures.objects)
 
 pub add-requires : goal.add-requires

@@ -7,7 +7,7 @@ use Rattle.kr_top.proofs.outfit.open_outfits.Goals as goal
 pub loop-seat-init : goal.loop-seat-init
 loop-seat-init g c = (
   no_outfit g.W.Link.Kms.link g.W.Rand.Dice.left g.W.Rand.Dice.count
-    c.args.programs.now c.args.seats (g.W.World.told c.args.world.now)
+      c.args.programs.now c.args.seats (g.W.World.told c.args.world.now)
       c.reserve.new.self.0 (c.in-Ok.ensures.items ∙ c.requires.none),
   omega (arith, c.in-Ok.ensures.ok),
 )
@@ -32,9 +32,9 @@ returns-in-Err-open_outfit-clause-out g c = λ seat lt. still_all_out g.W.Link.K
 pub loop-seat-preserved : goal.loop-seat-preserved
 loop-seat-preserved g c = (
   one_outfit g.W.Link.Kms.link g.W.Rand.Dice.left g.W.Rand.Dice.count
-    c.args.programs.now c.args.seats (g.W.World.told c.args.world.now)
-    c.loop-seat.seat (g.W.World.told c.loop-seat.world) c.loop-seat.outfits.0
-    c.loop-seat.invariant.0
+      c.args.programs.now c.args.seats (g.W.World.told c.args.world.now)
+      c.loop-seat.seat (g.W.World.told c.loop-seat.world) c.loop-seat.outfits.0
+      c.loop-seat.invariant.0
       c.loop-seat-test.true (g.W.World.told c.open_outfit.new.world)
       c.in-Ok-open_outfit.outfit c.push_in_room.new.self.0 c.push_in_room.ensures.items
       c.in-Ok-open_outfit.ensures.does c.in-Ok-open_outfit.ensures.named
