@@ -88,7 +88,7 @@ returns-in-Ok-clause-made g c name a truth =
     let after = with_lent_tape name c.begin-made.result.1.told c.begin-made.result.1.count (with_world new a) in
     let programs = c.as_slice-2.result.now in
     let many = ap length c.as_slice.ensures
-    ∙ sym (length-map worker_of c.args.plan.now.script.workers.0) in
+    ∙ sym (length-map c.args.plan.now.script.workers.0 worker_of) in
     subst (λ ps. RunsBy g.row.W-Tap.Denot g.W.Link.Kms.truth g.W.Link.Kms.link
     g.W.Rand.Dice.left g.W.Rand.Dice.count
     (equipping ps 0 (length plan.fleet.workers) next) name plan before after c.begin-made.result.0)
@@ -115,7 +115,7 @@ returns-in-Err-clause-made g c name a truth =
     let after = with_lent_tape name store.told store.count (with_world new a) in
     let programs = c.as_slice-2.result.now in
     let many = ap length c.as_slice.ensures
-    ∙ sym (length-map worker_of c.args.plan.now.script.workers.0) in
+    ∙ sym (length-map c.args.plan.now.script.workers.0 worker_of) in
     subst (λ ps. RunsBy g.row.W-Tap.Denot g.W.Link.Kms.truth g.W.Link.Kms.link
     g.W.Rand.Dice.left g.W.Rand.Dice.count
     (equipping ps 0 (length plan.fleet.workers) next) name plan before after (Err c.in-Err.stop))
