@@ -6,6 +6,7 @@ pub mod Crews
 pub mod Decided
 pub mod FleetAsked
 pub mod FleetLoads
+pub mod FleetOutfits
 pub mod FleetPrograms
 pub mod FleetRuns
 pub mod Found
@@ -14,6 +15,8 @@ pub mod Goes
 pub mod Listed
 pub mod Listings
 pub mod OnePoint
+pub mod Outfits
+pub mod Outfitting
 pub mod Plans
 pub mod Pieces
 pub mod Loading
