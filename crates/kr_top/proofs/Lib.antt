@@ -2,9 +2,11 @@
 mod Rooms
 pub mod Apart
 pub mod Asked
+pub mod Crews
 pub mod Decided
 pub mod FleetAsked
 pub mod FleetLoads
+pub mod FleetOutfits
 pub mod FleetPrograms
 pub mod FleetRuns
 pub mod Found
@@ -13,6 +15,8 @@ pub mod Goes
 pub mod Listed
 pub mod Listings
 pub mod OnePoint
+pub mod Outfits
+pub mod Outfitting
 pub mod Plans
 pub mod Pieces
 pub mod Loading
