@@ -34,12 +34,12 @@ pub begin-made-requires-clause-seats : goal.begin-made-requires-clause-seats
 begin-made-requires-clause-seats g c κs within = c.in-Ok.ensures.many ∙ ap length c.as_slice.ensures
 
 pub begin-made-requires-clause-named : goal.begin-made-requires-clause-named
-begin-made-requires-clause-named g c κs within = 
+begin-made-requires-clause-named g c κs within =
     subst (λ ps. AreNamed g.W.Link.Kms.link (names_in ps) c.open_outfits-opened.new.outfits.0)
     c.as_slice-2.ensures c.in-Ok.ensures.named
 
 pub close_outfits-requires-clause-out : goal.close_outfits-requires-clause-out
-close_outfits-requires-clause-out g c κs within = 
+close_outfits-requires-clause-out g c κs within =
     let names = names_in c.as_slice-2.result.now in
     let opened = c.open_outfits-opened.new.outfits.0 in
     let closed = c.begin-made.result.2.0 in (
@@ -65,7 +65,7 @@ close_outfits-requires-clause-few g c κs within = omega (
 )
 
 pub close_outfits-requires-in-Err-clause-out : goal.close_outfits-requires-in-Err-clause-out
-close_outfits-requires-in-Err-clause-out g c κs within = 
+close_outfits-requires-in-Err-clause-out g c κs within =
     (names_in c.as_slice-2.result.now, c.in-Err.ensures.named, c.in-Err.ensures.out)
 
 pub close_outfits-requires-in-Err-clause-few : goal.close_outfits-requires-in-Err-clause-few
@@ -77,7 +77,7 @@ close_outfits-requires-in-Err-clause-few g c κs within = omega (
 )
 
 pub returns-in-Ok-clause-made : goal.returns-in-Ok-clause-made
-returns-in-Ok-clause-made g c name a truth = 
+returns-in-Ok-clause-made g c name a truth =
     let store = c.args.store in
     let plan = plan_of c.args.plan.now in
     let next = outfitted plan (stored_of store) c.args.budgets.now.entries.items in
@@ -104,7 +104,7 @@ returns-in-Ok-clause-made g c name a truth =
     c.begin-made.result.0 (c.begin-made.ensures.made name (with_world mid a) truth)))
 
 pub returns-in-Err-clause-made : goal.returns-in-Err-clause-made
-returns-in-Err-clause-made g c name a truth = 
+returns-in-Err-clause-made g c name a truth =
     let store = c.args.store in
     let plan = plan_of c.args.plan.now in
     let next = outfitted plan (stored_of store) c.args.budgets.now.entries.items in
