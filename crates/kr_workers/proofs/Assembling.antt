@@ -453,7 +453,8 @@ module _ {T L D : Type 0} (truth : Truth) (link : L → Link) (left : D → Opti
       put_known path resource plain c =
           let d : Did = did.Put path resource plain in
           let p = put_by_entry history d c in
-          let a = All-contains (λ e. (seat : Place (SharedCore T) Entry Opening) × Contains back seat
+          let a = All-contains (λ e. (seat : Place (SharedCore T) Entry Opening) × Contains back
+          seat
           × (number_of seat ≡ seat_of e) × Contains (mine seat) e) history p.entry added p.there in
           let b = is_back a.0 a.1.0 a.1.1 a.0 a.1.2 in
           let h = b.at.has in

@@ -168,7 +168,8 @@ module _ {L D : Type 0} (link : L → Link) (count : D → ℕ) (asked : ScriptL
 
   -- ---- where nothing was adopted, and where something was meanwhile
 
-  pub early_caused : IsDefined asked told.Gone → (replica : ℕ) (old new : Caller) (olds news : List L)
+  pub early_caused : IsDefined asked told.Gone
+      → (replica : ℕ) (old new : Caller) (olds news : List L)
       (dice after : D) (why : CallNo) → AdoptsNothing replica old why new
       → Causes old olds dice why new news after
   early_caused gone replica old new olds news dice after (refusal.Refused why) e = absurd e

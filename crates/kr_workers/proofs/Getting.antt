@@ -256,7 +256,8 @@ module _ {L : Type 0} (truth : Truth) (link : L → Link) (path : List ℕ) (old
       (λ r. TellsContent truth o history seat path r) (sym (ap (reply_in reply) is)) tt
   refused_tells number refusal.Gone reply is t = subst
       (λ r. TellsContent truth o history seat path r) (sym (ap (reply_in reply) is)) tt
-  refused_tells number refusal.Spent reply is t = absurd (ok_no_err (Ok reply) (Err (record {})) tt (sym is))
+  refused_tells number refusal.Spent reply is t = absurd
+      (ok_no_err (Ok reply) (Err (record {})) tt (sym is))
   refused_tells number refusal.NoMemory reply is t = subst
       (λ r. TellsContent truth o history seat path r) (sym (ap (reply_in reply) is)) tt
 

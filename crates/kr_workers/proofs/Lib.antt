@@ -10,6 +10,7 @@ pub mod CausingLoads
 pub mod CausingRewrites
 pub mod CausingRuns
 pub mod Sentencing
+pub mod Ends
 pub mod Budgeting
 pub mod Assembling
 pub mod Seating

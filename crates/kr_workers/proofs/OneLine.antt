@@ -131,7 +131,8 @@ module _ {L D : Type 0} (truth : Truth) (link : L → Link) (left : D → Option
       adds = adds;
       spent = subst (λ r. EndsFor (line.Put resource path plain) old r) (sym is)
           (ends_write (line.Put resource path plain) old old.seat result
-          (write_spent left count resource path plain replica old b.dice new after.dice result does));
+          (write_spent left count resource path plain replica old b.dice new after.dice result
+          does));
       honest = told_honesty truth old new honest;
       idle = subst (λ r. IsIdleAt r new) (sym is) (idle_write old.seat result new idle);
       asked_only = asked_same link b.links after.links links;
@@ -218,7 +219,8 @@ module _ {L D : Type 0} (truth : Truth) (link : L → Link) (left : D → Option
     serves_reload named file rows names result read is does adds honest idle asked later kept =
         record {
           does = subst (λ (r : Option (List Row)). IfRead r (λ rows.
-              DoesReload truth link left count named rows (place_of old b) reply (place_of new after)))
+              DoesReload truth link left count named rows (place_of old b) reply
+              (place_of new after)))
               (sym read) (inr (result, is, does));
           adds = adds;
           spent = subst (λ r. EndsFor (line.Reload named file) old r) (sym is)
@@ -244,7 +246,8 @@ module _ {L D : Type 0} (truth : Truth) (link : L → Link) (left : D → Option
     serves_join named file rows names result read is does adds honest idle asked later kept =
         record {
           does = subst (λ (r : Option (List Row)). IfRead r (λ rows.
-              DoesJoin truth link left count named rows (place_of old b) reply (place_of new after)))
+              DoesJoin truth link left count named rows (place_of old b) reply
+              (place_of new after)))
               (sym read) (inr (result, is, does));
           adds = adds;
           spent = subst (λ r. EndsFor (line.Join named file) old r) (sym is)
@@ -306,7 +309,8 @@ module _ {L D : Type 0} (truth : Truth) (link : L → Link) (left : D → Option
   where
     pub unread_reload : (named : ℕ) (file : List ℕ) (rows : List Row)
         → rows_at files file ≡ Some rows → holding c.mine ≡ None
-        → Serves truth link left count files replica (line.Reload named file) c b (Ok told.Memory) c b
+        → Serves truth link left count files replica (line.Reload named file) c b (Ok told.Memory) c
+        b
     unread_reload named file rows read idle = serves_nothing truth link left count files replica
         (line.Reload named file) c b (subst (λ (r : Option (List Row)). IfRead r (λ rows.
         DoesReload truth link left count named rows (place_of c b) (Ok told.Memory) (place_of c b)))
@@ -331,11 +335,13 @@ module _ {L D : Type 0} (truth : Truth) (link : L → Link) (left : D → Option
     -- what was lent is what stands in the line
     pub put_as_lent : (new : Caller) (after : BenchState L D) (reply : Reply)
         (resource path plain own at it : List ℕ) → resource ≡ own → path ≡ at → plain ≡ it
-        → Serves truth link left count files replica (line.Put resource path plain) c b reply new after
+        → Serves truth link left count files replica (line.Put resource path plain) c b reply new
+        after
         → Serves truth link left count files replica (line.Put own at it) c b reply new after
     put_as_lent new after reply resource path plain own at it r p d s = subst
         (λ x. Serves truth link left count files replica (line.Put own at x) c b reply new after) d
         (subst (λ x. Serves truth link left count files replica (line.Put own x plain) c b reply new
         after) p
-        (subst (λ x. Serves truth link left count files replica (line.Put x path plain) c b reply new
+        (subst (λ x. Serves truth link left count files replica (line.Put x path plain) c b reply
+        new
         after) r s))

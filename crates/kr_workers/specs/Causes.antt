@@ -1,5 +1,5 @@
--- Why a line has another reply than it asks for: each line has its defined replies, and a reply that
--- names an object as its fault is told only where the count of that very object rose meanwhile.
+-- Why a line has another reply than it asks for: each line has its defined replies, and a reply
+-- that names an object as its fault is told only where the count of that very object rose.
 use Rattle.std.specs.Prelude.{◌≡◌, ℕ, List, ◌∷◌, ◌++◌, Contains, Option, ⊤}
 use Rattle.kr_base.specs.Faults.{Rose}
 use Rattle.kr_kms.specs.Calls.{Link}
@@ -65,8 +65,8 @@ IsDefined asked reply = ⊥
 
 -- ---- faults
 
--- an own entry says that the store failed, and the store's count rose there; it is one of those that
--- are seen now and weren't before
+-- an own entry says that the store failed, and the store's count rose there; it is one of those
+-- that are seen now and weren't before
 pub record StoreFails (old : Caller) (seen : List Entry) : Type 0 where
   pub before : List Entry
   pub entry : Entry
@@ -78,9 +78,9 @@ pub record StoreFails (old : Caller) (seen : List Entry) : Type 0 where
 
 module _ {L D : Type 0} (link : L → Link) (count : D → ℕ) (asked : ScriptLine)
     (old : Workplace L D) where
-  -- from a workplace on up to such a history, such links and such a random source: the reply is want
-  -- of memory, or names the plugin, the seat's own random source or the store, whose count rose
-  -- meanwhile; or it is one of the line's defined replies
+  -- from a workplace on up to such a history, such links and such a random source: the reply is
+  -- want of memory, or names the plugin, the seat's own random source or the store, whose count
+  -- rose meanwhile; or it is one of the line's defined replies
   abbrev pub HasCause : Told → (seen : List Entry) → List L → D → Type 0
   HasCause told.Memory seen links dice = ⊤
   HasCause (told.FaultPlugin name) seen links dice = FaultRose link name old.links links

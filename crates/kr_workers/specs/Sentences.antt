@@ -27,8 +27,8 @@ module _ {T L D : Type 0} (parts : List Part) (workers : List (Worker T L D)) wh
 
 module _ {T L D : Type 0} (truth : Truth) (link : L → Link) (count : D → ℕ)
     (history : List Entry) (o : Opening) where
-  -- each line has a reply. One to a `get` tells the content of the path before its Fetch; and each is
-  -- one of its line's defined replies, or want of memory, or names the plugin, the worker's own
+  -- each line has a reply. One to a `get` tells the content of the path before its Fetch; and each
+  -- is one of its line's defined replies, or want of memory, or names the plugin, the worker's own
   -- random source or the store, whose count of faults rose
   pub record RepliesAreTrue (parts : List Part) (budgets : List ℕ) (old new : List (Worker T L D))
       : Type 0 where

@@ -2,6 +2,7 @@
 ghost use Rattle.std.specs.Prelude.{List};
 ghost use Rattle.kr_workers.specs.declared.files.SettingsFile.{SettingsFile};
 ghost use Rattle.kr_workers.specs.Causes.{RepliesHaveCauses};
+ghost use Rattle.kr_workers.specs.Endings.{EndingsAreTold};
 ghost use Rattle.kr_workers.specs.Gets.{GetsTellContent};
 ghost use Rattle.kr_workers.specs.Sentences.{HistoriesTell};
 
@@ -26,4 +27,10 @@ pub fn replies_have_causes<L: Kms, D: Dice>()
 /// answered but with want of memory or where the count of what it names rose.
 pub fn replies_are_true<T: Tape, L: Kms, D: Dice>()
     ensures { HistoriesTell T L.truth L.link D.left D.count }
+{}
+
+/// Where not all was done, some reply is of the kind that the ending tells; where all was, each
+/// reply says so.
+pub fn endings_are_told()
+    ensures { EndingsAreTold }
 {}

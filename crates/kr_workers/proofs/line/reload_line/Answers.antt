@@ -30,13 +30,15 @@ pub reload-done-requires-clause-links : goal.reload-done-requires-clause-links
 reload-done-requires-clause-links g c = c.requires.ready.links
 
 pub returns-in_default-clause-serves : goal.returns-in_default-clause-serves
-returns-in_default-clause-serves g c = unread_reload g.L.Kms.truth g.L.Kms.link g.D.Dice.left g.D.Dice.count
+returns-in_default-clause-serves g c = unread_reload g.L.Kms.truth g.L.Kms.link g.D.Dice.left
+    g.D.Dice.count
     c.args.files.now c.args.replica (g.A.Acts.caller c.args.acts.now) c.args.bench.now c.args.named
     c.args.file.now c.requires.ready.may.1 c.requires.ready.may.2 c.requires.ready.idle
 
 pub returns-clause-serves : goal.returns-clause-serves
 returns-clause-serves g c = serves_reload g.L.Kms.truth g.L.Kms.link g.D.Dice.left g.D.Dice.count
-    c.args.files.now c.args.replica (g.A.Acts.caller c.args.acts.now) (g.A.Acts.caller c.reload-done.new.acts)
+    c.args.files.now c.args.replica (g.A.Acts.caller c.args.acts.now)
+    (g.A.Acts.caller c.reload-done.new.acts)
     c.args.bench.now c.reload-done.new.bench c.told_of_reload.result c.args.named c.args.file.now
     (rows_of c.in-Ok.settings.entries.0) (plugins_in (rows_of c.in-Ok.settings.entries.0))
     c.reload-done.result
