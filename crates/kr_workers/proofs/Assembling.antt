@@ -562,6 +562,7 @@ module _ {T L D : Type 0} (truth : Truth) (link : L → Link) (left : D → Opti
               (subst (λ (p : Opening). IsHonest truth.opens p []) (sym all.basis) opening) back_its
               (back_keeps told));
           many = length-map done unseated ∙ done_long ∙ sym all.many;
+          whole = all.many;
           each = λ i part worker l.
               let done_is = done_long in
               let same : get_or (map unseated done) i worker ≡ unseated (get_or done i worker) =
