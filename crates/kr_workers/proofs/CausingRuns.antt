@@ -26,6 +26,7 @@ use Rattle.kr_workers.specs.Runs.{DoesAll, IsDone, LineDone}
 use Rattle.kr_workers.specs.ScriptLines.{Workplace}
 use Rattle.kr_workers.proofs.Causing.{HasCauseAt, gave_within, store_within}
 use Rattle.kr_workers.proofs.CausingRewrites.{line_caused}
+use Rattle.kr_workers.proofs.CausingCounts.{often_caused}
 
 -- ---- a count that rose stays risen
 
@@ -239,4 +240,6 @@ replies_have_causes truth link left count files = record {
       new done.reply d.does;
   whole = λ history part first replies after stands done there. whole_caused truth link left count
       files part.replica history part first replies after stands refl done there;
+  often = λ history part first replies after stands. often_caused truth link left count files history
+      part first replies after stands;
 }

@@ -8,6 +8,7 @@ pub mod Getting
 pub mod Causing
 pub mod CausingLoads
 pub mod CausingRewrites
+pub mod CausingCounts
 pub mod CausingRuns
 pub mod Sentencing
 pub mod Ends

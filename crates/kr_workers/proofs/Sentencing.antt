@@ -151,6 +151,11 @@ module _ {L D : Type 0} (truth : Truth) (link : L → Link) (left : D → Option
           ((replies_have_causes truth link left count files).whole history r.part
           (first_place o number (slice_index budgets number) before.bench) r.worker.told.0
           r.worker.bench s d.done d.there));
+      often = λ number part before after part_is before_is after_is.
+          (replies_have_causes truth link left count files).often history part
+          (first_place o number (slice_index budgets number) before.bench) after.told.0 after.bench
+          (stands_there number part before after part_is
+          (there_of old number before before before_is) after_is);
     }
 
 pub histories_tell : (T : Type 0) → {L D : Type 0} → (truth : Truth) (link : L → Link)

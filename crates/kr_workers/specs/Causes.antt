@@ -1,13 +1,16 @@
 -- Why a line has its reply: each line has its defined replies, each of which an own entry or a
 -- plugin's status bears out; and a reply that names an object as its fault is told only where the
 -- line may use that object, and the count of that very object rose.
-use Rattle.std.specs.Prelude.{◌≡◌, ℕ, List, ◌∷◌, ◌++◌, Contains, Option, Some, ⊤}
+use Rattle.std.specs.Prelude.{◌≡◌, ◌<◌, ◌≤◌, ◌+◌, ◌-◌, ◌^◌, ℕ, Bool, true, false, List, ◌∷◌, ◌++◌, count_by, Contains, Option, Some, ⊤}
+use Rattle.std.specs.List.{slice_get}
+use Rattle.std.specs.Str.{bytes_eq}
 use Rattle.kr_base.specs.Faults.{Rose}
 use Rattle.kr_kms.specs.Calls.{Link}
 use Rattle.kr_kms.specs.Health.{HasBreach}
 use Rattle.kr_kms.specs.Truth.{Truth}
 use Rattle.kr_provider.specs.AskedLinks.{FaultRose, HasLinkWith}
 use Rattle.kr_provider.specs.BenchState.{BenchState}
+use Rattle.kr_provider.specs.Names.{AreDistinct}
 use Rattle.kr_provider.specs.declared.refusal.ValueNo.{ValueNo}
 use Rattle.kr_provider.specs.declared.refusal.ValueNo.TheVariants.{LooksEncrypted, TooLarge}
 use Rattle.kr_rollout.specs.declared.line.Gave.{Gave}
@@ -161,8 +164,36 @@ module _ {L D : Type 0} (link : L → Link) (count : D → ℕ) (asked : ScriptL
   HasCause reply seen links dice =
       IsDefined asked reply × OwnGave old.caller seen (TellsAnswer reply)
 
--- so has each reply to a line that was done, while the line was done; and by the whole of its
--- worker's run too, up to the history and the bench at the end
+-- ---- how often
+
+-- the reply names this plugin as failed
+abbrev pub names_plugin : (name : List ℕ) → Told → Bool
+names_plugin name (told.FaultPlugin other) = bytes_eq other name
+names_plugin name reply = false
+
+-- it names a random source
+abbrev pub names_dice : Told → Bool
+names_dice (told.FaultDice seat) = true
+names_dice reply = false
+
+-- while a count is below its greatest value it rose at least as often as replies name its object
+abbrev pub CountsFaults : (named before now : ℕ) → Type 0
+CountsFaults named before now = now < 2 ^ 64 - 1 → before + named ≤ now
+
+-- so do the counts of a seat's random source and of its links, if these are to different plugins
+pub record AreCounted {L D : Type 0} (link : L → Link) (count : D → ℕ) (replies : List Told)
+    (links : List L) (dice : D) (news : List L) (after : D) : Type 0 where
+  pub drawn : CountsFaults (count_by names_dice replies) (count dice) (count after)
+  pub asked : AreDistinct link links → (at : ℕ) (it now : L) → slice_get links at ≡ Some it
+      → slice_get news at ≡ Some now
+      → CountsFaults (count_by (names_plugin (link it).name) replies) (link it).count
+      (link now).count
+
+-- ---- the law
+
+-- each reply to a line that was done has its cause, while the line was done; and by the whole of its
+-- worker's run too, up to the history and the bench at the end. And the worker's replies name no
+-- object as failed more often than its count rose
 pub record RepliesHaveCauses {L D : Type 0} (truth : Truth) (link : L → Link)
     (left : D → Option (List ℕ)) (count : D → ℕ) (files : List SettingsFile) : Type 0 where
   pub each : (replica : ℕ) (old new : Workplace L D) (done : LineDone)
@@ -173,3 +204,7 @@ pub record RepliesHaveCauses {L D : Type 0} (truth : Truth) (link : L → Link)
       → (stands : StandsIn truth link left count files history part first replies after)
       → (done : LineDone) → Contains stands.run done
       → HasCause link count done.line first done.reply history after.links after.dice
+  pub often : (history : List Entry) (part : Part) (first : Workplace L D) (replies : List Told)
+      (after : BenchState L D)
+      → (stands : StandsIn truth link left count files history part first replies after)
+      → AreCounted link count replies first.links first.dice after.links after.dice

@@ -13,7 +13,7 @@ use Rattle.kr_script.specs.declared.script.ScriptLine.{ScriptLine}
 use Rattle.kr_script.specs.declared.told.Told.{Told}
 use Rattle.kr_workers.specs.declared.files.SettingsFile.{SettingsFile}
 use Rattle.kr_workers.specs.declared.worker.Worker.{Worker}
-use Rattle.kr_workers.specs.Causes.{HasCause}
+use Rattle.kr_workers.specs.Causes.{AreCounted, HasCause}
 use Rattle.kr_workers.specs.Gets.{TellContents}
 use Rattle.kr_workers.specs.Histories.{IsOneHistory, first_place}
 use Rattle.kr_workers.specs.Runs.{LineDone, entries_in, lines_in, replies_in}
@@ -43,7 +43,8 @@ module _ {T L D : Type 0} (truth : Truth) (link : L → Link) (count : D → ℕ
     (history : List Entry) (o : Opening) where
   -- each line has a reply. One to a `get` tells the content of its path before the line's own Fetch,
   -- where each front of the history is honest, if the truth is told and the opening is honest by
-  -- it. And each reply has its cause
+  -- it. Each reply has its cause, and no worker's replies name an object as failed more often than
+  -- its count rose
   pub record RepliesAreTrue (parts : List Part) (budgets : List ℕ) (old new : List (Worker T L D))
       : Type 0 where
     pub each : (number : ℕ) (part : Part) (worker : Worker T L D)
@@ -59,6 +60,10 @@ module _ {T L D : Type 0} (truth : Truth) (link : L → Link) (count : D → ℕ
         → HasCause link count asked
         (first_place o number (slice_index budgets number) before.bench) reply history
         replies.worker.bench.links replies.worker.bench.dice
+    pub often : (number : ℕ) (part : Part) (before after : Worker T L D)
+        → slice_get parts number ≡ Some part → slice_get old number ≡ Some before
+        → slice_get new number ≡ Some after → AreCounted link count after.told.0
+        before.bench.links before.bench.dice after.bench.links after.bench.dice
 
 -- so are those of workers whose lines stand in one history
 abbrev pub HistoriesTell : (T : Type 0) → {L D : Type 0} → Truth → (L → Link)
