@@ -1,12 +1,12 @@
 -- What the ending of a fleet tells of its replies.
 use Rattle.std.specs.List.{list_any}
-use Rattle.std.proofs.Common.{◌≡◌, ◌≢◌, ℕ, zero, suc, ◌||◌, is_some, slice_get, Bool, true, false, List, [], ◌∷◌, Contains, if◌then◌else◌, Option, None, Some, refl, ap, sym, subst, ◌∙◌, arith}
+use Rattle.std.proofs.Common.{◌≡◌, ◌≢◌, ℕ, zero, suc, ◌||◌, is_some, slice_get, Bool, true, false, List, [], ◌∷◌, Contains, if◌then◌else◌, Some, refl, ap, sym, subst, ◌∙◌, arith}
 use Rattle.std.proofs.lemmas.Bool.{false≢true}
 use Rattle.std.proofs.lemmas.Option.{same_Some}
 use Rattle.kr_script.specs.declared.told.Told.{Told}
 use Rattle.kr_workers.specs.declared.ending.Ending.{Ending}
 use Rattle.kr_workers.specs.declared.ending.Ending.TheVariants as ending
-use Rattle.kr_workers.specs.Endings.{EndingsAreTold, HasReplyOf, ending_of, first_of, is_same, kind_of, kinds, some_is}
+use Rattle.kr_workers.specs.Endings.{EndingsAreTold, HasReplyOf, first_of, is_same, kind_of, kinds, some_is}
 
 -- ---- kinds
 
