@@ -8,8 +8,10 @@ pub mod Getting
 pub mod Causing
 pub mod CausingLoads
 pub mod CausingRewrites
+pub mod CausingCounts
 pub mod CausingRuns
 pub mod Sentencing
+pub mod Ends
 pub mod Budgeting
 pub mod Assembling
 pub mod Seating

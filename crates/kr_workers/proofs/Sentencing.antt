@@ -9,14 +9,14 @@ use Rattle.kr_kms.specs.Calls.{Link}
 use Rattle.kr_kms.specs.Truth.{Truth}
 use Rattle.kr_rollout.specs.declared.opening.Entry.{Entry}
 use Rattle.kr_rollout.specs.declared.opening.Opening.{Opening}
+use Rattle.kr_rollout.specs.Honesty.{IsHonest}
+use Rattle.kr_rollout.proofs.HonestSeats.{honest_by_entries}
 use Rattle.kr_script.specs.declared.script.Part.{Part}
 use Rattle.kr_script.specs.declared.script.ScriptLine.{ScriptLine}
-use Rattle.kr_script.specs.declared.script.ScriptLine.TheVariants as line
 use Rattle.kr_script.specs.declared.told.Told.{Told}
 use Rattle.kr_workers.specs.declared.files.SettingsFile.{SettingsFile}
 use Rattle.kr_workers.specs.declared.worker.Worker.{Worker}
 use Rattle.kr_workers.specs.Causes.{HasCause}
-use Rattle.kr_workers.specs.Gets.{TellsContent}
 use Rattle.kr_workers.specs.Histories.{IsOneHistory, StandsIn, first_place}
 use Rattle.kr_workers.specs.Runs.{LineDone, lines_in, replies_in}
 use Rattle.kr_workers.specs.Sentences.{HistoriesTell, Replies, RepliesAreTrue}
@@ -124,15 +124,20 @@ module _ {L D : Type 0} (truth : Truth) (link : L → Link) (left : D → Option
       each = λ number part worker part_is worker_is. as_many part (was number worker) worker number
           (stands_there number part (was number worker) worker part_is (still number worker)
           worker_is);
-      gets = λ number at path reply r.
-          let before = was number r.worker in
-          let s = stands_there number r.part before r.worker r.part_is (still number r.worker)
-          r.worker_is in
-          let d = done_there number at (line.Get path) reply before r s in
-          subst (λ (t : Told). TellsContent truth o history number path t) d.reply_is
-          (gets_tell_content truth link left count files history r.part
-          (first_place o number (slice_index budgets number) before.bench) r.worker.told.0
-          r.worker.bench s path d.done d.there d.line_is);
+      gets = λ number part worker part_is worker_is.
+          let before = was number worker in
+          let s = stands_there number part before worker part_is (still number worker)
+          worker_is in record {
+            run = s.run;
+            lines_are = s.lines_are;
+            replies_are = s.replies_are;
+            parts_are = s.parts_are;
+            tell = gets_tell_content truth link left count files history part
+                (first_place o number (slice_index budgets number) before.bench) worker.told.0
+                worker.bench s refl;
+          };
+      honest = λ told begun front rest is. honest_by_entries.front truth.opens o front rest
+          (subst (λ (l : List Entry). IsHonest truth.opens o l) is (one.honest told begun));
       causes = λ number at asked reply before before_is r.
           let s = stands_there number r.part before r.worker r.part_is
           (there_of old number before before before_is) r.worker_is in
@@ -146,6 +151,11 @@ module _ {L D : Type 0} (truth : Truth) (link : L → Link) (left : D → Option
           ((replies_have_causes truth link left count files).whole history r.part
           (first_place o number (slice_index budgets number) before.bench) r.worker.told.0
           r.worker.bench s d.done d.there));
+      often = λ number part before after part_is before_is after_is.
+          (replies_have_causes truth link left count files).often history part
+          (first_place o number (slice_index budgets number) before.bench) after.told.0 after.bench
+          (stands_there number part before after part_is
+          (there_of old number before before before_is) after_is);
     }
 
 pub histories_tell : (T : Type 0) → {L D : Type 0} → (truth : Truth) (link : L → Link)

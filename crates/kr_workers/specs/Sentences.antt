@@ -1,19 +1,22 @@
 -- What the replies of a fleet say, each by its worker and the place of its line.
-use Rattle.std.specs.Prelude.{◌≡◌, ℕ, List, length, slice_index, Option, Some}
+use Rattle.std.specs.Prelude.{◌≡◌, ℕ, true, List, [], ◌++◌, length, slice_index, Option, Some}
 use Rattle.std.specs.List.{slice_get}
+use Rattle.kr_base.specs.Lines.{of_seat}
 use Rattle.kr_kms.specs.Calls.{Link}
 use Rattle.kr_kms.specs.Truth.{Truth}
 use Rattle.kr_rollout.specs.declared.opening.Entry.{Entry}
 use Rattle.kr_rollout.specs.declared.opening.Opening.{Opening}
+use Rattle.kr_rollout.specs.Entries.{seat_of}
+use Rattle.kr_rollout.specs.Honesty.{IsHonest}
 use Rattle.kr_script.specs.declared.script.Part.{Part}
 use Rattle.kr_script.specs.declared.script.ScriptLine.{ScriptLine}
-use Rattle.kr_script.specs.declared.script.ScriptLine.TheVariants as line
 use Rattle.kr_script.specs.declared.told.Told.{Told}
 use Rattle.kr_workers.specs.declared.files.SettingsFile.{SettingsFile}
 use Rattle.kr_workers.specs.declared.worker.Worker.{Worker}
-use Rattle.kr_workers.specs.Causes.{HasCause}
-use Rattle.kr_workers.specs.Gets.{TellsContent}
+use Rattle.kr_workers.specs.Causes.{AreCounted, HasCause}
+use Rattle.kr_workers.specs.Gets.{TellContents}
 use Rattle.kr_workers.specs.Histories.{IsOneHistory, first_place}
+use Rattle.kr_workers.specs.Runs.{LineDone, entries_in, lines_in, replies_in}
 
 module _ {T L D : Type 0} (parts : List Part) (workers : List (Worker T L D)) where
   -- the line at this place of the part of this number, and what its worker replied
@@ -25,24 +28,42 @@ module _ {T L D : Type 0} (parts : List Part) (workers : List (Worker T L D)) wh
     pub line_is : slice_get part.lines.0 at ≡ Some asked
     pub reply_is : slice_get worker.told.0 at ≡ Some reply
 
+-- a seat's run in a history: these lines, each once, in order and with its reply, and their parts
+-- are just the seat's entries. Each reply to a `get` tells the content of its path before the
+-- line's own Fetch
+pub record TellsRun (truth : Truth) (o : Opening) (history : List Entry) (seat : ℕ)
+    (lines : List ScriptLine) (replies : List Told) : Type 0 where
+  pub run : List LineDone
+  pub lines_are : lines_in run ≡ lines
+  pub replies_are : replies ≡ replies_in run
+  pub parts_are : entries_in run ≡ of_seat seat_of seat history
+  pub tell : TellContents truth o history seat run
+
 module _ {T L D : Type 0} (truth : Truth) (link : L → Link) (count : D → ℕ)
     (history : List Entry) (o : Opening) where
-  -- each line has a reply. One to a `get` tells the content of the path before its Fetch; and each is
-  -- one of its line's defined replies, or want of memory, or names the plugin, the worker's own
-  -- random source or the store, whose count of faults rose
+  -- each line has a reply. One to a `get` tells the content of its path before the line's own Fetch,
+  -- where each front of the history is honest, if the truth is told and the opening is honest by
+  -- it. Each reply has its cause, and no worker's replies name an object as failed more often than
+  -- its count rose
   pub record RepliesAreTrue (parts : List Part) (budgets : List ℕ) (old new : List (Worker T L D))
       : Type 0 where
     pub each : (number : ℕ) (part : Part) (worker : Worker T L D)
         → slice_get parts number ≡ Some part → slice_get new number ≡ Some worker
         → length worker.told.0 ≡ length part.lines.0
-    pub gets : (number at : ℕ) (path : List ℕ) (reply : Told)
-        → Replies parts new number at (line.Get path) reply
-        → TellsContent truth o history number path reply
+    pub gets : (number : ℕ) (part : Part) (worker : Worker T L D)
+        → slice_get parts number ≡ Some part → slice_get new number ≡ Some worker
+        → TellsRun truth o history number part.lines.0 worker.told.0
+    pub honest : truth.told ≡ true → IsHonest truth.opens o [] → (front rest : List Entry)
+        → history ≡ front ++ rest → IsHonest truth.opens o front
     pub causes : (number at : ℕ) (asked : ScriptLine) (reply : Told) (before : Worker T L D)
         → slice_get old number ≡ Some before → (replies : Replies parts new number at asked reply)
         → HasCause link count asked
         (first_place o number (slice_index budgets number) before.bench) reply history
         replies.worker.bench.links replies.worker.bench.dice
+    pub often : (number : ℕ) (part : Part) (before after : Worker T L D)
+        → slice_get parts number ≡ Some part → slice_get old number ≡ Some before
+        → slice_get new number ≡ Some after → AreCounted link count after.told.0
+        before.bench.links before.bench.dice after.bench.links after.bench.dice
 
 -- so are those of workers whose lines stand in one history
 abbrev pub HistoriesTell : (T : Type 0) → {L D : Type 0} → Truth → (L → Link)
