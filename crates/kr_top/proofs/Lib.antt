@@ -2,6 +2,7 @@
 mod Rooms
 pub mod Apart
 pub mod Asked
+pub mod Beginnings
 pub mod Decided
 pub mod FleetAsked
 pub mod FleetLoads
@@ -14,6 +15,7 @@ pub mod Listed
 pub mod Listings
 pub mod OnePoint
 pub mod Pieces
+pub mod Publishings
 pub mod Loading
 pub mod Loads
 pub mod Judging

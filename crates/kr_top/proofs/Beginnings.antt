@@ -1,0 +1,15 @@
+-- How the core of a fleet starts, and what it comes to.
+use Rattle.std.proofs.Common.{◌≡◌, ℕ, ◌+◌, ◌<◌, List, [], ◌∷◌, ◌++◌, length, take, get_or, map, refl, sym, ◌∙◌, ap, arith}
+use Rattle.std.proofs.lemmas.List.{map-append, take_more}
+use Rattle.kr_top.specs.declared.programs.Program.{Program}
+use Rattle.kr_top.specs.inner.Outfits.{names_in}
+
+-- ---- the plugins' names
+
+pub name_more : (programs : List Program) (i : ℕ) (program : Program) → i < length programs
+    → program ≡ get_or programs i program
+    → names_in (take i programs) ++ program.plugin ∷ [] ≡ names_in (take (i + 1) programs)
+name_more programs i program below is =
+    sym (map-append (λ (p : Program). p.plugin) (take i programs) (program ∷ []))
+    ∙ ap (λ p. names_in (take i programs ++ p ∷ [])) is
+    ∙ ap names_in (sym (take_more programs i program below))
