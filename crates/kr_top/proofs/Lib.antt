@@ -14,6 +14,8 @@ pub mod Goes
 pub mod Listed
 pub mod Listings
 pub mod OnePoint
+pub mod Outfits
+pub mod Outfitting
 pub mod Pieces
 pub mod Publishings
 pub mod Loading

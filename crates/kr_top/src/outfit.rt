@@ -1,11 +1,13 @@
 //! What a worker has of the world: a random source, and a link to each plugin.
-ghost use Rattle.std.specs.Prelude.{◌≡◌, ℕ, List, OnOk, [], length};
+ghost use Rattle.std.specs.Prelude.{◌≡◌, ◌<◌, ◌≤◌, ◌^◌, ℕ, List, IfOk, OnOk, [], ◌∷◌, Contains, length};
 ghost use Rattle.kr_config.specs.Kept.{Row};
+ghost use Rattle.kr_provider.specs.Names.{names_of};
 ghost use Rattle.kr_provider.specs.PluginOrder.{plugin_order};
 ghost use Rattle.kr_top.specs.Around.{Around, Tapes, with_tapes, with_world};
 ghost use Rattle.kr_top.specs.Fleets.{equipping};
 ghost use Rattle.kr_top.specs.Steps.{give};
-ghost use Rattle.kr_top.specs.inner.Outfits.{AreNamed, AreOut, names_in, with_outfits};
+ghost use Rattle.kr_top.specs.inner.Outfits.{AreNamed, AreOut, IsOut, KeepsOthers, LinksReturn};
+ghost use Rattle.kr_top.specs.inner.Outfits.{Opens, OpensLinks, OutfitReturn, names_in, with_outfits};
 ghost use Rattle.kr_top.specs.inner.Phases.{Does};
 
 use crate::phases::{close_dice, close_link, open_dice, open_link};
@@ -39,6 +41,7 @@ pub fn open_outfits<W: World>(
         (with_world (with_tapes tapes (W.told world.new)) a)) result }
     ensures tapes { (W.told world.new).tapes ≡ (W.told world.old).tapes }
     ensures many { OnOk result (length outfits.new.0 ≡ seats) }
+    ensures few { length outfits.new.0 ≤ seats }
     ensures named { AreNamed W.Link.link (names_in programs.now) outfits.new.0 }
     ensures out { AreOut (names_in programs.now) (length outfits.new.0) (W.told world.new) }
 {
@@ -59,6 +62,7 @@ pub fn open_outfits<W: World>(
 pub fn close_outfits<W: World>(world: &mut W, outfits: List<Outfit<W::Link, W::Rand>>)
     requires out { (names : List (List ℕ)) × AreNamed W.Link.link names outfits.0
         × AreOut names (length outfits.0) (W.told world.old) }
+    requires few { length outfits.0 < 2 ^ 32 }
     ensures back { (tapes : Tapes) (a : Around)
         → with_outfits W.Link.link W.Rand.left W.Rand.count 0 outfits.0
         (with_world (with_tapes tapes (W.told world.old)) a)
@@ -79,7 +83,16 @@ fn open_outfit<W: World>(
     world: &mut W,
     programs: &[Program],
     seat: u32,
-) -> Result<Outfit<W::Link, W::Rand>, Stop> {
+) -> Result<Outfit<W::Link, W::Rand>, Stop>
+    requires programs { (rows : List Row) × (names_in programs.now ≡ plugin_order rows) }
+    ensures does { Opens W.Link.link W.Rand.left W.Rand.count seat programs.now
+        (W.told world.old) (W.told world.new) result }
+    ensures tapes { (W.told world.new).tapes ≡ (W.told world.old).tapes }
+    ensures named { IfOk result
+        (λ outfit. names_of W.Link.link outfit.links ≡ names_in programs.now) }
+    ensures out { OnOk result (IsOut (names_in programs.now) seat (W.told world.new)) }
+    ensures others { KeepsOthers seat (W.told world.old) (W.told world.new) }
+{
     let dice = match open_dice(alloc, world, seat) {
         Ok(dice) => dice,
         Err(stop) => return Err(stop),
@@ -94,13 +107,25 @@ fn open_outfit<W: World>(
     }
 }
 
+/// Borrows a link of the seat to each plugin. After a refusal the first ones are there.
 fn open_links<W: World>(
     alloc: Global,
     world: &mut W,
     programs: &[Program],
     seat: u32,
     links: &mut Links<W::Link>,
-) -> Result<(), Stop> {
+) -> Result<(), Stop>
+    requires none { links.old ≡ [] }
+    requires programs { (rows : List Row) × (names_in programs.now ≡ plugin_order rows) }
+    ensures does { OpensLinks W.Link.link W.Rand.left W.Rand.count seat programs.now
+        (W.told world.old) (W.told world.new) links.new result }
+    ensures tapes { (W.told world.new).tapes ≡ (W.told world.old).tapes }
+    ensures dice { (W.told world.new).dice ≡ (W.told world.old).dice }
+    ensures named { OnOk result (names_of W.Link.link links.new ≡ names_in programs.now) }
+    ensures out { (name : List ℕ) → Contains (names_of W.Link.link links.new) name
+        → 0 < (W.told world.new).links.out (seat, name) }
+    ensures others { KeepsOthers seat (W.told world.old) (W.told world.new) }
+{
     for program in programs {
         let link = match open_link(
             alloc,
@@ -123,12 +148,27 @@ fn open_links<W: World>(
     Ok(())
 }
 
-fn close_outfit<W: World>(world: &mut W, seat: u32, outfit: Outfit<W::Link, W::Rand>) {
+/// Gives an outfit of the seat back.
+fn close_outfit<W: World>(world: &mut W, seat: u32, outfit: Outfit<W::Link, W::Rand>)
+    requires out { IsOut (names_of W.Link.link outfit.links) seat (W.told world.old) }
+    ensures { OutfitReturn W.Link.link W.Rand.left W.Rand.count seat (W.told world.old)
+        (W.told world.new) outfit }
+{
     let Outfit { links, dice } = outfit;
+    close_links(world, seat, links);
+    close_dice(world, seat, dice);
+}
+
+/// Gives links of the seat back, the last one first.
+fn close_links<W: World>(world: &mut W, seat: u32, links: Links<W::Link>)
+    requires out { (name : List ℕ) → Contains (names_of W.Link.link links) name
+        → 0 < (W.told world.old).links.out (seat, name) }
+    ensures { LinksReturn W.Link.link seat (W.told world.old) (W.told world.new) links }
+{
+    links.known();
     let mut links = links;
     while let Some(link) = links.take() {
         close_link(world, seat, link);
     }
     links.end();
-    close_dice(world, seat, dice);
 }
