@@ -1,6 +1,7 @@
 -- How a fleet goes on from its plan, and how a call ends that a fleet was asked of.
 use Rattle.std.proofs.Common.{◌≡◌, ℕ, ◌+◌, ◌<◌, ◌≤◌, ◌⊎◌, List, [], ◌∷◌, map, codes, Option, None, Some, Result, Ok, Err, refl, sym, ◌∙◌, ap, subst, inl, inr, arith}
 use Rattle.std.specs.Prelude.{true, sum, count_by}
+use Rattle.std.proofs.lemmas.List.Sums.{sum_by-cons}
 use Rattle.kr_kms.specs.Outside.{Outside}
 use Rattle.kr_kms.specs.Calls.{Link}
 use Rattle.kr_kms.specs.Truth.{Truth}
@@ -8,12 +9,14 @@ use Rattle.kr_rollout.specs.declared.opening.Entry.{Entry}
 use Rattle.kr_script.specs.Fleets.{worker_of}
 use Rattle.kr_script.specs.Output.{fleet_output}
 use Rattle.kr_script.specs.declared.script.Part.{Part}
+use Rattle.kr_script.specs.declared.script.ScriptLine.{ScriptLine}
+use Rattle.kr_script.specs.declared.script.ScriptLine.TheVariants as line
 use Rattle.kr_store.specs.Stores.{IsLiveCount}
 use Rattle.kr_store.specs.declared.rows.LogRow.{LogRow}
 use Rattle.kr_words.specs.declared.command.Verb.TheVariants as verbs
 use Rattle.kr_words.proofs.Meanings.{mean_one}
 use Rattle.kr_words.specs.Options.{value_of}
-use Rattle.kr_workers.specs.Budgets.{AreBudgets, budget_of, budgets_of, is_put, journal_limit, put_lines}
+use Rattle.kr_workers.specs.Budgets.{AreBudgets, all_reloads, brought_by, budget_of, budgets_of, entries_of, is_put, journal_limit, put_lines, reloads_of}
 use Rattle.kr_workers.specs.Endings.{ending_of}
 use Rattle.kr_workers.specs.declared.budget.BudgetNo.{BudgetNo}
 use Rattle.kr_workers.specs.declared.budget.BudgetNo.TheVariants as budget
@@ -230,6 +233,40 @@ module _ (rows : List LogRow) (parts : List Part) (live : ℕ) (is : IsLiveCount
   }
   not_budgeted budget.NoMemory many a =
       record { home = home_refl a; ends = λ l s. inr (reach l (inl (refl, refl)) s) }
+
+-- a line brings no more configurations than it may add lines to the journal
+line_fits : (paths : ℕ) (l : ScriptLine) → brought_by l ≤ entries_of paths l
+line_fits paths (line.Put resource path plain) = omega arith
+line_fits paths (line.Get path) = omega arith
+line_fits paths (line.Delete path) = omega arith
+line_fits paths line.Rewrite = omega arith
+line_fits paths (line.Reload replica file) = omega arith
+line_fits paths line.Refresh = omega arith
+line_fits paths (line.Join replica file) = omega arith
+line_fits paths (line.Leave replica) = omega arith
+
+lines_fit : (paths : ℕ) (lines : List ScriptLine) → reloads_of lines ≤ budget_of paths lines
+lines_fit paths [] = omega arith
+lines_fit paths (l ∷ lines) = omega (arith, line_fits paths l, lines_fit paths lines)
+
+parts_fit : (paths : ℕ) (parts : List Part)
+    → sum (all_reloads parts) ≤ sum (budgets_of paths parts)
+parts_fit paths [] = omega arith
+parts_fit paths (part ∷ parts) =
+    let reloads = sum_by-cons (λ x. x) (reloads_of part.lines.0) (all_reloads parts) in
+    let entries = sum_by-cons (λ x. x) (budget_of paths part.lines.0) (budgets_of paths parts) in
+    let here = lines_fit paths part.lines.0 in
+    let rest = parts_fit paths parts in
+    omega (arith, reloads, entries, here, rest)
+
+pub budgets_fit : (paths : ℕ) (parts : List Part) (entries reloads : List ℕ)
+    → entries ≡ budgets_of paths parts → reloads ≡ all_reloads parts
+    → sum reloads ≤ sum entries
+budgets_fit paths parts entries reloads e r =
+    let fits = parts_fit paths parts in
+    let same : sum entries ≡ sum (budgets_of paths parts) = ap sum e in
+    let all : sum reloads ≡ sum (all_reloads parts) = ap sum r in
+    omega (arith, fits, same, all)
 
 -- ---- what the words ask for
 

@@ -16,6 +16,7 @@ pub mod Listings
 pub mod OnePoint
 pub mod Outfits
 pub mod Outfitting
+pub mod Plans
 pub mod Pieces
 pub mod Publishings
 pub mod Loading

@@ -1,7 +1,7 @@
 -- `fleet_on`: the store on the tape, the budgets, and the workers.
 use Rattle.std.proofs.Common.{◌≡◌, ◌+◌, ◌<◌, Err, sym, ap, subst}
 use Rattle.std.specs.Prelude.{sum}
-use Rattle.kr_workers.specs.Budgets.{budgets_of, journal_limit, put_lines}
+use Rattle.kr_workers.specs.Budgets.{all_reloads, budgets_of, journal_limit, put_lines}
 use Rattle.kr_top.specs.Around.{with_lent_tape, with_world}
 use Rattle.kr_top.specs.Commands.{stored_on}
 use Rattle.kr_top.specs.Fleets.{beginning, budgeting, equipped, parts_of}
@@ -10,7 +10,7 @@ use Rattle.kr_top.specs.inner.FleetFiles.{plan_of}
 use Rattle.kr_top.specs.inner.Phases.{Does}
 use Rattle.kr_top.specs.inner.Tapes.{stored_of}
 use Rattle.kr_top.specs.declared.refusal.Object.TheVariants.{Store}
-use Rattle.kr_top.proofs.FleetRuns.{are_budgets, before, budgeted, ends_before, not_budgeted, runs_closed}
+use Rattle.kr_top.proofs.FleetRuns.{are_budgets, before, budgeted, budgets_fit, ends_before, not_budgeted, runs_closed}
 use Rattle.kr_top.proofs.fleet.fleet_on.Goals as goal
 
 pub fleet_with-requires-clause-entries : goal.fleet_with-requires-clause-entries
@@ -22,6 +22,21 @@ fleet_with-requires-clause-entries g c = λ κs lives.
     (subst (λ p. c.in-Ok-budgets_of.budgets.entries.items
     ≡ budgets_of (c.live_count.result + put_lines p) p) c.as_slice.ensures
     c.in-Ok-budgets_of.ensures.entries)
+
+pub fleet_with-requires-clause-reloads : goal.fleet_with-requires-clause-reloads
+fleet_with-requires-clause-reloads g c = λ κs lives.
+    subst (λ p. c.in-Ok-budgets_of.budgets.reloads.items ≡ all_reloads p) c.as_slice.ensures
+    c.in-Ok-budgets_of.ensures.reloads
+
+pub fleet_with-requires-clause-fit : goal.fleet_with-requires-clause-fit
+fleet_with-requires-clause-fit g c = λ κs lives.
+    let parts = c.as_slice.result.now in
+    budgets_fit (c.live_count.result + put_lines parts) parts
+    c.in-Ok-budgets_of.budgets.entries.items c.in-Ok-budgets_of.budgets.reloads.items
+    c.in-Ok-budgets_of.ensures.entries c.in-Ok-budgets_of.ensures.reloads
+
+pub fleet_with-requires-clause-store : goal.fleet_with-requires-clause-store
+fleet_with-requires-clause-store g c = λ κs lives. c.in-Ok.ensures.limit
 
 pub returns-in-Err-clause-made : goal.returns-in-Err-clause-made
 returns-in-Err-clause-made g c name a truth =
