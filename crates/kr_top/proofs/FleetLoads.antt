@@ -50,8 +50,8 @@ pub rules_read : (old new : Outside) (name : List ℕ) (result : Result Script S
     → IfOk result (λ script. IsRuled (fleet_of script))
 rules_read old new name (Ok script) (None, agrees, e) = absurd cc
 rules_read old new name (Ok script) (Some bytes, agrees, inl (long, e)) = absurd cc
-rules_read old new name (Ok script) (Some bytes, agrees, inr (short, says, within, whole)) =
-    (says.rules, (whole, within))
+rules_read old new name (Ok script) (Some bytes, agrees, inr (short, (says, within, whole))) =
+    (says.rules, whole, within)
 rules_read old new name (Err stop) m = tt
 
 pub script_read : (old new : Outside) (name bytes : List ℕ) (result : Result Script Stop)

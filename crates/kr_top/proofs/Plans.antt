@@ -81,13 +81,9 @@ module _ (files : List SettingsFile) (names : List (List ℕ)) (o : Opening) (ma
       → MayBring o files replica file
   brings replica file (Some rows) e below is = (
     there replica below,
-    (
-      rows,
-      (
-        sym (same_rows files file) ∙ e,
-        subst (λ ns. NamesAmong ns rows) (sym names_are) (among file rows e),
-      ),
-    ),
+    rows,
+    sym (same_rows files file) ∙ e,
+    subst (λ ns. NamesAmong ns rows) (sym names_are) (among file rows e),
   )
   brings replica file None e below is = absurd (let f : false ≡ true = is in cc)
 

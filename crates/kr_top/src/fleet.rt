@@ -1,13 +1,13 @@
 //! `fleet`: the fleet file and the configurations that it names, the store, each worker's random
 //! source and links, what each replica publishes, and the workers at one core.
-ghost use Rattle.std.specs.Prelude.{◌≡◌, ◌≤◌, List, ℕ, All, IfErr, IfOk, [], length, sum};
+ghost use Rattle.std.specs.Prelude.{◌≡◌, ◌≤◌, All, IfErr, IfOk, [], false, length, sum};
 ghost use Rattle.kr_base.specs.Limits.{store_limit};
 ghost use Rattle.kr_provider.specs.AskedLinks.{AskedOnly};
 ghost use Rattle.kr_provider.specs.Names.{names_of as plugin_names};
 ghost use Rattle.kr_rollout.specs.Openings.{AreAmong, IsFirstIn};
 ghost use Rattle.kr_script.specs.Fleets.{fleet_of};
 ghost use Rattle.kr_script.specs.Output.{fleet_output};
-ghost use Rattle.kr_top.specs.Around.{Around, with_lent_tape, with_world};
+ghost use Rattle.kr_top.specs.Around.{Around, Name, with_lent_tape, with_world};
 ghost use Rattle.kr_top.specs.Commands.{stored_on};
 ghost use Rattle.kr_top.specs.Fleets.{DidFleet, WritesFleet, beginning, equipped, outfitted};
 ghost use Rattle.kr_top.specs.Fleets.{over_store, publishing, starting};
@@ -110,7 +110,7 @@ fn fleet_on<R: Threads + Wait + Sync, W: World>(
     world: &mut W,
 ) -> (Result<Record, Stop>, W::Tap)
     requires plan { IsWholePlan (plan_of plan.now) }
-    ensures made { (name : List ℕ) (a : Around) → a.truth ≡ W.Link.truth
+    ensures made { (name : Name) (a : Around) → a.truth ≡ W.Link.truth
         → RunsBy W.Tap W.Link.truth W.Link.link W.Rand.left W.Rand.count
         (and_then (stored_on Object.Store name) (beginning (plan_of plan.now))) name
         (plan_of plan.now)
@@ -157,7 +157,7 @@ fn fleet_with<R: Threads + Wait + Sync, W: World>(
     requires fit { sum budgets.now.reloads.items ≤ sum budgets.now.entries.items }
     requires store { (store.limit ≡ store_limit) × (store.torn ≡ false) }
     requires plan { IsWholePlan (plan_of plan.now) }
-    ensures made { (name : List ℕ) (a : Around) → a.truth ≡ W.Link.truth
+    ensures made { (name : Name) (a : Around) → a.truth ≡ W.Link.truth
         → RunsBy W.Tap W.Link.truth W.Link.link W.Rand.left W.Rand.count
         (equipped (plan_of plan.now) (stored_of store) budgets.now.entries.items) name
         (plan_of plan.now)
@@ -195,7 +195,7 @@ fn begin<R: Threads + Wait + Sync, T: Tape + Send, L: Kms + Send, D: Dice + Send
     requires plan { IsWholePlan (plan_of plan.now) }
     requires seats { length outfits.0 ≡ length plan.now.script.workers.0 }
     requires named { AreNamed L.link (names_in plan.now.programs) outfits.0 }
-    ensures made { (name : List ℕ) (a : Around) → a.truth ≡ L.truth
+    ensures made { (name : Name) (a : Around) → a.truth ≡ L.truth
         → RunsBy T L.truth L.link D.left D.count
         (outfitted (plan_of plan.now) (stored_of store) budgets.now.entries.items) name
         (plan_of plan.now)

@@ -1,5 +1,5 @@
 //! The phases over tapes and the stores that they hold.
-ghost use Rattle.std.specs.Prelude.{◌≡◌, ◌<◌, List, ℕ, Ok, Err, IfOk, IfErr, OnErr};
+ghost use Rattle.std.specs.Prelude.{◌≡◌, ◌<◌, List, ℕ, Ok, Err, IfOk, IfErr, OnErr, false};
 ghost use Rattle.kr_base.specs.Limits.{store_limit};
 ghost use Rattle.kr_kms.specs.Outside.{KeepsFiles, KeepsObjects};
 ghost use Rattle.kr_kms.specs.declared.world.WorldCall.{WorldCall};
