@@ -6,6 +6,7 @@ pub mod Beginnings
 pub mod Decided
 pub mod FleetAsked
 pub mod FleetLoads
+pub mod FleetOutfits
 pub mod FleetPrograms
 pub mod FleetRuns
 pub mod Found

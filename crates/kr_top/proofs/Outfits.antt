@@ -141,7 +141,6 @@ module _ {L D : Type 0} (link : L → Link) (left : D → Option (List ℕ)) (co
 
   -- ---- what is around them
 
-
   pub outfits_truth : (seat : ℕ) (outfits : List (Outfit L D)) (a : Around)
       → (with_outfits link left count seat outfits a).truth ≡ a.truth
   outfits_truth seat [] a = refl

@@ -230,7 +230,6 @@ module _ {L D : Type 0} (link : L → Link) (left : D → Option (List ℕ)) (co
 
 -- ---- links one behind another
 
-
 -- ---- what is out of other seats
 
 not_at : (seat other : ℕ) (plugin name : List ℕ) → other ≢ seat
@@ -244,6 +243,14 @@ not_its seat other n = by_key seats_decide (λ (b : ℕ). b ≡ 0) seat other 1 
 
 at_itself : (key : ℕ × List ℕ) → at_key same_link key 1 key ≡ 1
 at_itself key = ap (λ (b : Bool). if b then 1 else 0) ((links_decide key key).1 refl)
+
+pub dice_out : {seat count : ℕ} {old new : Objects ℕ (Option (List ℕ))}
+    → HandsOut same_seat old new seat count → 0 < new.out seat
+dice_out {seat} h = omega (
+  arith,
+  h.out seat,
+  ap {B = ℕ} (λ (b : Bool). if b then 1 else 0) ((seats_decide seat seat).1 refl),
+)
 
 module _ {seat : ℕ} where
   pub others_trans : {a b c : Outside} → KeepsOthers seat a b → KeepsOthers seat b c

@@ -169,12 +169,17 @@ fn fleet_with<R: Threads + Wait + Sync, W: World>(
     let mut outfits = List::new(alloc);
     let seats = plan.script.workers.as_slice().len() as u32;
     let opened = open_outfits(alloc, world, plan.programs.as_slice(), seats, &mut outfits);
-    let (made, store, outfits) = match opened {
-        Ok(()) => begin(rt, alloc, plan, budgets, store, outfits),
-        Err(stop) => (Err(stop), store, outfits),
-    };
-    close_outfits(world, outfits);
-    (made, store)
+    match opened {
+        Ok(()) => {
+            let (made, store, outfits) = begin(rt, alloc, plan, budgets, store, outfits);
+            close_outfits(world, outfits);
+            (made, store)
+        }
+        Err(stop) => {
+            close_outfits(world, outfits);
+            (Err(stop), store)
+        }
+    }
 }
 
 /// Publishes for each replica, starts the core, and lets the workers work. The store and the outfits

@@ -1,13 +1,12 @@
 //! What a worker has of the world: a random source, and a link to each plugin.
-ghost use Rattle.std.specs.Prelude.{◌≡◌, ◌<◌, ◌≤◌, ◌^◌, ℕ, List, IfOk, OnOk, [], ◌∷◌, Contains, length};
-ghost use Rattle.kr_config.specs.Kept.{Row};
+ghost use Rattle.std.specs.Prelude.{◌≡◌, ◌<◌, ◌≤◌, ◌^◌, IfOk, OnOk, [], length};
 ghost use Rattle.kr_provider.specs.Names.{names_of};
-ghost use Rattle.kr_provider.specs.PluginOrder.{plugin_order};
 ghost use Rattle.kr_top.specs.Around.{Around, Tapes, with_tapes, with_world};
 ghost use Rattle.kr_top.specs.Fleets.{equipping};
 ghost use Rattle.kr_top.specs.Steps.{give};
-ghost use Rattle.kr_top.specs.inner.Outfits.{AreNamed, AreOut, IsOut, KeepsOthers, LinksReturn};
-ghost use Rattle.kr_top.specs.inner.Outfits.{Opens, OpensLinks, OutfitReturn, names_in, with_outfits};
+ghost use Rattle.kr_top.specs.inner.Outfits.{AreBorrowed, AreNamed, AreOut, ArePlugins, HasOut, IsOut};
+ghost use Rattle.kr_top.specs.inner.Outfits.{KeepsOthers, LinksReturn, Opens, OpensLinks, OutfitReturn};
+ghost use Rattle.kr_top.specs.inner.Outfits.{names_in, with_outfits};
 ghost use Rattle.kr_top.specs.inner.Phases.{Does};
 
 use crate::phases::{close_dice, close_link, open_dice, open_link};
@@ -34,7 +33,7 @@ pub fn open_outfits<W: World>(
     outfits: &mut List<Outfit<W::Link, W::Rand>>,
 ) -> Result<(), Stop>
     requires none { outfits.old.0 ≡ [] }
-    requires programs { (rows : List Row) × (names_in programs.now ≡ plugin_order rows) }
+    requires programs { ArePlugins programs.now }
     ensures does { (tapes : Tapes) (a : Around) → Does (equipping programs.now 0 seats (give tt))
         (with_world (with_tapes tapes (W.told world.old)) a)
         (with_outfits W.Link.link W.Rand.left W.Rand.count 0 outfits.new.0
@@ -60,8 +59,7 @@ pub fn open_outfits<W: World>(
 
 /// Gives all outfits back, that of the last seat first.
 pub fn close_outfits<W: World>(world: &mut W, outfits: List<Outfit<W::Link, W::Rand>>)
-    requires out { (names : List (List ℕ)) × AreNamed W.Link.link names outfits.0
-        × AreOut names (length outfits.0) (W.told world.old) }
+    requires out { AreBorrowed W.Link.link outfits.0 (W.told world.old) }
     requires few { length outfits.0 < 2 ^ 32 }
     ensures back { (tapes : Tapes) (a : Around)
         → with_outfits W.Link.link W.Rand.left W.Rand.count 0 outfits.0
@@ -84,7 +82,7 @@ fn open_outfit<W: World>(
     programs: &[Program],
     seat: u32,
 ) -> Result<Outfit<W::Link, W::Rand>, Stop>
-    requires programs { (rows : List Row) × (names_in programs.now ≡ plugin_order rows) }
+    requires programs { ArePlugins programs.now }
     ensures does { Opens W.Link.link W.Rand.left W.Rand.count seat programs.now
         (W.told world.old) (W.told world.new) result }
     ensures tapes { (W.told world.new).tapes ≡ (W.told world.old).tapes }
@@ -116,14 +114,13 @@ fn open_links<W: World>(
     links: &mut Links<W::Link>,
 ) -> Result<(), Stop>
     requires none { links.old ≡ [] }
-    requires programs { (rows : List Row) × (names_in programs.now ≡ plugin_order rows) }
+    requires programs { ArePlugins programs.now }
     ensures does { OpensLinks W.Link.link W.Rand.left W.Rand.count seat programs.now
         (W.told world.old) (W.told world.new) links.new result }
     ensures tapes { (W.told world.new).tapes ≡ (W.told world.old).tapes }
     ensures dice { (W.told world.new).dice ≡ (W.told world.old).dice }
     ensures named { OnOk result (names_of W.Link.link links.new ≡ names_in programs.now) }
-    ensures out { (name : List ℕ) → Contains (names_of W.Link.link links.new) name
-        → 0 < (W.told world.new).links.out (seat, name) }
+    ensures out { HasOut W.Link.link seat links.new (W.told world.new) }
     ensures others { KeepsOthers seat (W.told world.old) (W.told world.new) }
 {
     for program in programs {
@@ -161,8 +158,7 @@ fn close_outfit<W: World>(world: &mut W, seat: u32, outfit: Outfit<W::Link, W::R
 
 /// Gives links of the seat back, the last one first.
 fn close_links<W: World>(world: &mut W, seat: u32, links: Links<W::Link>)
-    requires out { (name : List ℕ) → Contains (names_of W.Link.link links) name
-        → 0 < (W.told world.old).links.out (seat, name) }
+    requires out { HasOut W.Link.link seat links (W.told world.old) }
     ensures { LinksReturn W.Link.link seat (W.told world.old) (W.told world.new) links }
 {
     links.known();

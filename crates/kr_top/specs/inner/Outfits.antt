@@ -1,9 +1,11 @@
 -- What the workers of a fleet have of the world, while it is out.
-use Rattle.std.specs.Prelude.{◌≡◌, ◌≢◌, ◌<◌, ◌≤◌, ℕ, ◌+◌, List, [], ◌∷◌, All, Contains, Option, Result, Ok, Err, map, ⊤}
+use Rattle.std.specs.Prelude.{◌≡◌, ◌≢◌, ◌<◌, ◌≤◌, ℕ, ◌+◌, List, [], ◌∷◌, All, Contains, Option, Result, Ok, Err, length, map, ⊤}
+use Rattle.kr_config.specs.Kept.{Row}
 use Rattle.kr_kms.specs.Calls.{Link}
 use Rattle.kr_kms.specs.Outside.{Outside, same_seat}
 use Rattle.kr_provider.specs.AskedLinks.{AskedOnly}
 use Rattle.kr_provider.specs.Names.{names_of}
+use Rattle.kr_provider.specs.PluginOrder.{plugin_order}
 use Rattle.kr_top.specs.Around.{Around, Tapes, lent_links, with_lent, with_lent_dice, with_lent_links, with_tapes, with_world}
 use Rattle.kr_top.specs.Fleets.{borrow_links_of}
 use Rattle.kr_top.specs.Steps.{Steps, borrow_dice, give}
@@ -15,6 +17,10 @@ use Rattle.kr_top.specs.inner.Phases.{Does}
 -- the plugins of programs
 abbrev pub names_in : List Program → List (List ℕ)
 names_in programs = map (λ (program : Program). program.plugin) programs
+
+-- they are those of a configuration, each once
+abbrev pub ArePlugins : List Program → Type 0
+ArePlugins programs = (rows : List Row) × (names_in programs ≡ plugin_order rows)
 
 module _ {L D : Type 0} (link : L → Link) (left : D → Option (List ℕ)) (count : D → ℕ) where
   -- the outfits of the seats from this one on stand as if they were at home
@@ -48,9 +54,20 @@ pub record IsOut (names : List (List ℕ)) (seat : ℕ) (world : Outside) : Type
   pub dice : 0 < world.dice.out seat
   pub links : (name : List ℕ) → Contains names name → 0 < world.links.out (seat, name)
 
+-- links of it that lead to these
+abbrev pub HasOut : {L : Type 0} → (link : L → Link) → (seat : ℕ) → List L → Outside → Type 0
+HasOut link seat links world = (name : List ℕ) → Contains (names_of link links) name
+    → 0 < world.links.out (seat, name)
+
 -- those of so many seats
 abbrev pub AreOut : (names : List (List ℕ)) → (seats : ℕ) → Outside → Type 0
 AreOut names seats world = (seat : ℕ) → seat < seats → IsOut names seat world
+
+-- those that these outfits are
+abbrev pub AreBorrowed : {L D : Type 0} → (link : L → Link) → List (Outfit L D) → Outside
+    → Type 0
+AreBorrowed link outfits world = (names : List (List ℕ)) × AreNamed link names outfits
+    × AreOut names (length outfits) world
 
 -- of other seats as many objects are out as before
 pub record KeepsOthers (seat : ℕ) (old new : Outside) : Type 0 where
