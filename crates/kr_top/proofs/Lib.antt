@@ -3,7 +3,9 @@ mod Rooms
 pub mod Apart
 pub mod Asked
 pub mod Beginnings
+pub mod Crews
 pub mod Decided
+pub mod FleetCrews
 pub mod FleetAsked
 pub mod FleetLoads
 pub mod FleetOutfits

@@ -1,8 +1,10 @@
 -- What the replicas publish, one behind another.
-use Rattle.std.proofs.Common.{◌≡◌, ℕ, suc, ◌+◌, ◌<◌, ◌≤◌, Bool, true, false, List, [], ◌∷◌, ◌++◌, length, take, drop, get_or, drop-cons, add-one, Option, None, Some, Result, Ok, Err, refl, sym, ◌∙◌, ap, subst, inl, inr, arith, Contains}
-use Rattle.std.specs.Prelude.{All, if◌then◌else◌}
+use Rattle.std.proofs.Common.{◌≡◌, ℕ, suc, ◌+◌, ◌<◌, ◌≤◌, Bool, true, false, List, [], ◌∷◌, ◌++◌, length, take, drop, get_or, set, drop-cons, add-one, Option, None, Some, Result, Ok, Err, refl, sym, ◌∙◌, ap, subst, inl, inr, arith, Contains}
+use Rattle.std.specs.Prelude.{All, IfSome, IsSome, if◌then◌else◌}
+use Rattle.std.specs.Option.{option_map}
 use Rattle.std.specs.Str.{bytes_eq}
 use Rattle.std.proofs.lemmas.List.{drop_all, take_all, take_more}
+use Rattle.std.proofs.lemmas.List.Elements.{All-cons, All-nil}
 use Rattle.kr_config.specs.Kept.{Row, rows_of}
 use Rattle.kr_config.specs.declared.settings.Settings.{Settings}
 use Rattle.kr_kms.specs.Calls.{Link}
@@ -13,6 +15,8 @@ use Rattle.kr_provider.specs.Names.{HasLinks, names_of}
 use Rattle.kr_provider.specs.PluginOrder.{plugin_order}
 use Rattle.kr_provider.specs.Publication.{Publication}
 use Rattle.kr_provider.proofs.AskedLists.{asked_none, asked_then, names_stay}
+use Rattle.kr_rollout.specs.Honesty.{SeedsOpen}
+use Rattle.kr_rollout.specs.Openings.{AreAmong, IsFirstIn, NamesAmong}
 use Rattle.kr_workers.specs.Files as workers
 use Rattle.kr_workers.specs.declared.files.SettingsFile.{SettingsFile}
 use Rattle.kr_top.specs.Around.{Around}
@@ -21,15 +25,20 @@ use Rattle.kr_top.specs.FleetFiles.{NamedRows, no_file, rows_at}
 use Rattle.kr_top.specs.Fleets.{Replicas, publishes, publishing, rows_of_replica}
 use Rattle.kr_top.specs.Plugins.{make_seeds}
 use Rattle.kr_top.specs.Steps.{Steps, give}
+use Rattle.kr_top.specs.declared.fleet_file.Plan.{Plan}
+use Rattle.kr_top.specs.declared.outfit.Outfit.{Outfit}
 use Rattle.kr_top.specs.declared.refusal.Stop.{Stop}
 use Rattle.kr_top.specs.declared.refusal.Stop.TheVariants.{NoMemory}
 use Rattle.kr_top.specs.inner.Beginnings.{MayPublish, PublishesNext, with_first}
-use Rattle.kr_top.specs.inner.FleetFiles.{named}
+use Rattle.kr_top.specs.inner.FleetFiles.{IsWholePlan, named, plan_of}
 use Rattle.kr_top.specs.inner.Fleets.{ArePublished, IsPublishedBy}
+use Rattle.kr_top.specs.inner.Outfits.{AreLater, AreNamed, IsLater, names_in, with_outfits}
 use Rattle.kr_top.specs.inner.Phases.{Does}
 use Rattle.kr_top.proofs.FleetLoads.{same_rows}
 use Rattle.kr_top.proofs.Goes.{given, goes_on, home_refl, reach, stops}
 use Rattle.kr_top.proofs.Made.{remembers}
+use Rattle.kr_top.proofs.Outfits.{later_refl, outfits_truth}
+use Rattle.kr_top.proofs.Plans.{plan_links, plan_read}
 use Rattle.kr_top.proofs.Works.{lacks}
 
 -- ---- one replica
@@ -280,3 +289,129 @@ module _ {L D : Type 0} (truth : Truth) (link : L → Link) (left : D → Option
       pub published_all : ArePublished truth files replicas made
       published_all = subst (λ l. ArePublished truth files l made) (take_all number replicas past)
           so_far.published
+
+-- ---- what all of them published
+
+module _ (truth : Truth) (files : List NamedRows) where
+  pub published_many : (replicas : List (List ℕ × List ℕ)) (made : Replicas)
+      → ArePublished truth files replicas made → length made ≡ length replicas
+  published_many [] [] all = refl
+  published_many [] (p ∷ made) all = absurd all
+  published_many (replica ∷ replicas) [] all = absurd all
+  published_many (replica ∷ replicas) (p ∷ made) all =
+      ap (λ n. suc n) (published_many replicas made all.1)
+
+  is_in : (p : Option Publication) (rows : Option (List Row))
+      → option_map (λ (q : Publication). q.rows) p ≡ rows → IsSome rows → IsSome p
+  is_in (Some p) rows e some = refl
+  is_in None rows e some = subst (λ (r : Option (List Row)). IsSome r) (sym e) some
+
+  pub published_first : (replicas : List (List ℕ × List ℕ)) (made : Replicas)
+      → ArePublished truth files replicas made → 1 ≤ length replicas
+      → ((replica : List ℕ × List ℕ) (others : List (List ℕ × List ℕ))
+      → replicas ≡ replica ∷ others → IsSome (rows_of_replica files replica))
+      → IsFirstIn made
+  published_first [] made all some first = absurd (omega (arith, some))
+  published_first (replica ∷ replicas) [] all some first = absurd all
+  published_first (replica ∷ replicas) (p ∷ made) all some first =
+      is_in p (rows_of_replica files replica) all.0.0 (first replica replicas refl)
+
+  module _ (names : List (List ℕ)) (among : (name : List ℕ) (rows : List Row)
+      → rows_at files name ≡ Some rows → NamesAmong names rows) where
+    names_by : (file : List ℕ) (rows : List Row) (gap : Bool)
+        → Some rows ≡ (if gap then None else rows_at files file) → NamesAmong names rows
+    names_by file rows true e = absurd cc
+    names_by file rows false e = among file rows (sym e)
+
+    among_one : (replica : List ℕ × List ℕ) (p : Option Publication)
+        → IsPublishedBy truth files replica p → IfSome p (λ q. NamesAmong names q.rows)
+    among_one replica None by = tt
+    among_one replica (Some p) by =
+        names_by replica.1 p.rows (bytes_eq replica.1 no_file) by.0
+
+    pub published_among : (replicas : List (List ℕ × List ℕ)) (made : Replicas)
+        → ArePublished truth files replicas made → AreAmong names made
+    published_among [] [] all = All-nil (λ p. IfSome p (λ q. NamesAmong names q.rows))
+    published_among [] (p ∷ made) all = absurd all
+    published_among (replica ∷ replicas) [] all = absurd all
+    published_among (replica ∷ replicas) (p ∷ made) all =
+        All-cons (λ r. IfSome r (λ q. NamesAmong names q.rows)) p made
+        (among_one replica p all.0) (published_among replicas made all.1)
+
+  -- where the truth is told their seeds open
+  module _ (told : truth.told ≡ true) where
+    opens_one : (replica : List ℕ × List ℕ) (p : Option Publication)
+        → IsPublishedBy truth files replica p → IfSome p (SeedsOpen truth.opens)
+    opens_one replica None by = tt
+    opens_one replica (Some p) by = λ k d below. by.1 k d below told
+
+    pub published_open : (replicas : List (List ℕ × List ℕ)) (made : Replicas)
+        → ArePublished truth files replicas made
+        → All (λ p. IfSome p (SeedsOpen truth.opens)) made
+    published_open [] [] all = All-nil (λ p. IfSome p (SeedsOpen truth.opens))
+    published_open [] (p ∷ made) all = absurd all
+    published_open (replica ∷ replicas) [] all = absurd all
+    published_open (replica ∷ replicas) (p ∷ made) all =
+        All-cons (λ q. IfSome q (SeedsOpen truth.opens)) p made
+        (opens_one replica p all.0) (published_open replicas made all.1)
+
+-- ---- by the first worker's outfit
+
+-- each replica that is in has its file, and there is a link to each plugin that it names
+module _ (plan : Plan) (whole : IsWholePlan (plan_of plan)) (names : List (List ℕ))
+    (names_are : names ≡ names_in plan.programs) where
+  may_by : (file : List ℕ) (read : Option (List Row)) → rows_at (named plan.files.0) file ≡ read
+      → IsSome read
+      → (rows : List Row) × (rows_at (named plan.files.0) file ≡ Some rows) × HasLinks names rows
+  may_by file (Some rows) e some =
+      (rows, e, subst (λ n. HasLinks n rows) (sym names_are) (plan_links plan whole file rows e))
+  may_by file None e some = absurd (let f : false ≡ true = some in cc)
+
+  pub may_each : (files : List SettingsFile) (replicas : List (List ℕ × List ℕ))
+      → files ≡ plan.files.0 → replicas ≡ plan.script.replicas.0
+      → All (λ replica. MayPublish names (named files) replica.1) replicas
+  may_each files replicas f r =
+      subst (λ fs. All (λ replica. MayPublish names (named fs) replica.1) replicas) (sym f)
+      (subst (λ rs. All (λ replica. MayPublish names (named plan.files.0) replica.1) rs) (sym r)
+      (λ k d below there. may_by (get_or plan.script.replicas.0 k d).1 _ refl
+      (plan_read plan whole k d below there)))
+
+module _ {L D : Type 0} (truth : Truth) (link : L → Link) (left : D → Option (List ℕ))
+    (count : D → ℕ) where
+  abbrev With : List (Outfit L D) → Around → Around
+  With outfits a = with_outfits link left count 0 outfits a
+
+  -- what was done with the first outfit, with all of them
+  pub with_the_first : {A : Type 0} (next : Steps A) (result : Result A Stop)
+      (outfits : List (Outfit L D)) (first new : Outfit L D) → 1 ≤ length outfits
+      → first ≡ get_or outfits 0 first
+      → ((b : Around) → b.truth ≡ truth → Does next
+      (with_first link first.links (left first.dice) (count first.dice) b)
+      (with_first link new.links (left new.dice) (count new.dice) b) result)
+      → (a : Around) → a.truth ≡ truth
+      → Does next (With outfits a) (With (set outfits 0 new) a) result
+  with_the_first next result [] first new some is does a t = absurd (omega (arith, some))
+  with_the_first next result (outfit ∷ rest) first new some is does a t =
+      let b = with_outfits link left count 1 rest a in
+      subst (λ (f : Outfit L D). Does next
+      (with_first link f.links (left f.dice) (count f.dice) b)
+      (with_first link new.links (left new.dice) (count new.dice) b) result) is
+      (does b (outfits_truth link left count 1 rest a ∙ t))
+
+  pub first_later : (outfits : List (Outfit L D)) (first new : Outfit L D) → 1 ≤ length outfits
+      → first ≡ get_or outfits 0 first
+      → AskedOnly link (names_of link first.links) first.links new.links
+      → count first.dice ≤ count new.dice
+      → AreLater link count outfits (set outfits 0 new)
+  first_later [] first new some is asked later = absurd (omega (arith, some))
+  first_later (outfit ∷ rest) first new some is asked later = (
+    subst (λ (f : Outfit L D). IsLater link count f new) is
+        (record { links = asked; dice = later }),
+    later_refl link left count rest,
+  )
+
+  pub first_named : (names : List (List ℕ)) (outfits : List (Outfit L D)) (first : Outfit L D)
+      → 1 ≤ length outfits → first ≡ get_or outfits 0 first → AreNamed link names outfits
+      → names_of link first.links ≡ names
+  first_named names outfits first some is named =
+      ap (λ (f : Outfit L D). names_of link f.links) is ∙ named 0 first some
