@@ -2,6 +2,7 @@
 mod Rooms
 pub mod Apart
 pub mod Asked
+pub mod Crews
 pub mod Decided
 pub mod FleetAsked
 pub mod FleetLoads

@@ -257,10 +257,12 @@ fn run_crew<R: Threads + Wait + Sync, T: Tape + Send, L: Kms + Send, D: Dice + S
     match ended {
         Ok(core) => {
             let (store, lines) = core.close();
+            store.known();
             (Ok(Record { lines, replies }), store, outfits)
         }
         Err((NoMemory, core)) => {
             let (store, _lines) = core.close();
+            store.known();
             (Err(Stop::NoMemory), store, outfits)
         }
     }
