@@ -2,8 +2,10 @@
 mod Rooms
 pub mod Apart
 pub mod Asked
+pub mod Beginnings
 pub mod Crews
 pub mod Decided
+pub mod FleetCrews
 pub mod FleetAsked
 pub mod FleetLoads
 pub mod FleetOutfits
@@ -19,6 +21,7 @@ pub mod Outfits
 pub mod Outfitting
 pub mod Plans
 pub mod Pieces
+pub mod Publishings
 pub mod Loading
 pub mod Loads
 pub mod Judging
