@@ -24,7 +24,8 @@ names_parts : (files : List SettingsFile)
     → plugins_in (all_rows (named files)) ≡ flat_map file_names files
 names_parts [] = refl
 names_parts (file ∷ files) =
-    flat_map-append (λ (row : Row). plugins_among row.providers) (rows_of file.settings.entries.0) (all_rows (named files))
+    flat_map-append (λ (row : Row). plugins_among row.providers)
+    (rows_of file.settings.entries.0) (all_rows (named files))
     ∙ ap (λ l. file_names file ++ l) (names_parts files)
 
 pub files_begin : (files : List SettingsFile) (after : List ℕ)
