@@ -50,7 +50,8 @@ pub returns-in-Err-clause-hired : goal.returns-in-Err-clause-hired
 returns-in-Err-clause-hired g c =
     hired_back c.args.parts.now (reverse c.args.outfits.now.0) c.loop-part.workers.0
     c.loop-part.outfits.0 c.loop-part.outfits.1 c.loop-part.invariant.0 c.pop.new.self.0
-    c.push_in_room-in-Err.new.self.0 c.in-Some.outfit c.in-Err.outfit c.push_in_room-in-Err.new.self.1
+    c.push_in_room-in-Err.new.self.0 c.in-Some.outfit c.in-Err.outfit
+    c.push_in_room-in-Err.new.self.1
     c.in-Some.ensures.items c.push_in_room-in-Err.ensures.items c.in-Err.ensures.returned
     (omega (arith, c.push_in_room-in-Err.ensures.room, c.in-Some.ensures.room))
 
