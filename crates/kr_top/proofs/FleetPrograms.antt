@@ -1,11 +1,9 @@
 -- The plugins of several configurations in the order of their names.
-use Rattle.std.proofs.Common.{◌≡◌, ℕ, ◌+◌, ◌<◌, ◌≤◌, ◌⊎◌, inl, inr, List, [], ◌∷◌, ◌++◌, length, get_or, map, take, Option, None, Some, Contains, IsTrue, refl, sym, ◌∙◌, ap, subst, arith, true, false}
-use Rattle.std.specs.Prelude.{All}
+use Rattle.std.proofs.Common.{◌≡◌, ℕ, ◌+◌, ◌<◌, ◌≤◌, ◌⊎◌, inl, inr, List, [], ◌∷◌, ◌++◌, length, get_or, take, Option, None, Contains, refl, sym, ◌∙◌, ap, subst, arith, true, false}
 use Rattle.std.specs.List.{flat_map}
-use Rattle.std.specs.List.Sorted.{IsStrictlySortedBy}
 use Rattle.std.proofs.lemmas.Grind.{flat_map-append}
 use Rattle.std.proofs.lemmas.List.Elements.{Contains-append_cases}
-use Rattle.kr_config.specs.Kept.{Row, keeps, plugins_in, rows_of}
+use Rattle.kr_config.specs.Kept.{Row, plugins_in, rows_of}
 use Rattle.kr_config.specs.Providers.{plugins_among}
 use Rattle.kr_config.specs.Nexts.{earlier, name_cmp, IsNextName}
 use Rattle.kr_config.proofs.Nexts.{names_joined, no_name}
