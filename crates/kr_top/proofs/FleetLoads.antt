@@ -1,5 +1,5 @@
 -- The configurations that a fleet file names are loaded one behind another, each once.
-use Rattle.std.proofs.Common.{◌≡◌, ℕ, zero, suc, ◌+◌, ◌<◌, ◌≤◌, Bool, true, false, cond, List, [], ◌∷◌, ◌++◌, length, take, get_or, map, append-nil, All, Option, None, Some, Result, Ok, Err, refl, sym, ◌∙◌, ap, subst, inl, inr, arith}
+use Rattle.std.proofs.Common.{◌≡◌, ℕ, zero, suc, ◌+◌, ◌<◌, ◌≤◌, Bool, true, false, List, [], ◌∷◌, ◌++◌, length, take, get_or, map, append-nil, All, Option, None, Some, Result, Ok, Err, refl, sym, ◌∙◌, ap, subst, inl, inr, arith}
 use Rattle.std.specs.Prelude.{IfOk, IsSome, find, if◌then◌else◌}
 use Rattle.std.specs.List.{flat_map}
 use Rattle.std.specs.Option.{option_map}
@@ -22,14 +22,14 @@ use Rattle.kr_script.specs.declared.script.ScriptNo.TheVariants as no
 use Rattle.kr_workers.specs.declared.files.SettingsFile.{SettingsFile}
 use Rattle.kr_workers.specs.Files as workers
 use Rattle.kr_top.specs.Around.{Around, Ends, Reaches, Stays, with_world}
-use Rattle.kr_top.specs.Commands.{by_result, configuration, with_memory}
+use Rattle.kr_top.specs.Commands.{configuration, with_memory}
 use Rattle.kr_top.specs.FleetFiles.{NamedRows, file_in, files_in, fleet_in, named_rows, rows_at, unless_read}
 use Rattle.kr_top.specs.Steps.{Steps, Left, and_then, awaits, loading, with_asked}
 use Rattle.kr_top.specs.declared.refusal.Refusal.{Refusal}
 use Rattle.kr_top.specs.declared.refusal.Stop.{Stop}
 use Rattle.kr_top.specs.declared.refusal.Stop.TheVariants.{Words, Refused, Fault, NoMemory}
 use Rattle.kr_top.specs.inner.FleetFiles.{Covers, GoesThrough, IsFleetRead, IsRuled, ReadsBytes, ReadsFleet, fleet_in_result, named, script_stop}
-use Rattle.kr_top.specs.inner.Phases.{AskedFor, Configures, Does, rows_in}
+use Rattle.kr_top.specs.inner.Phases.{AskedFor, Configures, Does}
 use Rattle.kr_top.proofs.Goes.{asked_home, by_goes, by_point, configures, given, goes_on, reach, stays_noted, stops, unasked}
 use Rattle.kr_top.proofs.Made.{remembers}
 use Rattle.kr_top.proofs.Works.{lacks}

@@ -1,6 +1,6 @@
 -- What is around while outfits are out, and what each worker then has of it.
-use Rattle.std.proofs.Common.{◌≡◌, ◌≢◌, ℕ, zero, suc, ◌+◌, ◌<◌, ◌≤◌, List, [], ◌∷◌, ◌++◌, length, get_or, Option, Contains, refl, sym, ◌∙◌, ap, subst, arith}
-use Rattle.std.specs.Prelude.{Bool, true, false, if◌then◌else◌, ◌-◌}
+use Rattle.std.proofs.Common.{◌≡◌, ◌≢◌, ℕ, zero, suc, ◌+◌, ◌<◌, List, [], ◌∷◌, length, get_or, Option, Contains, refl, sym, ◌∙◌, ap, subst, arith}
+use Rattle.std.specs.Prelude.{true, false, if◌then◌else◌}
 use Rattle.std.specs.List.{AllByRecursion, IsDistinct}
 use Rattle.std.specs.List.Sorted.{IsStrictlySortedBy}
 use Rattle.std.specs.Ordering.{is_lt}
@@ -11,7 +11,7 @@ use Rattle.std.proofs.lemmas.Slice.Eq.{bytes_eq-Decides}
 use Rattle.kr_config.specs.Kept.{Row, plugins_in}
 use Rattle.kr_config.specs.Nexts.{name_cmp}
 use Rattle.kr_kms.specs.Calls.{Link}
-use Rattle.kr_kms.specs.Outside.{Objects, at_key, link_at, same_link, same_seat}
+use Rattle.kr_kms.specs.Outside.{Objects, at_key, same_link, same_seat}
 use Rattle.kr_kms.specs.declared.plugin.Status.{Status}
 use Rattle.kr_kms.proofs.Lent.{links_decide, seats_decide}
 use Rattle.kr_provider.specs.AskedLinks.{AskedOnly}

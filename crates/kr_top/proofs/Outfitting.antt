@@ -7,7 +7,7 @@ use Rattle.std.proofs.lemmas.Bool.Decides.{Decides-eqb}
 use Rattle.std.proofs.lemmas.List.{length_push}
 use Rattle.std.proofs.lemmas.List.Elements.{All-pop, All-push, Contains-append_cases, Contains-append_left, Contains-push}
 use Rattle.std.proofs.lemmas.Map.Keys.{IsDistinct-head, IsDistinct-tail}
-use Rattle.kr_config.specs.Kept.{Row, plugins_in}
+use Rattle.kr_config.specs.Kept.{Row}
 use Rattle.kr_kms.specs.Calls.{Link}
 use Rattle.kr_kms.specs.Outside.{HandsOut, KeepsFiles, KeepsObjects, Objects, Outside, at_key, file_faults, same_link, same_seat}
 use Rattle.kr_kms.specs.declared.world.WorldCall.{WorldCall}
@@ -17,7 +17,7 @@ use Rattle.kr_provider.specs.Names.{AreDistinct, names_of}
 use Rattle.kr_provider.specs.PluginOrder.{plugin_order}
 use Rattle.kr_top.specs.Around.{Around, Tapes, lent_links, with_lent, with_lent_dice, with_lent_links, with_tapes, with_world}
 use Rattle.kr_top.specs.Fleets.{borrow_links_of, equipping}
-use Rattle.kr_top.specs.Steps.{Call, Goes, Left, Steps, and_then, awaits, borrow_dice, borrow_link, give, linking, with_asked}
+use Rattle.kr_top.specs.Steps.{Steps, and_then, borrow_dice, borrow_link, linking, with_asked}
 use Rattle.kr_top.specs.declared.outfit.Outfit.{Outfit}
 use Rattle.kr_top.specs.declared.programs.Program.{Program}
 use Rattle.kr_top.specs.declared.refusal.Stop.{Stop}
@@ -28,7 +28,7 @@ use Rattle.kr_top.proofs.Apart.{files_apart, link_apart, link_back_apart, loan_a
 use Rattle.kr_top.proofs.Goes.{IsSeen, borrowed, dice_seen, given, goes_on, home_refl, lent_dice, not_linked, not_opened, nothing, reach, seen_home, seen_stays, stops}
 use Rattle.kr_top.proofs.Lending.{AreSeen, back_is, by_key, no_more, seen_behind}
 use Rattle.kr_top.proofs.Linked.{is_new, loan_within, one_linked, return_within}
-use Rattle.kr_top.proofs.Links.{apart, lent_behind, lent_link, link_back, links_seen, named_there, seen_links}
+use Rattle.kr_top.proofs.Links.{apart, lent_behind, lent_link, link_back, links_seen, seen_links}
 use Rattle.kr_top.proofs.Outfits.{LinksOf, out_apart}
 
 -- ---- steps

@@ -1,5 +1,5 @@
 -- What a whole plan says of its workers, its replicas, their files and their plugins.
-use Rattle.std.proofs.Common.{◌≡◌, ℕ, ◌<◌, ◌≤◌, Bool, true, false, List, [], ◌∷◌, ◌++◌, length, get_or, map, Option, None, Some, Contains, refl, sym, ◌∙◌, ap, subst, arith}
+use Rattle.std.proofs.Common.{◌≡◌, ℕ, ◌<◌, ◌≤◌, Bool, true, false, List, [], ◌∷◌, ◌++◌, length, get_or, map, Option, None, Some, Contains, refl, sym, ◌∙◌, subst, arith}
 use Rattle.std.specs.Prelude.{All, IsSome, find, if◌then◌else◌, ◌&&◌, not, nat_lt}
 use Rattle.std.specs.List.{flat_map, list_all}
 use Rattle.std.specs.Option.{option_map}
@@ -87,7 +87,8 @@ module _ (files : List SettingsFile) (names : List (List ℕ)) (o : Opening) (ma
   )
   brings replica file None e below is = absurd (let f : false ≡ true = is in cc)
 
-  may_do : (l : ScriptLine) → is_line many l ≡ true → All (IsRead (named files)) (file_in l) → MayDo o files l
+  may_do : (l : ScriptLine) → is_line many l ≡ true → All (IsRead (named files)) (file_in l)
+      → MayDo o files l
   may_do (line.Put resource path plain) e read =
       let both = and_parts _ _ e in
       ((tests.path path).0 both.1, (tests.resource resource).0 both.0)
@@ -95,10 +96,12 @@ module _ (files : List SettingsFile) (names : List (List ℕ)) (o : Opening) (ma
   may_do (line.Delete path) e read = (tests.path path).0 e
   may_do line.Rewrite e read = tt
   may_do (line.Reload replica file) e read =
-      brings replica file (rows_at (named files) file) refl e (All-head (IsRead (named files)) file [] read)
+      brings replica file (rows_at (named files) file) refl e
+      (All-head (IsRead (named files)) file [] read)
   may_do line.Refresh e read = tt
   may_do (line.Join replica file) e read =
-      brings replica file (rows_at (named files) file) refl e (All-head (IsRead (named files)) file [] read)
+      brings replica file (rows_at (named files) file) refl e
+      (All-head (IsRead (named files)) file [] read)
   may_do (line.Leave replica) e read = there replica e
 
   lines_may : (ls : List ScriptLine) → list_all (is_line many) ls ≡ true
@@ -175,7 +178,8 @@ module _ (plan : Plan) (whole : IsWholePlan (plan_of plan)) where
       let files = named plan.files.0 in
       let first : not (bytes_eq replica.1 no_file) ≡ true =
       subst (λ rs. first_is_in rs ≡ true) is whole.rules.first in
-      let other : bytes_eq replica.1 no_file ≡ false = not-true (bytes_eq replica.1 no_file) first in
+      let other : bytes_eq replica.1 no_file ≡ false =
+      not-true (bytes_eq replica.1 no_file) first in
       let read = All-head (λ r. bytes_eq r.1 no_file ≡ false → IsRead files r.1) replica replicas
       (subst (All (λ r. bytes_eq r.1 no_file ≡ false → IsRead files r.1)) is plan_read) in
       subst (λ b. IsSome (if b then None else rows_at files replica.1)) (sym other) (read other)

@@ -19,7 +19,7 @@ use Rattle.kr_top.specs.declared.refusal.Object.TheVariants.{Files}
 use Rattle.kr_top.specs.declared.refusal.Refusal.{Refusal}
 use Rattle.kr_top.specs.declared.refusal.Refusal.TheVariants.{Limit, Script as bad_line}
 use Rattle.kr_top.specs.declared.refusal.Stop.{Stop}
-use Rattle.kr_top.specs.declared.refusal.Stop.TheVariants.{Words, Refused, Fault, NoMemory}
+use Rattle.kr_top.specs.declared.refusal.Stop.TheVariants.{Refused, Fault, NoMemory}
 use Rattle.kr_top.specs.inner.Outfits.{names_in}
 use Rattle.kr_top.specs.inner.Phases.{Does}
 

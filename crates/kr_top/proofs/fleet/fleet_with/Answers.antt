@@ -1,5 +1,5 @@
 -- `fleet_with`: the outfits are borrowed for what follows, and come back.
-use Rattle.std.proofs.Common.{◌≡◌, ◌∙◌, Err, ap, arith, length, subst, sym}
+use Rattle.std.proofs.Common.{◌∙◌, Err, ap, arith, length, subst, sym}
 use Rattle.std.proofs.lemmas.List.{length-map}
 use Rattle.kr_script.specs.Fleets.{worker_of}
 use Rattle.kr_top.specs.Around.{with_lent_tape, with_world}

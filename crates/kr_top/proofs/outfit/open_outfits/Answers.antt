@@ -1,6 +1,5 @@
 -- `open_outfits`: each turn borrows one more.
-use Rattle.std.proofs.Common.{◌∙◌, arith, subst, sym}
-use Rattle.std.specs.Prelude.{◌<◌}
+use Rattle.std.proofs.Common.{◌∙◌, arith}
 use Rattle.kr_top.proofs.Outfitting.{all_outfits, no_outfit, one_outfit, outfit_refused, still_all_out}
 use Rattle.kr_top.proofs.outfit.open_outfits.Goals as goal
 
