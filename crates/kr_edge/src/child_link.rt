@@ -1,5 +1,5 @@
 //! A link to a plugin over its lines, as over the pipes of a child program.
-ghost use Rattle.std.specs.Prelude.{◌≡◌, ⊤};
+ghost use Rattle.std.specs.Prelude.{◌≡◌, false, ⊤};
 ghost use Rattle.kr_base.specs.Numbering.{next_number};
 ghost use Rattle.kr_kms.specs.Calls.{Says, Unwraps, Wraps};
 ghost use Rattle.kr_kms.specs.Limits.{IsWithinLimits};
@@ -75,6 +75,11 @@ impl ChildLink {
     pub fn first(name: Text, ends: ChildEnds, room: AnswerRoom) -> ChildLink
         ensures name { result.name ≡ name }
         ensures faults { result.lines.faults ≡ 0 }
+        ensures child { result.child ≡ ends.child }
+        ensures input { result.lines.exchange.input.writer ≡ ends.input }
+        ensures output { result.lines.exchange.output.reader ≡ ends.output }
+        ensures whole { result.lines.exchange.broken ≡ false }
+        ensures uid { result.lines.uid ≡ 0 }
     {
         ChildLink::new(name, ends, room, 0)
     }
@@ -83,6 +88,11 @@ impl ChildLink {
     pub fn new(name: Text, ends: ChildEnds, room: AnswerRoom, faults: u64) -> ChildLink
         ensures name { result.name ≡ name }
         ensures faults { result.lines.faults ≡ faults }
+        ensures child { result.child ≡ ends.child }
+        ensures input { result.lines.exchange.input.writer ≡ ends.input }
+        ensures output { result.lines.exchange.output.reader ≡ ends.output }
+        ensures whole { result.lines.exchange.broken ≡ false }
+        ensures uid { result.lines.uid ≡ 0 }
     {
         let ChildEnds {
             child,
