@@ -1,5 +1,6 @@
 -- Workers that are made one after the other, and let go again; and what they leave.
-use Rattle.std.specs.Prelude.{All, Result, Ok, Err, IfOk, OnErr, OnOk, false}
+use Rattle.kr_base.specs.Faults.{Rose}
+use Rattle.std.specs.Prelude.{All, Result, Ok, Err, IfOk, OnErr, OnOk, false, ◌⊎◌, true}
 use Rattle.std.specs.Result.{is_err}
 use Rattle.std.proofs.Common.{◌≡◌, ℕ, zero, suc, ◌<◌, ◌≤◌, ◌+◌, List, [], ◌∷◌, ◌++◌, length, map, get_or, reverse, append-nil, None, Option, refl, ap, sym, subst, ◌∙◌, arith}
 use Rattle.std.proofs.lemmas.Bool.{false≢true}
@@ -309,14 +310,17 @@ counted o st (e ∷ history) runs =
 -- its store has the rows of the history's end
 pub keeps_end : (o now : Opening) (history : List Entry) (store : Kept) → now ≡ o
     → IsLegal o history → store.rows ≡ (state_of now history).rows
-    → store.count ≡ (state_of now history).count → store.format ≡ now.format → Holds store
+    → store.count ≡ (state_of now history).count → store.format ≡ now.format
+    → (store.torn ≡ true → (now.torn ≡ true) ⊎ Rose now.count store.count) → Holds store
     → KeepsStore o (state_of o history).rows store
-keeps_end o now history store same legal rows count format holds =
+keeps_end o now history store same legal rows count format torn holds =
     let risen = counted o (start_of o) history legal.runs in
     let count_is = count ∙ ap (λ (p : Opening). (state_of p history).count) same in record {
       rows_are = rows ∙ ap (λ (p : Opening). (state_of p history).rows) same;
       format = format ∙ ap (λ (p : Opening). p.format) same;
       later = omega (arith, risen, count_is);
+      torn = subst (λ (p : Opening). store.torn ≡ true
+          → (p.torn ≡ true) ⊎ Rose p.count store.count) same torn;
       holds = holds;
     }
 
@@ -324,15 +328,18 @@ keeps_end o now history store same legal rows count format holds =
 pub keeps_begin : (core now : CoreState) (store : Kept) → now ≡ core → core.history ≡ []
     → store.rows ≡ (state_of now.opening now.history).rows
     → store.count ≡ (state_of now.opening now.history).count
-    → store.format ≡ now.opening.format → Holds store
-    → KeepsStore core.opening core.opening.rows store
-keeps_begin core now store same none rows count format holds =
+    → store.format ≡ now.opening.format
+    → (store.torn ≡ true → (now.opening.torn ≡ true) ⊎ Rose now.opening.count store.count)
+    → Holds store → KeepsStore core.opening core.opening.rows store
+keeps_begin core now store same none rows count format torn holds =
     let none_now = ap (λ (c : CoreState). c.history) same ∙ none in
     let o_is = ap (λ (c : CoreState). c.opening) same in
     let count_is = count ∙ (λ i. (state_of (o_is i) (none_now i)).count) in record {
       rows_are = rows ∙ (λ i. (state_of (o_is i) (none_now i)).rows);
       format = format ∙ ap (λ (p : Opening). p.format) o_is;
       later = omega (arith, count_is);
+      torn = subst (λ (p : Opening). store.torn ≡ true
+          → (p.torn ≡ true) ⊎ Rose p.count store.count) o_is torn;
       holds = holds;
     }
 

@@ -1,6 +1,7 @@
 -- What a fleet leaves, from the first worker's outfit on: how it comes to its workers, and what
 -- they did.
-use Rattle.std.proofs.Common.{◌≡◌, ◌≢◌, ℕ, ◌+◌, ◌<◌, ◌≤◌, Bool, false, List, [], ◌∷◌, ◌++◌, length, map, get_or, Option, None, Some, Result, Ok, Err, refl, sym, ◌∙◌, ap, subst, inr, arith}
+use Rattle.kr_base.specs.Faults.{Rose}
+use Rattle.std.proofs.Common.{◌≡◌, ◌≢◌, ℕ, ◌+◌, ◌<◌, ◌≤◌, Bool, false, List, [], ◌∷◌, ◌++◌, length, map, get_or, Option, None, Some, Result, Ok, Err, refl, sym, ◌∙◌, ap, subst, inr, arith, ◌⊎◌, true, inl}
 use Rattle.std.specs.Prelude.{IfSome, sum, if◌then◌else◌}
 use Rattle.std.specs.List.{IsDistinct}
 use Rattle.std.specs.Option.{option_map}
@@ -11,7 +12,7 @@ use Rattle.kr_base.specs.Limits.{store_limit}
 use Rattle.kr_kms.specs.Calls.{Link}
 use Rattle.kr_kms.specs.Outside.{Objects, same_name, same_seat}
 use Rattle.kr_kms.specs.Truth.{Truth}
-use Rattle.kr_kms.proofs.Lent.{names_decide}
+use Rattle.kr_kms.proofs.Lent.{names_decide, seats_decide}
 use Rattle.kr_rollout.specs.Cores.{CoreState}
 use Rattle.kr_rollout.specs.Histories.{state_of}
 use Rattle.kr_rollout.specs.Honesty.{IsHonestEntry}
@@ -46,7 +47,7 @@ use Rattle.kr_top.specs.inner.Phases.{Does}
 use Rattle.kr_top.specs.inner.Tapes.{stored_of}
 use Rattle.kr_top.proofs.Goes.{files_same, goes_on}
 use Rattle.kr_top.proofs.Lending.{by_key, home_behind, home_same}
-use Rattle.kr_top.proofs.Outfits.{LinksOf, later_named, later_refl, later_trans, names_differ, outfits_asked, outfits_equipped, outfits_file, outfits_home, outfits_input, outfits_said, outfits_tapes, outfits_truth}
+use Rattle.kr_top.proofs.Outfits.{LinksOf, later_named, later_refl, later_trans, names_differ, outfits_asked, outfits_equipped, outfits_file, outfits_home, outfits_input, outfits_said, outfits_tapes, outfits_truth, told_apart, outfits_faults, later_many}
 use Rattle.kr_top.proofs.Publishings.{published_open}
 use Rattle.kr_top.proofs.Tapes.{own_name}
 
@@ -74,34 +75,42 @@ ready plan budgets reloads store replicas core is known many = record {
 pub closed_at_once : (core : CoreState) (store : Kept) → core.history ≡ []
     → store.rows ≡ (state_of core.opening core.history).rows
     → store.count ≡ (state_of core.opening core.history).count
-    → store.format ≡ core.opening.format → Holds store
-    → KeepsStore core.opening core.opening.rows store
-closed_at_once core store none rows count format holds = record {
+    → store.format ≡ core.opening.format
+    → (store.torn ≡ true → (core.opening.torn ≡ true) ⊎ Rose core.opening.count store.count)
+    → Holds store → KeepsStore core.opening core.opening.rows store
+closed_at_once core store none rows count format torn holds = record {
   rows_are = rows ∙ ap (λ h. (state_of core.opening h).rows) none;
   format = format;
   later = let e = count ∙ ap (λ h. (state_of core.opening h).count) none in omega (arith, e);
+  torn = torn;
   holds = holds;
 }
 
 -- ---- the store's tape
 
 held_rows : (begun : Begun) (rows : List LogRow) (format : Format) (file : List ℕ)
-    (torn : Bool) (told : Option (List ℕ)) → format ≡ begun.stored.format
-    → IsFile format rows file
+    (torn : Bool) (told : Option (List ℕ)) (before now : ℕ) → format ≡ begun.stored.format
+    → IsFile format rows file → (torn ≡ true → Rose before now)
     → IfSome told (λ bytes. (rest : List ℕ) × (bytes ≡ file ++ rest)
-    × (torn ≡ false → rest ≡ [])) → HasRows (option_map Some told) begun rows
-held_rows begun rows format file torn None same is held = tt
-held_rows begun rows format file torn (Some bytes) same is held =
-    (file, held.0, subst (λ f. IsFile f rows file) same is, held.1)
+    × (torn ≡ false → rest ≡ [])) → HasRows (option_map Some told) begun rows before now
+held_rows begun rows format file torn None before now same is rose held = tt
+held_rows begun rows format file false (Some bytes) before now same is rose held =
+    (file, held.0, subst (λ f. IsFile f rows file) same is, held.1, inl (held.2 refl))
+held_rows begun rows format file true (Some bytes) before now same is rose held =
+    (file, held.0, subst (λ f. IsFile f rows file) same is, held.1, inr (rose refl))
+
+tore : (torn : Bool) {P : Type 0} → torn ≡ false → (torn ≡ true) ⊎ P → P
+tore torn whole (inl t) = absurd (let e : true ≡ false = sym t ∙ whole in cc)
+tore torn whole (inr p) = p
 
 -- the tape begins with the file of what the store keeps
 pub has_rows : (begun : Begun) (o : Opening) (rows : List LogRow) (store : Kept)
-    → o.format ≡ begun.stored.format → KeepsStore o rows store
-    → HasRows (option_map Some store.told) begun rows
-has_rows begun o rows store same kept = held_rows begun rows store.format kept.holds.0 store.torn
-    store.told (kept.format ∙ same)
+    → o.format ≡ begun.stored.format → o.torn ≡ false → KeepsStore o rows store
+    → HasRows (option_map Some store.told) begun rows o.count store.count
+has_rows begun o rows store same whole kept = held_rows begun rows store.format kept.holds.0
+    store.torn store.told o.count store.count (kept.format ∙ same)
     (subst (λ r. IsFile store.format r kept.holds.0) kept.rows_are kept.holds.1)
-    kept.holds.4
+    (λ t. tore o.torn whole (kept.torn t)) kept.holds.4
 
 module _ (name : List ℕ) (a : Around) where
   -- with the store's tape, of which this is told
@@ -180,6 +189,28 @@ module _ {L D : Type 0} (link : L → Link) (left : D → Option (List ℕ)) (co
       ap (with_lent same_seat seat (left outfit.dice) (count outfit.dice))
       (same_dice (seat + 1) outfits x y e)
 
+  -- nor what is told of the seats behind theirs
+  dice_beyond : (seat : ℕ) (outfits : List (Outfit L D)) (x : Around) (other : ℕ)
+      → seat + length outfits ≤ other
+      → (with_outfits link left count seat outfits x).world.dice.told other
+      ≡ x.world.dice.told other
+  dice_beyond seat [] x other past = refl
+  dice_beyond seat (outfit ∷ outfits) x other past =
+      let behind = (with_outfits link left count (seat + 1) outfits x).world.dice.told other in
+      by_key seats_decide (λ b. b ≡ behind) seat other (left outfit.dice) behind
+      (λ e. absurd (omega (arith, past, e))) (λ n. refl)
+      ∙ dice_beyond (seat + 1) outfits x other (omega (arith, past))
+
+  links_beyond : (seat : ℕ) (outfits : List (Outfit L D)) (x : Around) (other : ℕ)
+      (plugin : List ℕ) → seat + length outfits ≤ other
+      → (with_outfits link left count seat outfits x).world.links.told (other, plugin)
+      ≡ x.world.links.told (other, plugin)
+  links_beyond seat [] x other plugin past = refl
+  links_beyond seat (outfit ∷ outfits) x other plugin past =
+      told_apart link seat other (λ e. omega (arith, past, e)) outfit.links
+      (with_outfits link left count (seat + 1) outfits x).world.links plugin
+      ∙ links_beyond (seat + 1) outfits x other plugin (omega (arith, past))
+
 -- what the workers had comes back as it was, or later
 pub ran_back : {T L D : Type 0} (truth : Truth) (link : L → Link) (left : D → Option (List ℕ))
     (count : D → ℕ) (plan : Plan) (budgets : List ℕ) (olds outs : List (Outfit L D))
@@ -215,7 +246,7 @@ module _ {L D : Type 0} (truth : Truth) (link : L → Link) (left : D → Option
       (starts : Does (starting (plan_of plan) (stored_of store) budgets replicas)
       (With outs store) (With outs store) (Ok (begun_with plan budgets store replicas)))
       (are_named : AreNamed link (names_in plan.programs) olds)
-      (later : AreLater link count olds outs)
+      (seats : length olds ≡ length plan.script.workers.0) (later : AreLater link count olds outs)
       (published : ArePublished truth (named plan.files.0) plan.script.replicas.0 replicas)
       (sound : (store.limit ≡ store_limit) × (store.torn ≡ false)) (reloads : List ℕ)
       (known : reloads ≡ all_reloads plan.script.workers.0) (o : Opening)
@@ -267,7 +298,19 @@ module _ {L D : Type 0} (truth : Truth) (link : L → Link) (left : D → Option
             (over_home name a store.told kept.told
             (omega (arith, rises, ap (λ (p : Opening). p.count) opens)))
 
-        rest : LeavesRest name Mid (With back kept)
+        count_now : (With back kept).world.tapes.faults name ≡ kept.count
+        count_now = ap (λ (t : Tapes). t.faults name)
+            (outfits_tapes link left count 0 back (Over_now kept))
+            ∙ over_count name a kept.told kept.count
+
+        outs_many : length outs ≡ length (plan_of plan).fleet.workers
+        outs_many = later_many link left count olds outs later ∙ seats
+            ∙ sym (length-map plan.script.workers.0 worker_of)
+
+        back_many : length back ≡ length (plan_of plan).fleet.workers
+        back_many = later_many link left count outs back further ∙ outs_many
+
+        rest : LeavesRest name (length (plan_of plan).fleet.workers) Mid (With back kept)
         rest = record {
           truth = outfits_truth link left count 0 back (Over_now kept)
               ∙ sym (outfits_truth link left count 0 outs (Over_now store));
@@ -278,6 +321,17 @@ module _ {L D : Type 0} (truth : Truth) (link : L → Link) (left : D → Option
               ∙ over_other name a store.told kept.told store.count kept.count other apart
               ∙ sym (ap (λ (t : Tapes). t.told other)
               (outfits_tapes link left count 0 outs (Over_now store)));
+          dice = λ seat past.
+              dice_beyond link left count 0 back (Over_now kept) seat (omega (arith, past, back_many))
+              ∙ sym (dice_beyond link left count 0 outs (Over_now store) seat
+              (omega (arith, past, outs_many)));
+          links = λ seat plugin past.
+              links_beyond link left count 0 back (Over_now kept) seat plugin
+              (omega (arith, past, back_many))
+              ∙ sym (links_beyond link left count 0 outs (Over_now store) seat plugin
+              (omega (arith, past, outs_many)));
+          faults = outfits_faults link left count 0 back (Over_now kept)
+              ∙ sym (outfits_faults link left count 0 outs (Over_now store));
           asked = outfits_asked link left count 0 back (Over_now kept)
               ∙ sym (outfits_asked link left count 0 outs (Over_now store));
           input = outfits_input link left count 0 back (Over_now kept)
@@ -288,11 +342,19 @@ module _ {L D : Type 0} (truth : Truth) (link : L → Link) (left : D → Option
 
         stored : (rows : List LogRow) → KeepsStore o rows kept
             → HasRows ((With back kept).world.tapes.told name) begun rows
-        stored rows k = subst (λ t. HasRows t begun rows)
+            (Mid.world.tapes.faults name) ((With back kept).world.tapes.faults name)
+        stored rows k =
+            let before : o.count ≡ Mid.world.tapes.faults name =
+            ap (λ (p : Opening). p.count) opens ∙ count_is in
+            let whole : o.torn ≡ false = ap (λ (p : Opening). p.torn) opens ∙ sound.1 in
+            let told = (With back kept).world.tapes.told name in
+            subst (λ n. HasRows told begun rows (Mid.world.tapes.faults name) n) (sym count_now)
+            (subst (λ m. HasRows told begun rows m kept.count) before
+            (subst (λ t. HasRows t begun rows o.count kept.count)
             (sym (ap (λ (t : Tapes). t.told name)
             (outfits_tapes link left count 0 back (Over_now kept))
             ∙ over_told name a kept.told kept.count))
-            (has_rows begun o rows kept (ap (λ (p : Opening). p.format) opens) k)
+            (has_rows begun o rows kept (ap (λ (p : Opening). p.format) opens) whole k)))
 
     -- memory lacked for the workers
     pub unhired : (T : Type 0) → (kept : Kept) → KeepsStore o o.rows kept → (back : List (Outfit L D))
@@ -308,7 +370,8 @@ module _ {L D : Type 0} (truth : Truth) (link : L → Link) (left : D → Option
           mid = Mid;
           does = all_does;
           none = record {
-            stored = subst (λ rows. HasRows ((With outs kept).world.tapes.told name) begun rows)
+            stored = subst (λ rows. HasRows ((With outs kept).world.tapes.told name) begun rows
+                (Mid.world.tapes.faults name) ((With outs kept).world.tapes.faults name))
                 (ap (λ (p : Opening). p.rows) opens) (stored kept outs same o.rows k);
             links = ap (λ (l : LinksOf). l.told)
                 (same_links link left count 0 outs (Over_now kept) (Over_now store) refl);
@@ -354,8 +417,11 @@ module _ {L D : Type 0} (truth : Truth) (link : L → Link) (left : D → Option
             after = workers_equipped link left count plan.programs distinct r.ended back
                 r.outfits_are back_named (Over_now kept);
             stored = subst (λ p. HasRows ((With back kept).world.tapes.told name) begun
-                (state_of p r.history).rows) opening_is
+                (state_of p r.history).rows (Mid.world.tapes.faults name)
+                ((With back kept).world.tapes.faults name)) opening_is
                 (stored kept back (further_on made r) (state_of o r.history).rows r.kept);
+            counted = count_now kept back (further_on made r) ∙ r.counted
+                ∙ ap (λ (p : Opening). (state_of p r.history).count) opening_is;
             rest = rest kept back (further_on made r);
           }
 

@@ -1,4 +1,5 @@
 -- How a fleet goes on from its plan, and how a call ends that a fleet was asked of.
+use Rattle.kr_top.specs.Message.{line_of, status_of as stop_status}
 use Rattle.std.proofs.Common.{◌≡◌, ℕ, ◌+◌, ◌<◌, ◌≤◌, ◌⊎◌, List, [], ◌∷◌, map, codes, Option, Some, Result, Ok, Err, refl, sym, ◌∙◌, ap, subst, inl, inr, arith}
 use Rattle.std.specs.Prelude.{true, sum, count_by}
 use Rattle.std.proofs.lemmas.List.Sums.{sum_by-cons}
@@ -24,10 +25,10 @@ use Rattle.kr_workers.specs.declared.ending.Ending.{Ending}
 use Rattle.kr_workers.specs.declared.worker.Worker as fleet_worker
 use Rattle.kr_top.specs.Around.{Around, left_of, with_lent_tape, with_world}
 use Rattle.kr_top.specs.Commands.{tape_for}
-use Rattle.kr_top.specs.FleetAsked.{AsksFleet, IsFleetAsked}
+use Rattle.kr_top.specs.FleetAsked.{AsksFleet, IsFleetAsked, AskNoFleet}
 use Rattle.kr_top.specs.FleetFiles.{FleetPlan, planning}
 use Rattle.kr_top.specs.Fleets.{Begun, DidFleet, RanFleet, WritesFleet, budgeting, over_store, parts_of}
-use Rattle.kr_top.specs.Ran.{IsIdle, Receipt, StopsAtOnce}
+use Rattle.kr_top.specs.Ran.{IsIdle, Receipt, StopsAtOnce, Tells}
 use Rattle.kr_top.specs.Steps.{Steps, and_then}
 use Rattle.kr_top.specs.declared.fleet.Record.{Record}
 use Rattle.kr_top.specs.declared.fleet_words.FleetWords.{FleetWords}
@@ -84,7 +85,7 @@ module _ (T : Type 0) {L D : Type 0} (truth : Truth) (link : L → Link)
           did = inl (
             inr (
               l.stops,
-              (l.mid, l.begun, all.ends (left_of old) (stays_refl old), l.none),
+              (l.mid, l.begun, all.ends (left_of old) (stays_refl old), l.none, all.home),
             ),
             idle,
           );
@@ -113,6 +114,7 @@ module _ (T : Type 0) {L D : Type 0} (truth : Truth) (link : L → Link)
             begun = l.begun;
             mid = l.mid;
             reaches = all.ends (left_of old) (stays_refl old);
+            since = all.home;
             history = l.history;
             ended = l.ended;
             runs = l.runs;
@@ -310,6 +312,16 @@ at_once words (Words why) h = h.0
 at_once words (Refused why) h = absurd h
 at_once words (Fault object count) h = absurd h
 at_once words NoMemory h = tt
+
+-- they ask for no fleet, but where memory lacked
+pub alone_or_memory : (words : List (List ℕ)) (stop : Stop) → IsFleetAsked words (Err stop)
+    → (errors : Receipt) (status : ℕ)
+    → Tells (line_of (Err stop)) (stop_status (Err stop)) errors status → AskNoFleet words
+    ⊎ Tells (line_of (Err NoMemory)) (stop_status (Err NoMemory)) errors status
+alone_or_memory words (Words why) h errors status t = inl h.1
+alone_or_memory words (Refused why) h errors status t = absurd h
+alone_or_memory words (Fault object count) h errors status t = absurd h
+alone_or_memory words NoMemory h errors status t = inr t
 
 module _ (T : Type 0) {L D : Type 0} (truth : Truth) (link : L → Link)
     (left : D → Option (List ℕ)) (count : D → ℕ) where

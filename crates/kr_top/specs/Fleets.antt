@@ -33,7 +33,7 @@ use Rattle.kr_workers.specs.declared.files.SettingsFile.{SettingsFile}
 use Rattle.kr_workers.specs.declared.worker.Worker as fleet_worker
 use Rattle.kr_top.specs.Around.{Around, Ends, IsHome, Reaches, left_of}
 use Rattle.kr_top.specs.Commands.{by_result, stored_on, tape_for, with_memory}
-use Rattle.kr_top.specs.FleetAsked.{AsksFleet}
+use Rattle.kr_top.specs.FleetAsked.{AskNoFleet, AsksFleet}
 use Rattle.kr_top.specs.FleetFiles.{FleetPlan, NamedRows, named_rows, no_file, planning, rows_at}
 use Rattle.kr_top.specs.Judgements.{start_refusal}
 use Rattle.kr_top.specs.Plugins.{make_seeds}
@@ -183,27 +183,35 @@ AreEquipped {T} {L} {D} link left count programs around workers = (seat : ℕ)
     → IsEquipped link left count programs seat around (get_or workers seat d).bench.links
     (get_or workers seat d).bench.dice
 
--- the tape begins with the file of the store's rows, if it tells
-abbrev pub HasRows : Option (Option (List ℕ)) → Begun → List LogRow → Type 0
-HasRows (Some (Some bytes)) begun rows = (file : List ℕ) × (rest : List ℕ)
+-- the tape begins with the file of the store's rows, if it tells, and is no more than that where its
+-- count of faults didn't rise
+abbrev pub HasRows : Option (Option (List ℕ)) → Begun → List LogRow → (before now : ℕ) → Type 0
+HasRows (Some (Some bytes)) begun rows before now = (file : List ℕ) × (rest : List ℕ)
     × IsFile begun.stored.format rows file × (bytes ≡ file ++ rest)
-HasRows (Some None) begun rows = ⊥
-HasRows None begun rows = ⊤
+    × ((rest ≡ []) ⊎ Rose before now)
+HasRows (Some None) begun rows before now = ⊥
+HasRows None begun rows before now = ⊤
 
--- beside the workers' links and random sources and the store's tape all is as it was when the
--- workers started
-pub record LeavesRest (store : List ℕ) (mid new : Around) : Type 0 where
+-- beside the links and random sources of so many seats and the store's tape all is as it was when
+-- the workers started
+pub record LeavesRest (store : List ℕ) (seats : ℕ) (mid new : Around) : Type 0 where
   pub truth : new.truth ≡ mid.truth
   pub file : new.world.file ≡ mid.world.file
   pub tapes : (other : List ℕ) → other ≢ store
       → new.world.tapes.told other ≡ mid.world.tapes.told other
+  pub dice : (seat : ℕ) → seats ≤ seat
+      → new.world.dice.told seat ≡ mid.world.dice.told seat
+  pub links : (seat : ℕ) (plugin : List ℕ) → seats ≤ seat
+      → new.world.links.told (seat, plugin) ≡ mid.world.links.told (seat, plugin)
+  pub faults : new.world.faults ≡ mid.world.faults
   pub asked : new.world.asked ≡ mid.world.asked
   pub input : new.input ≡ mid.input
   pub said : new.said ≡ mid.said
 
 -- One history: that of a core which began with the store's rows and what the replicas published,
 -- legal, honest, with the lines of each worker and nothing else; and what it says of the replies.
--- The store has the opening's rows and the written entries', and what the workers had is back.
+-- The store has the opening's rows and the written entries', and its count is that of the last
+-- line; what the workers had is back.
 pub record RunsFleet {T L D : Type 0} (truth : Truth) (link : L → Link)
     (left : D → Option (List ℕ)) (count : D → ℕ) (store : List ℕ) (begun : Begun)
     (mid new : Around) (history : List Entry) (ended : List (fleet_worker.Worker T L D))
@@ -222,15 +230,19 @@ pub record RunsFleet {T L D : Type 0} (truth : Truth) (link : L → Link)
       begun.budgets workers ended
   pub after : AreEquipped link left count begun.plan.programs new ended
   pub stored : HasRows (new.world.tapes.told store) begun
-      (state_of (opening_of store begun mid) history).rows
-  pub rest : LeavesRest store mid new
+      (state_of (opening_of store begun mid) history).rows (mid.world.tapes.faults store)
+      (new.world.tapes.faults store)
+  pub counted : new.world.tapes.faults store
+      ≡ (state_of (opening_of store begun mid) history).count
+  pub rest : LeavesRest store (length begun.plan.fleet.workers) mid new
 
 -- no worker was started: the store has its rows, and what the workers would have had is as it was
 pub record StartsNone (store : List ℕ) (begun : Begun) (mid new : Around) : Type 0 where
   pub stored : HasRows (new.world.tapes.told store) begun begun.stored.rows
+      (mid.world.tapes.faults store) (new.world.tapes.faults store)
   pub links : new.world.links.told ≡ mid.world.links.told
   pub dice : new.world.dice.told ≡ mid.world.dice.told
-  pub rest : LeavesRest store mid new
+  pub rest : LeavesRest store (length begun.plan.fleet.workers) mid new
 
 -- the journal and the replies
 abbrev pub text_of : {T L D : Type 0} → Fleet → List Entry → List (fleet_worker.Worker T L D)
@@ -257,6 +269,7 @@ module _ (T : Type 0) {L D : Type 0} (truth : Truth) (link : L → Link)
     pub begun : Begun
     pub mid : Around
     pub reaches : Reaches (fleet_steps words) (left_of old) mid (gives begun)
+    pub since : IsHome old mid
     pub history : List Entry
     pub ended : List (fleet_worker.Worker T L D)
     pub runs : RunsFleet truth link left count words.store begun mid new history ended
@@ -270,7 +283,7 @@ module _ (T : Type 0) {L D : Type 0} (truth : Truth) (link : L → Link)
       (Ends (fleet_steps words) (left_of old) old new (Err stop)
       ⊎ ((stop ≡ NoMemory) × ((mid : Around) × (begun : Begun)
       × Reaches (fleet_steps words) (left_of old) mid (gives begun)
-      × StartsNone words.store begun mid new)))
+      × StartsNone words.store begun mid new × IsHome old mid)))
       × IsIdle output
 
   -- all that was handed out is back
@@ -298,10 +311,12 @@ pub record RanFleet (T : Type 0) {L D : Type 0} (truth : Truth) (link : L → Li
   pub written : output.old_faults ≤ output.new_faults
   pub told : errors.old_faults ≤ errors.new_faults
 
--- what a call did where no one may wait: for a fleet nothing
+-- what a call did where no one may wait: for a fleet nothing, unless memory lacked to read its words
 abbrev pub RanAlone : (words : List (List ℕ)) → (old new : Around) → (output errors : Receipt)
     → Option ℕ → Type 0
 RanAlone words old new output errors (Some status) =
     Ran words old new output errors status × Readings words old new output errors status
+    × (AskNoFleet words
+    ⊎ Tells (line_of (Err NoMemory)) (stop_status (Err NoMemory)) errors status)
 RanAlone words old new output errors None =
     ((asked : FleetWords) × AsksFleet words asked) × IsUntouched old new output × IsIdle errors

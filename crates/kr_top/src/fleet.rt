@@ -182,8 +182,8 @@ fn fleet_with<R: Threads + Wait + Sync, W: World>(
     }
 }
 
-/// Publishes for each replica, starts the core, and lets the workers work. The store and the outfits
-/// come back.
+/// Publishes for each replica, starts the core, and lets the workers work. The store and the
+/// outfits come back.
 fn begin<R: Threads + Wait + Sync, T: Tape + Send, L: Kms + Send, D: Dice + Send>(
     rt: &R,
     alloc: Global,

@@ -1,5 +1,6 @@
 -- The workers of a fleet, from when they are made to what they leave.
-use Rattle.std.specs.Prelude.{◌≡◌, ◌<◌, ◌≤◌, ℕ, List, [], ◌++◌, length, map, reverse, sum, slice_index_or, Option, None, Result, Ok, Err}
+use Rattle.std.specs.Prelude.{◌≡◌, true, ◌⊎◌, ◌<◌, ◌≤◌, ℕ, List, [], ◌++◌, length, map, reverse, sum, slice_index_or, Option, None, Result, Ok, Err}
+use Rattle.kr_base.specs.Faults.{Rose}
 use Rattle.kr_kms.specs.Calls.{Link}
 use Rattle.kr_kms.specs.Truth.{Truth}
 use Rattle.kr_rollout.specs.Cores.{CoreState}
@@ -67,11 +68,13 @@ pub record IsReadyCore (plan : Plan) (budgets : List ℕ) (core : CoreState) : T
   pub replicas : length core.opening.replicas ≡ length plan.script.replicas.0
   pub room : core.room ≡ sum budgets
 
--- the store's file is one of these rows, in the opening's format; no count fell
+-- the store's file is one of these rows, in the opening's format; no count fell, and it is torn only
+-- where it was so or its count rose
 pub record KeepsStore (o : Opening) (rows : List LogRow) (store : Kept) : Type 0 where
   pub rows_are : store.rows ≡ rows
   pub format : store.format ≡ o.format
   pub later : o.count ≤ store.count
+  pub torn : store.torn ≡ true → (o.torn ≡ true) ⊎ Rose o.count store.count
   pub holds : Holds store
 
 module _ {T L D : Type 0} (truth : Truth) (link : L → Link) (left : D → Option (List ℕ))
@@ -91,6 +94,7 @@ module _ {T L D : Type 0} (truth : Truth) (link : L → Link) (left : D → Opti
     pub outfits_are : outfits ≡ outfits_of ended
     pub later : AreLater link count (outfits_of workers) outfits
     pub kept : KeepsStore o (state_of o history).rows store
+    pub counted : store.count ≡ (state_of o history).count
 
   -- none was started
   pub record NoneRan (stop : Stop) (store : Kept) (outfits : List (Outfit L D)) : Type 0 where

@@ -115,10 +115,10 @@ returns-in-Err-hire-clause-made g c name a t =
     let none = ap (λ (k : CoreState). k.history) c.in-Ok-start.ensures.core in
     let kept = c.close-store.result.0 in
     let k = closed_at_once core kept none c.close-store.ensures.rows c.close-store.ensures.count
-    c.close-store.ensures.format c.known.ensures in
+    c.close-store.ensures.format c.close-store.ensures.torn c.known.ensures in
     inr (unhired g.L.Kms.truth link left count plan c.requires.plan c.args.budgets.now.entries.items name a
     store olds outs replicas does
-    (c.in-Ok-start.ensures.does (with_outfits link left count 0 outs over)) c.requires.named
+    (c.in-Ok-start.ensures.does (with_outfits link left count 0 outs over)) c.requires.named c.requires.seats
     c.publish_first-published.ensures.later published c.requires.store
     c.args.budgets.now.reloads.items c.requires.reloads c.in-Ok-start.core.opening
     (ap (λ (k : CoreState). k.opening) c.in-Ok-start.ensures.core) g.row.T.Denot kept k
@@ -166,7 +166,7 @@ returns-clause-made g c name a t =
     let hired = c.in-Ok-hire.ensures.hired in
     ran_by g.L.Kms.truth link left count plan c.requires.plan c.args.budgets.now.entries.items name a
     store olds outs replicas does
-    (c.in-Ok-start.ensures.does (with_outfits link left count 0 outs over)) c.requires.named
+    (c.in-Ok-start.ensures.does (with_outfits link left count 0 outs over)) c.requires.named c.requires.seats
     c.publish_first-published.ensures.later published c.requires.store
     c.args.budgets.now.reloads.items c.requires.reloads c.in-Ok-start.core.opening
     (ap (λ (k : CoreState). k.opening) c.in-Ok-start.ensures.core) c.in-Ok-hire.crew.workers.items

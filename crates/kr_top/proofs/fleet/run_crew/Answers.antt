@@ -1,6 +1,8 @@
 -- `run_crew`: what the workers begin with, and what they leave.
 use Rattle.std.specs.Prelude.{All}
 use Rattle.std.proofs.Common.{◌<◌, ◌∙◌, ◌++◌, ap, append-nil, arith, length, refl, reverse, subst, sum, sym}
+use Rattle.kr_rollout.specs.Histories.{state_of}
+use Rattle.kr_rollout.specs.declared.opening.Opening.{Opening}
 use Rattle.kr_script.specs.declared.script.Part.{Part}
 use Rattle.kr_workers.specs.Budgets.{AreBudgets, all_reloads}
 use Rattle.kr_workers.specs.ScriptLines.{MayDo}
@@ -96,6 +98,7 @@ returns-in-Err g c =
         kept = keeps_begin c.args.core c.in-Err.core c.close-store-in-Err.result.0
             c.in-Err.ensures.back c.requires.core.begin c.close-store-in-Err.ensures.rows
             c.close-store-in-Err.ensures.count c.close-store-in-Err.ensures.format
+            c.close-store-in-Err.ensures.torn
             c.known-in-Err.ensures;
       };
     }
@@ -132,6 +135,9 @@ returns-in-Ok g c =
             one);
         kept = keeps_end c.args.core.opening c.in-Ok.core.opening c.in-Ok.core.history
             c.close-store.result.0 c.in-Ok.ensures.kept.0 one.legal c.close-store.ensures.rows
-            c.close-store.ensures.count c.close-store.ensures.format c.known.ensures;
+            c.close-store.ensures.count c.close-store.ensures.format c.close-store.ensures.torn
+            c.known.ensures;
+        counted = c.close-store.ensures.count
+            ∙ ap (λ (p : Opening). (state_of p c.in-Ok.core.history).count) c.in-Ok.ensures.kept.0;
       };
     }
