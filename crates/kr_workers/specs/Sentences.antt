@@ -63,7 +63,8 @@ module _ {T L D : Type 0} (truth : Truth) (link : L → Link) (count : D → ℕ
     pub often : (number : ℕ) (part : Part) (before after : Worker T L D)
         → slice_get parts number ≡ Some part → slice_get old number ≡ Some before
         → slice_get new number ≡ Some after → AreCounted link count after.told.0
-        before.bench.links before.bench.dice after.bench.links after.bench.dice
+        (of_seat seat_of number history) before.bench.links before.bench.dice after.bench.links
+        after.bench.dice
 
 -- so are those of workers whose lines stand in one history
 abbrev pub HistoriesTell : (T : Type 0) → {L D : Type 0} → Truth → (L → Link)
