@@ -88,10 +88,10 @@ module _ {T L D : Type 0} (link : L → Link) (count : D → ℕ) (history : Lis
 
 module _ {T L D : Type 0} (truth : Truth) (link : L → Link) (count : D → ℕ)
     (history : List Entry) (o : Opening) where
-  -- each line has a reply. One to a `get` tells the content of its path before the line's own Fetch,
-  -- where each front of the history is honest, if the truth is told and the opening is honest by
-  -- it. Each reply has its cause, no worker's replies name an object as failed more often than its
-  -- count rose, and the ending has its cause too
+  -- each line has a reply, and one to a `get` tells the content of its path before the line's own
+  -- Fetch; that what stands there is honest, which this asks for, follows where the truth is told
+  -- and the opening is honest by it. Each reply has its cause, no worker's replies name an object as
+  -- failed more often than its count rose, and the ending has its cause too
   pub record RepliesAreTrue (parts : List Part) (budgets : List ℕ) (old new : List (Worker T L D))
       : Type 0 where
     pub each : (number : ℕ) (part : Part) (worker : Worker T L D)
