@@ -295,8 +295,8 @@ often_caused {L} {D} truth link left count files history part first replies afte
     let its = of_seat seat_of first.caller.seat history in
     subst (λ (ts : List Told). AreCounted link count ts its first.links first.dice after.links
     after.dice) (sym stands.replies_are)
-    (subst (λ (ls : List L). AreCounted link count (replies_in stands.run) its first.links first.dice
-    ls after.dice) (sym stands.links_are)
+    (subst (λ (ls : List L). AreCounted link count (replies_in stands.run) its first.links
+    first.dice ls after.dice) (sym stands.links_are)
     (subst (λ (d : D). AreCounted link count (replies_in stands.run) its first.links first.dice
     stands.last.links d) (sym stands.dice_are) (record {
       stored = subst (λ (es : List Entry). count_by names_store (replies_in stands.run)

@@ -156,11 +156,13 @@ none_there : (others : List Ending) (replies : List (List Told × ℕ)) → AllE
     → some_is kind replies ≡ true → ⊥
 none_there [] replies apart done kind c t = absurd (omega (arith, c.1))
 none_there (one ∷ others) replies apart done kind (zero, l, e) t =
-    (none_by one others replies (some_is one replies) refl (apart one (0, omega arith, refl)) done).0
+    (none_by one others replies (some_is one replies) refl (apart one (0, omega arith, refl))
+    done).0
     (ap (λ (k : Ending). some_is k replies) e ∙ t)
 none_there (one ∷ others) replies apart done kind (suc at, l, e) t = none_there others replies
     (λ other c. apart other (suc c.0, omega (arith, c.1), c.2))
-    (none_by one others replies (some_is one replies) refl (apart one (0, omega arith, refl)) done).1
+    (none_by one others replies (some_is one replies) refl (apart one (0, omega arith, refl))
+    done).1
     kind (at, omega (arith, l), e) t
 
 -- each kind that is looked for tells apart

@@ -80,8 +80,9 @@ module _ {T L D : Type 0} (link : L → Link) (count : D → ℕ) (history : Lis
       has = has;
     }
 
-    reply_rests : (reply : Told) → HasCause link count asked (first_place o number budget before.bench)
-        reply history after.bench.links after.bench.dice
+    reply_rests : (reply : Told)
+        → HasCause link count asked (first_place o number budget before.bench) reply history
+        after.bench.links after.bench.dice
         → RestsOn link count history old new (kind_of reply)
     reply_rests (told.Put revision) h = tt
     reply_rests (told.Got revision plain) h = tt
@@ -98,11 +99,20 @@ module _ {T L D : Type 0} (link : L → Link) (count : D → ℕ) (history : Lis
     reply_rests told.Unchanged h = tt
     reply_rests (told.Moved generation) h = tt
     reply_rests (told.Value why) h = tt
-    reply_rests (told.Unhealthy name field text) h = some_worker (MayBeUnhealthy link count history) (name, field, text, h.1)
-    reply_rests (told.FaultPlugin name) h = inl (some_worker (FaultsRose link count history) (inl (name, h.1)))
-    reply_rests (told.FaultDice seat) h = inl (some_worker (FaultsRose link count history) (inr h.2))
-    reply_rests told.FaultStore h = inr (h.1.entry, stands_in h.1.before h.1.entry h.1.behind h.1.there, h.1.says)
-    reply_rests told.Full h = (h.1.entry, stands_in h.1.before h.1.entry h.1.behind h.1.there, h.1.says.0, h.1.says.1)
+    reply_rests (told.Unhealthy name field text) h =
+        some_worker (MayBeUnhealthy link count history) (name, field, text, h.1)
+    reply_rests (told.FaultPlugin name) h =
+        inl (some_worker (FaultsRose link count history) (inl (name, h.1)))
+    reply_rests (told.FaultDice seat) h =
+        inl (some_worker (FaultsRose link count history) (inr h.2))
+    reply_rests told.FaultStore h =
+        inr (h.1.entry, stands_in h.1.before h.1.entry h.1.behind h.1.there, h.1.says)
+    reply_rests told.Full h = (
+      h.1.entry,
+      stands_in h.1.before h.1.entry h.1.behind h.1.there,
+      h.1.says.0,
+      h.1.says.1,
+    )
     reply_rests told.Memory h = tt
 
 -- ---- the ending

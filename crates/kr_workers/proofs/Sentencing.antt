@@ -125,7 +125,8 @@ module _ {L D : Type 0} (truth : Truth) (link : L → Link) (left : D → Option
         → length worker.told.0 ≡ length part.lines.0
     all_told number part worker part_is worker_is =
         as_many part (was number worker) worker number
-        (stands_there number part (was number worker) worker part_is (still number worker) worker_is)
+        (stands_there number part (was number worker) worker part_is (still number worker)
+        worker_is)
 
     all_caused : (number at : ℕ) (asked : ScriptLine) (reply : Told) (before : Worker T L D)
         → slice_get old number ≡ Some before → (replies : Replies parts new number at asked reply)

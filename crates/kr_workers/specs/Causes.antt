@@ -208,9 +208,9 @@ pub record AreCounted {L D : Type 0} (link : L → Link) (count : D → ℕ) (re
 
 -- ---- the law
 
--- each reply to a line that was done has its cause, while the line was done; and by the whole of its
--- worker's run too, up to the history and the bench at the end. And the worker's replies name no
--- object as failed more often than its count rose
+-- each reply to a line that was done has its cause, while the line was done; and by the whole of
+-- its worker's run too, up to the history and the bench at the end. And the worker's replies name
+-- no object as failed more often than its count rose
 pub record RepliesHaveCauses {L D : Type 0} (truth : Truth) (link : L → Link)
     (left : D → Option (List ℕ)) (count : D → ℕ) (files : List SettingsFile) : Type 0 where
   pub each : (replica : ℕ) (old new : Workplace L D) (done : LineDone)

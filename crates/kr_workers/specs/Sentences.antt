@@ -71,9 +71,9 @@ module _ {T L D : Type 0} (link : L → Link) (count : D → ℕ) (history : Lis
   MayBeUnhealthy before after = (name : List ℕ) × (field : Field) × (text : List ℕ)
       × HasLinkWith link name (λ it. HasBreach it (Some (field, text))) before.bench.links
 
-  -- a fault, an unhealthy plugin and a full store are told only where there was one; by its step the
-  -- store's count rose at an entry that says that it failed, and its limit would have been passed at
-  -- one that says that it was full
+  -- a fault, an unhealthy plugin and a full store are told only where there was one; by its step
+  -- the store's count rose at an entry that says that it failed, and its limit would have been
+  -- passed at one that says that it was full
   abbrev pub RestsOn : (old new : List (Worker T L D)) → Ending → Type 0
   RestsOn old new ending.Done = ⊤
   RestsOn old new ending.Refused = ⊤
@@ -90,8 +90,8 @@ module _ {T L D : Type 0} (truth : Truth) (link : L → Link) (count : D → ℕ
     (history : List Entry) (o : Opening) where
   -- each line has a reply, and one to a `get` tells the content of its path before the line's own
   -- Fetch; that what stands there is honest, which this asks for, follows where the truth is told
-  -- and the opening is honest by it. Each reply has its cause, no worker's replies name an object as
-  -- failed more often than its count rose, and the ending has its cause too
+  -- and the opening is honest by it. Each reply has its cause, no worker's replies name an object
+  -- as failed more often than its count rose, and the ending has its cause too
   pub record RepliesAreTrue (parts : List Part) (budgets : List ℕ) (old new : List (Worker T L D))
       : Type 0 where
     pub each : (number : ℕ) (part : Part) (worker : Worker T L D)
