@@ -241,9 +241,8 @@ module _ {L D : Type 0} (truth : Truth) (link : L → Link) (left : D → Option
       link count line.Refresh old new reply (told.Refreshed number) is (
         tt,
         refresh_gave replica old.caller new.caller old.links new.links old.dice new.dice
-            (loaded.Generation number) (answer.Reloaded number) (TellsAnswer (told.Refreshed number))
-            refl
-            (λ n p from to d. d) r,
+            (loaded.Generation number) (answer.Reloaded number)
+            (TellsAnswer (told.Refreshed number)) refl (λ n p from to d. d) r,
       )
   refresh_caused replica old new reply (Ok (loaded.Refused verdict)) is (inl e) = absurd e
   refresh_caused replica old new reply (Ok (loaded.Refused verdict)) is (inr h) =
