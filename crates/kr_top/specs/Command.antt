@@ -94,7 +94,7 @@ pub record Asks (words : List (List ℕ)) (command : Command) : Type 0 where
   pub small : IsWithinSize options
   pub is : command_of verb options ≡ Some command
 
--- the words mean no command, or one that isn't built
+-- the words mean no command, or one that isn't built, or a fleet, which `FleetAsked` has
 abbrev pub AskNothing : List (List ℕ) → Type 0
 AskNothing words = (verb : Verb) (options : List (List ℕ × List ℕ)) → Means words verb options
     → command_of verb options ≡ None

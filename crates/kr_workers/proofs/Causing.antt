@@ -247,12 +247,14 @@ module _ {L D : Type 0} (link : L → Link) (count : D → ℕ) (asked : ScriptL
       (dice after : D) (why : CallNo) → AdoptsNothing replica old why new
       → Causes old olds dice why new news after
   early_caused gone memory replica old new olds news dice after (refusal.Refused why) e = absurd e
-  early_caused gone memory replica old new olds news dice after (refusal.PluginFailed name) e = absurd e
+  early_caused gone memory replica old new olds news dice after (refusal.PluginFailed name) e =
+      absurd e
   early_caused gone memory replica old new olds news dice after refusal.DiceFailed e = absurd e
   early_caused gone memory replica old new olds news dice after refusal.StoreFailed e = absurd e
-  early_caused gone memory replica old new olds news dice after (refusal.StoreFull needed) e = absurd e
-  early_caused gone memory replica old new olds news dice after (refusal.Unhealthy name field text) e =
+  early_caused gone memory replica old new olds news dice after (refusal.StoreFull needed) e =
       absurd e
+  early_caused gone memory replica old new olds news dice after
+      (refusal.Unhealthy name field text) e = absurd e
   early_caused gone memory replica old new olds news dice after refusal.Gone e = (
     gone,
     own_gave old new (event.Adopt replica) (answer.Gone replica) (TellsAnswer told.Gone) e

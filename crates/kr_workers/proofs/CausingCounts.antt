@@ -1,13 +1,16 @@
 -- No object is named as failed more often than its count rose.
 use Rattle.std.specs.Prelude.{cond, is_some}
-use Rattle.std.specs.List.{AllByRecursion, IsDistinct, slice_get}
+use Rattle.std.specs.List.{AllByRecursion, IsDistinct, filter, slice_get}
 use Rattle.std.specs.Str.{bytes_eq}
-use Rattle.std.proofs.Common.{◌≡◌, ℕ, zero, suc, ◌<◌, ◌≤◌, ◌+◌, ◌-◌, ◌^◌, Bool, true, false, List, [], ◌∷◌, count_by, Contains, Option, Some, inl, inr, refl, ap, sym, subst, ◌∙◌, arith}
-use Rattle.std.proofs.lemmas.Bool.{false≢true}
-use Rattle.std.proofs.lemmas.List.Sums.{sum_by-cons}
+use Rattle.std.proofs.Common.{◌≡◌, ◌==◌, ℕ, zero, suc, ◌<◌, ◌≤◌, ◌+◌, ◌-◌, ◌^◌, Bool, true, false, List, [], ◌∷◌, ◌++◌, count_by, Contains, Option, Some, inl, inr, refl, ap, sym, subst, ◌∙◌, arith}
+use Rattle.std.proofs.lemmas.Bool.{eq-eqb, false≢true}
+use Rattle.std.proofs.lemmas.List.{append_assoc, append_cancel_left}
+use Rattle.std.proofs.lemmas.List.Elements.{filter-append}
+use Rattle.std.proofs.lemmas.List.Sums.{sum_by-append, sum_by-cons}
 use Rattle.std.proofs.lemmas.Option.{same_Some}
 use Rattle.std.proofs.lemmas.Slice.Eq.{bytes_eq-Decides}
 use Rattle.kr_base.specs.Faults.{Rose}
+use Rattle.kr_base.specs.Lines.{of_seat}
 use Rattle.kr_kms.specs.Calls.{IsSameLink, Link}
 use Rattle.kr_kms.specs.Truth.{Truth}
 use Rattle.kr_provider.specs.AskedLinks.{AskedOnly, FaultRose}
@@ -15,14 +18,17 @@ use Rattle.kr_provider.specs.BenchState.{BenchState}
 use Rattle.kr_provider.specs.Names.{AreDistinct, names_of}
 use Rattle.kr_provider.proofs.AskedLists.{distinct_stay}
 use Rattle.kr_rollout.specs.declared.opening.Entry.{Entry}
+use Rattle.kr_rollout.specs.Acting.{Caller}
+use Rattle.kr_rollout.specs.Entries.{seat_of}
+use Rattle.kr_rollout.specs.Parts.{Adds}
 use Rattle.kr_script.specs.declared.script.Part.{Part}
 use Rattle.kr_script.specs.declared.script.ScriptLine.{ScriptLine}
 use Rattle.kr_script.specs.declared.told.Told.{Told}
 use Rattle.kr_script.specs.declared.told.Told.TheVariants as told
 use Rattle.kr_workers.specs.declared.files.SettingsFile.{SettingsFile}
-use Rattle.kr_workers.specs.Causes.{AreCounted, CountsFaults, names_dice, names_plugin}
+use Rattle.kr_workers.specs.Causes.{AreCounted, CountsFaults, StoreFails, has_failed, is_failed, names_dice, names_plugin, names_store}
 use Rattle.kr_workers.specs.Histories.{StandsIn}
-use Rattle.kr_workers.specs.Runs.{DoesAll, LineDone, replies_in}
+use Rattle.kr_workers.specs.Runs.{DoesAll, LineDone, entries_in, replies_in}
 use Rattle.kr_workers.specs.ScriptLines.{Workplace}
 use Rattle.kr_workers.proofs.Causing.{HasCauseAt}
 use Rattle.kr_workers.proofs.CausingRewrites.{line_caused}
@@ -144,6 +150,63 @@ module _ {L D : Type 0} (link : L → Link) (count : D → ℕ) (asked : ScriptL
   plugin_rose name told.Full h e = absurd (false≢true e)
   plugin_rose name told.Memory h e = absurd (false≢true e)
 
+  store_fails : (reply : Told) → HasCauseAt link count asked old reply new
+      → names_store reply ≡ true → StoreFails old.caller new.caller.seen
+  store_fails (told.Put revision) h e = absurd (false≢true e)
+  store_fails (told.Got revision plain) h e = absurd (false≢true e)
+  store_fails (told.Deleted revision) h e = absurd (false≢true e)
+  store_fails told.Absent h e = absurd (false≢true e)
+  store_fails (told.Rewritten rewritten fresh changed left) h e = absurd (false≢true e)
+  store_fails (told.Reloaded generation) h e = absurd (false≢true e)
+  store_fails (told.Joined generation) h e = absurd (false≢true e)
+  store_fails (told.Present generation) h e = absurd (false≢true e)
+  store_fails (told.Left generation) h e = absurd (false≢true e)
+  store_fails told.Gone h e = absurd (false≢true e)
+  store_fails (told.Refused verdict) h e = absurd (false≢true e)
+  store_fails (told.Refreshed generation) h e = absurd (false≢true e)
+  store_fails told.Unchanged h e = absurd (false≢true e)
+  store_fails (told.Moved generation) h e = absurd (false≢true e)
+  store_fails (told.Value why) h e = absurd (false≢true e)
+  store_fails (told.Unhealthy name field text) h e = absurd (false≢true e)
+  store_fails (told.FaultPlugin name) h e = absurd (false≢true e)
+  store_fails (told.FaultDice seat) h e = absurd (false≢true e)
+  store_fails told.FaultStore h e = h.1
+  store_fails told.Full h e = absurd (false≢true e)
+  store_fails told.Memory h e = absurd (false≢true e)
+
+-- ---- entries that say that the store failed
+
+-- of a part, where a line's reply names the store
+failed_in : (old new : Caller) (part : List Entry) → Adds old part new
+    → StoreFails old new.seen → 1 ≤ count_by has_failed part
+failed_in old new part a f =
+    let own : Entry → Bool = λ e. seat_of e == old.seat in
+    let more_is : a.more ≡ f.before ++ f.entry ∷ f.behind =
+    append_cancel_left old.seen a.more (f.before ++ f.entry ∷ f.behind)
+    (sym (ap (λ (c : Caller). c.seen) a.new_is) ∙ f.there
+    ∙ append_assoc old.seen f.before (f.entry ∷ f.behind)) in
+    let here : filter own (f.entry ∷ f.behind) ≡ f.entry ∷ filter own f.behind =
+    ap (λ b. cond b (f.entry ∷ filter own f.behind) (filter own f.behind))
+    (eq-eqb f.entry.line.seat old.seat f.own) in
+    let part_is : part ≡ filter own f.before ++ f.entry ∷ filter own f.behind =
+    sym a.own ∙ ap (filter own) more_is ∙ filter-append own f.before (f.entry ∷ f.behind)
+    ∙ ap (λ l. filter own f.before ++ l) here in
+    let whole : count_by has_failed part ≡ count_by has_failed (filter own f.before)
+    + count_by has_failed (f.entry ∷ filter own f.behind) = ap (count_by has_failed) part_is
+    ∙ sum_by-append (λ (e : Entry). cond (has_failed e) 1 0) (filter own f.before)
+    (f.entry ∷ filter own f.behind) in
+    let first : count_by has_failed (f.entry ∷ filter own f.behind)
+    ≡ cond (has_failed f.entry) 1 0 + count_by has_failed (filter own f.behind) =
+    sum_by-cons (λ (e : Entry). cond (has_failed e) 1 0) f.entry (filter own f.behind) in
+    let failed : cond (has_failed f.entry) 1 0 ≡ 1 =
+    ap {B = ℕ} (λ g. cond (is_failed g) 1 0) f.says in
+    omega (arith, whole, first, failed)
+
+stores_more : (names : Bool) (rest part more : ℕ) → (names ≡ true → 1 ≤ part) → rest ≤ more
+    → cond names 1 0 + rest ≤ part + more
+stores_more true rest part more named l = let e = named refl in omega (arith, e, l)
+stores_more false rest part more named l = omega (arith, l)
+
 -- ---- all replies of a run
 
 module _ {L D : Type 0} (truth : Truth) (link : L → Link) (left : D → Option (List ℕ))
@@ -162,6 +225,33 @@ module _ {L D : Type 0} (truth : Truth) (link : L → Link) (left : D → Option
       (dice_rose link count done.line first next done.reply
       (line_caused truth link left count files replica done.line first next done.reply
       all.1.does)) all.1.later (dice_counted next run last all.2))
+
+  stores_counted : (first : Workplace L D) (run : List LineDone) (last : Workplace L D)
+      → DoesAll truth link left count files replica first run last
+      → count_by names_store (replies_in run) ≤ count_by has_failed (entries_in run)
+  stores_counted first [] last same = omega arith
+  stores_counted first (done ∷ run) last all =
+      let next : Workplace L D = all.0 in
+      let named : names_store done.reply ≡ true → 1 ≤ count_by has_failed done.part =
+      λ is. failed_in first.caller next.caller done.part all.1.adds
+      (store_fails link count done.line first next done.reply
+      (line_caused truth link left count files replica done.line first next done.reply
+      all.1.does) is) in
+      let most : cond (names_store done.reply) 1 0 + count_by names_store (replies_in run)
+      ≤ count_by has_failed done.part + count_by has_failed (entries_in run) =
+      stores_more (names_store done.reply) (count_by names_store (replies_in run))
+      (count_by has_failed done.part) (count_by has_failed (entries_in run)) named
+      (stores_counted next run last all.2) in
+      let more_told : count_by names_store (done.reply ∷ replies_in run)
+      ≡ cond (names_store done.reply) 1 0 + count_by names_store (replies_in run) =
+      sum_by-cons (λ (t : Told). cond (names_store t) 1 0) done.reply (replies_in run) in
+      let added : count_by has_failed (done.part ++ entries_in run)
+      ≡ count_by has_failed done.part + count_by has_failed (entries_in run) =
+      sum_by-append (λ (e : Entry). cond (has_failed e) 1 0) done.part (entries_in run) in
+      let all_told : count_by names_store (done.reply ∷ replies_in run)
+      ≤ count_by has_failed (done.part ++ entries_in run) =
+      omega (arith, most, more_told, added) in
+      all_told
 
   plugins_counted : (first : Workplace L D) (run : List LineDone) (last : Workplace L D)
       → DoesAll truth link left count files replica first run last → AreDistinct link first.links
@@ -199,14 +289,20 @@ pub often_caused : {L D : Type 0} → (truth : Truth) (link : L → Link)
     (history : List Entry) (part : Part) (first : Workplace L D) (replies : List Told)
     (after : BenchState L D)
     → (stands : StandsIn truth link left count files history part first replies after)
-    → AreCounted link count replies first.links first.dice after.links after.dice
-often_caused {L} {D} truth link left count files history part first replies after stands = subst
-    (λ (ts : List Told). AreCounted link count ts first.links first.dice after.links after.dice)
-    (sym stands.replies_are)
-    (subst (λ (ls : List L). AreCounted link count (replies_in stands.run) first.links first.dice ls
-    after.dice) (sym stands.links_are)
-    (subst (λ (d : D). AreCounted link count (replies_in stands.run) first.links first.dice
+    → AreCounted link count replies (of_seat seat_of first.caller.seat history) first.links
+    first.dice after.links after.dice
+often_caused {L} {D} truth link left count files history part first replies after stands =
+    let its = of_seat seat_of first.caller.seat history in
+    subst (λ (ts : List Told). AreCounted link count ts its first.links first.dice after.links
+    after.dice) (sym stands.replies_are)
+    (subst (λ (ls : List L). AreCounted link count (replies_in stands.run) its first.links
+    first.dice ls after.dice) (sym stands.links_are)
+    (subst (λ (d : D). AreCounted link count (replies_in stands.run) its first.links first.dice
     stands.last.links d) (sym stands.dice_are) (record {
+      stored = subst (λ (es : List Entry). count_by names_store (replies_in stands.run)
+          ≤ count_by has_failed es) stands.parts_are
+          (stores_counted truth link left count files part.replica first stands.run stands.last
+          stands.does);
       drawn = dice_counted truth link left count files part.replica first stands.run stands.last
           stands.does;
       asked = plugins_counted truth link left count files part.replica first stands.run stands.last

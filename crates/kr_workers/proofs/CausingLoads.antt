@@ -98,8 +98,8 @@ module _ {L D : Type 0} (truth : Truth) (link : L → Link) (left : D → Option
         wants = tt;
         gone = tt;
         unhealthy = λ name field text. tt;
-      }) rows (reload_of named None) named old.caller new.caller old.links new.links old.dice new.dice why
-      r)
+      }) rows (reload_of named None) named old.caller new.caller old.links new.links old.dice
+      new.dice why r)
 
   pub reloaded_caused : (named : ℕ) (file : List ℕ) (found : Option (List Row))
       (old new : Workplace L D) (reply : Told)
@@ -198,7 +198,8 @@ module _ {L D : Type 0} (truth : Truth) (link : L → Link) (left : D → Option
         wants = tt;
         gone = tt;
         unhealthy = λ name field text. tt;
-      }) p.rows (reload_of replica (Some number)) replica old new r.asked news dice after why r.brought)
+      }) p.rows (reload_of replica (Some number)) replica old new r.asked news dice after why
+      r.brought)
 
   refresh_ends : (replica : ℕ) (old new : Caller) (olds news : List L) (dice after : D)
       (why : CallNo)
@@ -240,8 +241,8 @@ module _ {L D : Type 0} (truth : Truth) (link : L → Link) (left : D → Option
       link count line.Refresh old new reply (told.Refreshed number) is (
         tt,
         refresh_gave replica old.caller new.caller old.links new.links old.dice new.dice
-            (loaded.Generation number) (answer.Reloaded number) (TellsAnswer (told.Refreshed number)) refl
-            (λ n p from to d. d) r,
+            (loaded.Generation number) (answer.Reloaded number)
+            (TellsAnswer (told.Refreshed number)) refl (λ n p from to d. d) r,
       )
   refresh_caused replica old new reply (Ok (loaded.Refused verdict)) is (inl e) = absurd e
   refresh_caused replica old new reply (Ok (loaded.Refused verdict)) is (inr h) =

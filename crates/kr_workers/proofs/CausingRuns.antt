@@ -240,6 +240,6 @@ replies_have_causes truth link left count files = record {
       new done.reply d.does;
   whole = λ history part first replies after stands done there. whole_caused truth link left count
       files part.replica history part first replies after stands refl done there;
-  often = λ history part first replies after stands. often_caused truth link left count files history
-      part first replies after stands;
+  often = λ history part first replies after stands. often_caused truth link left count files
+      history part first replies after stands;
 }

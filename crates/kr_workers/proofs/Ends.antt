@@ -156,30 +156,32 @@ none_there : (others : List Ending) (replies : List (List Told × ℕ)) → AllE
     → some_is kind replies ≡ true → ⊥
 none_there [] replies apart done kind c t = absurd (omega (arith, c.1))
 none_there (one ∷ others) replies apart done kind (zero, l, e) t =
-    (none_by one others replies (some_is one replies) refl (apart one (0, omega arith, refl)) done).0
+    (none_by one others replies (some_is one replies) refl (apart one (0, omega arith, refl))
+    done).0
     (ap (λ (k : Ending). some_is k replies) e ∙ t)
 none_there (one ∷ others) replies apart done kind (suc at, l, e) t = none_there others replies
     (λ other c. apart other (suc c.0, omega (arith, c.1), c.2))
-    (none_by one others replies (some_is one replies) refl (apart one (0, omega arith, refl)) done).1
+    (none_by one others replies (some_is one replies) refl (apart one (0, omega arith, refl))
+    done).1
     kind (at, omega (arith, l), e) t
 
 -- each kind that is looked for tells apart
 kind_else : (kind : Ending) → kind ≡ ending.Done → is_same kind ending.Done ≡ true
 kind_else kind e = ap (λ (k : Ending). is_same k ending.Done) e
 
-not_fault : ending.Fault ≢ ending.Done
+pub not_fault : ending.Fault ≢ ending.Done
 not_fault e = absurd (false≢true (kind_else ending.Fault e))
 
-not_memory : ending.Memory ≢ ending.Done
+pub not_memory : ending.Memory ≢ ending.Done
 not_memory e = absurd (false≢true (kind_else ending.Memory e))
 
-not_full : ending.Full ≢ ending.Done
+pub not_full : ending.Full ≢ ending.Done
 not_full e = absurd (false≢true (kind_else ending.Full e))
 
-not_unhealthy : ending.Unhealthy ≢ ending.Done
+pub not_unhealthy : ending.Unhealthy ≢ ending.Done
 not_unhealthy e = absurd (false≢true (kind_else ending.Unhealthy e))
 
-not_refused : ending.Refused ≢ ending.Done
+pub not_refused : ending.Refused ≢ ending.Done
 not_refused e = absurd (false≢true (kind_else ending.Refused e))
 
 no_done : AllElse kinds

@@ -10,8 +10,9 @@ pub mod CausingLoads
 pub mod CausingRewrites
 pub mod CausingCounts
 pub mod CausingRuns
-pub mod Sentencing
 pub mod Ends
+pub mod Resting
+pub mod Sentencing
 pub mod Budgeting
 pub mod Assembling
 pub mod Seating

@@ -5,6 +5,7 @@ use Rattle.std.specs.Prelude.{◌≡◌, ◌<◌, ◌≤◌, ◌+◌, ◌-◌, �
 use Rattle.std.specs.List.{slice_get}
 use Rattle.std.specs.Str.{bytes_eq}
 use Rattle.kr_base.specs.Faults.{Rose}
+use Rattle.kr_base.specs.Lines.{of_seat}
 use Rattle.kr_kms.specs.Calls.{Link}
 use Rattle.kr_kms.specs.Health.{HasBreach}
 use Rattle.kr_kms.specs.Truth.{Truth}
@@ -17,6 +18,7 @@ use Rattle.kr_rollout.specs.declared.line.Gave.{Gave}
 use Rattle.kr_rollout.specs.declared.line.Gave.TheVariants as gave
 use Rattle.kr_rollout.specs.declared.opening.Entry.{Entry}
 use Rattle.kr_rollout.specs.Acting.{Caller}
+use Rattle.kr_rollout.specs.Entries.{seat_of}
 use Rattle.kr_rollout.specs.Histories.{state_of}
 use Rattle.kr_fleet.specs.ReadCalls.{IsOfValue}
 use Rattle.kr_script.specs.declared.script.Part.{Part}
@@ -176,13 +178,28 @@ abbrev pub names_dice : Told → Bool
 names_dice (told.FaultDice seat) = true
 names_dice reply = false
 
+-- it names the store
+abbrev pub names_store : Told → Bool
+names_store told.FaultStore = true
+names_store reply = false
+
+abbrev pub is_failed : Gave → Bool
+is_failed gave.StoreFailed = true
+is_failed given = false
+
+-- the entry says that the store failed, so by its step the store's count rose there
+abbrev pub has_failed : Entry → Bool
+has_failed entry = is_failed entry.line.gave
+
 -- while a count is below its greatest value it rose at least as often as replies name its object
 abbrev pub CountsFaults : (named before now : ℕ) → Type 0
 CountsFaults named before now = now < 2 ^ 64 - 1 → before + named ≤ now
 
--- so do the counts of a seat's random source and of its links, if these are to different plugins
+-- so do the counts of a seat's random source and of its links, if these are to different plugins;
+-- and the seat's own entries say at least as often that the store failed
 pub record AreCounted {L D : Type 0} (link : L → Link) (count : D → ℕ) (replies : List Told)
-    (links : List L) (dice : D) (news : List L) (after : D) : Type 0 where
+    (own : List Entry) (links : List L) (dice : D) (news : List L) (after : D) : Type 0 where
+  pub stored : count_by names_store replies ≤ count_by has_failed own
   pub drawn : CountsFaults (count_by names_dice replies) (count dice) (count after)
   pub asked : AreDistinct link links → (at : ℕ) (it now : L) → slice_get links at ≡ Some it
       → slice_get news at ≡ Some now
@@ -191,9 +208,9 @@ pub record AreCounted {L D : Type 0} (link : L → Link) (count : D → ℕ) (re
 
 -- ---- the law
 
--- each reply to a line that was done has its cause, while the line was done; and by the whole of its
--- worker's run too, up to the history and the bench at the end. And the worker's replies name no
--- object as failed more often than its count rose
+-- each reply to a line that was done has its cause, while the line was done; and by the whole of
+-- its worker's run too, up to the history and the bench at the end. And the worker's replies name
+-- no object as failed more often than its count rose
 pub record RepliesHaveCauses {L D : Type 0} (truth : Truth) (link : L → Link)
     (left : D → Option (List ℕ)) (count : D → ℕ) (files : List SettingsFile) : Type 0 where
   pub each : (replica : ℕ) (old new : Workplace L D) (done : LineDone)
@@ -207,4 +224,5 @@ pub record RepliesHaveCauses {L D : Type 0} (truth : Truth) (link : L → Link)
   pub often : (history : List Entry) (part : Part) (first : Workplace L D) (replies : List Told)
       (after : BenchState L D)
       → (stands : StandsIn truth link left count files history part first replies after)
-      → AreCounted link count replies first.links first.dice after.links after.dice
+      → AreCounted link count replies (of_seat seat_of first.caller.seat history) first.links
+      first.dice after.links after.dice
