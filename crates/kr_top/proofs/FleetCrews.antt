@@ -1,6 +1,6 @@
 -- What a fleet leaves, from the first worker's outfit on: how it comes to its workers, and what
 -- they did.
-use Rattle.std.proofs.Common.{◌≡◌, ◌≢◌, ℕ, ◌+◌, ◌<◌, ◌≤◌, Bool, true, false, List, [], ◌∷◌, ◌++◌, length, map, get_or, Option, None, Some, Result, Ok, Err, refl, sym, ◌∙◌, ap, subst, inl, inr, arith}
+use Rattle.std.proofs.Common.{◌≡◌, ◌≢◌, ℕ, ◌+◌, ◌<◌, ◌≤◌, Bool, false, List, [], ◌∷◌, ◌++◌, length, map, get_or, Option, None, Some, Result, Ok, Err, refl, sym, ◌∙◌, ap, subst, inr, arith}
 use Rattle.std.specs.Prelude.{IfSome, sum, if◌then◌else◌}
 use Rattle.std.specs.List.{IsDistinct}
 use Rattle.std.specs.Option.{option_map}
@@ -11,11 +11,10 @@ use Rattle.kr_base.specs.Limits.{store_limit}
 use Rattle.kr_kms.specs.Calls.{Link}
 use Rattle.kr_kms.specs.Outside.{Objects, same_name, same_seat}
 use Rattle.kr_kms.specs.Truth.{Truth}
-use Rattle.kr_kms.specs.declared.plugin.Status.{Status}
 use Rattle.kr_kms.proofs.Lent.{names_decide}
 use Rattle.kr_rollout.specs.Cores.{CoreState}
 use Rattle.kr_rollout.specs.Histories.{state_of}
-use Rattle.kr_rollout.specs.Honesty.{IsHonest, IsHonestEntry}
+use Rattle.kr_rollout.specs.Honesty.{IsHonestEntry}
 use Rattle.kr_rollout.specs.Openings.{opening_by}
 use Rattle.kr_rollout.specs.declared.opening.Opening.{Opening}
 use Rattle.kr_script.specs.Fleets.{worker_of}
@@ -30,7 +29,7 @@ use Rattle.kr_workers.specs.Sentences.{RepliesAreTrue}
 use Rattle.kr_workers.specs.declared.worker.Worker.{Worker}
 use Rattle.kr_top.specs.Around.{Around, IsHome, Tapes, lent_links, with_lent, with_lent_tape}
 use Rattle.kr_top.specs.FleetFiles.{all_rows}
-use Rattle.kr_top.specs.Fleets.{AreEquipped, Begun, HasRows, IsEquipped, LeavesRest, Replicas, RunsFleet, StartsNone, opening_of, outfitted, parts_of, publishing, starting}
+use Rattle.kr_top.specs.Fleets.{AreEquipped, Begun, HasRows, IsEquipped, LeavesRest, Replicas, RunsFleet, opening_of, outfitted, parts_of, publishing, starting}
 use Rattle.kr_top.specs.Steps.{Steps}
 use Rattle.kr_top.specs.declared.fleet.Record.{Record}
 use Rattle.kr_top.specs.declared.fleet_file.Plan.{Plan}

@@ -1,5 +1,5 @@
 -- How a fleet comes to its workers: what its replicas publish, and the core that starts.
-use Rattle.std.specs.Prelude.{◌≡◌, ℕ, false, List, [], ◌∷◌, ◌++◌, map, Option, Some, Result, Ok, Err}
+use Rattle.std.specs.Prelude.{◌≡◌, ℕ, false, List, [], ◌∷◌, ◌++◌, Option, Some, Result, Ok, Err}
 use Rattle.std.specs.Str.{bytes_eq}
 use Rattle.kr_config.specs.Kept.{Row}
 use Rattle.kr_kms.specs.Calls.{Link}

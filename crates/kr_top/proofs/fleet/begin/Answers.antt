@@ -1,12 +1,11 @@
 -- `begin`: what the replicas publish, the core, and the workers.
-use Rattle.std.proofs.Common.{◌≡◌, [], Err, Ok, ap, inl, inr, length, sym, subst, ◌∙◌, arith}
+use Rattle.std.proofs.Common.{[], Err, ap, inl, inr, length, sym, subst, ◌∙◌, arith}
 use Rattle.std.specs.Prelude.{IfOk}
 use Rattle.kr_rollout.specs.Cores.{CoreState}
 use Rattle.kr_store.specs.Stores.{Kept}
 use Rattle.kr_workers.specs.Budgets.{AreBudgets}
 use Rattle.kr_top.specs.Around.{with_lent_tape}
 use Rattle.kr_top.specs.Fleets.{outfitted, publishing, starting}
-use Rattle.kr_top.specs.inner.Crews.{outfits_of}
 use Rattle.kr_top.specs.inner.FleetFiles.{named, plan_of}
 use Rattle.kr_top.specs.inner.Fleets.{ArePublished, published_in}
 use Rattle.kr_top.specs.inner.Outfits.{AreNamed, names_in, with_outfits}

@@ -1,5 +1,5 @@
 -- `publish_first`: with the first worker's outfit.
-use Rattle.std.proofs.Common.{◌≡◌, [], ap, get_or, set, subst, sym, ◌∙◌}
+use Rattle.std.proofs.Common.{[], ap, get_or, set, subst, sym, ◌∙◌}
 use Rattle.kr_provider.specs.Names.{names_of}
 use Rattle.kr_top.specs.Fleets.{publishing}
 use Rattle.kr_top.specs.declared.outfit.Outfit.{Outfit}
