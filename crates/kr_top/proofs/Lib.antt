@@ -31,6 +31,7 @@ pub mod Linked
 pub mod Links
 pub mod Made
 pub mod NamedPrograms
+pub mod Returning
 pub mod ReadOnly
 pub mod Readings
 pub mod SeedSteps

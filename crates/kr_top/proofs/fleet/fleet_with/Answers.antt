@@ -57,7 +57,8 @@ close_outfits-requires-clause-out g c κs within =
 pub close_outfits-requires-clause-few : goal.close_outfits-requires-clause-few
 close_outfits-requires-clause-few g c κs within = omega (
   arith,
-  later_many g.W.Link.Kms.link g.W.Rand.Dice.left g.W.Rand.Dice.count c.open_outfits-opened.new.outfits.0
+  later_many g.W.Link.Kms.link g.W.Rand.Dice.left g.W.Rand.Dice.count
+      c.open_outfits-opened.new.outfits.0
       c.begin-made.result.2.0 c.begin-made.ensures.later,
   c.in-Ok.ensures.few,
   ap length c.as_slice.ensures,
@@ -85,7 +86,8 @@ returns-in-Ok-clause-made g c name a truth =
     let mid = g.W.World.told c.open_outfits-opened.new.world in
     let new = g.W.World.told c.close_outfits.new.world in
     let before = with_lent_tape name store.told store.count (with_world old a) in
-    let after = with_lent_tape name c.begin-made.result.1.told c.begin-made.result.1.count (with_world new a) in
+    let after = with_lent_tape name c.begin-made.result.1.told c.begin-made.result.1.count
+    (with_world new a) in
     let programs = c.as_slice-2.result.now in
     let many = ap length c.as_slice.ensures
     ∙ sym (length-map c.args.plan.now.script.workers.0 worker_of) in

@@ -1,7 +1,7 @@
 -- `close_links`: each turn gives the last link back.
 use Rattle.std.proofs.Common.{◌∙◌, ap, arith, length}
 use Rattle.std.proofs.lemmas.List.{length_push}
-use Rattle.kr_top.proofs.Outfitting.{all_returned, last_link_out, none_returned, one_returned}
+use Rattle.kr_top.proofs.Returning.{all_returned, last_link_out, none_returned, one_returned}
 use Rattle.kr_top.proofs.outfit.close_links.Goals as goal
 
 pub loop-link-init : goal.loop-link-init

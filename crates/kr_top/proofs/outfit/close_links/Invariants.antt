@@ -1,6 +1,6 @@
 -- `close_links`: these are still out.
 use Rattle.std.proofs.Common.{length}
-use Rattle.kr_top.proofs.Outfitting.{AreReturning}
+use Rattle.kr_top.proofs.Returning.{AreReturning}
 use Rattle.kr_top.proofs.outfit.close_links.Given as goal
 
 abbrev pub invariant-loop-link : goal.invariant-loop-link

@@ -1,7 +1,7 @@
 -- `close_outfit`: the links, and then the random source.
 use Rattle.std.proofs.Common.{subst, sym}
 use Rattle.std.specs.Prelude.{◌<◌}
-use Rattle.kr_top.proofs.Outfitting.{outfit_returned}
+use Rattle.kr_top.proofs.Returning.{outfit_returned}
 use Rattle.kr_top.proofs.outfit.close_outfit.Goals as goal
 
 pub close_links-requires-clause-out : goal.close_links-requires-clause-out

@@ -12,7 +12,8 @@ loop-seat-init g c = (
 )
 
 pub returns-in-Err-open_outfit-clause-does : goal.returns-in-Err-open_outfit-clause-does
-returns-in-Err-open_outfit-clause-does g c = outfit_refused g.W.Link.Kms.link g.W.Rand.Dice.left g.W.Rand.Dice.count
+returns-in-Err-open_outfit-clause-does g c = outfit_refused g.W.Link.Kms.link
+    g.W.Rand.Dice.left g.W.Rand.Dice.count
     c.args.programs.now c.args.seats (g.W.World.told c.args.world.now)
     c.loop-seat.seat (g.W.World.told c.loop-seat.world) c.loop-seat.outfits.0
     c.loop-seat.invariant.0
@@ -20,7 +21,8 @@ returns-in-Err-open_outfit-clause-does g c = outfit_refused g.W.Link.Kms.link g.
     c.in-Err-open_outfit.ensures.does
 
 pub returns-in-Err-open_outfit-clause-out : goal.returns-in-Err-open_outfit-clause-out
-returns-in-Err-open_outfit-clause-out g c = λ seat lt. still_all_out g.W.Link.Kms.link g.W.Rand.Dice.left g.W.Rand.Dice.count
+returns-in-Err-open_outfit-clause-out g c = λ seat lt.
+    still_all_out g.W.Link.Kms.link g.W.Rand.Dice.left g.W.Rand.Dice.count
     c.args.programs.now c.args.seats (g.W.World.told c.args.world.now)
     c.loop-seat.seat (g.W.World.told c.loop-seat.world) c.loop-seat.outfits.0
     c.loop-seat.invariant.0
