@@ -54,7 +54,8 @@ use Rattle.kr_top.proofs.Tapes.{own_name}
 -- ---- the core
 
 same_reloads : (parts : List Part)
-    → all_reloads parts ≡ all_reloads (parts_of (record { replicas = []; workers = map worker_of parts }))
+    → all_reloads parts
+    ≡ all_reloads (parts_of (record { replicas = []; workers = map worker_of parts }))
 same_reloads [] = refl
 same_reloads (part ∷ parts) = ap (λ l. reloads_of part.lines.0 ∷ l) (same_reloads parts)
 
@@ -317,7 +318,8 @@ module _ {L D : Type 0} (truth : Truth) (link : L → Link) (left : D → Option
           file = outfits_file link left count 0 back (Over_now kept)
               ∙ sym (outfits_file link left count 0 outs (Over_now store));
           tapes = λ other apart.
-              ap (λ (t : Tapes). t.told other) (outfits_tapes link left count 0 back (Over_now kept))
+              ap (λ (t : Tapes). t.told other)
+              (outfits_tapes link left count 0 back (Over_now kept))
               ∙ over_other name a store.told kept.told store.count kept.count other apart
               ∙ sym (ap (λ (t : Tapes). t.told other)
               (outfits_tapes link left count 0 outs (Over_now store)));
@@ -357,8 +359,8 @@ module _ {L D : Type 0} (truth : Truth) (link : L → Link) (left : D → Option
             (has_rows begun o rows kept (ap (λ (p : Opening). p.format) opens) whole k)))
 
     -- memory lacked for the workers
-    pub unhired : (T : Type 0) → (kept : Kept) → KeepsStore o o.rows kept → (back : List (Outfit L D))
-        → back ≡ outs
+    pub unhired : (T : Type 0) → (kept : Kept) → KeepsStore o o.rows kept
+        → (back : List (Outfit L D)) → back ≡ outs
         → LacksWorkers T truth link left count Next name (With olds store) (With back kept)
         NoMemory
     unhired T kept k back are =

@@ -103,7 +103,7 @@ module _ (files : List NamedRows) (replica : List ℕ × List ℕ) where
     by_rows {old} made others {end} {result} d = subst (λ r.
         Does (publishes r made (λ more. publishing files more others)) old end result) (sym is) d
 
-    module _ {old new : Around} where
+    module _ (old new : Around) where
       pub next_published : (p shared : Publication) → shared ≡ p → p.rows ≡ rows
           → Does (make_seeds (plugin_order rows)) old new (Ok p.seeds)
           → PublishesNext files replica old new (Ok (Some shared))

@@ -17,7 +17,8 @@ ghost use Rattle.kr_top.specs.inner.Beginnings.{MayPublish, PublishesNext, begun
 ghost use Rattle.kr_top.specs.inner.Beginnings.{first_core, start_stop, with_first};
 ghost use Rattle.kr_top.specs.inner.Crews.{IsCrew, IsReadyCore, RunsCrew, outfits_of};
 ghost use Rattle.kr_top.specs.inner.FleetFiles.{IsWholePlan, named, plan_of};
-ghost use Rattle.kr_top.specs.inner.Fleets.{ArePublished, IsPublishedBy, RunsBy, budget_stop, published_in};
+ghost use Rattle.kr_top.specs.inner.Fleets.{ArePublished, IsPublishedBy, RunsBy, budget_stop};
+ghost use Rattle.kr_top.specs.inner.Fleets.{published_in};
 ghost use Rattle.kr_top.specs.inner.Outfits.{AreLater, AreNamed, names_in, with_outfits};
 ghost use Rattle.kr_top.specs.inner.Phases.{Does};
 ghost use Rattle.kr_top.specs.inner.Tapes.{stored_of};

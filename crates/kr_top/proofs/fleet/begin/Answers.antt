@@ -116,9 +116,10 @@ returns-in-Err-hire-clause-made g c name a t =
     let kept = c.close-store.result.0 in
     let k = closed_at_once core kept none c.close-store.ensures.rows c.close-store.ensures.count
     c.close-store.ensures.format c.close-store.ensures.torn c.known.ensures in
-    inr (unhired g.L.Kms.truth link left count plan c.requires.plan c.args.budgets.now.entries.items name a
-    store olds outs replicas does
-    (c.in-Ok-start.ensures.does (with_outfits link left count 0 outs over)) c.requires.named c.requires.seats
+    inr (unhired g.L.Kms.truth link left count plan c.requires.plan c.args.budgets.now.entries.items
+    name a store olds outs replicas does
+    (c.in-Ok-start.ensures.does (with_outfits link left count 0 outs over)) c.requires.named
+    c.requires.seats
     c.publish_first-published.ensures.later published c.requires.store
     c.args.budgets.now.reloads.items c.requires.reloads c.in-Ok-start.core.opening
     (ap (λ (k : CoreState). k.opening) c.in-Ok-start.ensures.core) g.row.T.Denot kept k
@@ -164,9 +165,10 @@ returns-clause-made g c name a t =
     (with_outfits link left count 0 olds over) (with_outfits link left count 0 outs over)
     (published_in r)) c.in-Ok.is (c.publish_first-published.ensures.does over t) in
     let hired = c.in-Ok-hire.ensures.hired in
-    ran_by g.L.Kms.truth link left count plan c.requires.plan c.args.budgets.now.entries.items name a
-    store olds outs replicas does
-    (c.in-Ok-start.ensures.does (with_outfits link left count 0 outs over)) c.requires.named c.requires.seats
+    ran_by g.L.Kms.truth link left count plan c.requires.plan c.args.budgets.now.entries.items
+    name a store olds outs replicas does
+    (c.in-Ok-start.ensures.does (with_outfits link left count 0 outs over)) c.requires.named
+    c.requires.seats
     c.publish_first-published.ensures.later published c.requires.store
     c.args.budgets.now.reloads.items c.requires.reloads c.in-Ok-start.core.opening
     (ap (λ (k : CoreState). k.opening) c.in-Ok-start.ensures.core) c.in-Ok-hire.crew.workers.items

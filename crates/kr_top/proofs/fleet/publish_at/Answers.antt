@@ -5,6 +5,7 @@ use Rattle.kr_config.specs.Kept.{plugins_in, rows_of}
 use Rattle.kr_provider.specs.Names.{names_of}
 use Rattle.kr_provider.proofs.AskedLists.{asked_none}
 use Rattle.kr_top.specs.FleetFiles.{no_file}
+use Rattle.kr_top.specs.inner.Beginnings.{with_first}
 use Rattle.kr_top.specs.inner.FleetFiles.{named}
 use Rattle.kr_top.proofs.Publishings.{asked_wider, has_links, next_fails, next_gap, next_lacks, next_published, next_unkept, published_by, published_gap, read_rows, read_there, rows_in_file}
 use Rattle.kr_top.proofs.fleet.publish_at.Goals as goal
@@ -62,7 +63,12 @@ returns-in-Ok-new-clause-does g c a t =
     let is = rows_in_file files replica rows there
     (read_rows c.args.files.now c.as_str-file.result.now replica.1 c.in-Some.settings.now
     c.in-Ok.settings c.as_str-file.ensures c.in-Some.ensures c.in-Ok.ensures) in
-    next_published files replica rows is c.in-Ok-publish_by.published c.in-Ok-new.published
+    let link = g.L.Kms.link in
+    let old = with_first link c.args.links.now (g.D.Dice.left c.args.dice.now)
+    (g.D.Dice.count c.args.dice.now) a in
+    let new = with_first link c.publish_by.new.links (g.D.Dice.left c.publish_by.new.dice)
+    (g.D.Dice.count c.publish_by.new.dice) a in
+    next_published files replica rows is old new c.in-Ok-publish_by.published c.in-Ok-new.published
     c.in-Ok-new.ensures.ok c.in-Ok-publish_by.ensures.rows (c.in-Ok-publish_by.ensures.does a t)
 
 pub returns-in-Ok-new-clause-published : goal.returns-in-Ok-new-clause-published
@@ -101,7 +107,12 @@ returns-in-Ok-publish_by-clause-does g c a t =
     let is = rows_in_file files replica rows there
     (read_rows c.args.files.now c.as_str-file.result.now replica.1 c.in-Some.settings.now
     c.in-Ok.settings c.as_str-file.ensures c.in-Some.ensures c.in-Ok.ensures) in
-    next_unkept files replica rows is c.in-Ok-publish_by.published.seeds
+    let link = g.L.Kms.link in
+    let old = with_first link c.args.links.now (g.D.Dice.left c.args.dice.now)
+    (g.D.Dice.count c.args.dice.now) a in
+    let new = with_first link c.publish_by.new.links (g.D.Dice.left c.publish_by.new.dice)
+    (g.D.Dice.count c.publish_by.new.dice) a in
+    next_unkept files replica rows is old new c.in-Ok-publish_by.published.seeds
     (c.in-Ok-publish_by.ensures.does a t)
 
 pub returns-in-Ok-publish_by-clause-asked : goal.returns-in-Ok-publish_by-clause-asked
@@ -126,7 +137,12 @@ returns-clause-does g c a t =
     let is = rows_in_file files replica rows there
     (read_rows c.args.files.now c.as_str-file.result.now replica.1 c.in-Some.settings.now
     c.in-Ok.settings c.as_str-file.ensures c.in-Some.ensures c.in-Ok.ensures) in
-    next_fails files replica rows is c.in-Err.stop (c.in-Err.ensures.does a t)
+    let link = g.L.Kms.link in
+    let old = with_first link c.args.links.now (g.D.Dice.left c.args.dice.now)
+    (g.D.Dice.count c.args.dice.now) a in
+    let new = with_first link c.publish_by.new.links (g.D.Dice.left c.publish_by.new.dice)
+    (g.D.Dice.count c.publish_by.new.dice) a in
+    next_fails files replica rows is old new c.in-Err.stop (c.in-Err.ensures.does a t)
 
 pub returns-clause-asked : goal.returns-clause-asked
 returns-clause-asked g c =
