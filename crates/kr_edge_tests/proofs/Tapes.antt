@@ -1,5 +1,5 @@
 -- A tape that is out, and the counts that go back with it.
-use Rattle.std.proofs.Common.{◌≡◌, ℕ, ◌+◌, ◌<◌, List, cond, refl, sym, ◌∙◌, ap, subst, arith}
+use Rattle.std.proofs.Common.{◌≡◌, ℕ, ◌<◌, List, cond, refl, ap, arith}
 use Rattle.kr_kms.specs.Outside.{Objects, HandsOut, TakesBack, at_key, same_name}
 use Rattle.kr_kms.proofs.Lent.{names_decide}
 

@@ -96,7 +96,6 @@ fn a_store_keeps_what_was_put(rt: HostRuntime) {
 }
 
 /// Whether a store that another world has out is refused until it is back.
-#[tactic(auto, using(crate::proofs::Tapes::is_out, crate::proofs::Tapes::is_still_out))]
 fn is_locked<R: Files<File = File> + Processes<Started = SystemProcess>>(
     rt: &R,
     alloc: Global,
