@@ -1,10 +1,11 @@
 //! The call that does a command.
-ghost use Rattle.std.specs.Prelude.{◌≡◌, ◌≤◌, Some};
+ghost use Rattle.std.specs.Prelude.{◌≤◌, Some};
 ghost use Rattle.kr_words.specs.Grammar.{texts};
+ghost use Rattle.kr_top.specs.Afterwards.{AreLeft};
 ghost use Rattle.kr_top.specs.Around.{around};
 ghost use Rattle.kr_top.specs.Commands.{steps};
 ghost use Rattle.kr_top.specs.Ran.{receipt, Answers, Ran, Readings};
-ghost use Rattle.kr_top.specs.inner.Phases.{Does, HasShortPath};
+ghost use Rattle.kr_top.specs.inner.Phases.{Does, KeepsRules};
 
 use crate::check::check;
 use crate::command::{Command, read_command};
@@ -16,6 +17,7 @@ use crate::message::tell;
 use crate::phases::write_output;
 use crate::refusal::{Done, Outcome, Stop};
 use crate::rows::list;
+use crate::storing::put;
 use kr_base::{Sink, Source};
 use kr_kms::World;
 use std::alloc::Global;
@@ -25,7 +27,7 @@ use std::alloc::Global;
 /// together, 4 an object of the outside failed, 5 want of memory, 6 a limit was passed. Each status
 /// other than 0 has one line on `errors`, but for a reload that was refused, of which the output
 /// says why; where the line can't be written the status is 4. `readings` is what follows from `ran`,
-/// for readers, and so is that no tape changed, whatever the status is.
+/// for readers; `tapes` is what is left of the tapes, whatever the status is.
 pub fn run<W: World, I: Source, O: Sink, E: Sink>(
     alloc: Global,
     words: &[String],
@@ -50,7 +52,11 @@ pub fn run<W: World, I: Source, O: Sink, E: Sink>(
         (receipt (O.held output.old) (O.held output.new) (O.count output.old) (O.count output.new))
         (receipt (E.held errors.old) (E.held errors.new) (E.count errors.old) (E.count errors.new))
         result }
-    ensures tapes { (W.told world.new).tapes.told ≡ (W.told world.old).tapes.told }
+    ensures tapes { AreLeft (texts words.now)
+        (around W.Link.truth (W.told world.old) (I.left input.old)
+        (I.count input.old))
+        (around W.Link.truth (W.told world.new) (I.left input.new)
+        (I.count input.new)) }
 {
     let answer = answer(alloc, words, world, input, output);
     tell(errors, &answer)
@@ -88,7 +94,7 @@ fn perform<W: World, I: Source>(
     world: &mut W,
     input: &mut I,
 ) -> Result<Outcome, Stop>
-    requires path { HasShortPath (Some command.now) }
+    requires path { KeepsRules (Some command.now) }
     ensures { Does (steps command.now)
         (around W.Link.truth (W.told world.old) (I.left input.old)
         (I.count input.old))
@@ -100,6 +106,7 @@ fn perform<W: World, I: Source>(
         Command::Convert(words) => convert(alloc, words, world, input),
         Command::Check { config, resource } => check(alloc, config.as_str(), resource, world),
         Command::Inspect => inspect(alloc, input),
+        Command::Put { object, store } => put(alloc, object, store, world, input),
         Command::Get(words) => get(alloc, words, world),
         Command::Rows { store } => list(alloc, store.as_str(), world),
         Command::Judge(words) => judge(alloc, words, world),
