@@ -6,7 +6,9 @@ use Rattle.std.proofs.lemmas.Bool.{le-ltb, lt-ltb}
 use Rattle.kr_base.specs.Limits.{store_limit}
 use Rattle.kr_kms.specs.Outside.{same_name}
 use Rattle.kr_store.specs.File.{IsFile, file_bytes, magic, row_bytes, rows_bytes}
-use Rattle.kr_store.specs.Stores.{Kept, Holds, Wrote, Fails, length_with}
+use Rattle.kr_store.specs.Stores.{Kept, Holds, Wrote, Fails, Puts, length_with}
+use Rattle.kr_store.specs.Stores as refusal
+use Rattle.kr_store.specs.declared.answers.PutNo.{PutNo}
 use Rattle.kr_store.specs.declared.format.Format.{Format}
 use Rattle.kr_store.specs.declared.rows.LogRow.{LogRow}
 use Rattle.kr_top.specs.Around.{Around, with_lent_tape, Stays, Reaches, IsHome, Ends}
@@ -177,6 +179,14 @@ module _ (object : Object) (name : List ℕ) (row : LogRow) (old new : Kept)
     home = subst (λ k. IsHome (Out old) (Out k)) (sym same) (home_refl (Out old));
     ends = λ left s. inr (reach left (inl (refl, refl)) (as_before same s));
   }
+
+-- ---- what the store answered
+
+pub refused_so : (old new : Kept) (row : LogRow) {result : Result ℕ PutNo} {why : PutNo}
+    (known : PutNo) → Puts old new row result → result ≡ Err why → why ≡ known
+    → refusal.Refusal old new row known
+refused_so old new row known put is same =
+    subst (λ w. refusal.Refusal old new row w) same (subst (λ r. Puts old new row r) is put)
 
 -- ---- what `put` answers
 

@@ -29,7 +29,7 @@ use Rattle.kr_top.proofs.Decided.{asks_something, no_stop, same_end}
 -- ---- statuses
 
 -- those of refusals
-abbrev Statuses : ℕ → Type 0
+abbrev pub Statuses : ℕ → Type 0
 Statuses n = (n ≡ 1) ⊎ (n ≡ 3) ⊎ (n ≡ 6)
 
 status_of_why : (why : ConfigNo) → Statuses (status_of_configuration why)
@@ -37,7 +37,7 @@ status_of_why (config.Breach broken place) = inr (inl refl)
 status_of_why (config.Yaml broken line) = inr (inl refl)
 status_of_why (config.Limit counted) = inr (inr refl)
 
-status_in : (why : Refusal) → Statuses (status_of_refusal why)
+pub status_in : (why : Refusal) → Statuses (status_of_refusal why)
 status_in (Absent name) = inr (inl refl)
 status_in (Configuration why) = status_of_why why
 status_in (NoPlugin name) = inr (inl refl)

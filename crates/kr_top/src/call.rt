@@ -27,7 +27,7 @@ use std::alloc::Global;
 /// together, 4 an object of the outside failed, 5 want of memory, 6 a limit was passed. Each status
 /// other than 0 has one line on `errors`, but for a reload that was refused, of which the output
 /// says why; where the line can't be written the status is 4. `readings` is what follows from `ran`,
-/// for readers; `tapes` is what is left of the tapes, whatever the status is.
+/// for readers; `tapes` is what is left of the tapes, by the status.
 pub fn run<W: World, I: Source, O: Sink, E: Sink>(
     alloc: Global,
     words: &[String],
@@ -56,7 +56,7 @@ pub fn run<W: World, I: Source, O: Sink, E: Sink>(
         (around W.Link.truth (W.told world.old) (I.left input.old)
         (I.count input.old))
         (around W.Link.truth (W.told world.new) (I.left input.new)
-        (I.count input.new)) }
+        (I.count input.new)) result }
 {
     let answer = answer(alloc, words, world, input, output);
     tell(errors, &answer)

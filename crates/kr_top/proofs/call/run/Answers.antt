@@ -7,4 +7,5 @@ returns-clause-readings g c =
     readings _ _ _ _ _ _ c.answer-answer.result c.answer-answer.ensures.answers c.tell.ensures.told
 
 pub returns-clause-tapes : goal.returns-clause-tapes
-returns-clause-tapes g c = tapes_left _ _ _ _ c.answer-answer.result c.answer-answer.ensures.answers
+returns-clause-tapes g c =
+    tapes_left _ _ _ _ _ _ c.answer-answer.result c.answer-answer.ensures.answers c.tell.ensures.told

@@ -11,9 +11,9 @@ overflow_add-next g c = omega (
   c.known.ensures.2,
   c.known.ensures.3,
   c.requires.within,
-  c.revision.ensures,
+  c.revision-next.ensures,
 )
 
 pub returns : goal.returns
-returns g c = next_told (stored_of c.args.store.now) (c.revision.result + 1) c.revision_text.result
-    (ap (λ n. n + 1) c.revision.ensures) c.revision_text.ensures
+returns g c = next_told (stored_of c.args.store.now) (c.revision-next.result + 1) c.revision_text.result
+    (ap (λ n. n + 1) c.revision-next.ensures) c.revision_text.ensures

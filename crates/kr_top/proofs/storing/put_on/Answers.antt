@@ -94,21 +94,18 @@ returns-in-Err-next_line-clause-made g c name a t =
     (λ grown. give (silently (revision_line grown))) NoMemory
     (lacks _ (with_lent_tape name store.told store.count later)))))
 
-pub next_line-requires-clause-within : goal.next_line-requires-clause-within
-next_line-requires-clause-within g c κs within = c.in-Ok.ensures.within
-
 pub add_put-added-requires-clause-stored : goal.add_put-added-requires-clause-stored
-add_put-added-requires-clause-stored g c κs within = c.in-Ok-make.ensures.size refl
+add_put-added-requires-clause-stored g c = c.in-Ok-make.ensures.size refl
 
 pub add_put-added-requires-clause-within : goal.add_put-added-requires-clause-within
-add_put-added-requires-clause-within g c κs within = c.in-Ok.ensures.within
+add_put-added-requires-clause-within g c = c.in-Ok.ensures.within
 
 pub add_put-added-requires-clause-path : goal.add_put-added-requires-clause-path
-add_put-added-requires-clause-path g c κs within =
+add_put-added-requires-clause-path g c =
     subst IsPath (sym c.as_str-4.ensures) c.requires.path
 
 pub add_put-added-requires-clause-resource : goal.add_put-added-requires-clause-resource
-add_put-added-requires-clause-resource g c κs within =
+add_put-added-requires-clause-resource g c =
     subst IsResource (sym c.as_str-5.ensures) c.requires.resource
 
 pub returns-clause-made : goal.returns-clause-made
