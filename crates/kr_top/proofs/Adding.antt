@@ -1,5 +1,5 @@
 -- A row that is added to a store, whose tape is out.
-use Rattle.std.proofs.Common.{◌≡◌, ℕ, ◌+◌, ◌<◌, ◌≤◌, List, [], ◌∷◌, ◌++◌, length, Bool, true, false, Option, None, Some, Result, Ok, Err, refl, sym, ◌∙◌, ap, subst, inl, inr, append-nil, length-append, arith}
+use Rattle.std.proofs.Common.{◌≡◌, ℕ, ◌+◌, ◌<◌, ◌≤◌, List, [], ◌∷◌, ◌++◌, length, Bool, false, Option, None, Some, Result, Ok, Err, refl, sym, ◌∙◌, ap, subst, inl, inr, append-nil, length-append, arith}
 use Rattle.std.specs.Prelude.{IfOk, IfSome, codes, decimal, if◌then◌else◌}
 use Rattle.std.specs.Option.{option_map}
 use Rattle.std.proofs.lemmas.Bool.{le-ltb, lt-ltb}
@@ -11,9 +11,9 @@ use Rattle.kr_store.specs.Stores as refusal
 use Rattle.kr_store.specs.declared.answers.PutNo.{PutNo}
 use Rattle.kr_store.specs.declared.format.Format.{Format}
 use Rattle.kr_store.specs.declared.rows.LogRow.{LogRow}
-use Rattle.kr_top.specs.Around.{Around, with_lent_tape, Stays, Reaches, IsHome, Ends}
+use Rattle.kr_top.specs.Around.{Around, with_lent_tape, Stays, IsHome}
 use Rattle.kr_top.specs.Commands.{adding, by_result, revision_line, silently, within_limit}
-use Rattle.kr_top.specs.Steps.{Steps, write_row, give, and_then, writing, awaits, amid, refuses, gives, Left, Goes, Point, with_told}
+use Rattle.kr_top.specs.Steps.{Steps, write_row, give, and_then, writing, refuses, Left, Goes, Point, with_told}
 use Rattle.kr_top.specs.StoreFiles.{Stored, with_row, HoldsRows, BeginsWith}
 use Rattle.kr_top.specs.inner.Phases.{Does}
 use Rattle.kr_top.specs.inner.Tapes.{answered, grown_by, stored_of}

@@ -1,5 +1,5 @@
 -- What is left of the tapes, by where the steps of a command come to.
-use Rattle.std.proofs.Common.{◌≡◌, ◌≢◌, ℕ, List, [], ◌∷◌, ◌++◌, Bool, true, false, Option, None, Some, Result, Ok, Err, refl, sym, ◌∙◌, ap, subst, inl, inr, arith}
+use Rattle.std.proofs.Common.{◌≡◌, ◌≢◌, ℕ, List, [], ◌∷◌, ◌++◌, Bool, true, false, Option, Some, Result, Ok, Err, refl, sym, ◌∙◌, ap, subst, inl, inr, arith}
 use Rattle.std.specs.Prelude.{◌⊎◌, nat_lt, length, if◌then◌else◌}
 use Rattle.std.specs.Option.{option_map}
 use Rattle.kr_base.specs.Limits.{store_limit}
@@ -17,7 +17,7 @@ use Rattle.kr_store.specs.declared.rows.LogRow.{LogRow}
 use Rattle.kr_kms.specs.declared.world.WorldCall.TheVariants.{Tape}
 use Rattle.kr_top.specs.Afterwards.{AreLeft, IsUngrown, LeavesTapes, OneMore, OthersStay, StillBegins, ToldTape}
 use Rattle.kr_top.specs.Around.{Around, Ends, MayLack, Reaches, faults_at, left_of}
-use Rattle.kr_top.specs.Commands.{adding, bench_steps, by_result, configuration, input_of, linking_programs, new_row, putting, revision_line, sealed_into, silently, steps, stored_into, within_limit}
+use Rattle.kr_top.specs.Commands.{adding, bench_steps, by_result, configuration, input_of, linking_programs, new_row, putting, revision_line, silently, steps, stored_into}
 use Rattle.kr_top.specs.Plugins.{programs_of}
 use Rattle.kr_top.specs.Message.{line_of, status_of, status_of_done}
 use Rattle.kr_top.specs.Ran.{Answers, Receipt, StopsAtOnce, Tells, Writes}
@@ -30,7 +30,6 @@ use Rattle.kr_top.specs.declared.command.Direction.TheVariants.{Encrypt}
 use Rattle.kr_top.specs.declared.programs.Program.{Program}
 use Rattle.kr_top.specs.declared.refusal.Limit.TheVariants as limit
 use Rattle.kr_top.specs.declared.refusal.Object.TheVariants.{Store}
-use Rattle.kr_top.specs.declared.refusal.Refusal.{Refusal}
 use Rattle.kr_top.specs.declared.refusal.Refusal.TheVariants.{Limit}
 use Rattle.kr_top.specs.declared.refusal.BadWords.TheVariants.{Usage, Replicas, Size}
 use Rattle.kr_top.specs.declared.refusal.Done.{Done}

@@ -4,11 +4,10 @@ ghost use Rattle.std.specs.Prelude.{◌≡◌, ◌≤◌, ◌<◌, ◌++◌, ℕ
 ghost use Rattle.kr_base.specs.Rules.{IsPath, IsResource};
 ghost use Rattle.kr_base.specs.Limits.{data_limit, store_limit};
 ghost use Rattle.kr_config.specs.Kept.{rows_of};
-ghost use Rattle.kr_config.specs.Lists.{list_of};
 ghost use Rattle.kr_provider.specs.PluginOrder.{plugin_order};
 ghost use Rattle.kr_provider.specs.Readers.{writer_of};
 ghost use Rattle.kr_store.specs.declared.rows.LogRow.{LogRow};
-ghost use Rattle.kr_top.specs.Around.{Around, Tapes, around, with_world, with_tapes, with_lent_tape};
+ghost use Rattle.kr_top.specs.Around.{Around, around, with_world, with_lent_tape};
 ghost use Rattle.kr_rollout.specs.Checks.{store_check};
 ghost use Rattle.kr_top.specs.Commands.{putting, revision_line, sealed_into, stored_into, stored_on};
 ghost use Rattle.kr_top.specs.Steps.{and_then};

@@ -2,7 +2,7 @@
 use Rattle.std.proofs.Common.{◌≡◌, ℕ, List, refl, sym, subst}
 use Rattle.kr_config.specs.Kept.{Row, rows_of}
 use Rattle.kr_provider.specs.PluginOrder.{plugin_order}
-use Rattle.kr_top.specs.Around.{Around, around}
+use Rattle.kr_top.specs.Around.{around}
 use Rattle.kr_top.specs.Commands.{configuration, input_of, linking_programs, stored_into}
 use Rattle.kr_top.specs.Steps.{Steps, and_then}
 use Rattle.kr_top.specs.declared.command.Conversion.{Conversion}

@@ -1,5 +1,5 @@
 -- `put_on`: the store is loaded, the data are sealed while its tape is out, and the row is added.
-use Rattle.std.proofs.Common.{◌≡◌, ◌≤◌, ℕ, List, Result, Ok, Err, length, refl, sym, ◌∙◌, ap, subst, arith}
+use Rattle.std.proofs.Common.{◌≤◌, ℕ, List, length, refl, sym, ◌∙◌, ap, subst}
 use Rattle.std.specs.Option.{option_map}
 use Rattle.std.specs.Prelude.{Some}
 use Rattle.kr_base.specs.Limits.{data_limit, path_limit}
@@ -7,18 +7,15 @@ use Rattle.kr_base.specs.Rules.{IsPath, IsResource}
 use Rattle.kr_config.specs.Kept.{Row, rows_of}
 use Rattle.kr_config.specs.Lists.{list_of}
 use Rattle.kr_kms.specs.Outside.{same_name}
-use Rattle.kr_provider.specs.PluginOrder.{plugin_order}
 use Rattle.kr_provider.specs.Readers.{writer_of}
 use Rattle.kr_store.specs.Rows.{check_in, put_of}
-use Rattle.kr_store.specs.declared.rows.LogRow.{LogRow}
-use Rattle.kr_top.specs.Around.{Around, Tapes, with_lent, with_lent_tape, with_world}
+use Rattle.kr_top.specs.Around.{with_lent, with_lent_tape, with_world}
 use Rattle.kr_rollout.specs.Checks.{store_check}
 use Rattle.kr_top.specs.Commands.{adding, bench_steps, new_row, revision_line, sealed_into, silently, stored_on}
 use Rattle.kr_top.specs.Steps.{Steps, and_then, give}
 use Rattle.kr_top.specs.StoreFiles.{Stored}
 use Rattle.kr_top.specs.declared.command.Conversion.{Conversion}
 use Rattle.kr_top.specs.declared.command.Direction.TheVariants.{Encrypt}
-use Rattle.kr_top.specs.declared.programs.Program.{Program}
 use Rattle.kr_top.specs.declared.refusal.Object.TheVariants.{Store}
 use Rattle.kr_top.specs.declared.refusal.Outcome.{Outcome}
 use Rattle.kr_top.specs.declared.refusal.Stop.TheVariants.{NoMemory}
@@ -28,7 +25,6 @@ use Rattle.kr_top.proofs.Adding.{put_answers}
 use Rattle.kr_top.proofs.Apart.{bench_by}
 use Rattle.kr_top.proofs.Goes.{goes_on, stops}
 use Rattle.kr_top.proofs.Loading.{as_closed}
-use Rattle.kr_top.proofs.NamedPrograms.{names_in}
 use Rattle.kr_top.proofs.Tapes.{behind_tape}
 use Rattle.kr_top.proofs.Works.{lacks}
 use Rattle.kr_top.proofs.storing.put_on.Goals as goal
