@@ -1,6 +1,6 @@
 //! `put`: configuration, programs of its plugins, input, store, random source, links, publish, seal,
 //! the row.
-ghost use Rattle.std.specs.Prelude.{◌≡◌, ◌≤◌, ◌<◌, ◌++◌, ℕ, List, map, true, IfOk, codes, decimal, length};
+ghost use Rattle.std.specs.Prelude.{◌≡◌, ◌≤◌, ◌++◌, ℕ, List, map, IfOk, codes, decimal, length};
 ghost use Rattle.kr_base.specs.Rules.{IsPath, IsResource};
 ghost use Rattle.kr_base.specs.Limits.{data_limit, store_limit};
 ghost use Rattle.kr_config.specs.Kept.{rows_of};
