@@ -31,6 +31,7 @@ use Rattle.kr_workers.specs.Sentences.{RepliesAreTrue}
 use Rattle.kr_workers.specs.declared.ending.Ending.{Ending}
 use Rattle.kr_workers.specs.declared.files.SettingsFile.{SettingsFile}
 use Rattle.kr_workers.specs.declared.worker.Worker as fleet_worker
+use Rattle.kr_top.specs.Afterwards.{AreLeft}
 use Rattle.kr_top.specs.Around.{Around, Ends, IsHome, Reaches, left_of}
 use Rattle.kr_top.specs.Commands.{by_result, stored_on, tape_for, with_memory}
 use Rattle.kr_top.specs.FleetAsked.{AskNoFleet, AsksFleet}
@@ -316,7 +317,7 @@ abbrev pub RanAlone : (words : List (List ℕ)) → (old new : Around) → (outp
     → Option ℕ → Type 0
 RanAlone words old new output errors (Some status) =
     Ran words old new output errors status × Readings words old new output errors status
-    × (AskNoFleet words
+    × AreLeft words old new status × (AskNoFleet words
     ⊎ Tells (line_of (Err NoMemory)) (stop_status (Err NoMemory)) errors status)
 RanAlone words old new output errors None =
     ((asked : FleetWords) × AsksFleet words asked) × IsUntouched old new output × IsIdle errors

@@ -5,6 +5,7 @@ use Rattle.kr_top.specs.Around.{around}
 use Rattle.kr_top.specs.FleetAsked.{IsFleetAsked}
 use Rattle.kr_top.proofs.FleetRuns.{at_once, for_asked, one_fleet, unread}
 use Rattle.kr_top.proofs.Readings.{readings}
+use Rattle.kr_top.proofs.Leaving.{tapes_left}
 use Rattle.kr_top.proofs.call.run.Goals as goal
 
 pub returns-in-Ok-Some-clause-ran : goal.returns-in-Ok-Some-clause-ran
@@ -61,7 +62,8 @@ returns-in-Err-clause-readings g c none = readings _ _ _ _ _ _ (Err c.in-Err.sto
     (inl (at_once _ c.in-Err.stop c.in-Err.ensures, (refl, (refl, refl)))) c.tell.ensures.told
 
 pub returns-in-Err-clause-tapes : goal.returns-in-Err-clause-tapes
-returns-in-Err-clause-tapes g c none = refl
+returns-in-Err-clause-tapes g c none = tapes_left _ _ _ _ _ _ (Err c.in-Err.stop)
+    (inl (at_once _ c.in-Err.stop c.in-Err.ensures, (refl, (refl, refl)))) c.tell.ensures.told
 
 pub returns-in-Err-clause-fleet : goal.returns-in-Err-clause-fleet
 returns-in-Err-clause-fleet g c asked asks = record {

@@ -3,6 +3,7 @@ use Rattle.std.proofs.Common.{Err, Ok, refl, inl, arith, subst}
 use Rattle.kr_words.specs.Grammar.{texts}
 use Rattle.kr_top.specs.FleetAsked.{IsFleetAsked}
 use Rattle.kr_top.proofs.FleetRuns.{alone_or_memory, at_once}
+use Rattle.kr_top.proofs.Leaving.{tapes_left}
 use Rattle.kr_top.proofs.Readings.{readings}
 use Rattle.kr_top.proofs.call.run_alone.Goals as goal
 
@@ -19,7 +20,7 @@ returns-in-Ok-Some g c = (
 
 pub returns-in-Ok-None : goal.returns-in-Ok-None
 returns-in-Ok-None g c =
-    (c.alone.ensures.ran, c.alone.ensures.readings, inl c.in-Ok-None.ensures)
+    (c.alone.ensures.ran, c.alone.ensures.readings, c.alone.ensures.tapes, inl c.in-Ok-None.ensures)
 
 pub returns-in-Err : goal.returns-in-Err
 returns-in-Err g c = (
@@ -31,6 +32,8 @@ returns-in-Err g c = (
     told = c.tell.ensures.later;
   },
   readings _ _ _ _ _ _ (Err c.in-Err.stop)
+      (inl (at_once _ c.in-Err.stop c.in-Err.ensures, (refl, (refl, refl)))) c.tell.ensures.told,
+  tapes_left _ _ _ _ _ _ (Err c.in-Err.stop)
       (inl (at_once _ c.in-Err.stop c.in-Err.ensures, (refl, (refl, refl)))) c.tell.ensures.told,
   alone_or_memory _ c.in-Err.stop c.in-Err.ensures _ _ c.tell.ensures.told,
 )
