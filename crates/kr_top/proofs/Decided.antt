@@ -55,7 +55,7 @@ pub same_end : {words : List (List ℕ)} {old new : Around} {command : Command} 
     (point : Point Outcome) (m n : Result Done Stop)
     → Asks words command → IsTelling command old → WouldCome command old point
     → Comes words old new q → end_at point ≡ Some m → end_at q ≡ Some n → m ≡ n
-same_end {words} {old} {new} {command} {q} point m n asks tells would comes =
+same_end {words} {old} {new} {command} {q} point m n asks tells would (said, comes) =
     let goes = subst (λ c. Goes q comes.reaches.end (steps c) (left_of old))
     (one_command comes.asks asks) comes.reaches.goes in
     one_point point q would.0 comes.reaches.end (steps command) (steps command) (left_of old)

@@ -15,6 +15,7 @@ use Rattle.kr_store.specs.File.{file_bytes}
 use Rattle.kr_store.specs.Rows.{check_in}
 use Rattle.kr_store.specs.declared.rows.LogRow.{LogRow}
 use Rattle.kr_kms.specs.declared.world.WorldCall.TheVariants.{Tape}
+<<<<<<< ours
 use Rattle.kr_top.specs.Afterwards.{AreLeft, IsUngrown, LeavesTapes, OneMore, OthersStay, StillBegins, ToldTape}
 use Rattle.kr_top.specs.Around.{Around, Ends, MayLack, Reaches, faults_at, left_of}
 use Rattle.kr_top.specs.Commands.{adding, bench_steps, by_result, configuration, input_of, linking_programs, new_row, putting, revision_line, silently, steps, stored_into}
@@ -22,9 +23,17 @@ use Rattle.kr_top.specs.Plugins.{programs_of}
 use Rattle.kr_top.specs.Message.{line_of, status_of, status_of_done}
 use Rattle.kr_top.specs.Ran.{Answers, Receipt, StopsAtOnce, Tells, Writes}
 use Rattle.kr_top.specs.Steps.{Steps, load, take_input, borrow_dice, borrow_tape, read_tape, write_row, draw, borrow_link, ask_status, wrap, unwrap, note, find, refuse, give, and_then, or_empty, tapes_with, with_asked, with_tape, Call, writing, Point, awaits, amid, refuses, gives, Left, IsAt, Goes}
+=======
+use Rattle.kr_top.specs.Afterwards.{AreLeft, LeavesTapes, MayGrow, OneMore, OthersStay, StillBegins}
+use Rattle.kr_top.specs.Around.{Around, with_what_is_said, Ends, Reaches, left_of}
+use Rattle.kr_top.specs.Commands.{adding, bench_steps, by_result, configuration, input_of, linking_programs, new_row, revision_line, sealed_into, silently, steps, stored_into, within_limit}
+use Rattle.kr_top.specs.Plugins.{programs_of}
+use Rattle.kr_top.specs.Ran.{Answers, Did, Receipt}
+use Rattle.kr_top.specs.Steps.{Steps, load, take_input, borrow_dice, borrow_tape, read_tape, write_row, keep_rows, draw, borrow_link, ask_status, wrap, unwrap, note, find, refuse, give, and_then, or_empty, tapes_with, with_asked, with_tape, Point, Left, IsAt, Goes}
+>>>>>>> theirs
 use Rattle.kr_top.specs.StoreFiles.{Stored, IsStored, with_row}
 use Rattle.kr_top.specs.declared.command.Command.{Command}
-use Rattle.kr_top.specs.declared.command.Command.TheVariants.{Convert, Check, Inspect, Put, Get, Rows, Judge}
+use Rattle.kr_top.specs.declared.command.Command.TheVariants.{Convert, Check, Inspect, Put, Get, Rows, Judge, Rewrite}
 use Rattle.kr_top.specs.declared.command.Conversion.{Conversion}
 use Rattle.kr_top.specs.declared.command.Direction.TheVariants.{Encrypt}
 use Rattle.kr_top.specs.declared.programs.Program.{Program}
@@ -38,7 +47,11 @@ use Rattle.kr_top.specs.declared.refusal.Outcome.{Outcome}
 use Rattle.kr_top.specs.declared.refusal.Stop.{Stop}
 use Rattle.kr_top.specs.declared.refusal.Stop.TheVariants.{Words, Refused, Fault, NoMemory}
 use Rattle.kr_top.proofs.ReadOnly.{IsReadOnly, IsReader, command_reads, configuration_reads, leaves_tapes, result_reads, work_reads}
+<<<<<<< ours
 use Rattle.kr_top.proofs.Readings.{status_in}
+=======
+use Rattle.kr_top.proofs.OneTape.{others_stay, rewriting_is_on}
+>>>>>>> theirs
 use Rattle.kr_top.proofs.Tapes.{own_name}
 
 -- ---- points
@@ -103,7 +116,12 @@ module _ {A B : Type 0} (others : A → Steps B) (p : Point B) (end : Left) wher
   parts (read_tape object name next) left r (inr (bytes, agrees, goes)) =
       parts (next bytes) left (r bytes) goes
   parts (write_row object name store row next) left r goes = absurd r
+<<<<<<< ours
   parts (draw seat size next) left r (inl at) = inl (ends_at at tt)
+=======
+  parts (keep_rows name store next) left r goes = absurd r
+  parts (draw seat size next) left r (inl at) = inl (ap (λ l. l.tapes) at.1)
+>>>>>>> theirs
   parts (draw seat size next) left r (inr (bytes, rest, c, fits, goes)) =
       parts (next bytes) _ (r bytes) goes
   parts (borrow_link seat plugin program next) left r (inl at) = inl (ends_at at tt)
@@ -349,6 +367,7 @@ module _ (words : Conversion) (store : List ℕ) (old new : Around) (status : �
 
 -- ---- commands
 
+<<<<<<< ours
 module _ (command : Command) (is : IsReader command) (old : Around) where
   reaches_left : {new : Around} {point : Point Outcome}
       → Reaches (steps command) (left_of old) new point
@@ -441,3 +460,46 @@ tapes_left words old new output errors status result (inr (made, did, w)) t = in
   ends_left did.command old new status made did.ends
       (fits_made new.said output status made result w (is_status errors status result t)),
 )
+=======
+reader_left : (command : Command) (p : Point Outcome) (end left : Left) → IsReader command
+    → Goes p end (steps command) left → end.tapes ≡ left.tapes
+reader_left command p end left r goes =
+    leaves_tapes p end (steps command) left (command_reads command r) goes
+
+goes_left : (command : Command) (p : Point Outcome) (end left : Left)
+    → Goes p end (steps command) left → LeavesTapes command left.tapes end.tapes
+goes_left (Convert words) p end left goes = reader_left (Convert words) p end left tt goes
+goes_left (Check config resource) p end left goes =
+    reader_left (Check config resource) p end left tt goes
+goes_left Inspect p end left goes = reader_left Inspect p end left tt goes
+goes_left (Put words store) p end left goes = put_grows words store p end left goes
+goes_left (Get words) p end left goes = reader_left (Get words) p end left tt goes
+goes_left (Rows store) p end left goes = reader_left (Rows store) p end left tt goes
+goes_left (Judge words) p end left goes = reader_left (Judge words) p end left tt goes
+goes_left (Rewrite words) p end left goes =
+    others_stay words.store p end (steps (Rewrite words)) left (rewriting_is_on words) goes
+
+reaches_left : (command : Command) (old : Around) {new : Around} {point : Point Outcome}
+    → Reaches (steps command) (left_of old) new point
+    → LeavesTapes command old.world.tapes.told new.world.tapes.told
+reaches_left command old {new} {point} r =
+    subst (λ t. LeavesTapes command old.world.tapes.told t) (sym r.stays.tapes)
+    (goes_left command point r.end (left_of old) r.goes)
+
+ends_left : (command : Command) (old new : Around) (made : Result Outcome Stop)
+    → Ends (steps command) (left_of old) old new made
+    → LeavesTapes command old.world.tapes.told new.world.tapes.told
+ends_left command old new (Ok x) r = reaches_left command old r
+ends_left command old new (Err (Words why)) r = absurd r
+ends_left command old new (Err (Refused why)) r = reaches_left command old r
+ends_left command old new (Err (Fault object count)) (call, r, f) = reaches_left command old r
+ends_left command old new (Err NoMemory) (inl (call, may, r)) = reaches_left command old r
+ends_left command old new (Err NoMemory) (inr r) = reaches_left command old r
+
+pub tapes_left : (words : List (List ℕ)) (old new : Around) (output : Receipt)
+    (result : Result Done Stop) → Answers words old new output result → AreLeft words old new
+tapes_left words old new output result (inl (stops, same)) =
+    inl (ap (λ (a : Around). a.world.tapes.told) same.0)
+tapes_left words old new output result (inr (said, made, did, w)) =
+    inr (did.command, did.asks, ends_left did.command old (with_what_is_said said new) made did.ends)
+>>>>>>> theirs

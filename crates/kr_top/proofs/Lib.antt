@@ -1,5 +1,6 @@
 -- The lemmas that the answers cite.
 mod Rooms
+pub mod AddedRows
 pub mod Adding
 pub mod Apart
 pub mod Asked
@@ -18,28 +19,39 @@ pub mod Goes
 pub mod Listed
 pub mod Listings
 pub mod OnePoint
+<<<<<<< ours
 pub mod Outfits
 pub mod Outfitting
 pub mod Plans
+=======
+mod OneTape
+>>>>>>> theirs
 pub mod Pieces
 pub mod Publishings
 pub mod Loading
 pub mod Loads
+pub mod LoneCallers
 pub mod Judging
 pub mod ReplicaLists
 pub mod Leaving
 pub mod Lending
 pub mod Linked
+pub mod LiveRows
 pub mod Links
 pub mod Made
 pub mod NamedPrograms
 pub mod Returning
 pub mod ReadOnly
 pub mod Readings
+pub mod RowCuts
+pub mod RowDrives
+pub mod Said
 pub mod SeedSteps
 pub mod Settled
+pub mod Started
 pub mod Tapes
 pub mod Unsealed
+pub mod ValueRead
 pub mod Visible
 pub mod Walk
 pub mod Works

@@ -1,17 +1,17 @@
 -- What readers take from the relation of a call, whose result decides the status.
-use Rattle.std.proofs.Common.{◌≡◌, ℕ, ◌+◌, ◌-◌, ◌^◌, ◌≤◌, ◌⊎◌, min, List, length, take_all, Option, Result, Ok, Err, refl, sym, ◌∙◌, subst, inl, inr, arith}
+use Rattle.std.proofs.Common.{◌≡◌, ℕ, ◌+◌, ◌-◌, ◌^◌, ◌≤◌, ◌⊎◌, min, List, [], ◌∷◌, length, take_all, Option, Result, Ok, Err, refl, sym, ◌∙◌, subst, inl, inr, arith}
 use Rattle.std.specs.Io.KnownBytes.{Appends}
 use Rattle.kr_base.specs.Faults.{Rose}
 use Rattle.kr_base.specs.Streams.{AppendsFront}
 use Rattle.kr_kms.specs.Outside.{file_faults}
 use Rattle.kr_config.specs.declared.refusal.ConfigNo.{ConfigNo}
 use Rattle.kr_config.specs.declared.refusal.ConfigNo.TheVariants as config
-use Rattle.kr_top.specs.Around.{Around, left_of, IsHome, IsFault, faults_at, count_at, Reaches}
+use Rattle.kr_top.specs.Around.{Around, with_what_is_said, left_of, IsHome, IsFault, faults_at, count_at, Reaches}
 use Rattle.kr_top.specs.Command.{Asks, AskBadly}
 use Rattle.kr_top.specs.Commands.{steps}
 use Rattle.kr_top.specs.Message.{status_of, status_of_done, status_of_configuration, status_of_refusal, line_of, fault_line}
-use Rattle.kr_top.specs.Steps.{Call, loading, reading, opening, lending, scanning, writing, drawing, object_of, Point, refuses, gives, linking, asking}
-use Rattle.kr_top.specs.Ran.{Receipt, IsIdle, Reports, IsUntouched, StopsAtOnce, Did, Comes, Writes, Answers, Tells, FailsAt, FailsToWrite, Readings}
+use Rattle.kr_top.specs.Steps.{Call, loading, reading, opening, lending, scanning, writing, drawing, object_of, Point, awaits, amid, refuses, gives, linking, asking}
+use Rattle.kr_top.specs.Ran.{Receipt, IsIdle, Reports, IsUntouched, StopsAtOnce, Did, Comes, ComesSaying, ComesReporting, IsStopped, Writes, Answers, Tells, FailsAt, FailsToSay, FailsToWrite, FailsToReport, Readings}
 use Rattle.kr_top.specs.declared.command.Command.{Command}
 use Rattle.kr_top.specs.declared.refusal.BadWords.{BadWords}
 use Rattle.kr_top.specs.declared.refusal.BadWords.TheVariants.{Usage, Replicas, Size}
@@ -102,6 +102,30 @@ whole_front old new value a = (
   subst (λ v. Appends old new v) (sym (take_all (length value) value (omega arith))) a,
 )
 
+-- what was said is no call's
+module _ (said : List ℕ) (a : Around) where
+  same_faults : (call : Call) → faults_at call (with_what_is_said said a) ≡ faults_at call a
+  same_faults (loading name) = refl
+  same_faults reading = refl
+  same_faults (opening seat) = refl
+  same_faults (lending name) = refl
+  same_faults (scanning object name) = refl
+  same_faults (writing object name) = refl
+  same_faults (drawing seat) = refl
+  same_faults (linking seat plugin) = refl
+  same_faults (asking seat plugin) = refl
+
+  same_count : (call : Call) → count_at call (with_what_is_said said a) ≡ count_at call a
+  same_count (loading name) = refl
+  same_count reading = refl
+  same_count (opening seat) = refl
+  same_count (lending name) = refl
+  same_count (scanning object name) = refl
+  same_count (writing object name) = refl
+  same_count (drawing seat) = refl
+  same_count (linking seat plugin) = refl
+  same_count (asking seat plugin) = refl
+
 -- ---- by how the call ended
 
 module _ (words : List (List ℕ)) (old new : Around) (output errors : Receipt) (status : ℕ) where
@@ -112,6 +136,15 @@ module _ (words : List (List ℕ)) (old new : Around) (output errors : Receipt) 
   abbrev AreRead : Type 0
   AreRead = Readings words old new output errors status
 
+  -- what was written
+  abbrev Front : Type 0
+  Front = IsIdle output
+      ⊎ ((point : Point Outcome) × ComesReporting words old new output point)
+      ⊎ ((point : Point Outcome) × (said : List ℕ) × ComesSaying words old new said point
+      × AppendsFront output.old output.new said)
+      ⊎ ((made : Outcome) × Comes words old new (gives made)
+      × AppendsFront output.old output.new made.bytes)
+
   at_words : (why : BadWords) → AskBadly why words → IsUntouched old new output
       → Told (Err (Words why)) → AreRead
   at_words Usage bad same t = record {
@@ -120,7 +153,7 @@ module _ (words : List (List ℕ)) (old new : Around) (output errors : Receipt) 
     refused = λ which. absurd (omega (arith, t.0, which));
     decided = λ command point end asks tells would at. absurd (no_stop Usage asks bad);
     done = λ zero_is. absurd (omega (arith, t.0, zero_is));
-    written = record { front = inr (inl same.1); usage = λ two. same };
+    written = record { front = inl same.1; usage = λ two. same };
   }
   at_words Replicas bad same t = record {
     usage = (λ two. absurd (omega (arith, t.0, two)), λ none. inr (inr (inl (t.0, inl bad))));
@@ -128,7 +161,7 @@ module _ (words : List (List ℕ)) (old new : Around) (output errors : Receipt) 
     refused = λ which. inr (inr (t.0, inl bad, same));
     decided = λ command point end asks tells would at. absurd (no_stop Replicas asks bad);
     done = λ zero_is. absurd (omega (arith, t.0, zero_is));
-    written = record { front = inr (inl same.1); usage = λ two. same };
+    written = record { front = inl same.1; usage = λ two. same };
   }
   at_words Size bad same t = record {
     usage = (λ two. absurd (omega (arith, t.0, two)), λ none. inr (inr (inl (t.0, inr bad))));
@@ -136,48 +169,46 @@ module _ (words : List (List ℕ)) (old new : Around) (output errors : Receipt) 
     refused = λ which. inr (inr (t.0, inr bad, same));
     decided = λ command point end asks tells would at. absurd (no_stop Size asks bad);
     done = λ zero_is. absurd (omega (arith, t.0, zero_is));
-    written = record { front = inr (inl same.1); usage = λ two. same };
+    written = record { front = inl same.1; usage = λ two. same };
   }
 
-  at_memory : Reports new.said output ⊎ IsIdle output → Told (Err NoMemory) → AreRead
-  at_memory idle t = record {
+  at_memory : Front → Told (Err NoMemory) → AreRead
+  at_memory front t = record {
     usage = (λ two. absurd (omega (arith, t.0, two)), λ none. inr (inl t.0));
     caused = λ four. absurd (omega (arith, t.0, four));
     refused = λ which. absurd (omega (arith, t.0, which));
     decided = λ command point end asks tells would at. inr (inr t.0);
     done = λ zero_is. absurd (omega (arith, t.0, zero_is));
-    written = record {
-      front = elim idle [ inl said ↦ inl said | inr none ↦ inr (inl none) ];
-      usage = λ two. absurd (omega (arith, t.0, two));
-    };
+    written = record { front = front; usage = λ two. absurd (omega (arith, t.0, two)) };
   }
 
   at_value : (made : Outcome) → Comes words old new (gives made)
       → Appends output.old output.new made.bytes → Told (Ok made.done) → AreRead
   at_value made comes whole t = let z = done_in made.done in record {
-    usage = (λ two. absurd (omega (arith, t.0, two, z)), λ none. absurd (asks_something comes.asks none));
+    usage = (λ two. absurd (omega (arith, t.0, two, z)), λ none. absurd (asks_something comes.1.asks none));
     caused = λ four. absurd (omega (arith, t.0, four, z));
     refused = λ which. inr (inl (made, comes, sym t.0, whole, t.1));
     decided = λ command point end asks tells would at.
         inl (subst Told (sym (same_end point end (Ok made.done) asks tells would comes at refl)) t);
     done = λ zero_is. (made, comes, sym t.0 ∙ zero_is, whole, t.1);
     written = record {
-      front = inr (inr (made, comes, whole_front output.old output.new made.bytes whole));
+      front = inr (inr (inr (made, comes, whole_front output.old output.new made.bytes whole)));
       usage = λ two. absurd (omega (arith, t.0, two, z));
     };
   }
 
-  at_refusal : (why : Refusal) → Comes words old new (refuses why) → Reports new.said output
+  at_refusal : (why : Refusal) → ComesReporting words old new output (refuses why)
       → Told (Err (Refused why)) → AreRead
-  at_refusal why comes said t = let s = status_in why in record {
-    usage = (λ two. absurd (omega (arith, t.0, two, s)), λ none. absurd (asks_something comes.asks none));
+  at_refusal why comes t = let s = status_in why in record {
+    usage = (λ two. absurd (omega (arith, t.0, two, s)), λ none. absurd (asks_something comes.1.asks none));
     caused = λ four. absurd (omega (arith, t.0, four, s));
-    refused = λ which. inl (why, comes, sym t.0, said, t.1);
+    refused = λ which. inl (why, comes, sym t.0, t.1);
     decided = λ command point end asks tells would at.
-        inl (subst Told (sym (same_end point end (Err (Refused why)) asks tells would comes at refl)) t);
+        inl (subst Told (sym (same_end point end (Err (Refused why)) asks tells would
+        (comes.0, comes.1) at refl)) t);
     done = λ zero_is. absurd (omega (arith, t.0, zero_is, s));
     written = record {
-      front = inl said;
+      front = inr (inl (refuses why, comes));
       usage = λ two. absurd (omega (arith, t.0, two, s));
     };
   }
@@ -185,26 +216,36 @@ module _ (words : List (List ℕ)) (old new : Around) (output errors : Receipt) 
   -- an object failed
   at_fault : (object : Object) (count : ℕ) (command : Command) → Asks words command
       → (((call : Call) × FailsAt words old new output errors call)
-      ⊎ ((made : Outcome) × FailsToWrite words old new output errors made))
-      → Reports new.said output
-      ⊎ ((made : Outcome) × Comes words old new (gives made)
-      × AppendsFront output.old output.new made.bytes)
-      → Told (Err (Fault object count)) → AreRead
+      ⊎ ((made : Outcome) × FailsToWrite words old new output errors made)
+      ⊎ FailsToReport words old new output errors)
+      → Front → Told (Err (Fault object count)) → AreRead
   at_fault object count command asks why front t = record {
     usage = (λ two. absurd (omega (arith, t.0, two)), λ none. absurd (asks_something asks none));
-    caused = λ four. elim why [ inl c ↦ inl c | inr c ↦ inr (inl c) ];
+    caused = λ four. elim why [ inl c ↦ inl c | inr c ↦ elim c [ inl m ↦ inr (inl m) | inr r ↦ inr (inr (inl r)) ] ];
     refused = λ which. absurd (omega (arith, t.0, which));
     decided = λ command point end asks tells would at. inr (inl t.0);
     done = λ zero_is. absurd (omega (arith, t.0, zero_is));
-    written = record {
-      front = elim front [ inl said ↦ inl said | inr some ↦ inr (inr some) ];
-      usage = λ two. absurd (omega (arith, t.0, two));
-    };
+    written = record { front = front; usage = λ two. absurd (omega (arith, t.0, two)) };
   }
 
-  comes : {made : Result Outcome Stop} {point : Point Outcome} (did : Did words old new made)
-      → Reaches (steps did.command) (left_of old) new point → Comes words old new point
-  comes did r = record { command = did.command; asks = did.asks; reaches = r; home = did.home }
+  module _ (said : List ℕ) where
+    abbrev Now : Around
+    Now = with_what_is_said said new
+
+    comes : {made : Result Outcome Stop} {point : Point Outcome} (did : Did words old Now made)
+        → Reaches (steps did.command) (left_of old) Now point → ComesSaying words old new said point
+    comes did r = record {
+      command = did.command;
+      asks = did.asks;
+      reaches = r;
+      home = record {
+        files = did.home.files;
+        dice = did.home.dice;
+        tapes = did.home.tapes;
+        links = did.home.links;
+        input = did.home.input;
+      };
+    }
 
   -- the line has the object and the count
   line_at : {object : Object} {count : ℕ} (same : Object) (number : ℕ) → object ≡ same
@@ -214,72 +255,138 @@ module _ (words : List (List ℕ)) (old new : Around) (output errors : Receipt) 
       subst (λ c. Appends errors.old errors.new (fault_line same c)) n
       (subst (λ x. Appends errors.old errors.new (fault_line x count)) o t.1)
 
-  at_step : (stop : Stop) → Did words old new (Err stop) → Reports new.said output
-      → Told (Err stop) → AreRead
-  at_step (Words why) did said t = absurd did.ends
-  at_step (Refused why) did said t = at_refusal why (comes did did.ends) said t
-  at_step (Fault object count) did said t =
-      let call : Call = did.ends.0 in
-      let f : IsFault call object count old new = did.ends.2 in
-      at_fault object count did.command did.asks (inl (
-        call,
-        (
-          comes did did.ends.1,
-          said,
-          f.1,
-          object_rose call did.home f.1,
-          line_at (object_of call) (count_at call new) f.0 f.2 t,
-        ),
-      ))
-      (inl said) t
-  at_step NoMemory did said t = at_memory (inl said) t
-
   at_once : (r : Result Done Stop) → StopsAtOnce words r → IsUntouched old new output → Told r
       → AreRead
   at_once (Ok done) stops same t = absurd stops
   at_once (Err (Words why)) stops same t = at_words why stops same t
   at_once (Err (Refused why)) stops same t = absurd stops
   at_once (Err (Fault object count)) stops same t = absurd stops
-  at_once (Err NoMemory) stops same t = at_memory (inr same.1) t
+  at_once (Err NoMemory) stops same t = at_memory (inl same.1) t
 
-  at_output : (made : Outcome) (r : Result Done Stop) → Did words old new (Ok made)
-      → Writes new.said output (Ok made) r → Told r → AreRead
-  at_output made (Ok done) did w t =
-      at_value made (comes did did.ends) w.1 (subst (λ d. Told (Ok d)) w.0 t)
-  at_output made (Err (Words why)) did w t = absurd w
-  at_output made (Err (Refused why)) did w t = absurd w
-  at_output made (Err (Fault object count)) did w t =
-      at_fault object count did.command did.asks
-      (inr (
-        made,
-        (
-          comes did did.ends,
-          w.0,
-          w.2,
-          line_at Output output.new_faults w.1 w.3 t,
-        ),
-      ))
-      (inr (made, comes did did.ends, w.0)) t
-  at_output made (Err NoMemory) did w t = absurd w
+  module _ (said : List ℕ) where
+    -- where a step ended the command
+    stopped : (stop : Stop) (did : Did words old (Now said) (Err stop))
+        → (point : Point Outcome) × IsStopped point × ComesSaying words old new said point
+    stopped (Words why) did = absurd did.ends
+    stopped (Refused why) did = (refuses why, tt, comes said did did.ends)
+    stopped (Fault object count) did = (awaits did.ends.0, tt, comes said did did.ends.1)
+    stopped NoMemory did = ended did did.ends
+      where
+        ended : Did words old (Now said) (Err NoMemory)
+            → ((call : Call) × Reaches (steps did.command) (left_of old) (Now said) (awaits call))
+            ⊎ Reaches (steps did.command) (left_of old) (Now said) amid
+            → (point : Point Outcome) × IsStopped point × ComesSaying words old new said point
+        ended did (inl (call, r)) = (awaits call, tt, comes said did r)
+        ended did (inr r) = (amid, tt, comes said did r)
+
+    reported : (stop : Stop) (did : Did words old (Now said) (Err stop)) → Reports said output
+        → Front
+    reported stop did says = let at = stopped stop did in inr (inl (at.0, (said, at.2, says)))
+
+    at_step : (stop : Stop) → Did words old (Now said) (Err stop) → Reports said output
+        → Told (Err stop) → AreRead
+    at_step (Words why) did says t = absurd did.ends
+    at_step (Refused why) did says t = at_refusal why (said, comes said did did.ends, says) t
+    at_step (Fault object count) did says t =
+        let call : Call = did.ends.0 in
+        let f : IsFault call object count old (Now said) = did.ends.2 in
+        let rose = subst (Rose (faults_at call old)) (same_faults said new call) f.1 in
+        at_fault object count did.command did.asks (inl (
+          call,
+          (
+            (said, comes said did did.ends.1, says),
+            rose,
+            object_rose call (comes said did did.ends.1).home rose,
+            line_at (object_of call) (count_at call new) f.0 (f.2 ∙ same_count said new call) t,
+          ),
+        ))
+        (reported (Fault object count) did says) t
+    at_step NoMemory did says t = at_memory (reported NoMemory did says) t
+
+    at_output : (made : Outcome) (r : Result Done Stop) → Did words old (Now said) (Ok made)
+        → Writes said output (Ok made) r → Told r → AreRead
+    at_output made (Ok done) did w t =
+        at_value made (said, comes said did did.ends) w.1 (subst (λ d. Told (Ok d)) w.0 t)
+    at_output made (Err (Words why)) did w t = absurd w
+    at_output made (Err (Refused why)) did w t = absurd w
+    at_output made (Err (Fault object count)) did w t =
+        at_fault object count did.command did.asks
+        (inr (inl (
+          made,
+          (
+            (said, comes said did did.ends),
+            w.0,
+            w.2,
+            line_at Output output.new_faults w.1 w.3 t,
+          ),
+        )))
+        (inr (inr (inr (made, (said, comes said did did.ends), w.0)))) t
+    at_output made (Err NoMemory) did w t = absurd w
+
+    cut_front : (stop : Stop) (did : Did words old (Now said) (Err stop))
+        → AppendsFront output.old output.new said → Front
+    cut_front stop did some =
+        let at = stopped stop did in inr (inr (inl (at.0, (said, at.2, some))))
+
+    at_report : (stop : Stop) (object : Object) (count : ℕ)
+        → Did words old (Now said) (Err stop)
+        → AppendsFront output.old output.new said × (object ≡ Output)
+        × Rose output.old_faults output.new_faults × (count ≡ output.new_faults)
+        → Told (Err (Fault object count)) → AreRead
+    at_report stop object count did f t =
+        let at = stopped stop did in
+        at_fault object count did.command did.asks
+        (inr (inr (
+          at.0,
+          said,
+          at.1,
+          at.2,
+          f.0,
+          f.2,
+          line_at Output output.new_faults f.1 f.3 t,
+        )))
+        (cut_front stop did f.0) t
+
+  by_said : (said : List ℕ) (stop : Stop) (r : Result Done Stop)
+      → Did words old (Now said) (Err stop) → FailsToSay said output r → Told r → AreRead
+  by_said [] stop r did f t = absurd f
+  by_said (byte ∷ bytes) stop (Ok done) did f t = absurd f
+  by_said (byte ∷ bytes) stop (Err (Words why)) did f t = absurd f
+  by_said (byte ∷ bytes) stop (Err (Refused why)) did f t = absurd f
+  by_said (byte ∷ bytes) stop (Err (Fault object count)) did f t =
+      at_report (byte ∷ bytes) stop object count did f t
+  by_said (byte ∷ bytes) stop (Err NoMemory) did f t = absurd f
 
   by_end : (r : Result Done Stop) → Answers words old new output r → Told r → AreRead
   by_end r (inl (stops, same)) t = at_once r stops same t
-  by_end r (inr (Ok made, did, w)) t = at_output made r did w t
-  by_end r (inr (Err stop, did, w)) t = at_step stop did w.1 (subst Told w.0 t)
+  by_end r (inr (said, Ok made, did, w)) t = at_output said made r did w t
+  by_end r (inr (said, Err stop, did, inl w)) t = at_step said stop did w.1 (subst Told w.0 t)
+  by_end r (inr (said, Err stop, did, inr w)) t = by_said said stop r did w t
 
-  front_of : (r : Result Done Stop) → Answers words old new output r
-      → Reports new.said output ⊎ IsIdle output
-      ⊎ ((made : Outcome) × Comes words old new (gives made)
-      × AppendsFront output.old output.new made.bytes)
-  front_of r (inl (stops, same)) = inr (inl same.1)
-  front_of (Ok done) (inr (Ok made, did, w)) =
-      inr (inr (made, comes did did.ends, whole_front output.old output.new made.bytes w.1))
-  front_of (Err (Words why)) (inr (Ok made, did, w)) = absurd w
-  front_of (Err (Refused why)) (inr (Ok made, did, w)) = absurd w
-  front_of (Err (Fault object count)) (inr (Ok made, did, w)) =
-      inr (inr (made, comes did did.ends, w.0))
-  front_of (Err NoMemory) (inr (Ok made, did, w)) = absurd w
-  front_of r (inr (Err stop, did, w)) = inl w.1
+  front_cut : (said : List ℕ) (stop : Stop) (r : Result Done Stop)
+      → Did words old (Now said) (Err stop) → FailsToSay said output r → Front
+  front_cut [] stop r did f = absurd f
+  front_cut (byte ∷ bytes) stop (Ok done) did f = absurd f
+  front_cut (byte ∷ bytes) stop (Err (Words why)) did f = absurd f
+  front_cut (byte ∷ bytes) stop (Err (Refused why)) did f = absurd f
+  front_cut (byte ∷ bytes) stop (Err (Fault object count)) did f =
+      cut_front (byte ∷ bytes) stop did f.0
+  front_cut (byte ∷ bytes) stop (Err NoMemory) did f = absurd f
+
+  front_of : (r : Result Done Stop) → Answers words old new output r → Front
+  front_of r (inl (stops, same)) = inl same.1
+  front_of (Ok done) (inr (said, Ok made, did, w)) = inr (inr (inr (
+    made,
+    (said, comes said did did.ends),
+    whole_front output.old output.new made.bytes w.1,
+  )))
+  front_of (Err (Words why)) (inr (said, Ok made, did, w)) = absurd w
+  front_of (Err (Refused why)) (inr (said, Ok made, did, w)) = absurd w
+  front_of (Err (Fault object count)) (inr (said, Ok made, did, w)) =
+      inr (inr (inr (made, (said, comes said did did.ends), w.0)))
+  front_of (Err NoMemory) (inr (said, Ok made, did, w)) = absurd w
+  front_of r (inr (said, Err stop, did, inl w)) = reported said stop did w.1
+  front_of r (inr (said, Err stop, did, inr w)) = front_cut said stop r did w
 
 pub readings : (words : List (List ℕ)) (old new : Around) (output errors : Receipt) (status : ℕ)
     (r : Result Done Stop) → Answers words old new output r
@@ -289,7 +396,7 @@ readings words old new output errors status r a (inl t) =
     by_end words old new output errors status r a t
 readings words old new output errors status r a (inr t) = record {
   usage = (λ two. absurd (omega (arith, t.0, two)), λ none. inr (inr (inr (t.0, t.1))));
-  caused = λ four. inr (inr t.1);
+  caused = λ four. inr (inr (inr t.1));
   refused = λ which. absurd (omega (arith, t.0, which));
   decided = λ command point end asks tells would at. inr (inl t.0);
   done = λ zero_is. absurd (omega (arith, t.0, zero_is));

@@ -55,11 +55,11 @@ use Rattle.kr_store.specs.declared.rows.Row as stored
 use Rattle.kr_top.specs.Configuration.{IsConfiguration}
 use Rattle.kr_top.specs.Inspect.{Inspects, ShowsBody, ShowsObject}
 use Rattle.kr_top.specs.Plugins.{borrow_links, make_seeds, programs_of, seed_row, unless_breach, wrap_seed}
-use Rattle.kr_top.specs.Steps.{Steps, load, take_input, borrow_dice, borrow_tape, read_tape, write_row, draw, borrow_link, ask_status, wrap, unwrap, note, find, refuse, give, and_then, Left, with_asked, with_dice, or_empty, tapes_with}
+use Rattle.kr_top.specs.Steps.{Steps, load, take_input, borrow_dice, borrow_tape, read_tape, write_row, keep_rows, draw, borrow_link, ask_status, wrap, unwrap, note, find, refuse, give, and_then, Left, with_asked, with_dice, or_empty, tapes_with}
 use Rattle.kr_top.specs.StoreFiles.{Stored, with_row}
 use Rattle.kr_top.specs.Texts.{line, word_and_number}
 use Rattle.kr_top.specs.declared.command.Command.{Command}
-use Rattle.kr_top.specs.declared.command.Command.TheVariants.{Convert, Check, Inspect, Put, Get, Rows, Judge}
+use Rattle.kr_top.specs.declared.command.Command.TheVariants.{Convert, Check, Inspect, Put, Get, Rows, Judge, Rewrite}
 use Rattle.kr_top.specs.declared.command.Conversion.{Conversion}
 use Rattle.kr_top.specs.declared.command.Lookup.{Lookup}
 use Rattle.kr_top.specs.declared.command.Direction.{Direction}
@@ -346,6 +346,7 @@ regroup (read_tape object name next) f g =
     λ i. read_tape object name (λ bytes. regroup (next bytes) f g i)
 regroup (write_row object name store row next) f g =
     λ i. write_row object name store row (regroup next f g i)
+regroup (keep_rows name store next) f g = λ i. keep_rows name store (regroup next f g i)
 regroup (draw seat size next) f g = λ i. draw seat size (λ bytes. regroup (next bytes) f g i)
 regroup (borrow_link seat plugin program next) f g =
     λ i. borrow_link seat plugin program (regroup next f g i)
@@ -835,6 +836,7 @@ settled (Judge words) old (tape, names, file) = (
         (λ stored. settled_judging words.options stored.rows _ names file),
   ),
 )
+settled (Rewrite words) old told = absurd told
 settled Inspect old input = (
   refl,
   refl,

@@ -28,6 +28,9 @@ around truth world input faults =
 
 -- ---- its parts
 
+abbrev pub with_what_is_said : List ℕ → Around → Around
+with_what_is_said said a = record a { said = said }
+
 abbrev pub with_world : Outside → Around → Around
 with_world world a = record a { world = world }
 

@@ -7,7 +7,7 @@ use Rattle.kr_words.specs.Rules.{before_equals, after_equals}
 use Rattle.kr_words.specs.declared.command.Verb.{Verb}
 use Rattle.kr_words.specs.declared.command.Verb.TheVariants as verbs
 use Rattle.kr_top.specs.declared.command.Command.{Command}
-use Rattle.kr_top.specs.declared.command.Command.TheVariants.{Convert, Check, Inspect, Put, Get, Rows, Judge}
+use Rattle.kr_top.specs.declared.command.Command.TheVariants.{Convert, Check, Inspect, Put, Get, Rows, Judge, Rewrite}
 use Rattle.kr_top.specs.declared.command.Direction.{Direction}
 use Rattle.kr_top.specs.declared.command.Direction.TheVariants.{Encrypt, Decrypt}
 use Rattle.kr_top.specs.declared.refusal.BadWords.{BadWords}
@@ -82,6 +82,13 @@ abbrev pub judgement_of : (options : List (List ℕ × List ℕ)) → (store : O
 judgement_of options None = None
 judgement_of options (Some store) = Some (Judge (record { store = store; options = options }))
 
+abbrev pub rewriting_of : (options : List (List ℕ × List ℕ)) → (config store : Option (List ℕ))
+    → Option Command
+rewriting_of options None store = None
+rewriting_of options (Some config) None = None
+rewriting_of options (Some config) (Some store) =
+    Some (Rewrite (record { config = config; store = store; options = options }))
+
 -- the command of a verb with its options, where it is built
 abbrev pub command_of : Verb → List (List ℕ × List ℕ) → Option Command
 command_of verbs.Encrypt options =
@@ -101,6 +108,8 @@ command_of verbs.Get options =
     (value_of options (codes "path"))
 command_of verbs.Rows options = listing_of (value_of options (codes "store"))
 command_of verbs.Judge options = judgement_of options (value_of options (codes "store"))
+command_of verbs.Rewrite options =
+    rewriting_of options (value_of options (codes "config")) (value_of options (codes "store"))
 command_of other options = None
 
 -- the words mean the command, and no limit of the command line is passed

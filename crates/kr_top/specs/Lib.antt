@@ -10,9 +10,11 @@ pub mod Fleets
 pub mod Configuration
 pub mod Inspect
 pub mod Judgements
+pub mod Limits
 pub mod Message
 pub mod Plugins
 pub mod Ran
+pub mod Reports
 pub mod RowLines
 pub mod Steps
 pub mod StoreFiles

@@ -7,14 +7,14 @@ use Rattle.kr_base.specs.Told.{Agrees}
 use Rattle.kr_config.specs.Kept.{Row}
 use Rattle.kr_provider.specs.PluginOrder.{plugin_order}
 use Rattle.kr_provider.specs.Publication.{names_plugin}
-use Rattle.kr_top.specs.Around.{Around, left_of, faults_at, count_at, Reaches, IsHome, Ends}
+use Rattle.kr_top.specs.Around.{Around, with_what_is_said, left_of, faults_at, count_at, Reaches, IsHome, Ends}
 use Rattle.kr_top.specs.Command.{replica_names, reload_in, reload_file, Asks, AskNothing, AskReplicas, AskSize, AskBadly}
 use Rattle.kr_top.specs.Commands.{steps}
 use Rattle.kr_top.specs.Configuration.{IsConfiguration}
 use Rattle.kr_top.specs.Message.{status_of, status_of_done, status_of_refusal, line_of, refusal_line, fault_line, done_line}
 use Rattle.kr_top.specs.Steps.{Call, object_of, Point, awaits, refuses, gives, Left, Goes}
 use Rattle.kr_top.specs.declared.command.Command.{Command}
-use Rattle.kr_top.specs.declared.command.Command.TheVariants.{Convert, Check, Inspect, Put, Get, Rows, Judge}
+use Rattle.kr_top.specs.declared.command.Command.TheVariants.{Convert, Check, Inspect, Put, Get, Rows, Judge, Rewrite}
 use Rattle.kr_top.specs.declared.command.Direction.{Direction}
 use Rattle.kr_top.specs.declared.command.Direction.TheVariants.{Encrypt, Decrypt}
 use Rattle.kr_top.specs.declared.refusal.Object.TheVariants.{Output}
@@ -58,6 +58,13 @@ pub record Did (words : List (List ℕ)) (old new : Around) (made : Result Outco
   pub home : IsHome old new
   pub ends : Ends (steps command) (left_of old) old new made
 
+-- the output failed at what was said, of which it has a prefix
+abbrev pub FailsToSay : List ℕ → Receipt → Result Done Stop → Type 0
+FailsToSay (byte ∷ bytes) output (Err (Fault object count)) =
+    AppendsFront output.old output.new (byte ∷ bytes) × (object ≡ Output)
+    × Rose output.old_faults output.new_faults × (count ≡ output.new_faults)
+FailsToSay said output result = ⊥
+
 -- the value of a command was written; where the output fails, a prefix of it; and where a step
 -- ended the command, what was said
 abbrev pub Writes : List ℕ → Receipt → Result Outcome Stop → Result Done Stop → Type 0
@@ -67,7 +74,8 @@ Writes said output (Ok made) (Err (Fault object count)) =
     AppendsFront output.old output.new made.bytes × (object ≡ Output)
     × Rose output.old_faults output.new_faults × (count ≡ output.new_faults)
 Writes said output (Ok made) (Err stop) = ⊥
-Writes said output (Err stop) result = (result ≡ Err stop) × Reports said output
+Writes said output (Err stop) result =
+    ((result ≡ Err stop) × Reports said output) ⊎ FailsToSay said output result
 
 -- the words stop the call before anything is done, or there is no memory to read them
 abbrev pub StopsAtOnce : List (List ℕ) → Result Done Stop → Type 0
@@ -78,8 +86,8 @@ StopsAtOnce words result = ⊥
 abbrev pub Answers : List (List ℕ) → Around → Around → Receipt → Result Done Stop → Type 0
 Answers words old new output result =
     (StopsAtOnce words result × IsUntouched old new output)
-    ⊎ ((made : Result Outcome Stop) × Did words old new made
-    × Writes new.said output made result)
+    ⊎ ((said : List ℕ) × (made : Result Outcome Stop)
+    × Did words old (with_what_is_said said new) made × Writes said output made result)
 
 -- the line was written to the sink and the status answered; where it can't be written, the status
 -- is 4
@@ -99,12 +107,22 @@ pub record Ran (words : List (List ℕ)) (old new : Around) (output errors : Rec
 
 -- ---- what follows from it, for readers
 
--- the words ask for a command whose steps come to this point
-pub record Comes (words : List (List ℕ)) (old new : Around) (point : Point Outcome) : Type 0 where
+-- the words ask for a command whose steps come to this point, where this was said
+pub record ComesSaying (words : List (List ℕ)) (old new : Around) (said : List ℕ)
+    (point : Point Outcome) : Type 0 where
   pub command : Command
   pub asks : Asks words command
-  pub reaches : Reaches (steps command) (left_of old) new point
+  pub reaches : Reaches (steps command) (left_of old) (with_what_is_said said new) point
   pub home : IsHome old new
+
+-- whatever was said
+abbrev pub Comes : List (List ℕ) → (old new : Around) → Point Outcome → Type 0
+Comes words old new point = (said : List ℕ) × ComesSaying words old new said point
+
+-- and nothing else was written
+abbrev pub ComesReporting : List (List ℕ) → (old new : Around) → Receipt → Point Outcome → Type 0
+ComesReporting words old new output point =
+    (said : List ℕ) × ComesSaying words old new said point × Reports said output
 
 -- status 2 comes only where the words ask for nothing; and where they do, 2 comes, but for a limit
 -- that they pass, want of memory, and a line that couldn't be written
@@ -117,11 +135,16 @@ IsUsage words errors status =
     ⊎ ((status ≡ 6) × (AskReplicas words ⊎ AskSize words))
     ⊎ ((status ≡ 4) × Rose errors.old_faults errors.new_faults))
 
+-- a point at which steps give nothing
+abbrev pub IsStopped : Point Outcome → Type 0
+IsStopped (gives made) = ⊥
+IsStopped point = ⊤
+
 -- the steps come to a call that failed, so that its count and its object's rose; nothing was
 -- written but what was said, and the line, which has the object and its count
 abbrev pub FailsAt : List (List ℕ) → Around → Around → Receipt → Receipt → Call → Type 0
 FailsAt words old new output errors call =
-    Comes words old new (awaits call) × Reports new.said output
+    ComesReporting words old new output (awaits call)
     × Rose (faults_at call old) (faults_at call new)
     × Rose (count_at call old) (count_at call new)
     × Appends errors.old errors.new (fault_line (object_of call) (count_at call new))
@@ -134,19 +157,28 @@ FailsToWrite words old new output errors made =
     × Rose output.old_faults output.new_faults
     × Appends errors.old errors.new (fault_line Output output.new_faults)
 
+-- the steps are ended at a point, and of what was said a prefix was written before the output
+-- failed; the line has the output's count
+abbrev pub FailsToReport : List (List ℕ) → Around → Around → Receipt → Receipt → Type 0
+FailsToReport words old new output errors = (point : Point Outcome) × (said : List ℕ)
+    × IsStopped point × ComesSaying words old new said point
+    × AppendsFront output.old output.new said × Rose output.old_faults output.new_faults
+    × Appends errors.old errors.new (fault_line Output output.new_faults)
+
 -- status 4 comes only where a call, the output or the line failed
 abbrev pub IsCaused : List (List ℕ) → Around → Around → Receipt → Receipt → ℕ → Type 0
 IsCaused words old new output errors status =
     status ≡ 4
     → ((call : Call) × FailsAt words old new output errors call)
     ⊎ ((made : Outcome) × FailsToWrite words old new output errors made)
+    ⊎ FailsToReport words old new output errors
     ⊎ Rose errors.old_faults errors.new_faults
 
 -- the steps refuse so, with this status, and nothing was written but what was said, and the line
 abbrev pub RefusesWith : List (List ℕ) → Around → Around → Receipt → Receipt → ℕ → Type 0
 RefusesWith words old new output errors status =
-    (why : Refusal) × Comes words old new (refuses why) × (status_of_refusal why ≡ status)
-    × Reports new.said output × Appends errors.old errors.new (refusal_line why)
+    (why : Refusal) × ComesReporting words old new output (refuses why)
+    × (status_of_refusal why ≡ status) × Appends errors.old errors.new (refusal_line why)
 
 -- the steps give a value with this status, and just that was written, and its line
 abbrev pub GivesWith : List (List ℕ) → Around → Around → Receipt → Receipt → ℕ → Type 0
@@ -176,7 +208,8 @@ abbrev pub AreTold : (List ℕ → Option (Option (List ℕ))) → (names : List
 AreTold file [] = ⊤
 AreTold file (name ∷ names) = IsSome (file name) × AreTold file names
 
--- what the command touches of the files, the tapes, the input and the plugins is told
+-- what the command touches of the files, the tapes, the input and the plugins is told; of `rewrite`
+-- nothing is said so
 abbrev pub IsTelling : Command → Around → Type 0
 IsTelling (Convert words) old = IsSome (old.world.file words.config) × IsSome old.input
     × ((file : Option (List ℕ)) (rows : List Row) → IsConfiguration words.config file (Ok rows)
@@ -196,6 +229,7 @@ IsTelling (Judge words) old =
     IsSome (old.world.tapes.told words.store)
     × AreTold old.world.file (replica_names words.options)
     × IsSome (old.world.file (reload_file (reload_in words.options)))
+IsTelling (Rewrite words) old = ⊥
 
 -- the steps of a command over the told files, tapes and input, and some drawn bytes, come to this
 -- point
@@ -222,7 +256,10 @@ IsDecided words old errors status =
 -- a prefix of the value that the steps give; at status 2 nothing was touched
 pub record IsWritten (words : List (List ℕ)) (old new : Around) (output : Receipt)
     (status : ℕ) : Type 0 where
-  pub front : Reports new.said output ⊎ IsIdle output
+  pub front : IsIdle output
+      ⊎ ((point : Point Outcome) × ComesReporting words old new output point)
+      ⊎ ((point : Point Outcome) × (said : List ℕ) × ComesSaying words old new said point
+      × AppendsFront output.old output.new said)
       ⊎ ((made : Outcome) × Comes words old new (gives made)
       × AppendsFront output.old output.new made.bytes)
   pub usage : status ≡ 2 → IsUntouched old new output

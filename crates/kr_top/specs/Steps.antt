@@ -32,6 +32,8 @@ pub data Steps (A : Type 0) : Type 1 where
   read_tape : Object → (name : List ℕ) → (List ℕ → Steps A) → Steps A
   -- a row behind the rows of a store, on a tape that is lent; a fault's line names the object
   write_row : Object → (name : List ℕ) → Stored → LogRow → Steps A → Steps A
+  -- nothing is asked: the tape that is lent keeps the rows of its store, in their file
+  keep_rows : (name : List ℕ) → Stored → Steps A → Steps A
   -- so many bytes of the random source of a seat
   draw : (seat size : ℕ) → (List ℕ → Steps A) → Steps A
   -- the link of a seat to a plugin, which a program is
@@ -61,6 +63,7 @@ and_then (read_tape object name next) others =
     read_tape object name (λ bytes. and_then (next bytes) others)
 and_then (write_row object name store row next) others =
     write_row object name store row (and_then next others)
+and_then (keep_rows name store next) others = keep_rows name store (and_then next others)
 and_then (draw seat size next) others = draw seat size (λ bytes. and_then (next bytes) others)
 and_then (borrow_link seat plugin program next) others =
     borrow_link seat plugin program (and_then next others)
@@ -197,6 +200,8 @@ module _ {A : Type 0} (point : Point A) (end : Left) where
       × IsAt (awaits (writing object name)) (with_told name told left))
       ⊎ ((told : Option (List ℕ)) × HoldsRows (with_row row store) told
       × Goes next (with_told name told left))
+  Goes (keep_rows name store next) left =
+      (told : Option (List ℕ)) × HoldsRows store told × Goes next (with_told name told left)
   Goes (draw seat size next) left =
       IsAt (awaits (drawing seat)) left
       ⊎ ((bytes : List ℕ) × (rest : Option (List ℕ)) × Consumes (left.dice seat) rest bytes

@@ -1,6 +1,8 @@
 -- The definitions of inner contracts.
 pub mod Beginnings
 pub mod Phases
+pub mod Reporting
+pub mod Rewriting
 pub mod Tapes
 pub mod Judging
 pub mod Outfits

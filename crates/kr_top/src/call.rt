@@ -1,5 +1,5 @@
 //! The call that does a command.
-ghost use Rattle.std.specs.Prelude.{◌≤◌, Some};
+ghost use Rattle.std.specs.Prelude.{◌≡◌, ◌≤◌, Some, None};
 ghost use Rattle.kr_words.specs.Grammar.{texts};
 ghost use Rattle.kr_top.specs.Afterwards.{AreLeft};
 ghost use Rattle.kr_top.specs.Around.{Around, around, with_world};
@@ -7,8 +7,13 @@ ghost use Rattle.kr_top.specs.Commands.{steps};
 ghost use Rattle.kr_top.specs.FleetAsked.{AskNoFleet, AsksFleet};
 ghost use Rattle.kr_top.specs.Fleets.{RanAlone, RanFleet};
 ghost use Rattle.kr_top.specs.Ran.{receipt, Answers, Ran, Readings};
+<<<<<<< ours
 ghost use Rattle.kr_top.specs.declared.fleet_words.FleetWords.{FleetWords};
 ghost use Rattle.kr_top.specs.inner.Phases.{Does, KeepsRules};
+=======
+ghost use Rattle.kr_top.specs.inner.Phases.{Does, HasShortPath};
+ghost use Rattle.kr_top.specs.inner.Reporting.{saying};
+>>>>>>> theirs
 
 use crate::check::check;
 use crate::command::{Command, read_command};
@@ -20,7 +25,8 @@ use crate::judge::judge;
 use crate::lookup::get;
 use crate::message::tell;
 use crate::phases::write_output;
-use crate::refusal::{Done, Outcome, Stop};
+use crate::refusal::{Done, Ended, Outcome, Stop};
+use crate::rewriting::rewrite;
 use crate::rows::list;
 use crate::storing::put;
 use kr_base::{Sink, Source};
@@ -187,8 +193,8 @@ fn answer<W: World, I: Source, O: Sink>(
         Ok(command) => command,
         Err(stop) => return Err(stop),
     };
-    let made = perform(alloc, &command, world, input);
-    write_output(output, made)
+    let ended = perform(alloc, &command, world, input);
+    write_output(output, ended)
 }
 
 /// Does a command up to its value.
@@ -197,22 +203,38 @@ fn perform<W: World, I: Source>(
     command: &Command,
     world: &mut W,
     input: &mut I,
+<<<<<<< ours
 ) -> Result<Outcome, Stop>
     requires path { KeepsRules (Some command.now) }
+=======
+) -> Ended
+    requires path { HasShortPath (Some command.now) }
+>>>>>>> theirs
     ensures { Does (steps command.now)
         (around W.Link.truth (W.told world.old) (I.left input.old)
         (I.count input.old))
+        (saying result.said
         (around W.Link.truth (W.told world.new) (I.left input.new)
-        (I.count input.new))
-        result }
+        (I.count input.new)))
+        result.made }
 {
     match command {
-        Command::Convert(words) => convert(alloc, words, world, input),
-        Command::Check { config, resource } => check(alloc, config.as_str(), resource, world),
-        Command::Inspect => inspect(alloc, input),
-        Command::Put { object, store } => put(alloc, object, store, world, input),
-        Command::Get(words) => get(alloc, words, world),
-        Command::Rows { store } => list(alloc, store.as_str(), world),
-        Command::Judge(words) => judge(alloc, words, world),
+        Command::Convert(words) => silent(convert(alloc, words, world, input)),
+        Command::Check { config, resource } => {
+            silent(check(alloc, config.as_str(), resource, world))
+        }
+        Command::Inspect => silent(inspect(alloc, input)),
+        Command::Put { object, store } => silent(put(alloc, object, store, world, input)),
+        Command::Get(words) => silent(get(alloc, words, world)),
+        Command::Rows { store } => silent(list(alloc, store.as_str(), world)),
+        Command::Judge(words) => silent(judge(alloc, words, world)),
+        Command::Rewrite(words) => rewrite(alloc, words, world),
     }
+}
+
+/// A command that reports nothing where it stopped.
+fn silent(made: Result<Outcome, Stop>) -> Ended
+    ensures { result ≡ record { made = made; said = None } }
+{
+    Ended { made, said: None }
 }

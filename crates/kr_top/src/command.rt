@@ -5,7 +5,7 @@ ghost use Rattle.kr_words.specs.Grammar.{texts, replicas_of, replica_limit};
 ghost use Rattle.kr_words.specs.declared.command.Verb.{Verb};
 ghost use Rattle.kr_words.specs.Options.{value_of};
 ghost use Rattle.kr_words.specs.Rules.{IsCommand};
-ghost use Rattle.kr_top.specs.Command.{command_of, conversion_of, check_of, lookup_of, listing_of, judgement_of, put_of};
+ghost use Rattle.kr_top.specs.Command.{command_of, conversion_of, check_of, lookup_of, listing_of, judgement_of, put_of, rewriting_of};
 ghost use Rattle.kr_base.specs.Rules.{IsPath, IsResource};
 ghost use Rattle.kr_top.specs.inner.Phases.{IsReadAs, KeepsRules};
 
@@ -61,6 +61,17 @@ pub struct Judgement {
     pub options: Options,
 }
 
+/// Which store is to be rewritten.
+#[derive(Debug, Drop)]
+pub struct Rewriting {
+    /// The name of the configuration file.
+    pub config: Text,
+    /// The name of the store's file.
+    pub store: Text,
+    /// All options of the words, which give the programs of plugins.
+    pub options: Options,
+}
+
 /// A command with what its words say.
 #[derive(Debug, Drop)]
 pub enum Command {
@@ -91,6 +102,8 @@ pub enum Command {
     },
     /// Judges a reload.
     Judge(Judgement),
+    /// Writes the stale rows of a store anew.
+    Rewrite(Rewriting),
 }
 
 /// Reads the words as a command.
@@ -130,6 +143,7 @@ fn command_of(alloc: Global, words: kr_words::Command) -> Result<Option<Command>
         Verb::Get => lookup_of(alloc, words),
         Verb::Rows => listing_of(alloc, &words),
         Verb::Judge => judgement_of(alloc, words),
+        Verb::Rewrite => rewriting_of(alloc, words),
         _ => Ok(None),
     }
 }
@@ -331,6 +345,28 @@ fn judgement_of(alloc: Global, words: kr_words::Command) -> Result<Option<Comman
         }))),
         None => Ok(None),
     }
+}
+
+/// The words of `rewrite`.
+fn rewriting_of(alloc: Global, words: kr_words::Command) -> Result<Option<Command>, NoMemory>
+    ensures command { IfOk result (λ command. command ≡ rewriting_of words.options.0
+        (value_of words.options.0 (codes "config"))
+        (value_of words.options.0 (codes "store"))) }
+    ensures path { IfOk result HasShortPath }
+{
+    let config = value_of(alloc, &words, "config")?;
+    let store = value_of(alloc, &words, "store")?;
+    let Some(config) = config else {
+        return Ok(None);
+    };
+    let Some(store) = store else {
+        return Ok(None);
+    };
+    Ok(Some(Command::Rewrite(Rewriting {
+        config,
+        store,
+        options: Options::new(words),
+    })))
 }
 
 /// A copy of the first value at the name.

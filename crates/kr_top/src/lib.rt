@@ -22,6 +22,8 @@ mod programs;
 mod publication;
 mod refusal;
 mod replicas;
+mod report;
+mod rewriting;
 mod row_lines;
 mod rows;
 mod stores;

@@ -199,9 +199,12 @@ fn limit_text(which: Limit) -> &'static str
         Limit::Data => "data",
         Limit::Value => "value",
         Limit::Store => "store",
+<<<<<<< ours
         Limit::Script => "script",
         Limit::Replicas => "replicas",
         Limit::Workers => "workers",
+=======
+>>>>>>> theirs
         Limit::Journal => "journal",
     }
 }
@@ -214,9 +217,12 @@ fn limit_size(which: Limit) -> u64
         Limit::Data => DATA_LIMIT,
         Limit::Value => VALUE_LIMIT,
         Limit::Store => STORE_LIMIT,
+<<<<<<< ours
         Limit::Script => STORE_LIMIT,
         Limit::Replicas => 16,
         Limit::Workers => 64,
+=======
+>>>>>>> theirs
         Limit::Journal => 4_000_000,
     }
 }
@@ -415,7 +421,7 @@ fn write_text<E: Sink>(errors: &mut E, text: &str) -> Result<(), Failed>
 }
 
 /// Writes the pieces, one behind another.
-fn write_each<E: Sink>(errors: &mut E, pieces: &[&str]) -> Result<(), Failed>
+pub fn write_each<E: Sink>(errors: &mut E, pieces: &[&str]) -> Result<(), Failed>
     ensures { Says (receipt (E.held errors.old) (E.held errors.new)
         (E.count errors.old) (E.count errors.new))
         (whole pieces.now) result }

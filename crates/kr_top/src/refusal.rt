@@ -1,5 +1,6 @@
 //! How a command ends: done, refused by what it saw, or cut short.
 
+use crate::report::Counts;
 use kr_base::{Bytes, Text};
 use kr_config::ConfigNo;
 use kr_judge::Verdict;
@@ -45,6 +46,7 @@ pub enum Limit {
     Value,
     /// That of a store's file: 67,108,864.
     Store,
+<<<<<<< ours
     /// That of a fleet file: 67,108,864.
     Script,
     /// How many replicas a fleet may have: 16.
@@ -52,6 +54,9 @@ pub enum Limit {
     /// How many workers: 64.
     Workers,
     /// How many lines their journal may need: 4,000,000.
+=======
+    /// That of the entries of a journal: 4,000,000.
+>>>>>>> theirs
     Journal,
 }
 
@@ -121,7 +126,7 @@ pub enum Done {
     Fresh,
     /// The value is of another provider than the writer.
     Stale,
-    /// The verdict isn't `pass`.
+    /// The verdict isn't `pass`, or rows were left as they are.
     Blocked,
 }
 
@@ -130,4 +135,13 @@ pub enum Done {
 pub struct Outcome {
     pub bytes: Bytes,
     pub done: Done,
+}
+
+/// How a command ended.
+#[derive(Debug, Drop)]
+pub struct Ended {
+    /// What it makes, or why it stopped.
+    pub made: Result<Outcome, Stop>,
+    /// What it reports where it stopped.
+    pub said: Option<Counts>,
 }
