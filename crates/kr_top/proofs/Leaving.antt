@@ -15,22 +15,13 @@ use Rattle.kr_store.specs.File.{file_bytes}
 use Rattle.kr_store.specs.Rows.{check_in}
 use Rattle.kr_store.specs.declared.rows.LogRow.{LogRow}
 use Rattle.kr_kms.specs.declared.world.WorldCall.TheVariants.{Tape}
-<<<<<<< ours
 use Rattle.kr_top.specs.Afterwards.{AreLeft, IsUngrown, LeavesTapes, OneMore, OthersStay, StillBegins, ToldTape}
-use Rattle.kr_top.specs.Around.{Around, Ends, MayLack, Reaches, faults_at, left_of}
-use Rattle.kr_top.specs.Commands.{adding, bench_steps, by_result, configuration, input_of, linking_programs, new_row, putting, revision_line, silently, steps, stored_into}
+use Rattle.kr_top.specs.Around.{Around, with_what_is_said, Ends, MayLack, Reaches, faults_at, left_of}
+use Rattle.kr_top.specs.Commands.{adding, bench_steps, by_result, configuration, input_of, linking_programs, new_row, putting, revision_line, rewriting, silently, steps, stored_into}
 use Rattle.kr_top.specs.Plugins.{programs_of}
 use Rattle.kr_top.specs.Message.{line_of, status_of, status_of_done}
-use Rattle.kr_top.specs.Ran.{Answers, Receipt, StopsAtOnce, Tells, Writes}
-use Rattle.kr_top.specs.Steps.{Steps, load, take_input, borrow_dice, borrow_tape, read_tape, write_row, draw, borrow_link, ask_status, wrap, unwrap, note, find, refuse, give, and_then, or_empty, tapes_with, with_asked, with_tape, Call, writing, Point, awaits, amid, refuses, gives, Left, IsAt, Goes}
-=======
-use Rattle.kr_top.specs.Afterwards.{AreLeft, LeavesTapes, MayGrow, OneMore, OthersStay, StillBegins}
-use Rattle.kr_top.specs.Around.{Around, with_what_is_said, Ends, Reaches, left_of}
-use Rattle.kr_top.specs.Commands.{adding, bench_steps, by_result, configuration, input_of, linking_programs, new_row, revision_line, sealed_into, silently, steps, stored_into, within_limit}
-use Rattle.kr_top.specs.Plugins.{programs_of}
-use Rattle.kr_top.specs.Ran.{Answers, Did, Receipt}
-use Rattle.kr_top.specs.Steps.{Steps, load, take_input, borrow_dice, borrow_tape, read_tape, write_row, keep_rows, draw, borrow_link, ask_status, wrap, unwrap, note, find, refuse, give, and_then, or_empty, tapes_with, with_asked, with_tape, Point, Left, IsAt, Goes}
->>>>>>> theirs
+use Rattle.kr_top.specs.Ran.{Answers, FailsToSay, Receipt, StopsAtOnce, Tells, Writes}
+use Rattle.kr_top.specs.Steps.{Steps, load, take_input, borrow_dice, borrow_tape, read_tape, write_row, keep_rows, draw, borrow_link, ask_status, wrap, unwrap, note, find, refuse, give, and_then, or_empty, tapes_with, with_asked, with_tape, Call, writing, Point, awaits, amid, refuses, gives, Left, IsAt, Goes}
 use Rattle.kr_top.specs.StoreFiles.{Stored, IsStored, with_row}
 use Rattle.kr_top.specs.declared.command.Command.{Command}
 use Rattle.kr_top.specs.declared.command.Command.TheVariants.{Convert, Check, Inspect, Put, Get, Rows, Judge, Rewrite}
@@ -47,11 +38,8 @@ use Rattle.kr_top.specs.declared.refusal.Outcome.{Outcome}
 use Rattle.kr_top.specs.declared.refusal.Stop.{Stop}
 use Rattle.kr_top.specs.declared.refusal.Stop.TheVariants.{Words, Refused, Fault, NoMemory}
 use Rattle.kr_top.proofs.ReadOnly.{IsReadOnly, IsReader, command_reads, configuration_reads, leaves_tapes, result_reads, work_reads}
-<<<<<<< ours
 use Rattle.kr_top.proofs.Readings.{status_in}
-=======
 use Rattle.kr_top.proofs.OneTape.{others_stay, rewriting_is_on}
->>>>>>> theirs
 use Rattle.kr_top.proofs.Tapes.{own_name}
 
 -- ---- points
@@ -116,12 +104,8 @@ module _ {A B : Type 0} (others : A → Steps B) (p : Point B) (end : Left) wher
   parts (read_tape object name next) left r (inr (bytes, agrees, goes)) =
       parts (next bytes) left (r bytes) goes
   parts (write_row object name store row next) left r goes = absurd r
-<<<<<<< ours
-  parts (draw seat size next) left r (inl at) = inl (ends_at at tt)
-=======
   parts (keep_rows name store next) left r goes = absurd r
-  parts (draw seat size next) left r (inl at) = inl (ap (λ l. l.tapes) at.1)
->>>>>>> theirs
+  parts (draw seat size next) left r (inl at) = inl (ends_at at tt)
   parts (draw seat size next) left r (inr (bytes, rest, c, fits, goes)) =
       parts (next bytes) _ (r bytes) goes
   parts (borrow_link seat plugin program next) left r (inl at) = inl (ends_at at tt)
@@ -367,7 +351,6 @@ module _ (words : Conversion) (store : List ℕ) (old new : Around) (status : �
 
 -- ---- commands
 
-<<<<<<< ours
 module _ (command : Command) (is : IsReader command) (old : Around) where
   reaches_left : {new : Around} {point : Point Outcome}
       → Reaches (steps command) (left_of old) new point
@@ -385,6 +368,26 @@ module _ (command : Command) (is : IsReader command) (old : Around) where
   reader_left new (Err NoMemory) (inl (call, may, r)) = reaches_left r
   reader_left new (Err NoMemory) (inr r) = reaches_left r
 
+module _ (words : Rewriting) (old : Around) where
+  abbrev Stay : Around → Type 0
+  Stay new = OthersStay words.store old.world.tapes.told new.world.tapes.told
+
+  rewrite_reaches : {new : Around} {point : Point Outcome}
+      → Reaches (rewriting words) (left_of old) new point → Stay new
+  rewrite_reaches {new} {point} r =
+      subst (λ t. OthersStay words.store old.world.tapes.told t) (sym r.stays.tapes)
+      (others_stay words.store point r.end (rewriting words) (left_of old)
+      (rewriting_is_on words) r.goes)
+
+  rewrite_left : (new : Around) (made : Result Outcome Stop)
+      → Ends (rewriting words) (left_of old) old new made → Stay new
+  rewrite_left new (Ok x) r = rewrite_reaches r
+  rewrite_left new (Err (Words why)) r = absurd r
+  rewrite_left new (Err (Refused why)) r = rewrite_reaches r
+  rewrite_left new (Err (Fault object count)) (call, r, f) = rewrite_reaches r
+  rewrite_left new (Err NoMemory) (inl (call, may, r)) = rewrite_reaches r
+  rewrite_left new (Err NoMemory) (inr r) = rewrite_reaches r
+
 ends_left : (command : Command) (old new : Around) (status : ℕ) (made : Result Outcome Stop)
     → Ends (steps command) (left_of old) old new made → Fits made status
     → LeavesTapes command status old.world.tapes new.world.tapes
@@ -398,6 +401,7 @@ ends_left (Put words store) old new status made r s =
 ends_left (Get words) old new status made r s = reader_left (Get words) tt old new made r
 ends_left (Rows store) old new status made r s = reader_left (Rows store) tt old new made r
 ends_left (Judge words) old new status made r s = reader_left (Judge words) tt old new made r
+ends_left (Rewrite words) old new status made r s = rewrite_left words old new made r
 
 -- ---- statuses
 
@@ -424,6 +428,21 @@ fits_stop status (Fault object count) (inl e) = e
 fits_stop status (Fault object count) (inr e) = e
 fits_stop status NoMemory s = stop_not_zero status NoMemory s
 
+-- where the output fails at what is said the status is 4
+failed_to_say : (said : List ℕ) (output : Receipt) (status : ℕ) (result : Result Done Stop)
+    → FailsToSay said output result → IsStatus status result → status ≡ 4
+failed_to_say [] output status (Ok done) f s = absurd f
+failed_to_say [] output status (Err (Words why)) f s = absurd f
+failed_to_say [] output status (Err (Refused why)) f s = absurd f
+failed_to_say [] output status (Err (Fault object count)) f s = absurd f
+failed_to_say [] output status (Err NoMemory) f s = absurd f
+failed_to_say (byte ∷ bytes) output status (Ok done) f s = absurd f
+failed_to_say (byte ∷ bytes) output status (Err (Words why)) f s = absurd f
+failed_to_say (byte ∷ bytes) output status (Err (Refused why)) f s = absurd f
+failed_to_say (byte ∷ bytes) output status (Err (Fault object count)) f (inl e) = e
+failed_to_say (byte ∷ bytes) output status (Err (Fault object count)) f (inr e) = e
+failed_to_say (byte ∷ bytes) output status (Err NoMemory) f s = absurd f
+
 fits_made : (said : List ℕ) (output : Receipt) (status : ℕ) (made : Result Outcome Stop)
     (result : Result Done Stop) → Writes said output made result → IsStatus status result
     → Fits made status
@@ -434,8 +453,10 @@ fits_made said output status (Ok x) (Err (Refused why)) w s = absurd w
 fits_made said output status (Ok x) (Err (Fault object count)) w (inl e) = inr e
 fits_made said output status (Ok x) (Err (Fault object count)) w (inr e) = inr e
 fits_made said output status (Ok x) (Err NoMemory) w s = absurd w
-fits_made said output status (Err stop) result w s =
+fits_made said output status (Err stop) result (inl w) s =
     fits_stop status stop (subst (IsStatus status) w.0 s)
+fits_made said output status (Err stop) result (inr f) s =
+    fits_stop status stop (inr (failed_to_say said output status result f s))
 
 stopped : (words : List (List ℕ)) (status : ℕ) (result : Result Done Stop)
     → StopsAtOnce words result → IsStatus status result → status ≢ 0
@@ -454,52 +475,9 @@ tapes_left words old new output errors status result (inl (stops, same)) t = inl
   stopped words status result stops (is_status errors status result t),
   ap (λ (a : Around). a.world.tapes.told) same.0,
 )
-tapes_left words old new output errors status result (inr (made, did, w)) t = inr (
+tapes_left words old new output errors status result (inr (said, made, did, w)) t = inr (
   did.command,
   did.asks,
-  ends_left did.command old new status made did.ends
-      (fits_made new.said output status made result w (is_status errors status result t)),
+  ends_left did.command old (with_what_is_said said new) status made did.ends
+      (fits_made said output status made result w (is_status errors status result t)),
 )
-=======
-reader_left : (command : Command) (p : Point Outcome) (end left : Left) → IsReader command
-    → Goes p end (steps command) left → end.tapes ≡ left.tapes
-reader_left command p end left r goes =
-    leaves_tapes p end (steps command) left (command_reads command r) goes
-
-goes_left : (command : Command) (p : Point Outcome) (end left : Left)
-    → Goes p end (steps command) left → LeavesTapes command left.tapes end.tapes
-goes_left (Convert words) p end left goes = reader_left (Convert words) p end left tt goes
-goes_left (Check config resource) p end left goes =
-    reader_left (Check config resource) p end left tt goes
-goes_left Inspect p end left goes = reader_left Inspect p end left tt goes
-goes_left (Put words store) p end left goes = put_grows words store p end left goes
-goes_left (Get words) p end left goes = reader_left (Get words) p end left tt goes
-goes_left (Rows store) p end left goes = reader_left (Rows store) p end left tt goes
-goes_left (Judge words) p end left goes = reader_left (Judge words) p end left tt goes
-goes_left (Rewrite words) p end left goes =
-    others_stay words.store p end (steps (Rewrite words)) left (rewriting_is_on words) goes
-
-reaches_left : (command : Command) (old : Around) {new : Around} {point : Point Outcome}
-    → Reaches (steps command) (left_of old) new point
-    → LeavesTapes command old.world.tapes.told new.world.tapes.told
-reaches_left command old {new} {point} r =
-    subst (λ t. LeavesTapes command old.world.tapes.told t) (sym r.stays.tapes)
-    (goes_left command point r.end (left_of old) r.goes)
-
-ends_left : (command : Command) (old new : Around) (made : Result Outcome Stop)
-    → Ends (steps command) (left_of old) old new made
-    → LeavesTapes command old.world.tapes.told new.world.tapes.told
-ends_left command old new (Ok x) r = reaches_left command old r
-ends_left command old new (Err (Words why)) r = absurd r
-ends_left command old new (Err (Refused why)) r = reaches_left command old r
-ends_left command old new (Err (Fault object count)) (call, r, f) = reaches_left command old r
-ends_left command old new (Err NoMemory) (inl (call, may, r)) = reaches_left command old r
-ends_left command old new (Err NoMemory) (inr r) = reaches_left command old r
-
-pub tapes_left : (words : List (List ℕ)) (old new : Around) (output : Receipt)
-    (result : Result Done Stop) → Answers words old new output result → AreLeft words old new
-tapes_left words old new output result (inl (stops, same)) =
-    inl (ap (λ (a : Around). a.world.tapes.told) same.0)
-tapes_left words old new output result (inr (said, made, did, w)) =
-    inr (did.command, did.asks, ends_left did.command old (with_what_is_said said new) made did.ends)
->>>>>>> theirs

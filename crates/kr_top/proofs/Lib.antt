@@ -19,13 +19,10 @@ pub mod Goes
 pub mod Listed
 pub mod Listings
 pub mod OnePoint
-<<<<<<< ours
+mod OneTape
 pub mod Outfits
 pub mod Outfitting
 pub mod Plans
-=======
-mod OneTape
->>>>>>> theirs
 pub mod Pieces
 pub mod Publishings
 pub mod Loading

@@ -11,12 +11,8 @@ use Rattle.kr_top.specs.Command.{Asks}
 use Rattle.kr_top.specs.Steps.{or_empty}
 use Rattle.kr_top.specs.StoreFiles.{Stored, IsStored, with_row, HoldsRows, BeginsWith}
 use Rattle.kr_top.specs.declared.command.Command.{Command}
-<<<<<<< ours
-use Rattle.kr_top.specs.declared.command.Command.TheVariants.{Convert, Check, Inspect, Put, Get, Rows, Judge}
-use Rattle.kr_top.specs.declared.command.Conversion.{Conversion}
-=======
 use Rattle.kr_top.specs.declared.command.Command.TheVariants.{Convert, Check, Inspect, Put, Get, Rows, Judge, Rewrite}
->>>>>>> theirs
+use Rattle.kr_top.specs.declared.command.Conversion.{Conversion}
 
 -- what is told of a tape: whether it is there, and its bytes
 abbrev pub ToldTape : Type 0
@@ -62,8 +58,7 @@ abbrev pub OthersStay : (name : List ℕ) → (old new : List ℕ → ToldTape) 
 OthersStay name old new =
     (other : List ℕ) → same_name name other ≡ false → new other ≡ old other
 
-<<<<<<< ours
--- the tapes before and after a command; but for `put` they are the same
+-- the tapes before and after a command; but for `put` and `rewrite` they are the same
 abbrev pub LeavesTapes : Command → (status : ℕ) → (old new : Tapes) → Type 0
 LeavesTapes (Convert words) status old new = new.told ≡ old.told
 LeavesTapes (Check config resource) status old new = new.told ≡ old.told
@@ -73,26 +68,11 @@ LeavesTapes (Put words store) status old new = OthersStay store old.told new.tol
 LeavesTapes (Get words) status old new = new.told ≡ old.told
 LeavesTapes (Rows store) status old new = new.told ≡ old.told
 LeavesTapes (Judge words) status old new = new.told ≡ old.told
+LeavesTapes (Rewrite words) status old new = OthersStay words.store old.told new.told
 
 -- the words stopped the call, or they ask for a command that leaves the tapes so
 abbrev pub AreLeft : List (List ℕ) → Around → Around → (status : ℕ) → Type 0
 AreLeft words old new status =
     ((status ≢ 0) × (new.world.tapes.told ≡ old.world.tapes.told))
-=======
--- the tapes before and after a command; but for `put` and `rewrite` they are the same
-abbrev pub LeavesTapes : Command → (old new : List ℕ → Option (Option (List ℕ))) → Type 0
-LeavesTapes (Convert words) old new = new ≡ old
-LeavesTapes (Check config resource) old new = new ≡ old
-LeavesTapes Inspect old new = new ≡ old
-LeavesTapes (Put words store) old new =
-    OthersStay store old new × MayGrow words.path (old store) (new store)
-LeavesTapes (Get words) old new = new ≡ old
-LeavesTapes (Rows store) old new = new ≡ old
-LeavesTapes (Judge words) old new = new ≡ old
-LeavesTapes (Rewrite words) old new = OthersStay words.store old new
-
-abbrev pub AreLeft : List (List ℕ) → Around → Around → Type 0
-AreLeft words old new = (new.world.tapes.told ≡ old.world.tapes.told)
->>>>>>> theirs
     ⊎ ((command : Command) × Asks words command
     × LeavesTapes command status old.world.tapes new.world.tapes)

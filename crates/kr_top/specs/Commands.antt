@@ -26,11 +26,7 @@ use Rattle.kr_rollout.specs.Checks.{written_check}
 use Rattle.kr_rollout.specs.Starts.{MayStart, IsNoStart}
 use Rattle.kr_rollout.specs.declared.opening_board.StartNo.{StartNo}
 use Rattle.kr_store.specs.Rows.{check_in, live, put_of}
-<<<<<<< ours
-=======
 use Rattle.kr_store.specs.Stores.{IsListing}
-use Rattle.kr_store.specs.declared.format.Check.{Check}
->>>>>>> theirs
 use Rattle.kr_store.specs.declared.format.Format.{Format}
 use Rattle.kr_store.specs.declared.rows.LogRow.{LogRow}
 use Rattle.kr_store.specs.declared.rows.Row as stored

@@ -100,12 +100,9 @@ limit_text limit.Config = codes "config"
 limit_text limit.Data = codes "data"
 limit_text limit.Value = codes "value"
 limit_text limit.Store = codes "store"
-<<<<<<< ours
 limit_text limit.Script = codes "script"
 limit_text limit.Replicas = codes "replicas"
 limit_text limit.Workers = codes "workers"
-=======
->>>>>>> theirs
 limit_text limit.Journal = codes "journal"
 
 abbrev pub limit_size : limits.Limit → ℕ
@@ -113,14 +110,10 @@ limit_size limit.Config = config_limit
 limit_size limit.Data = data_limit
 limit_size limit.Value = value_limit
 limit_size limit.Store = store_limit
-<<<<<<< ours
 limit_size limit.Script = store_limit
 limit_size limit.Replicas = replica_limit
 limit_size limit.Workers = 64
-limit_size limit.Journal = 4000000
-=======
 limit_size limit.Journal = journal_limit
->>>>>>> theirs
 
 -- the code of what a store's file breaks, and its place
 abbrev pub broken_code : Breach → List ℕ

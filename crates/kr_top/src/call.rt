@@ -7,13 +7,9 @@ ghost use Rattle.kr_top.specs.Commands.{steps};
 ghost use Rattle.kr_top.specs.FleetAsked.{AskNoFleet, AsksFleet};
 ghost use Rattle.kr_top.specs.Fleets.{RanAlone, RanFleet};
 ghost use Rattle.kr_top.specs.Ran.{receipt, Answers, Ran, Readings};
-<<<<<<< ours
 ghost use Rattle.kr_top.specs.declared.fleet_words.FleetWords.{FleetWords};
 ghost use Rattle.kr_top.specs.inner.Phases.{Does, KeepsRules};
-=======
-ghost use Rattle.kr_top.specs.inner.Phases.{Does, HasShortPath};
 ghost use Rattle.kr_top.specs.inner.Reporting.{saying};
->>>>>>> theirs
 
 use crate::check::check;
 use crate::command::{Command, read_command};
@@ -203,13 +199,8 @@ fn perform<W: World, I: Source>(
     command: &Command,
     world: &mut W,
     input: &mut I,
-<<<<<<< ours
-) -> Result<Outcome, Stop>
-    requires path { KeepsRules (Some command.now) }
-=======
 ) -> Ended
-    requires path { HasShortPath (Some command.now) }
->>>>>>> theirs
+    requires path { KeepsRules (Some command.now) }
     ensures { Does (steps command.now)
         (around W.Link.truth (W.told world.old) (I.left input.old)
         (I.count input.old))

@@ -352,7 +352,7 @@ fn rewriting_of(alloc: Global, words: kr_words::Command) -> Result<Option<Comman
     ensures command { IfOk result (λ command. command ≡ rewriting_of words.options.0
         (value_of words.options.0 (codes "config"))
         (value_of words.options.0 (codes "store"))) }
-    ensures path { IfOk result HasShortPath }
+    ensures path { IfOk result KeepsRules }
 {
     let config = value_of(alloc, &words, "config")?;
     let store = value_of(alloc, &words, "store")?;

@@ -199,12 +199,9 @@ fn limit_text(which: Limit) -> &'static str
         Limit::Data => "data",
         Limit::Value => "value",
         Limit::Store => "store",
-<<<<<<< ours
         Limit::Script => "script",
         Limit::Replicas => "replicas",
         Limit::Workers => "workers",
-=======
->>>>>>> theirs
         Limit::Journal => "journal",
     }
 }
@@ -217,12 +214,9 @@ fn limit_size(which: Limit) -> u64
         Limit::Data => DATA_LIMIT,
         Limit::Value => VALUE_LIMIT,
         Limit::Store => STORE_LIMIT,
-<<<<<<< ours
         Limit::Script => STORE_LIMIT,
         Limit::Replicas => 16,
         Limit::Workers => 64,
-=======
->>>>>>> theirs
         Limit::Journal => 4_000_000,
     }
 }

@@ -46,7 +46,6 @@ pub enum Limit {
     Value,
     /// That of a store's file: 67,108,864.
     Store,
-<<<<<<< ours
     /// That of a fleet file: 67,108,864.
     Script,
     /// How many replicas a fleet may have: 16.
@@ -54,9 +53,6 @@ pub enum Limit {
     /// How many workers: 64.
     Workers,
     /// How many lines their journal may need: 4,000,000.
-=======
-    /// That of the entries of a journal: 4,000,000.
->>>>>>> theirs
     Journal,
 }
 

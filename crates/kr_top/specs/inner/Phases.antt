@@ -25,13 +25,8 @@ use Rattle.kr_top.specs.Ran.{Receipt}
 use Rattle.kr_top.specs.inner.Judging.{HasReplicas}
 use Rattle.kr_top.specs.Steps.{Steps, Left}
 use Rattle.kr_top.specs.declared.command.Command.{Command}
-<<<<<<< ours
-use Rattle.kr_top.specs.declared.command.Command.TheVariants.{Convert, Check, Inspect, Put, Get, Rows, Judge}
-use Rattle.kr_top.specs.declared.refusal.Object.TheVariants.{Input, Files}
-=======
 use Rattle.kr_top.specs.declared.command.Command.TheVariants.{Convert, Check, Inspect, Put, Get, Rows, Judge, Rewrite}
 use Rattle.kr_top.specs.declared.refusal.Object.TheVariants.{Input, Files, Dice}
->>>>>>> theirs
 use Rattle.kr_top.specs.declared.refusal.Outcome.{Outcome}
 use Rattle.kr_top.specs.declared.refusal.Refusal.{Refusal}
 use Rattle.kr_top.specs.declared.refusal.Refusal.TheVariants.{Configuration}
@@ -48,7 +43,6 @@ pub record Does {A : Type 0} (next : Steps A) (old new : Around)
 
 -- ---- the words
 
-<<<<<<< ours
 -- the rules of the words that the command's phases stand on
 abbrev pub KeepsRules : Option Command → Type 0
 KeepsRules None = ⊤
@@ -59,18 +53,7 @@ KeepsRules (Some (Put words store)) = IsPath words.path × IsResource words.reso
 KeepsRules (Some (Get words)) = length words.path ≤ path_limit
 KeepsRules (Some (Rows store)) = ⊤
 KeepsRules (Some (Judge words)) = HasReplicas words.options
-=======
-abbrev pub HasShortPath : Option Command → Type 0
-HasShortPath None = ⊤
-HasShortPath (Some (Convert words)) = length words.path ≤ path_limit
-HasShortPath (Some (Check config resource)) = ⊤
-HasShortPath (Some Inspect) = ⊤
-HasShortPath (Some (Put words store)) = IsPath words.path × IsResource words.resource
-HasShortPath (Some (Get words)) = length words.path ≤ path_limit
-HasShortPath (Some (Rows store)) = ⊤
-HasShortPath (Some (Judge words)) = HasReplicas words.options
-HasShortPath (Some (Rewrite words)) = ⊤
->>>>>>> theirs
+KeepsRules (Some (Rewrite words)) = ⊤
 
 -- the words ask for the command, or stop the call
 abbrev pub IsReadAs : List (List ℕ) → Result Command Stop → Type 0

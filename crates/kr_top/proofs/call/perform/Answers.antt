@@ -1,12 +1,8 @@
 use Rattle.std.proofs.Common.{◌≡◌, Result, None, Some, refl, sym, ◌∙◌, ap, subst}
 use Rattle.kr_top.specs.Around.{Around, around}
 use Rattle.kr_top.specs.Commands.{steps}
-<<<<<<< ours
 use Rattle.kr_top.specs.inner.Phases.{Does, KeepsRules}
-=======
-use Rattle.kr_top.specs.inner.Phases.{Does, HasShortPath}
 use Rattle.kr_top.specs.inner.Reporting.{saying}
->>>>>>> theirs
 use Rattle.kr_top.specs.declared.command.Command.{Command}
 use Rattle.kr_top.specs.declared.command.Command.TheVariants.{Check, Rows}
 use Rattle.kr_top.specs.declared.refusal.Ended.{Ended}
@@ -34,16 +30,9 @@ returns-in-Convert g c = silently_by c.silent.result (sym c.in-Convert.is)
     c.silent.ensures c.convert.ensures
 
 pub returns-in-Check : goal.returns-in-Check
-<<<<<<< ours
-returns-in-Check g c = does_by
-    (ap (λ name. Check name c.in-Check.resource) c.as_str.ensures ∙ sym c.in-Check.is)
-    (c.check.ensures (around g.W.Link.Kms.truth (g.W.World.told c.args.world.now)
-    (g.I.Source.left c.args.input.now) (g.I.Source.count c.args.input.now)))
-=======
 returns-in-Check g c = silently_by c.silent-in-Check.result (ap (λ name. Check name c.in-Check.resource) c.as_str.ensures ∙ sym c.in-Check.is) c.silent-in-Check.ensures
     (c.check.ensures (around g.W.Link.Kms.truth (g.W.World.told c.args.world.now) (g.I.Source.left c.args.input.now)
     (g.I.Source.count c.args.input.now)))
->>>>>>> theirs
 
 pub returns-in-Inspect : goal.returns-in-Inspect
 returns-in-Inspect g c = silently_by c.silent-in-Inspect.result (sym c.in-Inspect.is)
@@ -67,15 +56,9 @@ get-requires-clause-path g c = λ κs lives.
     subst (λ k. KeepsRules (Some k)) c.in-Get.is c.requires.path
 
 pub returns-in-Get : goal.returns-in-Get
-<<<<<<< ours
-returns-in-Get g c = does_by (sym c.in-Get.is)
-    (c.get.ensures (around g.W.Link.Kms.truth (g.W.World.told c.args.world.now)
-    (g.I.Source.left c.args.input.now) (g.I.Source.count c.args.input.now)) refl)
-=======
 returns-in-Get g c = silently_by c.silent-in-Get.result (sym c.in-Get.is)
     c.silent-in-Get.ensures (c.get.ensures (around g.W.Link.Kms.truth (g.W.World.told c.args.world.now) (g.I.Source.left c.args.input.now)
     (g.I.Source.count c.args.input.now)) refl)
->>>>>>> theirs
 
 pub returns-in-Rows : goal.returns-in-Rows
 returns-in-Rows g c = silently_by c.silent-in-Rows.result (ap (λ name. Rows name) c.as_str-in-Rows.ensures ∙ sym c.in-Rows.is) c.silent-in-Rows.ensures
@@ -84,11 +67,7 @@ returns-in-Rows g c = silently_by c.silent-in-Rows.result (ap (λ name. Rows nam
 
 pub judge-requires-clause-replicas : goal.judge-requires-clause-replicas
 judge-requires-clause-replicas g c = λ κs lives.
-<<<<<<< ours
     subst (λ k. KeepsRules (Some k)) c.in-Judge.is c.requires.path
-=======
-    subst (λ k. HasShortPath (Some k)) c.in-Judge.is c.requires.path
->>>>>>> theirs
 
 pub returns-in-Judge : goal.returns-in-Judge
 returns-in-Judge g c = silently_by c.silent-in-Judge.result (sym c.in-Judge.is)
