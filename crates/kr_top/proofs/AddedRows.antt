@@ -51,6 +51,11 @@ module _ (object : Object) (name : List ℕ) (store : Stored) (row : LogRow)
     dice = s.dice;
     asked = s.asked;
     said = s.said;
+    counts = λ key. omega (
+      arith,
+      s.counts key,
+      no_less (same_name name key) before count (a.world.tapes.faults key) later,
+    );
   }
 
   tape_moved : IsHome Old (with_lent_tape name after count a)
@@ -118,12 +123,12 @@ module _ (object : Object) (name : List ℕ) (store : Stored) (row : LogRow)
       tt,
       subst (λ r. Goes (refuses (Limit limit.Store)) left (and_then (by_result r) next) left)
           (sym (large long)) (refl, refl),
-    )) (counted_tape name told before a count s);
+    )) (counted_tape name told before a count later s);
   }
 
   pub row_is_lacking : Does (adding object name store row) Old (with_lent_tape name told count a)
       (Err NoMemory)
   row_is_lacking = record {
     home = tape_home name told before a count later;
-    ends = λ left s. inr (reach left (inl (refl, refl)) (counted_tape name told before a count s));
+    ends = λ left s. inr (reach left (inl (refl, refl)) (counted_tape name told before a count later s));
   }

@@ -90,9 +90,9 @@ module _ (object : Object) (name : List ℕ) (row : LogRow) (old new : Kept)
     input = omega arith;
   }
 
-  now_told : {left : Left} → Stays left (Out old)
+  now_told : {left : Left} → old.count ≤ new.count → Stays left (Out old)
       → Stays (with_told name new.told left) (Out new)
-  now_told {left} s = record {
+  now_told {left} later s = record {
     truth = s.truth;
     file = s.file;
     tapes = λ i other. one_of (same_name name other) (option_map Some new.told)
@@ -104,6 +104,11 @@ module _ (object : Object) (name : List ℕ) (row : LogRow) (old new : Kept)
     dice = s.dice;
     asked = s.asked;
     said = s.said;
+    counts = λ key. omega (
+      arith,
+      s.counts key,
+      no_less (same_name name key) old.count new.count (a.world.tapes.faults key) later,
+    );
   }
 
   as_before : {left : Left} → new ≡ old → Stays left (Out old) → Stays left (Out new)
@@ -137,7 +142,7 @@ module _ (object : Object) (name : List ℕ) (row : LogRow) (old new : Kept)
       new.told,
       now_holds grown new holds w.whole w.rows w.format,
       (refl, refl),
-    ))) (now_told s);
+    ))) (now_told w.later s);
   }
 
   pub row_torn : {count : ℕ} → Fails old new row → Holds new → count ≡ new.count
@@ -151,7 +156,7 @@ module _ (object : Object) (name : List ℕ) (row : LogRow) (old new : Kept)
         new.told,
         now_begins (stored_of old) new holds f.rows f.format,
         (refl, refl),
-      ))) (now_told s),
+      ))) (now_told f.later s),
       (
         refl,
         tape_rose name old.told old.count a new.count f.rose,

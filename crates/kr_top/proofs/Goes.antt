@@ -38,6 +38,7 @@ stays_refl a = record {
   dice = λ seat. Keeps-refl (a.world.dice.told seat);
   asked = refl;
   said = refl;
+  counts = λ name. omega arith;
 }
 
 -- steps that give nothing
@@ -92,8 +93,8 @@ module _ {A B : Type 0} (point : Point B) (last : Left) (others : A → Steps B)
       inl (told, begins, land (awaits (writing object name)) at f)
   further p end f (write_row object name store row next) left (inr (told, holds, goes)) =
       inr (told, holds, further p end f next _ goes)
-  further p end f (keep_rows name store next) left (told, holds, goes) =
-      (told, holds, further p end f next _ goes)
+  further p end f (keep_rows name store next) left (told, count, later, holds, goes) =
+      (told, count, later, holds, further p end f next _ goes)
   further p end f (draw seat size next) left (inl at) = inl (land (awaits (drawing seat)) at f)
   further p end f (draw seat size next) left (inr (bytes, rest, c, fits, goes)) =
       inr (bytes, rest, c, fits, further p end f (next bytes) _ goes)
@@ -289,6 +290,7 @@ module _ (limit : ℕ) (long : Refusal) (old new : Option (List ℕ)) (before co
     dice = s.dice;
     asked = s.asked;
     said = s.said;
+    counts = s.counts;
   }
 
   takes_some : {left : Left} → Stays left (with_told_input old before a)
@@ -372,6 +374,8 @@ module _ {old new : Outside} (files : KeepsFiles old new) (objects : KeepsObject
         (s.dice seat);
     asked = made;
     said = s.said;
+    counts = λ name. subst (λ o. left.counts name ≤ o.faults name) (sym objects.tapes)
+        (s.counts name);
   }
 
   pub stays_noted : {left : Left} (call : WorldCall) → Stays left (with_world old a)
@@ -502,6 +506,7 @@ seen_stays {call} seen a l s = record {
       (s.dice seat);
   asked = seen.asked ∙ ap (with_call call) s.asked;
   said = s.said;
+  counts = λ name. omega (arith, s.counts name, seen.tapes.home.later name);
 }
 
 module _ {call : WorldCall} {old new : Outside} (seen : IsSeen call old new) (a : Around)

@@ -108,7 +108,7 @@ module _ {A : Type 0} (tape : List ℕ) (p : Point A) (end : Left) where
       behind name told left r.0 (λ other f. ap (λ l. l.tapes other) at.1)
   others_stay (write_row object name store row next) left r (inr (told, holds, goes)) =
       behind name told left r.0 (others_stay next _ r.1 goes)
-  others_stay (keep_rows name store next) left r (told, holds, goes) =
+  others_stay (keep_rows name store next) left r (told, count, later, holds, goes) =
       behind name told left r.0 (others_stay next _ r.1 goes)
   others_stay (draw seat size next) left r (inl at) = at_end at
   others_stay (draw seat size next) left r (inr (bytes, rest, c, fits, goes)) =

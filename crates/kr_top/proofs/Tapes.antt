@@ -147,6 +147,11 @@ lent name make absent {old} {out} {held} {count} h a = record {
         dice = λ seat. subst (λ d. Keeps (l.dice seat) (d.told seat)) (sym h.dice) (s.dice seat);
         asked = h.asked ∙ ap (with_call (Tape name make)) s.asked;
         said = s.said;
+        counts = λ key. omega (
+          arith,
+          s.counts key,
+          (lent_home same_name names_decide (option_map Some held) h.out).later key,
+        );
       });
 }
 
