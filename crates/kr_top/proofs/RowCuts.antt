@@ -1,10 +1,10 @@
 -- How the steps of a row end where a rewrite of it was cut short.
-use Rattle.std.proofs.Common.{◌≡◌, ◌≢◌, ℕ, ◌+◌, ◌<◌, ◌≤◌, List, [], ◌∷◌, ◌++◌, length, Bool, true, false, Option, None, Some, Result, Ok, Err, refl, sym, ◌∙◌, ap, subst, inl, inr, arith}
-use Rattle.std.specs.Prelude.{All, nat_lt, if◌then◌else◌, ⊤}
+use Rattle.std.proofs.Common.{◌≡◌, ◌≢◌, ℕ, ◌+◌, ◌^◌, ◌<◌, ◌≤◌, List, [], ◌∷◌, ◌++◌, length, Bool, true, false, Option, None, Some, Result, Ok, Err, refl, sym, ◌∙◌, ap, subst, inl, inr, arith}
+use Rattle.std.specs.Prelude.{All, nat_lt, if◌then◌else◌}
 use Rattle.std.proofs.lemmas.Bool.{le-ltb, lt-ltb}
 use Rattle.kr_base.specs.Faults.{Rose}
 use Rattle.kr_base.specs.Limits.{data_limit, store_limit}
-use Rattle.kr_base.proofs.Counting.{Rose-later}
+use Rattle.kr_base.proofs.Counting.{Rose-kept, Rose-later}
 use Rattle.kr_config.specs.Lists.{list_of}
 use Rattle.kr_config.specs.declared.who.Who.{Who}
 use Rattle.kr_kms.specs.Calls.{Link}
@@ -70,16 +70,15 @@ abbrev pub count_by : (before final : ℕ) → CallNo → ℕ
 count_by before final no.StoreFailed = before
 count_by before final why = final
 
+-- a count that rose is no less
+risen : (before now : ℕ) → Rose before now → before ≤ now
+risen before now (inl r) = omega (arith, r)
+risen before now (inr r) = omega (arith, r.0, r.1)
+
 -- so with the count of the random source
 abbrev pub drawn_by : (before final : ℕ) → CallNo → ℕ
 drawn_by before final no.DiceFailed = before
 drawn_by before final why = final
-
--- the count of what failed rose
-abbrev pub Raises : (tape faults dice drawn : ℕ) → CallNo → Type 0
-Raises tape faults dice drawn no.StoreFailed = Rose tape faults
-Raises tape faults dice drawn no.DiceFailed = Rose dice drawn
-Raises tape faults dice drawn why = ⊤
 
 module _ {L D : Type 0} (truth : Truth) (link : L → Link) (left : D → Option (List ℕ))
     (count : D → ℕ) (o : Opening) (p : Publication) (one : o.reloads ≡ 0 ∷ [])
@@ -94,8 +93,8 @@ module _ {L D : Type 0} (truth : Truth) (link : L → Link) (left : D → Option
       (rows_are : (state_of o found.seen).rows ≡ at.store.rows)
       (is_live : live at.store.rows row.path ≡ Some row) (format_is : at.store.format ≡ o.format)
       (olds news : List L) (dice after : D) (acted : Caller) (distinct : AreDistinct link olds)
-      (store : Kept) (before : ℕ) (rises : before ≤ store.count) (least drawn : ℕ)
-      (more : least ≤ drawn)
+      (store : Kept) (before : ℕ) (earlier : before ≤ (state_of o found.seen).count)
+      (further : (state_of o acted.seen).count ≤ store.count) (bounded : store.count < 2 ^ 64)
       (begins : BeginsWith at.store store.told) (unspent : 0 < found.left) where
     abbrev here : live (state_of o found.seen).rows row.path ≡ Some row
     here = ap (λ rows. live rows row.path) rows_are ∙ is_live
@@ -110,6 +109,12 @@ module _ {L D : Type 0} (truth : Truth) (link : L → Link) (left : D → Option
     file_is stored = λ i. length (file_bytes (sym format_is i)
         (rows_are i ++ row_anew (sym format_is i) p row stored ∷ []))
 
+    abbrev least : ℕ
+    least = count dice
+
+    abbrev drawn : ℕ
+    drawn = count after
+
     abbrev pub Cut : Steps Progress → List L → D → CallNo → Stop → Type 0
     Cut steps links from why stop = Does steps
         (Around_at links from (drawn_by least drawn why) (told_by store.told why)
@@ -118,9 +123,6 @@ module _ {L D : Type 0} (truth : Truth) (link : L → Link) (left : D → Option
 
     abbrev pub Stops : CallNo → Stop → Type 0
     Stops why stop = IsDriveStop link store news drawn why stop
-
-    abbrev pub Rose_by : CallNo → Type 0
-    Rose_by why = Raises before store.count least drawn why
 
     -- memory lacked at the begin
     lacked : (steps : Steps Progress) (stop : Stop) → Stops no.NoMemory stop → after ≡ dice
@@ -166,9 +168,8 @@ module _ {L D : Type 0} (truth : Truth) (link : L → Link) (left : D → Option
         cut_by : (given_to : Answer) (why : CallNo) (stop : Stop) → Stops why stop
             → AddsEntry found (event.Replace row.path row.revision stored) given_to acted
             → ReplacesBy row.path given_to (Err why)
-            → Rose_by why
             → Cut Anew news dice why stop
-        cut_by answer.StoreFailed why stop h r d rose =
+        cut_by answer.StoreFailed why stop h r d =
             let is = same_why why no.StoreFailed d in
             let at_stop = subst (λ w. Stops w stop) (sym is) h in
             let fits = subst (λ n. n ≤ store_limit) (file_is stored)
@@ -176,14 +177,19 @@ module _ {L D : Type 0} (truth : Truth) (link : L → Link) (left : D → Option
             (row_anew o.format p row stored) ≤ l) limit_is
             (tells o p one found acted row plain stored number lone holds here reads sealing
             answer.StoreFailed r)) in
+            let rose = Rose-later before (state_of o found.seen).count store.count earlier
+            (Rose-kept (state_of o found.seen).count (state_of o acted.seen).count store.count
+            (replace_failed o p one found acted row plain stored number lone holds here reads
+            sealing r) further bounded) in
             subst (λ w. Cut Anew news dice w stop) is
             (behind stop None before (subst (λ x. Does (adding Store name at.store New_row)
             (Around_at news after drawn None before) (Around_at news after drawn store.told store.count)
             (Err x)) (sym at_stop)
-            (row_is_torn Store name at.store New_row None store.told before store.count rises
+            (row_is_torn Store name at.store New_row None store.told before store.count
+            (risen before store.count rose)
             (with_lent_links link 0 news (with_lent_dice 0 (left after) drawn a)) begins
-            (subst Rose_by (sym is) rose) fits)))
-        cut_by (answer.StoreFull needed) why stop h r d rose =
+            rose fits)))
+        cut_by (answer.StoreFull needed) why stop h r d =
             let is = same_why why (no.StoreFull needed) d in
             let at_stop = subst (λ w. Stops w stop) (sym is) h in
             let full = tells o p one found acted row plain stored number lone holds here reads
@@ -198,7 +204,7 @@ module _ {L D : Type 0} (truth : Truth) (link : L → Link) (left : D → Option
             (row_is_above Store name at.store New_row store.told store.told store.count store.count
             (omega arith)
             (with_lent_links link 0 news (with_lent_dice 0 (left after) drawn a)) long)))
-        cut_by answer.NoMemory why stop h r d rose =
+        cut_by answer.NoMemory why stop h r d =
             let is = same_why why no.NoMemory d in
             let at_stop = subst (λ w. Stops w stop) (sym is) h in
             subst (λ w. Cut Anew news dice w stop) is
@@ -208,28 +214,28 @@ module _ {L D : Type 0} (truth : Truth) (link : L → Link) (left : D → Option
             (row_is_lacking Store name at.store New_row store.told store.told store.count
             store.count (omega arith)
             (with_lent_links link 0 news (with_lent_dice 0 (left after) drawn a)))))
-        cut_by (answer.Written n) why stop h r d rose = absurd (cc)
-        cut_by (answer.Changed last) why stop h r d rose = absurd (cc)
-        cut_by (answer.Adopted n q) why stop h r d rose = absurd d
-        cut_by (answer.Gone other) why stop h r d rose = absurd d
-        cut_by (answer.Found other) why stop h r d rose = absurd d
-        cut_by answer.Absent why stop h r d rose = absurd d
-        cut_by answer.Released why stop h r d rose = absurd d
-        cut_by (answer.Reloaded n) why stop h r d rose = absurd d
-        cut_by (answer.Joined n) why stop h r d rose = absurd d
-        cut_by (answer.Refused verdict) why stop h r d rose = absurd d
-        cut_by (answer.Moved n) why stop h r d rose = absurd d
-        cut_by (answer.Present n) why stop h r d rose = absurd d
-        cut_by (answer.Departed n) why stop h r d rose = absurd d
+        cut_by (answer.Written n) why stop h r d = absurd (cc)
+        cut_by (answer.Changed last) why stop h r d = absurd (cc)
+        cut_by (answer.Adopted n q) why stop h r d = absurd d
+        cut_by (answer.Gone other) why stop h r d = absurd d
+        cut_by (answer.Found other) why stop h r d = absurd d
+        cut_by answer.Absent why stop h r d = absurd d
+        cut_by answer.Released why stop h r d = absurd d
+        cut_by (answer.Reloaded n) why stop h r d = absurd d
+        cut_by (answer.Joined n) why stop h r d = absurd d
+        cut_by (answer.Refused verdict) why stop h r d = absurd d
+        cut_by (answer.Moved n) why stop h r d = absurd d
+        cut_by (answer.Present n) why stop h r d = absurd d
+        cut_by (answer.Departed n) why stop h r d = absurd d
 
       -- the data weren't sealed
       unsealed_cut : (reason : SealNo) (why : CallNo) (stop : Stop) → Stops why stop
           → Seals left count p.seeds writer row.path plain dice after (Err reason)
-          → ◌≡◌ {A = Result Step CallNo} (Err why) (unsealed_step row.path reason) → Rose_by why
+          → ◌≡◌ {A = Result Step CallNo} (Err why) (unsealed_step row.path reason)
           → Cut Anew news dice why stop
-      unsealed_cut seal.LooksEncrypted why stop h s e rose = absurd (cc)
-      unsealed_cut (seal.TooLarge size) why stop h s e rose = absurd (cc)
-      unsealed_cut seal.DiceFailed why stop h s e rose =
+      unsealed_cut seal.LooksEncrypted why stop h s e = absurd (cc)
+      unsealed_cut (seal.TooLarge size) why stop h s e = absurd (cc)
+      unsealed_cut seal.DiceFailed why stop h s e =
           let is = same_why why no.DiceFailed e in
           let at_stop = subst (λ w. Stops w stop) (sym is) h in
           let long = le-ltb data_limit (length plain) s.0 in
@@ -244,8 +250,8 @@ module _ {L D : Type 0} (truth : Truth) (link : L → Link) (left : D → Option
           (Fault (Dice 0) drawn)
           (sealed_does link left count news dice after least drawn
           (with_lent_tape name store.told store.count a) writer p.seeds row.path plain
-          (Err seal.DiceFailed) more s.0 (subst Rose_by (sym is) rose) s)))))
-      unsealed_cut seal.NoMemory why stop h s e rose =
+          (Err seal.DiceFailed) (risen least drawn s.2) s.0 s.2 s)))))
+      unsealed_cut seal.NoMemory why stop h s e =
           let is = same_why why no.NoMemory e in
           subst (λ w. Cut Anew news dice w stop) is
           (lacked (resealing (nat_lt data_limit (length plain)) name p row plain at) stop
@@ -253,20 +259,19 @@ module _ {L D : Type 0} (truth : Truth) (link : L → Link) (left : D → Option
 
       data_cut : (stale : Bool) (why : CallNo) (stop : Stop) → Stops why stop
           → RewritesData left count p row plain stale found dice (Err why) acted after
-          → Rose_by why
           → Cut (row_data name p row at plain stale) news dice why stop
-      data_cut false why stop h r rose = absurd (cc)
-      data_cut true why stop h (inl r) rose = by r.sealed r.seals r.reseals
+      data_cut false why stop h r = absurd (cc)
+      data_cut true why stop h (inl r) = by r.sealed r.seals r.reseals
         where
           by : (sealed : Result (List ℕ) SealNo)
               → Seals left count p.seeds writer row.path plain dice after sealed
               → ResealsBy p row plain sealed found (Err why) acted
               → Cut Anew news dice why stop
           by (Ok stored) s (inl r) =
-              cut_by stored r.sealing s r.given why stop h r.replaces r.answers rose
+              cut_by stored r.sealing s r.given why stop h r.replaces r.answers
           by (Ok stored) s (inr n) = absurd (omega (arith, n.0.spent, unspent))
-          by (Err reason) s r = unsealed_cut reason why stop h s r.0 rose
-      data_cut true why stop h (inr r) rose =
+          by (Err reason) s r = unsealed_cut reason why stop h s r.0
+      data_cut true why stop h (inr r) =
           let is = same_why why no.NoMemory r.0 in
           subst (λ w. Cut Anew news dice w stop) is
           (lacked (resealing (nat_lt data_limit (length plain)) name p row plain at) stop
@@ -311,9 +316,8 @@ module _ {L D : Type 0} (truth : Truth) (link : L → Link) (left : D → Option
 
     pub row_cut : (why : CallNo) (stop : Stop) → Stops why stop
         → Rewrites truth link left count p row found olds dice (Err why) acted news after
-        → Rose_by why
         → Cut (row_steps name p row at) olds dice why stop
-    row_cut why stop h (inl r) rose = by r.opened r.unseals r.rewrites
+    row_cut why stop h (inl r) = by r.opened r.unseals r.rewrites
       where
         by : (opened : Result Opened UnsealNo)
             → UnsealsBy truth link p.seeds (list_at p row.resource) row.path row.stored olds opened
@@ -325,9 +329,9 @@ module _ {L D : Type 0} (truth : Truth) (link : L → Link) (left : D → Option
             news distinct (left dice) (drawn_by least drawn why)
             (with_lent_tape name (told_by store.told why) (count_by before store.count why) a)
             truth_is (Ok opened) (Ok (Ok opened)) u refl)
-            (data_cut opened.plain (u.envelope, u.object, u.is.0) opened.stale why stop h r rose)
+            (data_cut opened.plain (u.envelope, u.object, u.is.0) opened.stale why stop h r)
         by (Err reason) u r = unread_cut reason why stop h u r.2 r.0
-    row_cut why stop h (inr n) rose =
+    row_cut why stop h (inr n) =
         let is = same_why why no.NoMemory n.0.0 in
         let at_stop = subst (λ w. Stops w stop) (sym is) h in
         let now = Around_at olds dice drawn store.told store.count in
