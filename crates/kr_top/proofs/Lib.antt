@@ -40,6 +40,8 @@ pub mod NamedPrograms
 pub mod Returning
 pub mod ReadOnly
 pub mod Readings
+pub mod DriveSteps
+pub mod Reported
 pub mod RowCuts
 pub mod RowDrives
 pub mod Said

@@ -1,6 +1,6 @@
 -- The live rows by their paths, and what a row at one path leaves of those above it.
 use Rattle.std.proofs.Common.{◌≡◌, ℕ, ◌+◌, ◌-◌, Bool, true, false, List, [], ◌∷◌, ◌++◌, map, Option, None, Some, is_some, IsSome, refl, sym, ◌∙◌, ap, subst, arith, All, Contains, zero, suc}
-use Rattle.std.specs.Prelude.{if◌then◌else◌}
+use Rattle.std.specs.Prelude.{get_or, if◌then◌else◌}
 use Rattle.std.specs.Cmp.Lexicographic.{slice_cmp}
 use Rattle.std.specs.List.Sorted.{IsStrictlySortedBy}
 use Rattle.std.specs.Ordering.{is_eq, nat_cmp, ordering_reverse}
@@ -8,7 +8,7 @@ use Rattle.std.specs.Str.{bytes_eq}
 use Rattle.std.specs.declared.cmp.Ordering.{Ordering}
 use Rattle.std.specs.declared.cmp.Ordering.TheVariants.{Less, Equal, Greater}
 use Rattle.std.proofs.lemmas.Cmp.{nat_list_cmp_total}
-use Rattle.std.proofs.lemmas.List.Elements.{All-head, All-tail, All-contains}
+use Rattle.std.proofs.lemmas.List.Elements.{All-head, All-tail, All-contains, Contains-get_or}
 use Rattle.std.proofs.lemmas.Map.Views.{All-after_first}
 use Rattle.std.proofs.lemmas.Map.Keys.{sorted_tail}
 use Rattle.std.proofs.lemmas.Map.Text.{is_eq-slice_cmp}
@@ -98,7 +98,7 @@ module _ (rows : List LogRow) where
         (up, is, λ q some less lesser. least q less lesser (some_row q (live rows q) refl some)),
         follows row.path more (sorted_tail path_cmp row.path (map (λ (r : Row). r.path) more) sorted)
             (All-tail (λ (r : Row). live rows r.path ≡ Some r) row more lives)
-            (λ k d within. below _ (k, within, refl))
+            (λ k d within. below (get_or more k d) (Contains-get_or more k d within))
             (λ q other live less. rest q other live less up),
       )
     where
@@ -132,8 +132,7 @@ pub listing_follows : (format : Format) (rows : List LogRow) (listing : List Row
     → AreRows format rows → IsListing rows listing → FollowEachOther rows [] listing
 listing_follows format rows listing are l =
     follows rows [] listing l.sorted l.are_live
-    (λ k d within. higher _ (All-contains (λ (r : Row). live rows r.path ≡ Some r) listing _
-    l.are_live (k, within, refl)))
+    (λ k d within. higher (get_or listing k d) (l.are_live k d within))
     (λ q row is less. l.whole q row is)
   where
     higher : (row : Row) → live rows row.path ≡ Some row → path_cmp [] row.path ≡ Less

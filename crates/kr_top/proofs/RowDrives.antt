@@ -74,14 +74,14 @@ not_ok : {A : Type 0} (taken : Step) (why : CallNo)
     → ◌≡◌ {A = Result Step CallNo} (Err why) (Ok taken) → A
 not_ok taken why e = absurd (cc)
 
-step_of : Step → Result Step CallNo → Step
+abbrev step_of : Step → Result Step CallNo → Step
 step_of other (Ok taken) = taken
 step_of other (Err why) = other
 
 same_step : (taken own : Step) → ◌≡◌ {A = Result Step CallNo} (Ok taken) (Ok own) → own ≡ taken
 same_step taken own e = sym (ap (step_of taken) e)
 
-why_of : CallNo → Result Step CallNo → CallNo
+abbrev why_of : CallNo → Result Step CallNo → CallNo
 why_of other (Ok taken) = other
 why_of other (Err why) = why
 
@@ -143,7 +143,7 @@ module _ {L D : Type 0} (truth : Truth) (link : L → Link) (left : D → Option
             × ((state_of o acted.seen).rows ≡ next.store.rows)
 
         -- it is as it was
-        stays_so : (next : Progress) (taken : Step) → next.store ≡ at.store → acted ≡ found
+        abbrev stays_so : (next : Progress) (taken : Step) → next.store ≡ at.store → acted ≡ found
             → after ≡ dice → Becomes p row at next taken → Done (give next) news dice taken
         stays_so next taken store same kept becomes = (
           next,
@@ -154,9 +154,9 @@ module _ {L D : Type 0} (truth : Truth) (link : L → Link) (left : D → Option
               ∙ sym (ap (λ (s : Stored). s.rows) store),
         )
 
-        in_memory : {steps : Steps Progress} {links : List L} {from : D} {taken : Step}
+        in_memory : (steps : Steps Progress) (links : List L) (from : D) (taken : Step)
             → Done steps links from taken → Done (with_memory steps) links from taken
-        in_memory (next, becomes, does, rows) = (next, becomes, remembers does, rows)
+        in_memory steps links from taken (next, becomes, does, rows) = (next, becomes, remembers does, rows)
 
         module _ (plain : List ℕ)
             (reads : HasSomeReading (list_at p row.resource) row.path row.stored (data_of plain))
@@ -274,7 +274,9 @@ module _ {L D : Type 0} (truth : Truth) (link : L → Link) (left : D → Option
                 subst (λ t. Done (give (one_fresh at)) news dice t)
                 (same_step taken (step.Fresh row.path) r.0)
                 (stays_so (one_fresh at) (step.Fresh row.path) refl r.1 r.2 (refl, refl))
-            data_done true taken (inl r) = in_memory (resealed r.sealed taken r.seals r.reseals)
+            data_done true taken (inl r) = in_memory
+                (resealing (nat_lt data_limit (length plain)) name p row plain at) news dice taken
+                (resealed r.sealed taken r.seals r.reseals)
             data_done true taken (inr r) = not_err taken no.NoMemory r.0
 
         -- a value that isn't read leaves the row
