@@ -57,33 +57,34 @@ rows_same o p one old new asked given lone a none = rows_stay o p one old new as
 
 -- ---- what a rewrite of a row did with the caller
 
-abbrev pub Acts_so : Row → Caller → Caller → Type 0
-Acts_so row found acted = (acted ≡ found) ⊎ ((stored : List ℕ) × (given : Answer)
-    × AddsEntry found (event.Replace row.path row.revision stored) given acted)
+abbrev pub Acts_so : Row → Caller → Result Step CallNo → Caller → Type 0
+Acts_so row found done acted = (acted ≡ found) ⊎ ((stored : List ℕ) × (given : Answer)
+    × AddsEntry found (event.Replace row.path row.revision stored) given acted
+    × ReplacesBy row.path given done)
 
 module _ {L D : Type 0} (truth : Truth) (link : L → Link) (left : D → Option (List ℕ))
     (count : D → ℕ) (p : Publication) (row : Row) (found acted : Caller) (olds news : List L)
     (dice after : D) (done : Result Step CallNo) where
   resealed_so : (plain : List ℕ) (sealed : Result (List ℕ) SealNo)
-      → ResealsBy p row plain sealed found done acted → Acts_so row found acted
-  resealed_so plain (Ok stored) (inl r) = inr (stored, r.given, r.replaces)
+      → ResealsBy p row plain sealed found done acted → Acts_so row found done acted
+  resealed_so plain (Ok stored) (inl r) = inr (stored, r.given, r.replaces, r.answers)
   resealed_so plain (Ok stored) (inr n) = inl n.0.same
   resealed_so plain (Err why) r = inl r.1
 
   data_so : (plain : List ℕ) (stale : Bool)
       → RewritesData left count p row plain stale found dice done acted after
-      → Acts_so row found acted
+      → Acts_so row found done acted
   data_so plain false r = inl r.1
   data_so plain true (inl r) = resealed_so plain r.sealed r.reseals
   data_so plain true (inr r) = inl r.1
 
   opened_so : (opened : Result Opened UnsealNo)
-      → RewritesBy left count p row opened found dice done acted after → Acts_so row found acted
+      → RewritesBy left count p row opened found dice done acted after → Acts_so row found done acted
   opened_so (Ok opened) r = data_so opened.plain opened.stale r
   opened_so (Err why) r = inl r.1
 
   pub acts_so : Rewrites truth link left count p row found olds dice done acted news after
-      → Acts_so row found acted
+      → Acts_so row found done acted
   acts_so (inl r) = opened_so r.opened r.rewrites
   acts_so (inr n) = inl n.0.1
 
@@ -96,24 +97,27 @@ module _ {L D : Type 0} (truth : Truth) (link : L → Link) (left : D → Option
       r.opened r.unseals) d
   still_distinct d (inr n) = subst (AreDistinct link) (sym n.1) d
 
-pub acted_left : (row : Row) (found acted : Caller) → Acts_so row found acted
+pub acted_left : (row : Row) (found acted : Caller) (done : Result Step CallNo)
+    → Acts_so row found done acted
     → found.left ≤ acted.left + 1
-acted_left row found acted (inl same) =
+acted_left row found acted done (inl same) =
     let e = ap (λ (c : Caller). c.left) same in omega (arith, e)
-acted_left row found acted (inr (stored, given, a)) = let e = a.left_is in omega (arith, e)
+acted_left row found acted done (inr (stored, given, a, by)) = let e = a.left_is in omega (arith, e)
 
 pub acted_lone : (o : Opening) (p : Publication) (one : o.reloads ≡ 0 ∷ []) (row : Row)
-    (found acted : Caller) → IsLone o p found → Acts_so row found acted → IsLone o p acted
-acted_lone o p one row found acted lone (inl same) = subst (IsLone o p) (sym same) lone
-acted_lone o p one row found acted lone (inr (stored, given, a)) =
+    (found acted : Caller) (done : Result Step CallNo) → IsLone o p found
+    → Acts_so row found done acted → IsLone o p acted
+acted_lone o p one row found acted done lone (inl same) = subst (IsLone o p) (sym same) lone
+acted_lone o p one row found acted done lone (inr (stored, given, a, by)) =
     lone_next o p one found acted (event.Replace row.path row.revision stored) given lone a tt
 
 pub acted_count : (o : Opening) (p : Publication) (one : o.reloads ≡ 0 ∷ []) (row : Row)
-    (found acted : Caller) → IsLone o p found → Acts_so row found acted
+    (found acted : Caller) (done : Result Step CallNo) → IsLone o p found
+    → Acts_so row found done acted
     → (state_of o found.seen).count ≤ (state_of o acted.seen).count
-acted_count o p one row found acted lone (inl same) =
+acted_count o p one row found acted done lone (inl same) =
     let e = ap (λ (c : Caller). (state_of o c.seen).count) same in omega (arith, e)
-acted_count o p one row found acted lone (inr (stored, given, a)) =
+acted_count o p one row found acted done lone (inr (stored, given, a, by)) =
     count_later o p one found acted (event.Replace row.path row.revision stored) given lone a
 
 -- ---- where a drive is
@@ -250,7 +254,7 @@ module _ {L D : Type 0} (truth : Truth) (link : L → Link) (left : D → Option
     pub becomes : Becomes p row at next taken
     pub onward : IsDriven link o p (path_of above taken) rest next new news
 
-  passes_by : (taken : Step) (number : ℕ) (q : Publication) (adopted acted : Caller)
+  pub passes_by : (taken : Step) (number : ℕ) (q : Publication) (adopted acted : Caller)
       → AddsEntry old (event.Adopt 0) (answer.Adopted number q) adopted
       → FindsNext truth link left count p above adopted olds dice (Ok taken) acted news after
       → AddsEntry acted event.LetGo answer.Released new → Passes taken
@@ -270,7 +274,7 @@ module _ {L D : Type 0} (truth : Truth) (link : L → Link) (left : D → Option
       let done = row_done truth link left count o p one limit_is opens name a truth_is drawn row
       at found number lone holds same_rows next_is.1 driven.format_is olds news dice after acted
       driven.distinct m taken f.rewrites in
-      let acted_is = acted_lone o p one row found acted lone (acts_so truth link left count p row
+      let acted_is = acted_lone o p one row found acted (Ok taken) lone (acts_so truth link left count p row
       found acted olds news dice after (Ok taken) f.rewrites) in record {
         row = row;
         rest = first.0;

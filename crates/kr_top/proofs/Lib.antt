@@ -40,6 +40,7 @@ pub mod NamedPrograms
 pub mod Returning
 pub mod ReadOnly
 pub mod Readings
+pub mod DriveEnds
 pub mod DriveSteps
 pub mod Reported
 pub mod RowCuts

@@ -31,7 +31,7 @@ both_less : (p q : List ℕ) → path_cmp p q ≡ Less → path_cmp q p ≡ Less
 both_less p q l m =
     let x : Less ≡ Greater = sym l ∙ nat_list_cmp_total.antisymm p q ∙ ap ordering_reverse m in cc
 
-contains_mapped : {X Y : Type 0} (f : X → Y) (xs : List X) (x : X) → Contains xs x
+pub contains_mapped : {X Y : Type 0} (f : X → Y) (xs : List X) (x : X) → Contains xs x
     → Contains (map f xs) (f x)
 contains_mapped f xs x c = (
   c.0,
