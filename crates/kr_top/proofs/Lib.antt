@@ -41,6 +41,7 @@ pub mod Returning
 pub mod ReadOnly
 pub mod Readings
 pub mod DriveEnds
+pub mod Driven
 pub mod DriveSteps
 pub mod Reported
 pub mod RowCuts
