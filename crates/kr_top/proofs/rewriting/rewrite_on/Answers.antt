@@ -99,7 +99,7 @@ pub rewrite_linked-ended-requires-clause-room : goal.rewrite_linked-ended-requir
 rewrite_linked-ended-requires-clause-room g c κs within = c.in-Some.ensures
 
 pub rewrite_linked-ended-requires-clause-within : goal.rewrite_linked-ended-requires-clause-within
-rewrite_linked-ended-requires-clause-within g c κs within = c.in-Ok.ensures.within
+rewrite_linked-ended-requires-clause-within g c κs within = c.in-Ok.ensures.limit.0
 
 pub end-requires : goal.end-requires
 end-requires g c = none_named g.W.Link.Kms.link c.rewrite_linked-ended.result.2
