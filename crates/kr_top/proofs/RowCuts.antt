@@ -1,6 +1,6 @@
 -- How the steps of a row end where a rewrite of it was cut short.
 use Rattle.std.proofs.Common.{◌≡◌, ◌≢◌, ℕ, ◌+◌, ◌<◌, ◌≤◌, List, [], ◌∷◌, ◌++◌, length, Bool, true, false, Option, None, Some, Result, Ok, Err, refl, sym, ◌∙◌, ap, subst, inl, inr, arith}
-use Rattle.std.specs.Prelude.{All, nat_lt, if◌then◌else◌}
+use Rattle.std.specs.Prelude.{All, nat_lt, if◌then◌else◌, ⊤}
 use Rattle.std.proofs.lemmas.Bool.{le-ltb, lt-ltb}
 use Rattle.kr_base.specs.Faults.{Rose}
 use Rattle.kr_base.specs.Limits.{data_limit, store_limit}
@@ -70,21 +70,32 @@ abbrev pub count_by : (before final : ℕ) → CallNo → ℕ
 count_by before final no.StoreFailed = before
 count_by before final why = final
 
+-- so with the count of the random source
+abbrev pub drawn_by : (before final : ℕ) → CallNo → ℕ
+drawn_by before final no.DiceFailed = before
+drawn_by before final why = final
+
+-- the count of what failed rose
+abbrev pub Raises : (tape faults dice drawn : ℕ) → CallNo → Type 0
+Raises tape faults dice drawn no.StoreFailed = Rose tape faults
+Raises tape faults dice drawn no.DiceFailed = Rose dice drawn
+Raises tape faults dice drawn why = ⊤
+
 module _ {L D : Type 0} (truth : Truth) (link : L → Link) (left : D → Option (List ℕ))
     (count : D → ℕ) (o : Opening) (p : Publication) (one : o.reloads ≡ 0 ∷ [])
     (limit_is : o.limit ≡ store_limit)
     (opens : All (λ row. TellsOf truth (key_of row) row.seed) p.seeds) (name : List ℕ)
     (a : Around) (truth_is : a.truth ≡ truth) where
-  abbrev Around_at : List L → D → Option (List ℕ) → ℕ → Around
-  Around_at links dice told faults =
-      All_lent link links (left dice) (count dice) name told faults a
+  abbrev pub Around_at : List L → D → (drawn : ℕ) → Option (List ℕ) → ℕ → Around
+  Around_at links dice drawn told faults = All_lent link links (left dice) drawn name told faults a
 
   module _ (row : Row) (at : Progress) (found : Caller) (number : ℕ) (lone : IsLone o p found)
       (holds : holding found.mine ≡ Some (number, p))
       (rows_are : (state_of o found.seen).rows ≡ at.store.rows)
       (is_live : live at.store.rows row.path ≡ Some row) (format_is : at.store.format ≡ o.format)
       (olds news : List L) (dice after : D) (acted : Caller) (distinct : AreDistinct link olds)
-      (later : count dice ≤ count after) (store : Kept) (before : ℕ) (rises : before ≤ store.count)
+      (store : Kept) (before : ℕ) (rises : before ≤ store.count) (least drawn : ℕ)
+      (more : least ≤ drawn)
       (begins : BeginsWith at.store store.told) (unspent : 0 < found.left) where
     abbrev here : live (state_of o found.seen).rows row.path ≡ Some row
     here = ap (λ rows. live rows row.path) rows_are ∙ is_live
@@ -99,23 +110,27 @@ module _ {L D : Type 0} (truth : Truth) (link : L → Link) (left : D → Option
     file_is stored = λ i. length (file_bytes (sym format_is i)
         (rows_are i ++ row_anew (sym format_is i) p row stored ∷ []))
 
-    abbrev Cut : Steps Progress → List L → D → CallNo → Stop → Type 0
+    abbrev pub Cut : Steps Progress → List L → D → CallNo → Stop → Type 0
     Cut steps links from why stop = Does steps
-        (Around_at links from (told_by store.told why) (count_by before store.count why))
-        (Around_at news after store.told store.count) (Err stop)
+        (Around_at links from (drawn_by least drawn why) (told_by store.told why)
+        (count_by before store.count why))
+        (Around_at news after drawn store.told store.count) (Err stop)
 
-    abbrev Stops : CallNo → Stop → Type 0
-    Stops why stop = IsDriveStop link store news (count after) why stop
+    abbrev pub Stops : CallNo → Stop → Type 0
+    Stops why stop = IsDriveStop link store news drawn why stop
+
+    abbrev pub Rose_by : CallNo → Type 0
+    Rose_by why = Raises before store.count least drawn why
 
     -- memory lacked at the begin
     lacked : (steps : Steps Progress) (stop : Stop) → Stops no.NoMemory stop → after ≡ dice
         → Cut (with_memory steps) news dice no.NoMemory stop
     lacked steps stop s kept =
-        subst (λ d. Does (with_memory steps) (Around_at news dice store.told store.count)
-        (Around_at news d store.told store.count) (Err stop)) (sym kept)
-        (subst (λ x. Does (with_memory steps) (Around_at news dice store.told store.count)
-        (Around_at news dice store.told store.count) (Err x)) (sym s)
-        (lacks steps (Around_at news dice store.told store.count)))
+        subst (λ d. Does (with_memory steps) (Around_at news dice drawn store.told store.count)
+        (Around_at news d drawn store.told store.count) (Err stop)) (sym kept)
+        (subst (λ x. Does (with_memory steps) (Around_at news dice drawn store.told store.count)
+        (Around_at news dice drawn store.told store.count) (Err x)) (sym s)
+        (lacks steps (Around_at news dice drawn store.told store.count)))
 
     module _ (plain : List ℕ)
         (reads : HasSomeReading (list_at p row.resource) row.path row.stored (data_of plain)) where
@@ -133,25 +148,25 @@ module _ {L D : Type 0} (truth : Truth) (link : L → Link) (left : D → Option
 
         -- the value was sealed, and the row's steps ended so
         behind : (stop : Stop) (told : Option (List ℕ)) (m : ℕ)
-            → Does (adding Store name at.store New_row) (Around_at news after told m)
-            (Around_at news after store.told store.count) (Err stop)
-            → Does Anew (Around_at news dice told m) (Around_at news after store.told store.count)
+            → Does (adding Store name at.store New_row) (Around_at news after drawn told m)
+            (Around_at news after drawn store.told store.count) (Err stop)
+            → Does Anew (Around_at news dice drawn told m) (Around_at news after drawn store.told store.count)
             (Err stop)
         behind stop told m d = remembers (subst (λ b. Does (resealing b name p row plain at)
-            (Around_at news dice told m) (Around_at news after store.told store.count) (Err stop))
+            (Around_at news dice drawn told m) (Around_at news after drawn store.told store.count) (Err stop))
             (sym short)
             (goes_on (value_sealed p.seeds writer row.path plain) (replacing name p row at)
             (Some stored)
-            (sealed_does link left count news dice after (with_lent_tape name told m a) writer
-            p.seeds row.path plain (Ok stored) later
-            (short_by (nat_lt data_limit (length plain)) (length plain) refl short) s)
+            (sealed_does link left count news dice after drawn drawn
+            (with_lent_tape name told m a) writer p.seeds row.path plain (Ok stored) (omega arith)
+            (short_by (nat_lt data_limit (length plain)) (length plain) refl short) tt s)
             (stops (adding Store name at.store New_row)
             (λ grown. give (one_rewritten New_row at)) stop d)))
 
         cut_by : (given_to : Answer) (why : CallNo) (stop : Stop) → Stops why stop
             → AddsEntry found (event.Replace row.path row.revision stored) given_to acted
             → ReplacesBy row.path given_to (Err why)
-            → (why ≡ no.StoreFailed → Rose before store.count)
+            → Rose_by why
             → Cut Anew news dice why stop
         cut_by answer.StoreFailed why stop h r d rose =
             let is = same_why why no.StoreFailed d in
@@ -163,11 +178,11 @@ module _ {L D : Type 0} (truth : Truth) (link : L → Link) (left : D → Option
             answer.StoreFailed r)) in
             subst (λ w. Cut Anew news dice w stop) is
             (behind stop None before (subst (λ x. Does (adding Store name at.store New_row)
-            (Around_at news after None before) (Around_at news after store.told store.count)
+            (Around_at news after drawn None before) (Around_at news after drawn store.told store.count)
             (Err x)) (sym at_stop)
             (row_is_torn Store name at.store New_row None store.told before store.count rises
-            (with_lent_links link 0 news (with_lent_dice 0 (left after) (count after) a)) begins
-            (rose (sym is)) fits)))
+            (with_lent_links link 0 news (with_lent_dice 0 (left after) drawn a)) begins
+            (subst Rose_by (sym is) rose) fits)))
         cut_by (answer.StoreFull needed) why stop h r d rose =
             let is = same_why why (no.StoreFull needed) d in
             let at_stop = subst (λ w. Stops w stop) (sym is) h in
@@ -178,21 +193,21 @@ module _ {L D : Type 0} (truth : Truth) (link : L → Link) (left : D → Option
             (subst (λ n. o.limit < n) (file_is stored) full.1) in
             subst (λ w. Cut Anew news dice w stop) is
             (behind stop store.told store.count (subst (λ x. Does
-            (adding Store name at.store New_row) (Around_at news after store.told store.count)
-            (Around_at news after store.told store.count) (Err x)) (sym at_stop)
+            (adding Store name at.store New_row) (Around_at news after drawn store.told store.count)
+            (Around_at news after drawn store.told store.count) (Err x)) (sym at_stop)
             (row_is_above Store name at.store New_row store.told store.told store.count store.count
             (omega arith)
-            (with_lent_links link 0 news (with_lent_dice 0 (left after) (count after) a)) long)))
+            (with_lent_links link 0 news (with_lent_dice 0 (left after) drawn a)) long)))
         cut_by answer.NoMemory why stop h r d rose =
             let is = same_why why no.NoMemory d in
             let at_stop = subst (λ w. Stops w stop) (sym is) h in
             subst (λ w. Cut Anew news dice w stop) is
             (behind stop store.told store.count (subst (λ x. Does
-            (adding Store name at.store New_row) (Around_at news after store.told store.count)
-            (Around_at news after store.told store.count) (Err x)) (sym at_stop)
+            (adding Store name at.store New_row) (Around_at news after drawn store.told store.count)
+            (Around_at news after drawn store.told store.count) (Err x)) (sym at_stop)
             (row_is_lacking Store name at.store New_row store.told store.told store.count
             store.count (omega arith)
-            (with_lent_links link 0 news (with_lent_dice 0 (left after) (count after) a)))))
+            (with_lent_links link 0 news (with_lent_dice 0 (left after) drawn a)))))
         cut_by (answer.Written n) why stop h r d rose = absurd (cc)
         cut_by (answer.Changed last) why stop h r d rose = absurd (cc)
         cut_by (answer.Adopted n q) why stop h r d rose = absurd d
@@ -210,27 +225,27 @@ module _ {L D : Type 0} (truth : Truth) (link : L → Link) (left : D → Option
       -- the data weren't sealed
       unsealed_cut : (reason : SealNo) (why : CallNo) (stop : Stop) → Stops why stop
           → Seals left count p.seeds writer row.path plain dice after (Err reason)
-          → ◌≡◌ {A = Result Step CallNo} (Err why) (unsealed_step row.path reason)
+          → ◌≡◌ {A = Result Step CallNo} (Err why) (unsealed_step row.path reason) → Rose_by why
           → Cut Anew news dice why stop
-      unsealed_cut seal.LooksEncrypted why stop h s e = absurd (cc)
-      unsealed_cut (seal.TooLarge size) why stop h s e = absurd (cc)
-      unsealed_cut seal.DiceFailed why stop h s e =
+      unsealed_cut seal.LooksEncrypted why stop h s e rose = absurd (cc)
+      unsealed_cut (seal.TooLarge size) why stop h s e rose = absurd (cc)
+      unsealed_cut seal.DiceFailed why stop h s e rose =
           let is = same_why why no.DiceFailed e in
           let at_stop = subst (λ w. Stops w stop) (sym is) h in
           let long = le-ltb data_limit (length plain) s.0 in
           subst (λ w. Cut Anew news dice w stop) is
           (remembers (subst (λ b. Does (resealing b name p row plain at)
-          (Around_at news dice store.told store.count)
-          (Around_at news after store.told store.count) (Err stop)) (sym long)
+          (Around_at news dice least store.told store.count)
+          (Around_at news after drawn store.told store.count) (Err stop)) (sym long)
           (subst (λ x. Does (resealing false name p row plain at)
-          (Around_at news dice store.told store.count)
-          (Around_at news after store.told store.count) (Err x)) (sym at_stop)
+          (Around_at news dice least store.told store.count)
+          (Around_at news after drawn store.told store.count) (Err x)) (sym at_stop)
           (stops (value_sealed p.seeds writer row.path plain) (replacing name p row at)
-          (Fault (Dice 0) (count after))
-          (sealed_does link left count news dice after
+          (Fault (Dice 0) drawn)
+          (sealed_does link left count news dice after least drawn
           (with_lent_tape name store.told store.count a) writer p.seeds row.path plain
-          (Err seal.DiceFailed) later s.0 s)))))
-      unsealed_cut seal.NoMemory why stop h s e =
+          (Err seal.DiceFailed) more s.0 (subst Rose_by (sym is) rose) s)))))
+      unsealed_cut seal.NoMemory why stop h s e rose =
           let is = same_why why no.NoMemory e in
           subst (λ w. Cut Anew news dice w stop) is
           (lacked (resealing (nat_lt data_limit (length plain)) name p row plain at) stop
@@ -238,7 +253,7 @@ module _ {L D : Type 0} (truth : Truth) (link : L → Link) (left : D → Option
 
       data_cut : (stale : Bool) (why : CallNo) (stop : Stop) → Stops why stop
           → RewritesData left count p row plain stale found dice (Err why) acted after
-          → (why ≡ no.StoreFailed → Rose before store.count)
+          → Rose_by why
           → Cut (row_data name p row at plain stale) news dice why stop
       data_cut false why stop h r rose = absurd (cc)
       data_cut true why stop h (inl r) rose = by r.sealed r.seals r.reseals
@@ -250,7 +265,7 @@ module _ {L D : Type 0} (truth : Truth) (link : L → Link) (left : D → Option
           by (Ok stored) s (inl r) =
               cut_by stored r.sealing s r.given why stop h r.replaces r.answers rose
           by (Ok stored) s (inr n) = absurd (omega (arith, n.0.spent, unspent))
-          by (Err reason) s r = unsealed_cut reason why stop h s r.0
+          by (Err reason) s r = unsealed_cut reason why stop h s r.0 rose
       data_cut true why stop h (inr r) rose =
           let is = same_why why no.NoMemory r.0 in
           subst (λ w. Cut Anew news dice w stop) is
@@ -272,11 +287,11 @@ module _ {L D : Type 0} (truth : Truth) (link : L → Link) (left : D → Option
         let is = same_why why (no.PluginFailed n) e in
         let at_stop = subst (λ w. Stops w stop) (sym is) h in
         subst (λ w. Cut (row_steps name p row at) olds dice w stop) is
-        (subst (λ d. Does (row_steps name p row at) (Around_at olds dice store.told store.count)
-        (Around_at news d store.told store.count) (Err stop)) (sym kept)
+        (subst (λ d. Does (row_steps name p row at) (Around_at olds dice drawn store.told store.count)
+        (Around_at news d drawn store.told store.count) (Err stop)) (sym kept)
         (stops Value (row_by name p row at) stop
         (value_does truth link p.seeds opens (list_at p row.resource) row.path row.stored olds news
-        distinct (left dice) (count dice) (with_lent_tape name store.told store.count a) truth_is
+        distinct (left dice) drawn (with_lent_tape name store.told store.count a) truth_is
         (Err (unseal.PluginFailed n)) (Err stop) u (record {
           it = at_stop.it;
           there = at_stop.there;
@@ -287,16 +302,16 @@ module _ {L D : Type 0} (truth : Truth) (link : L → Link) (left : D → Option
         let is = same_why why no.NoMemory e in
         let at_stop = subst (λ w. Stops w stop) (sym is) h in
         subst (λ w. Cut (row_steps name p row at) olds dice w stop) is
-        (subst (λ d. Does (row_steps name p row at) (Around_at olds dice store.told store.count)
-        (Around_at news d store.told store.count) (Err stop)) (sym kept)
+        (subst (λ d. Does (row_steps name p row at) (Around_at olds dice drawn store.told store.count)
+        (Around_at news d drawn store.told store.count) (Err stop)) (sym kept)
         (stops Value (row_by name p row at) stop
         (value_does truth link p.seeds opens (list_at p row.resource) row.path row.stored olds news
-        distinct (left dice) (count dice) (with_lent_tape name store.told store.count a) truth_is
+        distinct (left dice) drawn (with_lent_tape name store.told store.count a) truth_is
         (Err unseal.NoMemory) (Err stop) u (ap (λ x. Err x) at_stop))))
 
     pub row_cut : (why : CallNo) (stop : Stop) → Stops why stop
         → Rewrites truth link left count p row found olds dice (Err why) acted news after
-        → (why ≡ no.StoreFailed → Rose before store.count)
+        → Rose_by why
         → Cut (row_steps name p row at) olds dice why stop
     row_cut why stop h (inl r) rose = by r.opened r.unseals r.rewrites
       where
@@ -307,7 +322,7 @@ module _ {L D : Type 0} (truth : Truth) (link : L → Link) (left : D → Option
             → Cut (row_steps name p row at) olds dice why stop
         by (Ok opened) u r = goes_on Value (row_by name p row at) (Ok opened)
             (value_does truth link p.seeds opens (list_at p row.resource) row.path row.stored olds
-            news distinct (left dice) (count dice)
+            news distinct (left dice) (drawn_by least drawn why)
             (with_lent_tape name (told_by store.told why) (count_by before store.count why) a)
             truth_is (Ok opened) (Ok (Ok opened)) u refl)
             (data_cut opened.plain (u.envelope, u.object, u.is.0) opened.stale why stop h r rose)
@@ -315,11 +330,11 @@ module _ {L D : Type 0} (truth : Truth) (link : L → Link) (left : D → Option
     row_cut why stop h (inr n) rose =
         let is = same_why why no.NoMemory n.0.0 in
         let at_stop = subst (λ w. Stops w stop) (sym is) h in
-        let now = Around_at olds dice store.told store.count in
+        let now = Around_at olds dice drawn store.told store.count in
         subst (λ w. Cut (row_steps name p row at) olds dice w stop) is
-        (subst (λ l. Does (row_steps name p row at) now (Around_at l after store.told store.count)
+        (subst (λ l. Does (row_steps name p row at) now (Around_at l after drawn store.told store.count)
         (Err stop)) (sym n.1)
-        (subst (λ d. Does (row_steps name p row at) now (Around_at olds d store.told store.count)
+        (subst (λ d. Does (row_steps name p row at) now (Around_at olds d drawn store.told store.count)
         (Err stop)) (sym n.0.2)
         (subst (λ x. Does (row_steps name p row at) now now (Err x)) (sym at_stop)
         (record { home = home_refl now; ends = λ l s. inr (reach l (inl (refl, refl)) s) }))))

@@ -105,20 +105,21 @@ module _ {L D : Type 0} (truth : Truth) (link : L → Link) (left : D → Option
     (count : D → ℕ) (o : Opening) (p : Publication) (one : o.reloads ≡ 0 ∷ [])
     (limit_is : o.limit ≡ store_limit)
     (opens : All (λ row. TellsOf truth (key_of row) row.seed) p.seeds) (name : List ℕ)
-    (a : Around) (truth_is : a.truth ≡ truth) where
+    (a : Around) (truth_is : a.truth ≡ truth) (drawn : ℕ) where
+  -- what is around, with this count of the random source
   abbrev pub Out : List L → D → Option (List ℕ) → ℕ → Around
-  Out links dice told faults = All_lent link links (left dice) (count dice) name told faults a
+  Out links dice told faults = All_lent link links (left dice) drawn name told faults a
 
   -- what is around but for the tape
   abbrev pub Beside : List L → D → Around
-  Beside links dice = with_lent_links link 0 links (with_lent_dice 0 (left dice) (count dice) a)
+  Beside links dice = with_lent_links link 0 links (with_lent_dice 0 (left dice) drawn a)
 
   module _ (row : Row) (at : Progress) (found : Caller) (number : ℕ) (lone : IsLone o p found)
       (holds : holding found.mine ≡ Some (number, p))
       (rows_are : (state_of o found.seen).rows ≡ at.store.rows)
       (is_live : live at.store.rows row.path ≡ Some row) (format_is : at.store.format ≡ o.format)
       (olds news : List L) (dice after : D) (acted : Caller) (distinct : AreDistinct link olds)
-      (later : count dice ≤ count after) where
+      where
     abbrev pub lived : live (state_of o found.seen).rows row.path ≡ Some row
     lived = ap (λ rows. live rows row.path) rows_are ∙ is_live
 
@@ -184,9 +185,9 @@ module _ {L D : Type 0} (truth : Truth) (link : L → Link) (left : D → Option
                     (Out news after None m) (Ok (one_rewritten new at))) (sym long)
                     (goes_on (value_sealed p.seeds who row.path plain) (replacing name p row at)
                     (Some stored)
-                    (sealed_does link left count news dice after (with_lent_tape name None m a) who
-                    p.seeds row.path plain (Ok stored) later
-                    (short_by (nat_lt data_limit (length plain)) (length plain) refl long) s)
+                    (sealed_does link left count news dice after drawn drawn (with_lent_tape name None m a) who
+                    p.seeds row.path plain (Ok stored) (omega arith)
+                    (short_by (nat_lt data_limit (length plain)) (length plain) refl long) tt s)
                     (goes_on (adding Store name at.store new) (λ grown. give (one_rewritten new at))
                     (with_row new at.store)
                     (row_is_added Store name at.store new None None m m (omega arith)
@@ -238,8 +239,8 @@ module _ {L D : Type 0} (truth : Truth) (link : L → Link) (left : D → Option
                 subst (λ b. Does (resealing b name p row plain at) (Out news dice None m)
                     (Out news after None m) (Ok (one_left at))) (sym long)
                     (goes_on (value_sealed p.seeds who row.path plain) (replacing name p row at) None
-                    (sealed_does link left count news dice after (with_lent_tape name None m a) who
-                    p.seeds row.path plain (Err seal.LooksEncrypted) later s.0 s)
+                    (sealed_does link left count news dice after drawn drawn (with_lent_tape name None m a) who
+                    p.seeds row.path plain (Err seal.LooksEncrypted) (omega arith) s.0 tt s)
                     (given (one_left at) (Out news after None m))),
                 rest.3,
               )
@@ -292,7 +293,7 @@ module _ {L D : Type 0} (truth : Truth) (link : L → Link) (left : D → Option
             goes_on (value_read p.seeds (list_of p.rows row.resource) row.path row.stored)
                 (row_by name p row at) (Err why)
                 (value_does truth link p.seeds opens (list_at p row.resource) row.path row.stored olds
-                news distinct (left dice) (count dice) (with_lent_tape name None m a) truth_is
+                news distinct (left dice) drawn (with_lent_tape name None m a) truth_is
                 (Err (unseal.Refused why)) (Ok (Err why)) u refl)
                 rest.2,
             rest.3,
@@ -312,7 +313,7 @@ module _ {L D : Type 0} (truth : Truth) (link : L → Link) (left : D → Option
             goes_on (value_read p.seeds (list_of p.rows row.resource) row.path row.stored)
                 (row_by name p row at) (Ok opened)
                 (value_does truth link p.seeds opens (list_at p row.resource) row.path row.stored olds
-                news distinct (left dice) (count dice) (with_lent_tape name None m a) truth_is
+                news distinct (left dice) drawn (with_lent_tape name None m a) truth_is
                 (Ok opened) (Ok (Ok opened)) u refl)
                 rest.2,
             rest.3,

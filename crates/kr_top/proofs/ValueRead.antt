@@ -1,6 +1,7 @@
 -- How the steps of one row's value end: what it reads as, and what sealing its data gives.
+use Rattle.kr_base.specs.Faults.{Rose}
 use Rattle.std.proofs.Common.{◌≡◌, ◌≢◌, ℕ, zero, suc, ◌≤◌, ◌<◌, List, [], ◌∷◌, length, Bool, true, false, Option, None, Some, Result, Ok, Err, refl, sym, ◌∙◌, ap, subst, inl, inr, arith}
-use Rattle.std.specs.Prelude.{All, nat_lt}
+use Rattle.std.specs.Prelude.{All, nat_lt, ⊤}
 use Rattle.std.specs.Io.KnownBytes.{Consumes, Keeps}
 use Rattle.std.proofs.KnownBytes.{Keeps-refl}
 use Rattle.kr_base.specs.Limits.{data_limit}
@@ -31,10 +32,10 @@ use Rattle.kr_top.specs.declared.refusal.Object.TheVariants.{Dice, Plugin}
 use Rattle.kr_top.specs.declared.refusal.Stop.{Stop}
 use Rattle.kr_top.specs.declared.refusal.Stop.TheVariants.{Fault, NoMemory}
 use Rattle.kr_provider.proofs.AskedLists.{asked_none}
-use Rattle.kr_top.proofs.Frames.{Seen, home, keeps_none, kept, plugin_fault}
+use Rattle.kr_top.proofs.Frames.{Seen, drawn, home, keeps_none, kept, plugin_fault}
 use Rattle.kr_top.proofs.Goes.{consumes_by, reach}
 use Rattle.kr_top.proofs.Unsealed.{as_stale, asks_plugin, asks_reader, open_all, opens_to}
-use Rattle.kr_top.proofs.Works.{enough, no_bytes, none_marked, still_there, unchanged, was_drawn}
+use Rattle.kr_top.proofs.Works.{enough, no_bytes, none_marked}
 
 -- ---- a value that a bench read
 
@@ -145,13 +146,31 @@ sealed_end faults (Err (seal.TooLarge size)) = Ok None
 sealed_end faults (Err seal.DiceFailed) = Err (Fault (Dice 0) faults)
 sealed_end faults (Err seal.NoMemory) = Err NoMemory
 
+-- the counts of the random source before and afterwards may be any, if the last is no less, and
+-- above where the source failed
+abbrev pub Rises : (before now : ℕ) → Result (List ℕ) SealNo → Type 0
+Rises before now (Err seal.DiceFailed) = Rose before now
+Rises before now result = ⊤
+
 module _ {L D : Type 0} (link : L → Link) (left : D → Option (List ℕ)) (count : D → ℕ)
-    (links : List L) (old new : D) (a : Around) where
+    (links : List L) (old new : D) (before now : ℕ) (a : Around) where
   abbrev Undrawn : Around
-  Undrawn = Seen link a links (left old) (count old)
+  Undrawn = Seen link a links (left old) before
 
   abbrev Drawn : Around
-  Drawn = Seen link a links (left new) (count new)
+  Drawn = Seen link a links (left new) now
+
+  still : Keeps (left old) (left new) → (l : Left) → Stays l Undrawn → Stays l Drawn
+  still k l s =
+      kept link a [] links links (asked_none link [] links) (left old) (left new) before now k l s
+
+  taken : (l : Left) → Stays l Undrawn → Stays (with_dice 0 (left new) l) Drawn
+  taken l s =
+      drawn link a [] links links (asked_none link [] links) (left old) (left new) before now l s
+
+  same_left : (l : Left) → new ≡ old → Stays l Undrawn → Stays l Drawn
+  same_left l same s =
+      still (subst (λ d. Keeps (left old) (left d)) (sym same) (Keeps-refl (left old))) l s
 
   draws : (size : ℕ) (sealed : List ℕ → Option (List ℕ)) (bytes value : List ℕ) (l : Left)
       → length bytes ≡ size → sealed bytes ≡ Some value → Consumes (left old) (left new) bytes
@@ -160,54 +179,55 @@ module _ {L D : Type 0} (link : L → Link) (left : D → Option (List ℕ)) (co
   draws zero sealed bytes value l fits is c s =
       let none = no_bytes bytes fits in
       reach l (ap (λ o. gives o) (sym (ap sealed (sym none) ∙ is)), refl)
-      (still_there link left count links old new a (keeps_none (left old) (left new)
+      (still (keeps_none (left old) (left new)
       (subst (λ d. Consumes (left old) (left new) d) none c)) l s)
   draws (suc more) sealed bytes value l fits is c s =
-      let now : Left = with_dice 0 (left new) l in
-      reach now (inr (
+      let rest : Left = with_dice 0 (left new) l in
+      reach rest (inr (
         bytes,
         left new,
         consumes_by bytes (l.dice 0) (left old) (left new) (s.dice 0) c,
         fits,
         (ap (λ o. gives o) (sym is), refl),
       ))
-      (was_drawn link left count links old new a l s)
+      (taken l s)
 
   undrawn : (who : Who) (seeds : List SeedRow) (path plain : List ℕ) (l : Left) → who ≢ Identity
       → Keeps (left old) (left new) → Stays l Undrawn
       → Reaches (value_sealed seeds who path plain) l Drawn (awaits (drawing 0))
   undrawn Identity seeds path plain l n k s = absurd (n refl)
   undrawn (Aescbc name secret) seeds path plain l n k s =
-      enough (reach l (inl (refl, refl)) (still_there link left count links old new a k l s))
+      enough (reach l (inl (refl, refl)) (still k l s))
   undrawn (Aesgcm name secret) seeds path plain l n k s =
-      enough (reach l (inl (refl, refl)) (still_there link left count links old new a k l s))
+      enough (reach l (inl (refl, refl)) (still k l s))
   undrawn (Kms name) seeds path plain l n k s =
-      enough (reach l (inl (refl, refl)) (still_there link left count links old new a k l s))
+      enough (reach l (inl (refl, refl)) (still k l s))
 
   sealed_ends : (who : Who) (seeds : List SeedRow) (path plain : List ℕ)
       (result : Result (List ℕ) SealNo) (l : Left) → length plain ≤ data_limit
-      → Seals left count seeds who path plain old new result → Stays l Undrawn
-      → Ends (value_sealed seeds who path plain) l Undrawn Drawn (sealed_end (count new) result)
-  sealed_ends who seeds path plain (Ok value) l fits (drawn, all, is, c, same) s =
-      enough (draws (draw_size who) (sealed_by seeds who path plain) drawn value l all.0 is c s)
-  sealed_ends who seeds path plain (Err (seal.TooLarge size)) l fits (e, large, same) s =
+      → Rises before now result → Seals left count seeds who path plain old new result
+      → Stays l Undrawn
+      → Ends (value_sealed seeds who path plain) l Undrawn Drawn (sealed_end now result)
+  sealed_ends who seeds path plain (Ok value) l fits r (bytes, all, is, c, same) s =
+      enough (draws (draw_size who) (sealed_by seeds who path plain) bytes value l all.0 is c s)
+  sealed_ends who seeds path plain (Err (seal.TooLarge size)) l fits r (e, large, same) s =
       absurd (omega (arith, fits, large))
-  sealed_ends who seeds path plain (Err seal.LooksEncrypted) l fits (short, e, marked, same) s =
+  sealed_ends who seeds path plain (Err seal.LooksEncrypted) l fits r (short, e, marked, same) s =
       let none = none_marked (nat_lt data_limit (length plain)) (is_marked plain) plain marked in
       subst (λ w. Reaches (value_sealed seeds w path plain) l Drawn (gives None)) (sym e)
       (enough (reach l (ap (λ o. gives o) (sym none), refl)
-      (unchanged link left count links old new a l same s)))
-  sealed_ends who seeds path plain (Err seal.DiceFailed) l fits (short, draws_so, rose, k) s =
-      (drawing 0, undrawn who seeds path plain l draws_so k s, (refl, rose, refl))
-  sealed_ends who seeds path plain (Err seal.NoMemory) l fits same s =
-      inr (reach l (inl (refl, refl)) (unchanged link left count links old new a l same s))
+      (same_left l same s)))
+  sealed_ends who seeds path plain (Err seal.DiceFailed) l fits r (short, draws_so, rose, k) s =
+      (drawing 0, undrawn who seeds path plain l draws_so k s, (refl, r, refl))
+  sealed_ends who seeds path plain (Err seal.NoMemory) l fits r same s =
+      inr (reach l (inl (refl, refl)) (same_left l same s))
 
   pub sealed_does : (who : Who) (seeds : List SeedRow) (path plain : List ℕ)
-      (result : Result (List ℕ) SealNo) → count old ≤ count new → length plain ≤ data_limit
-      → Seals left count seeds who path plain old new result
-      → Does (value_sealed seeds who path plain) Undrawn Drawn (sealed_end (count new) result)
-  sealed_does who seeds path plain result later fits made = record {
-    home = home link a [] links links (asked_none link [] links) (left old) (left new) (count old)
-        (count new) later;
-    ends = λ l s. sealed_ends who seeds path plain result l fits made s;
+      (result : Result (List ℕ) SealNo) → before ≤ now → length plain ≤ data_limit
+      → Rises before now result → Seals left count seeds who path plain old new result
+      → Does (value_sealed seeds who path plain) Undrawn Drawn (sealed_end now result)
+  sealed_does who seeds path plain result later fits rises made = record {
+    home = home link a [] links links (asked_none link [] links) (left old) (left new) before now
+        later;
+    ends = λ l s. sealed_ends who seeds path plain result l fits rises made s;
   }
