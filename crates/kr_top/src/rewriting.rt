@@ -1,6 +1,6 @@
 //! `rewrite`: configuration, programs of its plugins, store, random source, links, publish, start,
 //! drive, the report.
-ghost use Rattle.std.specs.Prelude.{◌≡◌, ◌++◌, ◌≤◌, ◌∷◌, List, ℕ, [], None, Some, Ok, Err, All, IfOk, IfErr, IfSome, MatchOption, map};
+ghost use Rattle.std.specs.Prelude.{◌≡◌, ◌++◌, ◌≤◌, ◌∷◌, List, ℕ, [], false, None, Some, Ok, Err, All, IfOk, IfErr, IfSome, MatchOption, map};
 ghost use Rattle.kr_base.specs.Limits.{store_limit};
 ghost use Rattle.kr_config.specs.Kept.{plugins_in, rows_of};
 ghost use Rattle.kr_kms.specs.Truth.{TellsOf, key_of};
@@ -179,6 +179,7 @@ fn rewrite_linked<W: World, T: Tape>(
     requires names { rollout.names.0 ≡ plugin_order (rows_of settings.entries.0) }
     requires room { HasRoom rollout.store.rows rollout.room }
     requires within { rollout.store.limit ≡ store_limit }
+    requires whole { rollout.store.torn ≡ false }
     ensures ended { (name : Name) (tapes : Tapes) (a : Around) (live : List Row)
         → a.truth ≡ W.Link.truth → IsListing rollout.store.rows live → Does
         (borrow_links programs.now (rewriting_by name (rows_of settings.entries.0)
@@ -239,6 +240,7 @@ fn rewrite_by<T: Tape, L: Kms, D: Dice>(
     requires names { rollout.names.0 ≡ plugin_order (rows_of settings.entries.0) }
     requires room { HasRoom rollout.store.rows rollout.room }
     requires within { rollout.store.limit ≡ store_limit }
+    requires whole { rollout.store.torn ≡ false }
     ensures ended { (name : Name) (a : Around) (live : List Row)
         → a.truth ≡ L.truth → IsListing rollout.store.rows live → Does
         (rewriting_by name (rows_of settings.entries.0) (stored_of rollout.store) live)

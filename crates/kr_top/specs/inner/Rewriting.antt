@@ -1,5 +1,5 @@
 -- What the phases of `rewrite` give to it.
-use Rattle.std.specs.Prelude.{◌≡◌, ◌+◌, ◌*◌, ◌<◌, ◌≤◌, ◌⊎◌, ℕ, List, [], ◌∷◌, length, Contains, Option, None, Some, Result, Ok, Err, ⊤, ⊥}
+use Rattle.std.specs.Prelude.{◌≡◌, ◌+◌, ◌*◌, ◌<◌, ◌≤◌, ◌⊎◌, ℕ, false, List, [], ◌∷◌, length, Contains, Option, None, Some, Result, Ok, Err, ⊤, ⊥}
 use Rattle.kr_base.specs.Limits.{store_limit}
 use Rattle.kr_config.specs.Kept.{Row}
 use Rattle.kr_kms.specs.Calls.{Link}
@@ -66,6 +66,7 @@ pub record IsAlone (core : CoreState) : Type 0 where
   pub history : core.history ≡ []
   pub room : HasRoom core.opening.rows core.room
   pub within : core.opening.limit ≡ store_limit
+  pub whole : core.opening.torn ≡ false
 
 abbrev pub opened_store : CoreState → Stored
 opened_store core = record { format = core.opening.format; rows = core.opening.rows }

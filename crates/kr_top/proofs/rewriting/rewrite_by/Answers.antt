@@ -119,6 +119,7 @@ pub drive_all-requires-clause-alone : goal.drive_all-requires-clause-alone
 drive_all-requires-clause-alone g c = alone_by c.in-Ok-start.core c.args.rollout.store
     c.in-Ok-publish_by.published c.args.rollout.names.0 c.args.rollout.room
     c.in-Ok-start.ensures.starts.1 c.requires.room c.requires.within
+    c.requires.whole
 
 pub drive_all-requires-clause-names : goal.drive_all-requires-clause-names
 drive_all-requires-clause-names g c =

@@ -101,6 +101,9 @@ rewrite_linked-ended-requires-clause-room g c κs within = c.in-Some.ensures
 pub rewrite_linked-ended-requires-clause-within : goal.rewrite_linked-ended-requires-clause-within
 rewrite_linked-ended-requires-clause-within g c κs within = c.in-Ok.ensures.limit.0
 
+pub rewrite_linked-ended-requires-clause-whole : goal.rewrite_linked-ended-requires-clause-whole
+rewrite_linked-ended-requires-clause-whole g c κs within = c.in-Ok.ensures.limit.1
+
 pub end-requires : goal.end-requires
 end-requires g c = none_named g.W.Link.Kms.link c.rewrite_linked-ended.result.2
     (c.rewrite_linked-ended.ensures.names ∙ ap (names_of g.W.Link.Kms.link) c.new-links.ensures)
