@@ -10,6 +10,7 @@ from .words import Usage, WordsLimit, command_of
 
 MOST_DATA = 2_097_152
 MOST_VALUE = 2_162_688
+MOST_JOURNAL = 4_000_000
 
 
 def provider_text(provider):

@@ -1,6 +1,6 @@
 -- The seeds are made, the core starts, and the drive goes on.
 use Rattle.std.proofs.Common.{◌≡◌, ℕ, List, [], ◌∷◌, Option, None, Some, Result, Ok, Err, refl, sym, ◌∙◌, ap, subst, inl, inr, arith}
-use Rattle.std.specs.Prelude.{All}
+use Rattle.std.specs.Prelude.{All, false}
 use Rattle.std.proofs.lemmas.List.Elements.{All-push}
 use Rattle.kr_base.specs.Limits.{store_limit}
 use Rattle.kr_config.specs.Kept.{Row}
@@ -117,14 +117,15 @@ Alone store p names room = record {
 
 pub alone_by : (core : CoreState) (store : Kept) (p : Publication) (names : List (List ℕ)) (room : ℕ)
     → core ≡ Alone store p names room → HasRoom store.rows room → store.limit ≡ store_limit
-    → IsAlone core
-alone_by core store p names room is has within = subst IsAlone (sym is) (record {
+    → store.torn ≡ false → IsAlone core
+alone_by core store p names room is has within whole = subst IsAlone (sym is) (record {
   p = p;
   replicas = refl;
   reloads = refl;
   history = refl;
   room = has;
   within = within;
+  whole = whole;
 })
 
 pub all_of_one : {A : Type 0} (P : A → Type 0) (x : A) → P x → All P (x ∷ [])

@@ -1,6 +1,6 @@
 //! `rewrite`: configuration, programs of its plugins, store, random source, links, publish, start,
 //! drive, the report.
-ghost use Rattle.std.specs.Prelude.{◌≡◌, ◌++◌, ◌≤◌, ◌∷◌, List, ℕ, [], None, Some, Ok, Err, All, IfOk, IfErr, IfSome, MatchOption, map};
+ghost use Rattle.std.specs.Prelude.{◌≡◌, ◌++◌, ◌≤◌, ◌∷◌, ℕ, [], false, None, Some, Ok, Err, All, IfOk, IfErr, IfSome, MatchOption, map};
 ghost use Rattle.kr_base.specs.Limits.{store_limit};
 ghost use Rattle.kr_config.specs.Kept.{plugins_in, rows_of};
 ghost use Rattle.kr_kms.specs.Truth.{TellsOf, key_of};
@@ -10,14 +10,13 @@ ghost use Rattle.kr_provider.specs.PluginOrder.{plugin_order};
 ghost use Rattle.kr_provider.specs.Publication.{Publication};
 ghost use Rattle.kr_rollout.specs.Calls.{AreServed};
 ghost use Rattle.kr_store.specs.Stores.{IsListing};
-ghost use Rattle.kr_store.specs.declared.rows.Row.{Row};
 ghost use Rattle.kr_top.specs.Around.{Around, Name, Tapes, with_world, with_tapes, with_lent_dice, with_lent_links, with_lent_tape};
 ghost use Rattle.kr_top.specs.Commands.{begun, driving, rewriting, rewriting_on, rewriting_by};
 ghost use Rattle.kr_top.specs.Plugins.{borrow_links};
 ghost use Rattle.kr_top.specs.Reports.{report_done};
 ghost use Rattle.kr_top.specs.inner.Phases.{Does};
 ghost use Rattle.kr_top.specs.inner.Reporting.{saying};
-ghost use Rattle.kr_top.specs.inner.Rewriting.{HasRoom, LacksRoom, IsAlone, IsDriveStop, IsReported, MayCutShort, StartsAlone, counts_of, opened_store, start_stop};
+ghost use Rattle.kr_top.specs.inner.Rewriting.{HasRoom, LacksRoom, LiveRows, Told, IsAlone, IsDriveStop, IsReported, MayCutShort, StartsAlone, counts_of, opened_store, start_stop};
 ghost use Rattle.kr_top.specs.inner.Tapes.{stored_of};
 
 use crate::command::Rewriting;
@@ -179,7 +178,8 @@ fn rewrite_linked<W: World, T: Tape>(
     requires names { rollout.names.0 ≡ plugin_order (rows_of settings.entries.0) }
     requires room { HasRoom rollout.store.rows rollout.room }
     requires within { rollout.store.limit ≡ store_limit }
-    ensures ended { (name : Name) (tapes : Tapes) (a : Around) (live : List Row)
+    requires whole { rollout.store.torn ≡ false }
+    ensures ended { (name : Name) (tapes : Tapes) (a : Around) (live : LiveRows)
         → a.truth ≡ W.Link.truth → IsListing rollout.store.rows live → Does
         (borrow_links programs.now (rewriting_by name (rows_of settings.entries.0)
         (stored_of rollout.store) live))
@@ -196,7 +196,7 @@ fn rewrite_linked<W: World, T: Tape>(
     ensures tapes { (W.told world.new).tapes ≡ (W.told world.old).tapes }
     ensures names { names_of W.Link.link result.2 ≡ names_of W.Link.link links }
     ensures dice { (W.told world.new).dice ≡ (W.told world.old).dice }
-    ensures out { (key : ℕ × List ℕ)
+    ensures out { (key : ℕ × Name)
         → (W.told world.new).links.out key ≡ (W.told world.old).links.out key }
 {
     let Some((program, more)) = first_of(programs) else {
@@ -239,7 +239,8 @@ fn rewrite_by<T: Tape, L: Kms, D: Dice>(
     requires names { rollout.names.0 ≡ plugin_order (rows_of settings.entries.0) }
     requires room { HasRoom rollout.store.rows rollout.room }
     requires within { rollout.store.limit ≡ store_limit }
-    ensures ended { (name : Name) (a : Around) (live : List Row)
+    requires whole { rollout.store.torn ≡ false }
+    ensures ended { (name : Name) (a : Around) (live : LiveRows)
         → a.truth ≡ L.truth → IsListing rollout.store.rows live → Does
         (rewriting_by name (rows_of settings.entries.0) (stored_of rollout.store) live)
         (with_lent_links L.link 0 links (with_lent_dice 0 (D.left dice) (D.count dice)
@@ -340,7 +341,7 @@ fn drive_all<T: Tape, L: Kms, D: Dice>(
         (λ p. All (λ row. TellsOf L.truth (key_of row) row.seed) p.seeds)) core.opening.replicas }
     requires pages { 64 ≤ size_of bench.pages }
     requires unadopted { bench.published ≡ None }
-    ensures ended { (name : Name) (a : Around) (live : List Row) (told : Option (List ℕ))
+    ensures ended { (name : Name) (a : Around) (live : LiveRows) (told : Told)
         (p : Publication) → a.truth ≡ L.truth → IsListing core.opening.rows live
         → core.opening.replicas ≡ Some p ∷ [] → Does
         (driving name p live (begun (opened_store core)))

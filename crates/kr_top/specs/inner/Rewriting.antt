@@ -1,5 +1,5 @@
 -- What the phases of `rewrite` give to it.
-use Rattle.std.specs.Prelude.{false, ◌≡◌, ◌+◌, ◌*◌, ◌<◌, ◌≤◌, ◌⊎◌, ℕ, List, [], ◌∷◌, length, Contains, Option, None, Some, Result, Ok, Err, ⊤}
+use Rattle.std.specs.Prelude.{◌≡◌, ◌+◌, ◌*◌, ◌<◌, ◌≤◌, ◌⊎◌, ℕ, false, List, [], ◌∷◌, length, Contains, Option, None, Some, Result, Ok, Err, ⊤}
 use Rattle.kr_base.specs.Limits.{store_limit}
 use Rattle.kr_config.specs.Kept.{Row}
 use Rattle.kr_kms.specs.Calls.{Link}
@@ -26,6 +26,13 @@ use Rattle.kr_top.specs.declared.refusal.Refusal.TheVariants.{Limit, Stray, Othe
 use Rattle.kr_top.specs.declared.refusal.Stop.{Stop}
 use Rattle.kr_top.specs.declared.refusal.Stop.TheVariants.{Refused, Fault, NoMemory}
 use Rattle.kr_top.specs.declared.report.Counts.{Counts}
+
+-- the live rows of a store, and what a tape tells
+abbrev pub LiveRows : Type 0
+LiveRows = List stored.Row
+
+abbrev pub Told : Type 0
+Told = Option (List ℕ)
 
 -- ---- room
 

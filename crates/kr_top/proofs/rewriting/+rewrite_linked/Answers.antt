@@ -66,12 +66,12 @@ returns-in-Err-add-clause-ended g t c = λ name tapes a live truth is.
     let faults = g.W.Rand.Dice.count c.args.dice in
     let old = g.W.World.told c.args.world.now in
     let new = g.W.World.told c.close_link.new.world in
-    stopped_by NoMemory c.stopped-2.result c.stopped-2.ensures
+    stopped_by NoMemory c.stopped-in-Err-add.result c.stopped-in-Err-add.ensures
     (subst (λ (s : Kept). Does (borrow_links c.args.programs.now next)
     (All_lent link c.args.links left faults name store.told store.count
     (with_world (with_tapes tapes old) a))
     (All_lent link c.add.new.self left faults name s.told s.count
-    (with_world (with_tapes tapes new) a)) (Err NoMemory)) (sym c.into_store-2.ensures)
+    (with_world (with_tapes tapes new) a)) (Err NoMemory)) (sym c.into_store-in-Err-add.ensures)
     (at_first next c.args.programs.now c.in-Some.program.now c.in-Some.more.now c.as_str.result.now
     c.as_str-2.result.now c.in-Some.ensures c.as_str.ensures c.as_str-2.ensures
     (none_added link a (and_then (make_seeds (plugin_order rows)) (λ seeds.

@@ -39,10 +39,10 @@ returns-in-Err-clause-ended g c name a live truth is =
 pub returns-in-Err-publish_by-clause-ended : goal.returns-in-Err-publish_by-clause-ended
 returns-in-Err-publish_by-clause-ended g c name a live truth is =
     let store = c.args.rollout.store in
-    stopped_by c.in-Err-publish_by.stop c.stopped-2.result c.stopped-2.ensures
+    stopped_by c.in-Err-publish_by.stop c.stopped-in-Err-publish_by.result c.stopped-in-Err-publish_by.ensures
     (back_by g.L.Kms.link g.D.Dice.left g.D.Dice.count name a c.publish_by.new.links
-    c.publish_by.new.links c.publish_by.new.dice c.publish_by.new.dice c.into_store-2.result store
-    refl refl c.into_store-2.ensures
+    c.publish_by.new.links c.publish_by.new.dice c.publish_by.new.dice c.into_store-in-Err-publish_by.result store
+    refl refl c.into_store-in-Err-publish_by.ensures
     (by_unpublished name (rows_of c.args.settings.entries.0) (stored_of store) live
     (ap (λ (s : Settings). rows_of s.entries.0) c.in-Ok.ensures.ok) c.in-Err-publish_by.stop
     (c.in-Err-publish_by.ensures.does (with_lent_tape name store.told store.count a) truth)))
@@ -57,10 +57,10 @@ returns-in-Err-new-clause-ended g c name a live truth is =
     let store = c.args.rollout.store in
     let rows = rows_of c.args.settings.entries.0 in
     let seeds = c.in-Ok-publish_by.published.seeds in
-    stopped_by NoMemory c.stopped-3.result c.stopped-3.ensures
+    stopped_by NoMemory c.stopped-in-Err-new.result c.stopped-in-Err-new.ensures
     (back_by g.L.Kms.link g.D.Dice.left g.D.Dice.count name a c.in-Err-new.links
-    c.publish_by.new.links c.in-Err-new.dice c.publish_by.new.dice c.into_store-3.result store
-    c.in-Err-new.ensures.returned.0 c.in-Err-new.ensures.returned.1 c.into_store-3.ensures
+    c.publish_by.new.links c.in-Err-new.dice c.publish_by.new.dice c.into_store-in-Err-new.result store
+    c.in-Err-new.ensures.returned.0 c.in-Err-new.ensures.returned.1 c.into_store-in-Err-new.ensures
     (by_seeds name rows (stored_of store) live
     (ap (λ (s : Settings). rows_of s.entries.0) c.in-Ok.ensures.ok) seeds
     (c.in-Ok-publish_by.ensures.does (with_lent_tape name store.told store.count a) truth)
@@ -90,7 +90,7 @@ returns-in-Err-start-clause-ended g c name a live truth is =
     let seeds = c.in-Ok-publish_by.published.seeds in
     let same = ap (λ (s : Settings). rows_of s.entries.0) c.in-Ok.ensures.ok in
     let none = c.in-Err-start.ensures.starts in
-    stopped_by c.in-Err-start.stop c.stopped-4.result c.stopped-4.ensures
+    stopped_by c.in-Err-start.stop c.stopped-in-Err-start.result c.stopped-in-Err-start.ensures
     (back_by g.L.Kms.link g.D.Dice.left g.D.Dice.count name a c.close-links.result.0
     c.publish_by.new.links c.close-links.result.1 c.publish_by.new.dice c.in-Err-start.store store
     (c.close-links.ensures.0 ∙ ap (λ b. b.links) c.in-Ok-new.ensures.ok)
@@ -119,6 +119,7 @@ pub drive_all-requires-clause-alone : goal.drive_all-requires-clause-alone
 drive_all-requires-clause-alone g c = alone_by c.in-Ok-start.core c.args.rollout.store
     c.in-Ok-publish_by.published c.args.rollout.names.0 c.args.rollout.room
     c.in-Ok-start.ensures.starts.1 c.requires.room c.requires.within
+    c.requires.whole
 
 pub drive_all-requires-clause-names : goal.drive_all-requires-clause-names
 drive_all-requires-clause-names g c =

@@ -38,7 +38,7 @@ returns-in_default-clause-ended g c name a t =
     let programs = c.args.programs.now in
     let store = c.in-Ok.store in
     let now = with_world (g.W.World.told c.args.world.now) a in
-    stopped_by (Refused (Limit limit.Journal)) c.stopped-2.result c.stopped-2.ensures
+    stopped_by (Refused (Limit limit.Journal)) c.stopped-in_default.result c.stopped-in_default.ensures
     (as_closed (rewriting_on name rows programs) name now _ c.close.ensures.told
     c.close.ensures.count
     (goes_on (stored_on Store name) (Finding name rows programs) (stored_of store)
@@ -52,9 +52,9 @@ returns-in-Err-names_of-clause-ended g c name a t =
     let programs = c.args.programs.now in
     let store = c.in-Ok.store in
     let now = with_world (g.W.World.told c.args.world.now) a in
-    stopped_by NoMemory c.stopped-3.result c.stopped-3.ensures
-    (as_closed (rewriting_on name rows programs) name now _ c.close-2.ensures.told
-    c.close-2.ensures.count
+    stopped_by NoMemory c.stopped-in-Err-names_of.result c.stopped-in-Err-names_of.ensures
+    (as_closed (rewriting_on name rows programs) name now _ c.close-in-Err-names_of.ensures.told
+    c.close-in-Err-names_of.ensures.count
     (goes_on (stored_on Store name) (Finding name rows programs) (stored_of store)
     (c.in-Ok.ensures.ok name now)
     (listing_lacking name rows programs (stored_of store)
@@ -70,9 +70,9 @@ returns-in-Err-open_dice-clause-ended g c name a t =
     let then = with_world (g.W.World.told c.open_dice.new.world) a in
     let room = c.in-Some.ensures in
     let tapes = tapes_lent name store.told store.count world.tapes in
-    stopped_by c.in-Err-open_dice.stop c.stopped-4.result c.stopped-4.ensures
-    (as_closed (rewriting_on name rows programs) name then _ c.close-3.ensures.told
-    c.close-3.ensures.count
+    stopped_by c.in-Err-open_dice.stop c.stopped-in-Err-open_dice.result c.stopped-in-Err-open_dice.ensures
+    (as_closed (rewriting_on name rows programs) name then _ c.close-in-Err-open_dice.ensures.told
+    c.close-in-Err-open_dice.ensures.count
     (goes_on (stored_on Store name) (Finding name rows programs) (stored_of store)
     (c.in-Ok.ensures.ok name now)
     (room_there name rows programs (stored_of store) room.0 room.1
@@ -99,7 +99,10 @@ pub rewrite_linked-ended-requires-clause-room : goal.rewrite_linked-ended-requir
 rewrite_linked-ended-requires-clause-room g c κs within = c.in-Some.ensures
 
 pub rewrite_linked-ended-requires-clause-within : goal.rewrite_linked-ended-requires-clause-within
-rewrite_linked-ended-requires-clause-within g c κs within = c.in-Ok.ensures.within
+rewrite_linked-ended-requires-clause-within g c κs within = c.in-Ok.ensures.limit.0
+
+pub rewrite_linked-ended-requires-clause-whole : goal.rewrite_linked-ended-requires-clause-whole
+rewrite_linked-ended-requires-clause-whole g c κs within = c.in-Ok.ensures.limit.1
 
 pub end-requires : goal.end-requires
 end-requires g c = none_named g.W.Link.Kms.link c.rewrite_linked-ended.result.2
@@ -135,10 +138,10 @@ returns-clause-ended g c name a t =
     subst (λ b. Does (rewriting_on name rows programs)
     (with_lent_tape name (g.W.Tap.Tape.told c.args.tape) (g.W.Tap.Tape.count c.args.tape) now)
     b ended.made)
-    (sym (saying_tape said name (g.W.Tap.Tape.told c.close-4.result)
-    (g.W.Tap.Tape.count c.close-4.result) last a))
+    (sym (saying_tape said name (g.W.Tap.Tape.told c.close-2.result)
+    (g.W.Tap.Tape.count c.close-2.result) last a))
     (as_closed (rewriting_on name rows programs) name (with_world last (saying said a)) _
-    c.close-4.ensures.told c.close-4.ensures.count
+    c.close-2.ensures.told c.close-2.ensures.count
     (goes_on (stored_on Store name) (Finding name rows programs) (stored_of store)
     (c.in-Ok.ensures.ok name now)
     (room_there name rows programs (stored_of store) room.0 room.1
