@@ -26,6 +26,7 @@ use Rattle.kr_top.specs.StoreFiles.{Stored, IsStored, with_row}
 use Rattle.kr_top.specs.declared.command.Command.{Command}
 use Rattle.kr_top.specs.declared.command.Command.TheVariants.{Convert, Check, Inspect, Put, Get, Rows, Judge, Rewrite}
 use Rattle.kr_top.specs.declared.command.Conversion.{Conversion}
+use Rattle.kr_top.specs.declared.command.Rewriting.{Rewriting}
 use Rattle.kr_top.specs.declared.command.Direction.TheVariants.{Encrypt}
 use Rattle.kr_top.specs.declared.programs.Program.{Program}
 use Rattle.kr_top.specs.declared.refusal.Limit.TheVariants as limit

@@ -212,7 +212,7 @@ module _ (name : List ℕ) (p : Publication) where
   data_is_on : (row : stored.Row) (at : Progress) (plain : List ℕ) (stale : Bool)
       → IsOnTape name (row_data name p row at plain stale)
   data_is_on row at plain false = tt
-  data_is_on row at plain true u =
+  data_is_on row at plain true = λ u.
       resealing_is_on (nat_lt data_limit (length plain)) row plain at
 
   by_is_on : (row : stored.Row) (at : Progress) (read : Result Opened ValueNo)

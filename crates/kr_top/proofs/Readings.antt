@@ -6,7 +6,7 @@ use Rattle.kr_base.specs.Streams.{AppendsFront}
 use Rattle.kr_kms.specs.Outside.{file_faults}
 use Rattle.kr_config.specs.declared.refusal.ConfigNo.{ConfigNo}
 use Rattle.kr_config.specs.declared.refusal.ConfigNo.TheVariants as config
-use Rattle.kr_top.specs.Around.{Around, with_what_is_said, left_of, IsHome, IsFault, faults_at, count_at, Reaches}
+use Rattle.kr_top.specs.Around.{Around, with_what_is_said, left_of, IsHome, IsFault, MayLack, faults_at, count_at, Reaches}
 use Rattle.kr_top.specs.Command.{Asks, AskBadly}
 use Rattle.kr_top.specs.Commands.{steps}
 use Rattle.kr_top.specs.Message.{status_of, status_of_done, status_of_configuration, status_of_refusal, line_of, fault_line}
@@ -273,10 +273,11 @@ module _ (words : List (List ℕ)) (old new : Around) (output errors : Receipt) 
     stopped NoMemory did = ended did did.ends
       where
         ended : Did words old (Now said) (Err NoMemory)
-            → ((call : Call) × Reaches (steps did.command) (left_of old) (Now said) (awaits call))
+            → ((call : Call) × MayLack call
+            × Reaches (steps did.command) (left_of old) (Now said) (awaits call))
             ⊎ Reaches (steps did.command) (left_of old) (Now said) amid
             → (point : Point Outcome) × IsStopped point × ComesSaying words old new said point
-        ended did (inl (call, r)) = (awaits call, tt, comes said did r)
+        ended did (inl (call, may, r)) = (awaits call, tt, comes said did r)
         ended did (inr r) = (amid, tt, comes said did r)
 
     reported : (stop : Stop) (did : Did words old (Now said) (Err stop)) → Reports said output
@@ -326,7 +327,7 @@ module _ (words : List (List ℕ)) (old new : Around) (output errors : Receipt) 
     cut_front : (stop : Stop) (did : Did words old (Now said) (Err stop))
         → AppendsFront output.old output.new said → Front
     cut_front stop did some =
-        let at = stopped stop did in inr (inr (inl (at.0, (said, at.2, some))))
+        let at = stopped stop did in inr (inr (inl (at.0, said, at.2, some)))
 
     at_report : (stop : Stop) (object : Object) (count : ℕ)
         → Did words old (Now said) (Err stop)
