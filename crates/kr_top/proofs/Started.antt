@@ -25,7 +25,8 @@ use Rattle.kr_top.specs.declared.refusal.Refusal.TheVariants.{Stray, OtherSecret
 use Rattle.kr_top.specs.declared.refusal.Stop.{Stop}
 use Rattle.kr_top.specs.declared.refusal.Stop.TheVariants.{NoMemory}
 use Rattle.kr_top.specs.inner.Phases.{Does}
-use Rattle.kr_top.specs.inner.Rewriting.{HasRoom, IsAlone, opened_store, start_stop}
+use Rattle.kr_top.specs.inner.Beginnings.{start_stop}
+use Rattle.kr_top.specs.inner.Rewriting.{HasRoom, IsAlone, opened_store}
 use Rattle.kr_top.specs.inner.Tapes.{stored_of}
 use Rattle.kr_top.proofs.Goes.{goes_on, home_refl, reach, stops}
 use Rattle.kr_top.proofs.Made.{remembers}

@@ -16,10 +16,11 @@ ghost use Rattle.kr_top.specs.Plugins.{borrow_links};
 ghost use Rattle.kr_top.specs.Reports.{report_done};
 ghost use Rattle.kr_top.specs.inner.Phases.{Does};
 ghost use Rattle.kr_top.specs.inner.Reporting.{saying};
-ghost use Rattle.kr_top.specs.inner.Rewriting.{HasRoom, LacksRoom, LiveRows, Told, IsAlone, IsDriveStop, IsReported, MayCutShort, StartsAlone, counts_of, opened_store, start_stop};
+ghost use Rattle.kr_top.specs.inner.Rewriting.{HasRoom, LacksRoom, LiveRows, Told, IsAlone, IsDriveStop, IsReported, MayCutShort, StartsAlone, counts_of, opened_store};
 ghost use Rattle.kr_top.specs.inner.Tapes.{stored_of};
 
 use crate::command::Rewriting;
+use crate::fleet::{names_of, start_stop};
 use crate::phases::{close_dice, close_link, configure, open_dice, open_link};
 use crate::programs::{Program, programs_of};
 use crate::publication::publish_by;
@@ -32,7 +33,7 @@ use kr_config::Settings;
 use kr_kms::{Kms, World};
 use kr_provider::{Bench, Links, Published};
 use kr_rewrite::{Report, drive};
-use kr_rollout::{CallNo, Core, Solo, StartNo};
+use kr_rollout::{CallNo, Core, Solo};
 use kr_store::Store;
 use std::alloc::Global;
 
@@ -120,23 +121,6 @@ fn room_of<T: Tape>(store: &Store<T>) -> Option<u64>
         return None;
     }
     Some(4 * live + 3)
-}
-
-/// The names of the programs' plugins.
-fn names_of(alloc: Global, programs: &[Program]) -> Result<List<Text>, NoMemory>
-    ensures { IfOk result (λ names. names.0 ≡ map (λ program. program.plugin) programs.now) }
-{
-    let mut names = List::new(alloc);
-    for program in programs {
-        let Ok(name) = Text::copy(alloc, program.plugin.as_str()) else {
-            return Err(NoMemory);
-        };
-        match names.push(name) {
-            Ok(()) => {}
-            Err(_) => return Err(NoMemory),
-        }
-    }
-    Ok(names)
 }
 
 /// What a core of one replica is started with.
@@ -312,18 +296,6 @@ fn alone(alloc: Global, published: Published) -> Result<List<Option<Shared<Publi
     match replicas.push(Some(published)) {
         Ok(()) => Ok(replicas),
         Err(_) => Err(NoMemory),
-    }
-}
-
-/// Why a core didn't start, as a command says it.
-fn start_stop(why: StartNo) -> Stop
-    ensures { result ≡ start_stop why }
-{
-    match why {
-        StartNo::Stray { path } => Stop::Refused(Refusal::Stray(path)),
-        StartNo::OtherSecret { path } => Stop::Refused(Refusal::OtherSecret(path)),
-        StartNo::Unfit { replica, verdict } => Stop::Refused(Refusal::Unfit(replica, verdict)),
-        StartNo::NoMemory => Stop::NoMemory,
     }
 }
 

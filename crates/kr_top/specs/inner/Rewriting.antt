@@ -12,17 +12,17 @@ use Rattle.kr_rollout.specs.Starts.{MayStart, IsNoStart}
 use Rattle.kr_rollout.specs.declared.call.CallNo.{CallNo}
 use Rattle.kr_rollout.specs.declared.call.CallNo.TheVariants as no
 use Rattle.kr_rollout.specs.declared.opening_board.StartNo.{StartNo}
-use Rattle.kr_rollout.specs.declared.opening_board.StartNo.TheVariants as start
 use Rattle.kr_store.specs.Stores.{IsListing, Kept}
 use Rattle.kr_store.specs.declared.rows.LogRow.{LogRow}
 use Rattle.kr_store.specs.declared.rows.Row as stored
 use Rattle.kr_top.specs.Limits.{journal_limit}
 use Rattle.kr_top.specs.Reports.{report_outcome}
 use Rattle.kr_top.specs.StoreFiles.{Stored}
+use Rattle.kr_top.specs.inner.Beginnings.{start_stop}
 use Rattle.kr_top.specs.declared.refusal.Ended.{Ended}
 use Rattle.kr_top.specs.declared.refusal.Limit.TheVariants as limit
 use Rattle.kr_top.specs.declared.refusal.Object.TheVariants.{Dice, Plugin, Store}
-use Rattle.kr_top.specs.declared.refusal.Refusal.TheVariants.{Limit, Stray, OtherSecret, Unfit}
+use Rattle.kr_top.specs.declared.refusal.Refusal.TheVariants.{Limit}
 use Rattle.kr_top.specs.declared.refusal.Stop.{Stop}
 use Rattle.kr_top.specs.declared.refusal.Stop.TheVariants.{Refused, Fault, NoMemory}
 use Rattle.kr_top.specs.declared.report.Counts.{Counts}
@@ -46,12 +46,6 @@ LacksRoom rows = (live : List stored.Row) × IsListing rows live
     × (journal_limit < 4 * length live + 3)
 
 -- ---- the start
-
-abbrev pub start_stop : StartNo → Stop
-start_stop (start.Stray path) = Refused (Stray path)
-start_stop (start.OtherSecret path) = Refused (OtherSecret path)
-start_stop (start.Unfit replica verdict) = Refused (Unfit replica verdict)
-start_stop start.NoMemory = NoMemory
 
 -- a core of one replica that has this publication, or why there is none
 abbrev pub StartsAlone : {S : Type 0} → Kept → Publication → (names : List (List ℕ)) → (room : ℕ)

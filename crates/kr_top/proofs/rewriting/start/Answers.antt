@@ -8,7 +8,8 @@ use Rattle.kr_rollout.specs.Starts.{Starts}
 use Rattle.kr_rollout.specs.declared.opening_board.StartNo.{StartNo}
 use Rattle.kr_rollout.specs.declared.opening_board.StartNo.TheVariants as start
 use Rattle.kr_store.specs.Stores.{Kept}
-use Rattle.kr_top.specs.inner.Rewriting.{StartsAlone, start_stop}
+use Rattle.kr_top.specs.inner.Beginnings.{start_stop}
+use Rattle.kr_top.specs.inner.Rewriting.{StartsAlone}
 use Rattle.kr_top.proofs.Started.{all_of_one}
 use Rattle.kr_top.proofs.rewriting.start.Goals as goal
 
