@@ -321,7 +321,7 @@ module _ {L D : Type 0} (truth : Truth) (link : L → Link) (left : D → Option
 
   pub cuts : (why : CallNo)
       → IsStep truth link left count 0 above old olds dice (Err why) new news after → Cuts why
-  cuts why (inl (n, l, d)) = early why n l d
+  cuts why (inl n) = early why n.0 n.1.0 n.1.1
   cuts why (inr h) = cut_let h.number h.p h.adopted h.adopts why h.done h.acted h.does h.lets_go
 
   pub may_cut : (why : CallNo) → Cuts why → MayCutShort (names_of link news) why
