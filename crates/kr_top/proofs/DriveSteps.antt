@@ -33,7 +33,7 @@ use Rattle.kr_rollout.specs.Steps.{new_rows}
 use Rattle.kr_rollout.proofs.Following.{adopted_law}
 use Rattle.kr_rollout.proofs.KeptByEvents.{holds_still}
 use Rattle.kr_rewrite.specs.Drives.{FindsRow, path_of}
-use Rattle.kr_rewrite.specs.Rewrites.{FindsNext, FindsNone, IsStep, ResealsBy, Rewrites, RewritesBy, RewritesData, Steps}
+use Rattle.kr_rewrite.specs.Rewrites.{FindsNext, FindsNone, IsStep, ReplacesBy, ResealsBy, Rewrites, RewritesBy, RewritesData, Steps}
 use Rattle.kr_rewrite.specs.declared.outcome.Step.{Step}
 use Rattle.kr_rewrite.specs.declared.outcome.Step.TheVariants as step
 use Rattle.kr_top.specs.Around.{Around, with_what_is_said}

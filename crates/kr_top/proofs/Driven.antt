@@ -72,8 +72,8 @@ number is [] = 0
 number is (x ∷ xs) = cond (is x) (1 + number is xs) (number is xs)
 
 pick : (b : Bool) (n : ℕ) → cond b (1 + n) n ≡ cond b 1 0 + n
-pick true n = refl
-pick false n = refl
+pick true n = omega arith
+pick false n = omega arith
 
 module _ (field : Counts → ℕ) (is : Step → Bool)
     (adds : (x : Step) (c : Counts) → field (one_more x c) ≡ field c + cond (is x) 1 0) where
@@ -467,7 +467,8 @@ module _ {L D : Type 0} (truth : Truth) (link : L → Link) (left : D → Option
           let same : at.counts ≡ counts_of report =
           none ∙ sym (ap counts_of n.report_is) in
           let stay = ap (λ (c : Caller). (state_of o c.seen).rows) n.same ∙ driven.rows_are in
-          let all = let e = ap count n.dice_is in omega (arith, e) in
+          let e = ap count n.dice_is in
+          let all : count dice ≤ count after = omega (arith, e) in
           let begun = cut_amid at rows olds dice a.said told n.why_is n.links n.dice_is
           (holds_now at stay driven.format_is) in
           raises a.said olds dice (count dice) (drawn_by (count dice) (count after) why) told

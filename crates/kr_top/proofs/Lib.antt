@@ -42,6 +42,8 @@ pub mod ReadOnly
 pub mod Readings
 pub mod DriveEnds
 pub mod Driven
+pub mod DroveAll
+pub mod CutShorts
 pub mod DriveSteps
 pub mod Reported
 pub mod RowCuts

@@ -33,7 +33,7 @@ use kr_config::Settings;
 use kr_kms::{Kms, World};
 use kr_provider::{Bench, Links, Published};
 use kr_rewrite::{Report, drive};
-use kr_rollout::{CallNo, Core, Solo};
+use kr_rollout::{Acts, CallNo, Core, Solo};
 use kr_store::Store;
 use std::alloc::Global;
 
@@ -300,7 +300,6 @@ fn alone(alloc: Global, published: Published) -> Result<List<Option<Shared<Publi
 }
 
 /// Drives over all rows of the core. What the core and the bench were made of comes back.
-#[tactic(none)]
 fn drive_all<T: Tape, L: Kms, D: Dice>(
     alloc: Global,
     core: Core<T>,
@@ -327,17 +326,20 @@ fn drive_all<T: Tape, L: Kms, D: Dice>(
     ensures names { names_of L.link result.2 ≡ names_of L.link bench.links }
 {
     let mut solo = Solo::new(core);
+    solo.known();
     let driven = drive(alloc, &mut solo, 0, &mut bench, "");
+    solo.known();
     let (store, _lines) = solo.into_core().close();
+    store.known();
+    let _faults = store.faults();
     let (links, dice) = bench.close();
-    let ended = match driven {
-        Ok(report) => reported(alloc, counts_of(&report)),
+    match driven {
+        Ok(report) => (reported(alloc, counts_of(&report)), store, links, dice),
         Err((report, why)) => {
             let stop = drive_stop(why, &store, &links, &dice);
-            cut_short(counts_of(&report), stop)
+            (cut_short(counts_of(&report), stop), store, links, dice)
         }
-    };
-    (ended, store, links, dice)
+    }
 }
 
 fn counts_of(report: &Report) -> Counts
