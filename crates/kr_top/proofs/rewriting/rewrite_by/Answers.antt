@@ -1,6 +1,7 @@
 -- `rewrite_by`: seeds are made, the core starts, and the drive goes on.
 use Rattle.std.proofs.Common.{◌≡◌, ℕ, List, [], ◌∷◌, Option, Some, None, Err, refl, sym, ◌∙◌, ap, subst, arith}
 use Rattle.std.specs.Prelude.{◌≤◌, All, IfSome, Contains}
+use Rattle.std.proofs.lemmas.List.Elements.{All-contains_itself}
 use Rattle.kr_config.specs.Kept.{plugins_in, rows_of}
 use Rattle.kr_config.specs.declared.settings.Settings.{Settings}
 use Rattle.kr_kms.specs.Truth.{TellsOf, key_of}
@@ -81,7 +82,8 @@ start-requires-clause-names g c =
     (subst (λ l. All (λ n. Contains l n) (plugins_in (rows_of c.args.settings.entries.0)))
     (c.requires.links ∙ sym c.requires.names)
     (λ k d within. all_linked g.L.Kms.link (rows_of c.args.settings.entries.0) c.args.links
-    c.requires.links _ (k, within, refl)))
+    c.requires.links _
+    (All-contains_itself (plugins_in (rows_of c.args.settings.entries.0)) k d within)))
 
 pub returns-in-Err-start-clause-ended : goal.returns-in-Err-start-clause-ended
 returns-in-Err-start-clause-ended g c name a live truth is =

@@ -1,10 +1,10 @@
 -- `start`: a core of one replica.
-use Rattle.std.proofs.Common.{◌≡◌, ℕ, List, [], ◌∷◌, Option, Some, Result, Ok, Err, refl, sym, subst, arith}
+use Rattle.std.proofs.Common.{◌≡◌, ℕ, List, [], ◌∷◌, Option, Some, Result, Ok, Err, refl, sym, ◌∙◌, ap, subst, arith}
 use Rattle.std.specs.Prelude.{◌≤◌, All, IfSome, length}
 use Rattle.kr_provider.specs.Publication.{Publication}
 use Rattle.kr_rollout.specs.Cores.{CoreState}
-use Rattle.kr_rollout.specs.Openings.{AreAmong, IsFirstIn, NamesAmong, opening_by}
-use Rattle.kr_rollout.specs.Starts.{Starts}
+use Rattle.kr_rollout.specs.Openings.{AreAmong, IsFirstIn, NamesAmong, opening_by, settings_of}
+use Rattle.kr_rollout.specs.Starts.{MayStart, Starts}
 use Rattle.kr_rollout.specs.declared.opening_board.StartNo.{StartNo}
 use Rattle.kr_rollout.specs.declared.opening_board.StartNo.TheVariants as start
 use Rattle.kr_store.specs.Stores.{Kept}
@@ -32,13 +32,24 @@ start-requires-clause-names g c = subst (AreAmong c.args.rollout.names.0) (sym c
     (λ (p : Publication). NamesAmong c.args.rollout.names.0 p.rows)) (Some c.args.published)
     c.requires.names)
 
+-- a core that begins with these replicas
+abbrev begins_with : Kept → List (Option Publication) → (names : List (List ℕ)) → (room : ℕ)
+    → CoreState
+begins_with store replicas names room = record {
+  opening = opening_by store replicas names (0 ∷ []);
+  history = [];
+  room = room;
+}
+
 -- what is known of a start of these replicas
 alone_starts : {S : Type 0} (store : Kept) (p : Publication) (names : List (List ℕ)) (room : ℕ)
     (replicas : List (Option Publication)) (core : CoreState) → replicas ≡ Some p ∷ []
     → Starts {S = S} (opening_by store replicas names (0 ∷ [])) room (Ok core)
     → StartsAlone {S = S} store p names room (Ok core)
-alone_starts {S} store p names room replicas core is s =
-    subst (λ r. Starts {S = S} (opening_by store r names (0 ∷ [])) room (Ok core)) is s
+alone_starts store p names room replicas core is s = (
+  subst (λ r. MayStart store.rows (settings_of r)) is s.0,
+  s.1 ∙ ap (λ r. begins_with store r names room) is,
+)
 
 alone_fails : {S : Type 0} (store : Kept) (p : Publication) (names : List (List ℕ)) (room : ℕ)
     (replicas : List (Option Publication)) (why : StartNo) (back : S) → replicas ≡ Some p ∷ []
