@@ -1,5 +1,6 @@
 -- The lemmas that the answers cite.
 mod Rooms
+pub mod Adding
 pub mod Apart
 pub mod Asked
 pub mod Decided
@@ -18,6 +19,7 @@ pub mod Loading
 pub mod Loads
 pub mod Judging
 pub mod ReplicaLists
+pub mod Leaving
 pub mod Lending
 pub mod Linked
 pub mod Links

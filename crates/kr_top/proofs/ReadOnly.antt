@@ -25,20 +25,15 @@ use Rattle.kr_top.specs.Commands.{by_result, configuration, configurations, judg
 use Rattle.kr_top.specs.Command.{replica_names, reload_in, reload_number, reload_file}
 use Rattle.kr_top.specs.Inspect.{Inspects}
 use Rattle.kr_top.specs.RowLines.{ShowsRows}
-use Rattle.kr_top.specs.Around.{Around, Ends, Reaches, left_of}
 use Rattle.kr_top.specs.Plugins.{borrow_links, make_seed, make_seeds, programs_of, unless_breach, wrap_seed}
-use Rattle.kr_top.specs.Ran.{Answers, Receipt}
-use Rattle.kr_top.specs.Steps.{Steps, load, take_input, borrow_dice, borrow_tape, read_tape, draw, borrow_link, ask_status, wrap, unwrap, note, find, refuse, give, and_then, Point, Left, Goes}
+use Rattle.kr_top.specs.Steps.{Steps, load, take_input, borrow_dice, borrow_tape, read_tape, write_row, draw, borrow_link, ask_status, wrap, unwrap, note, find, refuse, give, and_then, Point, Left, Goes}
 use Rattle.kr_top.specs.declared.command.Command.{Command}
-use Rattle.kr_top.specs.declared.command.Command.TheVariants.{Convert, Check, Inspect, Get, Rows, Judge}
+use Rattle.kr_top.specs.declared.command.Command.TheVariants.{Convert, Check, Inspect, Put, Get, Rows, Judge}
 use Rattle.kr_top.specs.declared.command.Direction.{Direction}
 use Rattle.kr_top.specs.declared.command.Direction.TheVariants.{Encrypt, Decrypt}
 use Rattle.kr_top.specs.declared.programs.Program.{Program}
 use Rattle.kr_top.specs.declared.refusal.Refusal.{Refusal}
-use Rattle.kr_top.specs.declared.refusal.Done.{Done}
 use Rattle.kr_top.specs.declared.refusal.Outcome.{Outcome}
-use Rattle.kr_top.specs.declared.refusal.Stop.{Stop}
-use Rattle.kr_top.specs.declared.refusal.Stop.TheVariants.{Words, Refused, Fault, NoMemory}
 
 -- no tape is made or written
 abbrev pub IsReadOnly : {A : Type 0} → Steps A → Type 0
@@ -47,6 +42,7 @@ IsReadOnly (take_input limit long next) = (bytes : List ℕ) → IsReadOnly (nex
 IsReadOnly (borrow_dice seat next) = IsReadOnly next
 IsReadOnly (borrow_tape name make absent next) = (make ≡ false) × IsReadOnly next
 IsReadOnly (read_tape object name next) = (bytes : List ℕ) → IsReadOnly (next bytes)
+IsReadOnly (write_row object name store row next) = ⊥
 IsReadOnly (draw seat size next) = (bytes : List ℕ) → IsReadOnly (next bytes)
 IsReadOnly (borrow_link seat plugin program next) = IsReadOnly next
 IsReadOnly (ask_status seat plugin next) = (status : Status) → IsReadOnly (next status)
@@ -85,6 +81,7 @@ module _ {A : Type 0} (p : Point A) (end : Left) where
   leaves_tapes (read_tape object name next) left r (inl at) = ap (λ l. l.tapes) at.1
   leaves_tapes (read_tape object name next) left r (inr (bytes, agrees, goes)) =
       leaves_tapes (next bytes) left (r bytes) goes
+  leaves_tapes (write_row object name store row next) left r goes = absurd r
   leaves_tapes (draw seat size next) left r (inl at) = ap (λ l. l.tapes) at.1
   leaves_tapes (draw seat size next) left r (inr (bytes, rest, c, fits, goes)) =
       leaves_tapes (next bytes) _ (r bytes) goes
@@ -115,6 +112,7 @@ module _ {A B : Type 0} (others : A → Steps B) (o : (x : A) → IsReadOnly (ot
   both_read (borrow_dice seat next) r = both_read next r
   both_read (borrow_tape name make absent next) r = (r.0, both_read next r.1)
   both_read (read_tape object name next) r = λ bytes. both_read (next bytes) (r bytes)
+  both_read (write_row object name store row next) r = absurd r
   both_read (draw seat size next) r = λ bytes. both_read (next bytes) (r bytes)
   both_read (borrow_link seat plugin program next) r = both_read next r
   both_read (ask_status seat plugin next) r = λ status. both_read (next status) (r status)
@@ -212,6 +210,11 @@ work_reads programs direction resource path rows bytes =
 
 -- ---- commands
 
+-- each command but `put`
+abbrev pub IsReader : Command → Type 0
+IsReader (Put words store) = ⊥
+IsReader command = Unit {0}
+
 programs_read : (options : List (List ℕ × List ℕ)) (rows : List Row)
     → IsReadOnly (linking_programs options rows)
 programs_read options rows = λ u. result_reads (programs_of options (plugin_order rows))
@@ -246,8 +249,8 @@ judging_reads options stored =
     (configurations [] (replica_names options))
     (configurations_read [] (replica_names options))
 
-pub command_reads : (command : Command) → IsReadOnly (steps command)
-command_reads (Convert words) = both_read
+pub command_reads : (command : Command) → IsReader command → IsReadOnly (steps command)
+command_reads (Convert words) r = both_read
     (λ rows. and_then (linking_programs words.options rows) (λ programs.
     and_then (input_of words.direction) (λ bytes.
     bench_steps programs words.direction words.resource words.path rows bytes)))
@@ -256,12 +259,13 @@ command_reads (Convert words) = both_read
     (λ programs. λ bytes. work_reads programs words.direction words.resource words.path rows bytes)
     (linking_programs words.options rows) (programs_read words.options rows))
     (configuration words.config) (configuration_reads words.config)
-command_reads (Check config resource) = both_read
+command_reads (Check config resource) r = both_read
     (λ rows. show (λ shown. shown ≡ Ok (listing rows resource)))
     (λ rows. shows_read (λ shown. shown ≡ Ok (listing rows resource))) (configuration config)
     (configuration_reads config)
-command_reads Inspect = λ bytes. shows_read (Inspects bytes)
-command_reads (Get words) = both_read
+command_reads Inspect r = λ bytes. shows_read (Inspects bytes)
+command_reads (Put words store) r = absurd r
+command_reads (Get words) r = both_read
     (λ rows. and_then (linking_programs words.options rows) (λ programs.
     and_then (tape_for words.store false (row_on words.store words.path)) (λ row.
     bench_steps programs Decrypt row.resource words.path rows row.stored)))
@@ -275,41 +279,16 @@ command_reads (Get words) = both_read
     (refl, row_reads words.store words.path))
     (linking_programs words.options rows) (programs_read words.options rows))
     (configuration words.config) (configuration_reads words.config)
-command_reads (Rows store) = (
+command_reads (Rows store) r = (
   refl,
   λ bytes read. both_read
       (λ held. show (ShowsRows held.rows)) (λ held. shows_read (ShowsRows held.rows))
       (by_result read) (result_reads read),
 )
-command_reads (Judge words) = (
+command_reads (Judge words) r = (
   refl,
   λ bytes read. both_read
       (λ held. judging_by words.options held.rows)
       (λ held. judging_reads words.options held.rows)
       (by_result read) (result_reads read),
 )
-
-reaches_kept : (command : Command) (old : Around) {new : Around} {point : Point Outcome}
-    → Reaches (steps command) (left_of old) new point
-    → new.world.tapes.told ≡ old.world.tapes.told
-reaches_kept command old {new} {point} r = r.stays.tapes
-    ∙ leaves_tapes point r.end (steps command) (left_of old) (command_reads command) r.goes
-
-ends_kept : (command : Command) (old new : Around) (made : Result Outcome Stop)
-    → Ends (steps command) (left_of old) old new made
-    → new.world.tapes.told ≡ old.world.tapes.told
-ends_kept command old new (Ok x) r = reaches_kept command old r
-ends_kept command old new (Err (Words why)) r = absurd r
-ends_kept command old new (Err (Refused why)) r = reaches_kept command old r
-ends_kept command old new (Err (Fault object count)) (call, r, f) = reaches_kept command old r
-ends_kept command old new (Err NoMemory) (inl (call, r)) = reaches_kept command old r
-ends_kept command old new (Err NoMemory) (inr r) = reaches_kept command old r
-
--- whatever a call did, the tapes are as they were
-pub tapes_kept : (words : List (List ℕ)) (old new : Around) (output : Receipt)
-    (result : Result Done Stop) → Answers words old new output result
-    → new.world.tapes.told ≡ old.world.tapes.told
-tapes_kept words old new output result (inl (stops, same)) =
-    ap (λ (a : Around). a.world.tapes.told) same.0
-tapes_kept words old new output result (inr (made, did, w)) =
-    ends_kept did.command old new made did.ends

@@ -10,7 +10,7 @@ use Rattle.kr_top.specs.Around.{Around, left_of, IsHome, IsFault, faults_at, cou
 use Rattle.kr_top.specs.Command.{Asks, AskBadly}
 use Rattle.kr_top.specs.Commands.{steps}
 use Rattle.kr_top.specs.Message.{status_of, status_of_done, status_of_configuration, status_of_refusal, line_of, fault_line}
-use Rattle.kr_top.specs.Steps.{Call, loading, reading, opening, lending, scanning, drawing, object_of, Point, refuses, gives, linking, asking}
+use Rattle.kr_top.specs.Steps.{Call, loading, reading, opening, lending, scanning, writing, drawing, object_of, Point, refuses, gives, linking, asking}
 use Rattle.kr_top.specs.Ran.{Receipt, IsIdle, Reports, IsUntouched, StopsAtOnce, Did, Comes, Writes, Answers, Tells, FailsAt, FailsToWrite, Readings}
 use Rattle.kr_top.specs.declared.command.Command.{Command}
 use Rattle.kr_top.specs.declared.refusal.BadWords.{BadWords}
@@ -88,6 +88,7 @@ object_rose reading h r = r
 object_rose (opening seat) h r = file_rose h (inr (inr (inl r)))
 object_rose (lending name) h r = file_rose h (inr (inl r))
 object_rose (scanning object name) h r = r
+object_rose (writing object name) h r = r
 object_rose (drawing seat) h r = r
 object_rose (linking seat plugin) h r = file_rose h (inr (inr (inr r)))
 object_rose (asking seat plugin) h r = r

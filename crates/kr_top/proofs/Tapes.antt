@@ -48,7 +48,7 @@ may_borrow None make held e n = absurd cc
 may_borrow (Some None) make held t n = t.0
 may_borrow (Some (Some bytes)) make held e n = absurd cc
 
-one_of : {B : Type 0} (q : Bool) (x y u v : B) → x ≡ u → (q ≡ false → y ≡ v)
+pub one_of : {B : Type 0} (q : Bool) (x y u v : B) → x ≡ u → (q ≡ false → y ≡ v)
     → (if q then x else y) ≡ (if q then u else v)
 one_of true x y u v e f = e
 one_of false x y u v e f = f refl
@@ -103,7 +103,7 @@ module _ {old new : Outside} (files : KeepsFiles old new) (objects : KeepsObject
   }
   not_lent name make NoMemory n (inr q) = record {
     home = asked_home files objects a;
-    ends = λ left s. inl (lending name, not_lent_at name make _ s q);
+    ends = λ left s. inl (lending name, tt, not_lent_at name make _ s q);
   }
 
 -- ---- one that was

@@ -1,4 +1,5 @@
 -- The definitions that contracts cite.
+pub mod Afterwards
 pub mod Around
 pub mod Check
 pub mod Command

@@ -1,13 +1,14 @@
 //! The call that does a command.
 ghost use Rattle.std.specs.Prelude.{◌≡◌, ◌≤◌, Some};
 ghost use Rattle.kr_words.specs.Grammar.{texts};
+ghost use Rattle.kr_top.specs.Afterwards.{AreLeft};
 ghost use Rattle.kr_top.specs.Around.{Around, around, with_world};
 ghost use Rattle.kr_top.specs.Commands.{steps};
 ghost use Rattle.kr_top.specs.FleetAsked.{AskNoFleet, AsksFleet};
 ghost use Rattle.kr_top.specs.Fleets.{RanAlone, RanFleet};
 ghost use Rattle.kr_top.specs.Ran.{receipt, Answers, Ran, Readings};
 ghost use Rattle.kr_top.specs.declared.fleet_words.FleetWords.{FleetWords};
-ghost use Rattle.kr_top.specs.inner.Phases.{Does, HasShortPath};
+ghost use Rattle.kr_top.specs.inner.Phases.{Does, KeepsRules};
 
 use crate::check::check;
 use crate::command::{Command, read_command};
@@ -21,6 +22,7 @@ use crate::message::tell;
 use crate::phases::write_output;
 use crate::refusal::{Done, Outcome, Stop};
 use crate::rows::list;
+use crate::storing::put;
 use kr_base::{Sink, Source};
 use kr_kms::World;
 use std::alloc::Global;
@@ -33,7 +35,7 @@ use std::thread::Threads;
 /// other than 0 has one line on `errors`, but for a reload that was refused and for those that a
 /// fleet's replies decide, of which the output says why; where the line can't be written the status
 /// is 4. A fleet's workers wait for each other by `rt`. `readings` is what follows from `ran`, for
-/// readers, and so is that no tape changed, whatever the status is.
+/// readers; `tapes` is what is left of the tapes, whatever the status is.
 pub fn run<R: Threads + Wait + Sync, W: World, I: Source, O: Sink, E: Sink>(
     rt: &R,
     alloc: Global,
@@ -59,8 +61,11 @@ pub fn run<R: Threads + Wait + Sync, W: World, I: Source, O: Sink, E: Sink>(
         (receipt (O.held output.old) (O.held output.new) (O.count output.old) (O.count output.new))
         (receipt (E.held errors.old) (E.held errors.new) (E.count errors.old) (E.count errors.new))
         result }
-    ensures tapes { AskNoFleet (texts words.now)
-        → (W.told world.new).tapes.told ≡ (W.told world.old).tapes.told }
+    ensures tapes { AskNoFleet (texts words.now) → AreLeft (texts words.now)
+        (around W.Link.truth (W.told world.old) (I.left input.old)
+        (I.count input.old))
+        (around W.Link.truth (W.told world.new) (I.left input.new)
+        (I.count input.new)) }
     ensures fleet { (asked : FleetWords) → AsksFleet (texts words.now) asked
         → RanFleet W.Tap W.Link.truth W.Link.link W.Rand.left W.Rand.count asked
         (around W.Link.truth (W.told world.old) (I.left input.old)
@@ -151,7 +156,11 @@ fn alone<W: World, I: Source, O: Sink, E: Sink>(
         (receipt (O.held output.old) (O.held output.new) (O.count output.old) (O.count output.new))
         (receipt (E.held errors.old) (E.held errors.new) (E.count errors.old) (E.count errors.new))
         result }
-    ensures tapes { (W.told world.new).tapes.told ≡ (W.told world.old).tapes.told }
+    ensures tapes { AreLeft (texts words.now)
+        (around W.Link.truth (W.told world.old) (I.left input.old)
+        (I.count input.old))
+        (around W.Link.truth (W.told world.new) (I.left input.new)
+        (I.count input.new)) }
 {
     let answer = answer(alloc, words, world, input, output);
     tell(errors, &answer)
@@ -189,7 +198,7 @@ fn perform<W: World, I: Source>(
     world: &mut W,
     input: &mut I,
 ) -> Result<Outcome, Stop>
-    requires path { HasShortPath (Some command.now) }
+    requires path { KeepsRules (Some command.now) }
     ensures { Does (steps command.now)
         (around W.Link.truth (W.told world.old) (I.left input.old)
         (I.count input.old))
@@ -201,6 +210,7 @@ fn perform<W: World, I: Source>(
         Command::Convert(words) => convert(alloc, words, world, input),
         Command::Check { config, resource } => check(alloc, config.as_str(), resource, world),
         Command::Inspect => inspect(alloc, input),
+        Command::Put { object, store } => put(alloc, object, store, world, input),
         Command::Get(words) => get(alloc, words, world),
         Command::Rows { store } => list(alloc, store.as_str(), world),
         Command::Judge(words) => judge(alloc, words, world),

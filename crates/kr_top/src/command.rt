@@ -5,8 +5,9 @@ ghost use Rattle.kr_words.specs.Grammar.{texts, replicas_of, replica_limit};
 ghost use Rattle.kr_words.specs.declared.command.Verb.{Verb};
 ghost use Rattle.kr_words.specs.Options.{value_of};
 ghost use Rattle.kr_words.specs.Rules.{IsCommand};
-ghost use Rattle.kr_top.specs.Command.{command_of, conversion_of, check_of, lookup_of, listing_of, judgement_of};
-ghost use Rattle.kr_top.specs.inner.Phases.{IsReadAs, HasShortPath};
+ghost use Rattle.kr_top.specs.Command.{command_of, conversion_of, check_of, lookup_of, listing_of, judgement_of, put_of};
+ghost use Rattle.kr_base.specs.Rules.{IsPath, IsResource};
+ghost use Rattle.kr_top.specs.inner.Phases.{IsReadAs, KeepsRules};
 
 use crate::options::Options;
 use crate::refusal::{BadWords, Stop};
@@ -74,6 +75,13 @@ pub enum Command {
     },
     /// Shows what the input, a stored value, says of itself.
     Inspect,
+    /// Encrypts the input, and puts the value into a store.
+    Put {
+        /// The object.
+        object: Conversion,
+        /// The name of the store's file.
+        store: Text,
+    },
     /// Reads a value of a store.
     Get(Lookup),
     /// Lists the rows of a store.
@@ -111,13 +119,14 @@ fn command_of(alloc: Global, words: kr_words::Command) -> Result<Option<Command>
     requires command { IsCommand words.verb words.options.0 }
     requires few { replicas_of words.options.0 ≤ replica_limit }
     ensures command { IfOk result (λ command. command ≡ command_of words.verb words.options.0) }
-    ensures path { IfOk result HasShortPath }
+    ensures path { IfOk result KeepsRules }
 {
     match words.verb {
         Verb::Encrypt => conversion_of(alloc, Direction::Encrypt, words),
         Verb::Decrypt => conversion_of(alloc, Direction::Decrypt, words),
         Verb::Check => check_of(alloc, &words),
         Verb::Inspect => Ok(Some(Command::Inspect)),
+        Verb::Put => put_of(alloc, words),
         Verb::Get => lookup_of(alloc, words),
         Verb::Rows => listing_of(alloc, &words),
         Verb::Judge => judgement_of(alloc, words),
@@ -136,7 +145,7 @@ fn conversion_of(
         (value_of words.options.0 (codes "config"))
         (value_of words.options.0 (codes "resource"))
         (value_of words.options.0 (codes "path"))) }
-    ensures path { IfOk result HasShortPath }
+    ensures path { IfOk result KeepsRules }
 {
     let config = value_of(alloc, &words, "config")?;
     let resource = value_of(alloc, &words, "resource")?;
@@ -161,7 +170,7 @@ fn conversion_at(
     requires { IfSome path (λ path. length path ≤ path_limit) }
     ensures command { result
         ≡ conversion_of direction options (Some config) (Some resource) path }
-    ensures path { HasShortPath result }
+    ensures path { KeepsRules result }
 {
     match path {
         Some(path) => Some(Command::Convert(Conversion {
@@ -190,7 +199,7 @@ fn check_of(alloc: Global, words: &kr_words::Command) -> Result<Option<Command>,
     ensures command { IfOk result (λ command. command ≡ check_of
         (value_of words.now.options.0 (codes "config"))
         (value_of words.now.options.0 (codes "resource"))) }
-    ensures path { IfOk result HasShortPath }
+    ensures path { IfOk result KeepsRules }
 {
     let config = value_of(alloc, words, "config")?;
     let resource = value_of(alloc, words, "resource")?;
@@ -200,6 +209,59 @@ fn check_of(alloc: Global, words: &kr_words::Command) -> Result<Option<Command>,
     }
 }
 
+/// The words of `put`.
+fn put_of(alloc: Global, words: kr_words::Command) -> Result<Option<Command>, NoMemory>
+    requires command { IsCommand words.verb words.options.0 }
+    requires verb { words.verb ≡ Verb.Put }
+    ensures command { IfOk result (λ command. command ≡ put_of words.options.0
+        (value_of words.options.0 (codes "config"))
+        (value_of words.options.0 (codes "store"))
+        (value_of words.options.0 (codes "resource"))
+        (value_of words.options.0 (codes "path"))) }
+    ensures path { IfOk result KeepsRules }
+{
+    let config = value_of(alloc, &words, "config")?;
+    let store = value_of(alloc, &words, "store")?;
+    let resource = value_of(alloc, &words, "resource")?;
+    let path = value_of(alloc, &words, "path")?;
+    let Some(config) = config else {
+        return Ok(None);
+    };
+    let Some(store) = store else {
+        return Ok(None);
+    };
+    Ok(put_at(config, store, resource, path, Options::new(words)))
+}
+
+/// A put of an object at a path, where there is one.
+fn put_at(
+    config: Text,
+    store: Text,
+    resource: Option<Text>,
+    path: Option<Text>,
+    options: Options,
+) -> Option<Command>
+    requires path { IfSome path IsPath }
+    requires resource { IfSome resource IsResource }
+    ensures command { result ≡ put_of options (Some config) (Some store) resource path }
+    ensures path { KeepsRules result }
+{
+    let Some(resource) = resource else {
+        return None;
+    };
+    let Some(path) = path else {
+        return None;
+    };
+    let object = Conversion {
+        direction: Direction::Encrypt,
+        config,
+        resource,
+        path,
+        options,
+    };
+    Some(Command::Put { object, store })
+}
+
 /// The words of `get`.
 fn lookup_of(alloc: Global, words: kr_words::Command) -> Result<Option<Command>, NoMemory>
     requires { IsCommand words.verb words.options.0 }
@@ -207,7 +269,7 @@ fn lookup_of(alloc: Global, words: kr_words::Command) -> Result<Option<Command>,
         (value_of words.options.0 (codes "config"))
         (value_of words.options.0 (codes "store"))
         (value_of words.options.0 (codes "path"))) }
-    ensures path { IfOk result HasShortPath }
+    ensures path { IfOk result KeepsRules }
 {
     let config = value_of(alloc, &words, "config")?;
     let store = value_of(alloc, &words, "store")?;
@@ -225,7 +287,7 @@ fn lookup_of(alloc: Global, words: kr_words::Command) -> Result<Option<Command>,
 fn lookup_at(config: Text, store: Text, path: Option<Text>, options: Options) -> Option<Command>
     requires { IfSome path (λ path. length path ≤ path_limit) }
     ensures command { result ≡ lookup_of options (Some config) (Some store) path }
-    ensures path { HasShortPath result }
+    ensures path { KeepsRules result }
 {
     match path {
         Some(path) => Some(Command::Get(Lookup {
@@ -242,7 +304,7 @@ fn lookup_at(config: Text, store: Text, path: Option<Text>, options: Options) ->
 fn listing_of(alloc: Global, words: &kr_words::Command) -> Result<Option<Command>, NoMemory>
     ensures command { IfOk result (λ command. command ≡ listing_of
         (value_of words.now.options.0 (codes "store"))) }
-    ensures path { IfOk result HasShortPath }
+    ensures path { IfOk result KeepsRules }
 {
     match value_of(alloc, words, "store")? {
         Some(store) => Ok(Some(Command::Rows { store })),
@@ -257,7 +319,7 @@ fn judgement_of(alloc: Global, words: kr_words::Command) -> Result<Option<Comman
     requires verb { words.verb ≡ Verb.Judge }
     ensures command { IfOk result (λ command. command ≡ judgement_of words.options.0
         (value_of words.options.0 (codes "store"))) }
-    ensures path { IfOk result HasShortPath }
+    ensures path { IfOk result KeepsRules }
 {
     let Some(_reload) = words.reload() else {
         unreachable!();

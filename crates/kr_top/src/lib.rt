@@ -25,6 +25,7 @@ mod replicas;
 mod row_lines;
 mod rows;
 mod stores;
+mod storing;
 mod text;
 mod verdict_line;
 mod work;

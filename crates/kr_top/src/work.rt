@@ -1,12 +1,13 @@
 //! Borrows a random source, and a link to each plugin, for what is made of the input.
-ghost use Rattle.std.specs.Prelude.{◌≡◌, ◌≢◌, ◌≤◌, ℕ, List, ◌∷◌, ◌++◌, length, map, [], MatchOption};
-ghost use Rattle.kr_base.specs.Limits.{path_limit};
+ghost use Rattle.std.specs.Prelude.{◌≡◌, ◌≢◌, ◌≤◌, ℕ, List, ◌∷◌, ◌++◌, length, map, [], IfOk, MatchOption};
+ghost use Rattle.kr_base.specs.Limits.{path_limit, value_limit};
 ghost use Rattle.kr_config.specs.Kept.{rows_of};
 ghost use Rattle.kr_provider.specs.Names.{names_of};
 ghost use Rattle.kr_provider.specs.PluginOrder.{plugin_order};
 ghost use Rattle.kr_top.specs.Around.{Around, Tapes, with_world, with_tapes, with_lent_dice, with_lent_links};
 ghost use Rattle.kr_top.specs.Commands.{bench_steps, working, limit_of};
 ghost use Rattle.kr_top.specs.Plugins.{borrow_links};
+ghost use Rattle.kr_top.specs.declared.command.Direction.{Direction};
 ghost use Rattle.kr_top.specs.inner.Phases.{Does};
 
 use crate::bench::{adopted, work};
@@ -52,6 +53,8 @@ pub fn make<W: World>(
         (rows_of settings.entries.0) task.now.bytes.now)
         (with_world (with_tapes tapes (W.told world.old)) a)
         (with_world (with_tapes tapes (W.told world.new)) a) result }
+    ensures size { task.now.direction ≡ Direction.Encrypt
+        → IfOk result (λ made. length made.bytes ≤ value_limit) }
     ensures tapes { (W.told world.new).tapes ≡ (W.told world.old).tapes }
 {
     let dice = match open_dice(alloc, world, 0) {
@@ -92,6 +95,8 @@ fn make_linked<W: World>(
         result.0 }
     ensures tapes { (W.told world.new).tapes ≡ (W.told world.old).tapes }
     ensures names { names_of W.Link.link result.1 ≡ names_of W.Link.link links }
+    ensures size { task.now.direction ≡ Direction.Encrypt
+        → IfOk result.0 (λ made. length made.bytes ≤ value_limit) }
     ensures dice { (W.told world.new).dice ≡ (W.told world.old).dice }
     ensures out { (key : ℕ × List ℕ)
         → (W.told world.new).links.out key ≡ (W.told world.old).links.out key }
@@ -162,6 +167,8 @@ fn make_by<L: Kms, D: Dice>(
         (with_lent_dice 0 (D.left result.2) (D.count result.2) a))
         result.0 }
     ensures names { names_of L.link result.1 ≡ names_of L.link links }
+    ensures size { task.now.direction ≡ Direction.Encrypt
+        → IfOk result.0 (λ made. length made.bytes ≤ value_limit) }
 {
     let settings = match Shared::new(alloc, settings) {
         Ok(settings) => settings,

@@ -11,13 +11,15 @@ use Rattle.kr_store.specs.declared.rows.LogRow.{LogRow}
 use Rattle.kr_store.specs.declared.rows.Row.{Row}
 use Rattle.kr_store.specs.declared.answers.StoreNo.{StoreNo}
 use Rattle.kr_store.specs.declared.answers.StoreNo.TheVariants as no
-use Rattle.kr_top.specs.StoreFiles.{Stored}
+use Rattle.kr_top.specs.Commands.{silently}
+use Rattle.kr_top.specs.StoreFiles.{Stored, with_row}
 use Rattle.kr_top.specs.Texts.{visible}
 use Rattle.kr_top.specs.declared.refusal.Breach.TheVariants as breach
 use Rattle.kr_top.specs.declared.refusal.Limit.TheVariants as limit
 use Rattle.kr_top.specs.declared.refusal.Object.{Object}
 use Rattle.kr_top.specs.declared.refusal.Object.TheVariants.{Files}
 use Rattle.kr_top.specs.declared.refusal.Refusal.TheVariants.{Absent, Limit, Broken, NoPath}
+use Rattle.kr_top.specs.declared.refusal.Outcome.{Outcome}
 use Rattle.kr_top.specs.declared.refusal.Stop.{Stop}
 use Rattle.kr_top.specs.declared.refusal.Stop.TheVariants.{Words, Refused, Fault, NoMemory}
 
@@ -70,6 +72,16 @@ IsLookedUp rows path (Ok row) = live rows path ≡ Some row
 IsLookedUp rows path (Err (Refused why)) = (live rows path ≡ None) × (why ≡ NoPath path)
 IsLookedUp rows path (Err NoMemory) = ⊤
 IsLookedUp rows path result = ⊥
+
+-- the store with the row, where it was added
+abbrev pub grown_by : LogRow → Stored → Result (Unit {0}) Stop → Result Stored Stop
+grown_by row store (Ok done) = Ok (with_row row store)
+grown_by row store (Err stop) = Err stop
+
+-- the line of `put`, where its row was added
+abbrev pub answered : Result (Unit {0}) Stop → (line : List ℕ) → Result Outcome Stop
+answered (Ok done) line = Ok (silently line)
+answered (Err stop) line = Err stop
 
 -- the path of the row where a walk over the live rows is; the empty one at its begin
 abbrev pub path_of : Option Row → List ℕ

@@ -50,7 +50,7 @@ returns-in-Err-clause-readings g c none = readings _ _ _ _ _ _ (Err c.in-Err.sto
     (inl (at_once _ c.in-Err.stop c.in-Err.ensures, (refl, (refl, refl)))) c.tell.ensures.told
 
 pub returns-in-Err-clause-tapes : goal.returns-in-Err-clause-tapes
-returns-in-Err-clause-tapes g c none = refl
+returns-in-Err-clause-tapes g c none = inl refl
 
 pub returns-in-Err-clause-fleet : goal.returns-in-Err-clause-fleet
 returns-in-Err-clause-fleet g c asked asks = record {
