@@ -1,13 +1,16 @@
 #!/usr/bin/env python3
-"""Fleets of many workers on real threads: each printed journal is checked against a reading of the step table of its own,
-and each reply against the journal.
+"""Fleets of many workers, which wait for each other in threads: each printed journal is checked against a reading of the step
+table of its own, and each reply and the store against the journal.
 
-  random_fleets.py cases N SEED FOLDER    writes N fleets as cases of kr_cases, at most 12 a file, each with its script beside it
+  random_fleets.py run N SEED [PROGRAM]   runs N fleets with the built program, and judges what it prints and leaves
+  random_fleets.py cases N SEED FOLDER    writes N fleets as cases of kr_cases, at most 12 a file, and their scripts beside FOLDER
   random_fleets.py judge FOLDER OUTPUT    judges the lines that kr_cases printed for them, in OUTPUT
-  random_fleets.py run N SEED PROGRAM     runs N fleets with the built program and judges what it prints
 
 What is checked of a journal: that each line is a step from where the lines before it lead; that each worker's lines are those of
-its script, in order; and that each `get` gives the data last written at its path before its own fetch, or `absent`."""
+its script, in order; and that each `get` gives the data last written at its path before its own fetch, or `absent`. Of the store:
+that its rows are the written lines, each with the prefix and the check of the provider that writes by the configuration held.
+`run` also hands the program a fleet file above the limit. It needs no package of Python's."""
+
 import base64
 import json
 import os
@@ -16,10 +19,14 @@ import re
 import subprocess
 import sys
 import tempfile
+from pathlib import Path
 
-sys.path.insert(0, os.path.dirname(os.path.abspath(__file__)))
-from reference import configuration  # noqa: E402
+sys.dont_write_bytecode = True
+TOP = Path(__file__).resolve().parent.parent
+sys.path.insert(0, str(TOP / "tools"))
+from reference import configuration, store  # noqa: E402  (its folder is known only now)
 from reference.board import Board  # noqa: E402
+from reference.values import check_of, prefix  # noqa: E402
 
 SECRETS = {"key1": "c2VjcmV0IGlzIHNlY3VyZQ==", "key2": "dGhpcyBpcyBwYXNzd29yZA=="}
 PROVIDERS = {
@@ -43,10 +50,8 @@ def expect(holds, what):
 
 def configuration_text(name):
     providers = [{"aescbc": {"keys": [{"name": key, "secret": SECRETS[key]}]}} if key else {"identity": {}} for key in PROVIDERS[name]]
-    return json.dumps({
-        "apiVersion": "apiserver.config.k8s.io/v1", "kind": "EncryptionConfiguration",
-        "resources": [{"resources": ["secrets"], "providers": providers}],
-    })
+    entries = [{"resources": ["secrets"], "providers": providers}]
+    return json.dumps({"apiVersion": "apiserver.config.k8s.io/v1", "kind": "EncryptionConfiguration", "resources": entries})
 
 
 # ---- making fleets
@@ -65,7 +70,7 @@ def script_line(draw, replicas):
     return f"leave {replica}" if kind == "leave" else kind
 
 
-def fleet(draw, most_workers=8, most_lines=12):
+def fleet(draw, most_workers=4, most_lines=12):
     replicas = [f"r{number}" for number in range(draw.randrange(1, 5))]
     first = draw.choice(["old", "both"])
     lines = ["fleet 1", f"replica r0 {first}"]
@@ -82,7 +87,9 @@ def fleet(draw, most_workers=8, most_lines=12):
 class State:
     def __init__(self, replicas, files):
         self.board = Board(1 << 20)
-        self.current, self.held, self.objects, self.last, self.rows = {}, {}, {}, {}, 0
+        self.current, self.held, self.objects, self.last = {}, {}, {}, {}
+        # (each written row: its path, and its resource and its provider where it is no delete)
+        self.rows = []
         for number, (_, name) in enumerate(replicas):
             self.current[number] = None
             if name != "-":
@@ -100,18 +107,18 @@ class State:
         self.board.generations[self.held.pop(seat)].holders -= 1
 
     def write(self, path, seat, resource, data):
-        self.rows += 1
         who = configuration.list_for(self.board.generations[self.held[seat]].entries, resource)[0]
-        self.objects[path] = (self.rows, resource, data)
-        self.last[path] = self.rows
+        self.rows.append((path, resource, who))
+        self.objects[path] = (len(self.rows), resource, data)
+        self.last[path] = len(self.rows)
         self.board.needs[path] = (resource, who)
-        return self.rows
+        return len(self.rows)
 
     def delete(self, path):
-        self.rows += 1
+        self.rows.append((path, None, None))
         del self.objects[path], self.board.needs[path]
-        self.last[path] = self.rows
-        return self.rows
+        self.last[path] = len(self.rows)
+        return len(self.rows)
 
 
 class Journal:
@@ -121,7 +128,7 @@ class Journal:
         self.state, self.replicas, self.files = state, [name for name, _ in replicas], files
         self.turn = {name: self.script(seat, replica, lines) for seat, (name, replica, lines) in enumerate(workers)}
         self.replies = {name: [] for name, _, _ in workers}
-        self.wanted = {name: next(turn) for name, turn in self.turn.items()}
+        self.wanted = {name: next(turn, None) for name, turn in self.turn.items()}
 
     def line(self, name, words):
         expect(name in self.turn and self.wanted[name] is not None, "a line of no worker")
@@ -140,7 +147,6 @@ class Journal:
             words = line.split(" ")
             reply = yield from getattr(self, words[0])(seat, replica, *words[1:])
             self.replies[name].append(reply)
-        return
 
     def adopt(self, seat, replica):
         words, state = (yield "adopt"), self.state
@@ -263,13 +269,13 @@ def parts(lines):
     return replicas, workers
 
 
-def judge(lines, output, status):
-    """Raises Illegal where the output isn't one of this fleet."""
+def judge(lines, output, status, tape=None):
+    """Raises Illegal where the output isn't one of this fleet, or what the store's file holds isn't what was written."""
     replicas, workers = parts(lines)
     files = {name: configuration.read(configuration_text(name).encode()) for name in PROVIDERS}
     journal = Journal(State(replicas, files), replicas, files, workers)
     text = output.split("\n")
-    expect(text[0] == "journal" and text[-1] == "" and text[-2] == "end", "no journal or no end")
+    expect(text[0] == "journal" and "replies" in text and text[-2:] == ["end", ""], "no journal, no replies or no end")
     middle = text.index("replies")
     for number, line in enumerate(text[1:middle]):
         words = line.split(" ")
@@ -281,6 +287,20 @@ def judge(lines, output, status):
     bad = any(re.search(r"^\S+ \d+ (refused|absent|gone|present|refresh moved)", reply) for reply in wanted)
     left = any(re.search(r" rewrite \d+ \d+ \d+ [1-9]", reply) for reply in wanted)
     expect(status == (1 if bad or left else 0), f"status {status}")
+    if tape is not None:
+        judge_rows(journal.state.rows, tape)
+
+
+def judge_rows(wanted, tape):
+    rows = store.read(tape)[1]
+    expect(len(rows) == len(wanted), f"{len(rows)} rows are stored, {len(wanted)} were written")
+    for number, (row, (path, resource, who)) in enumerate(zip(rows, wanted), 1):
+        expect(row.path == path.encode(), f"row {number} is of {row.path}, not {path}")
+        expect((row.value is None) == (who is None), f"row {number} is a delete, or is none")
+        if who is not None:
+            begin = b"" if who[0] == "identity" else prefix(who)
+            expect(row.resource == resource.encode() and row.value.startswith(begin), f"row {number} isn't {who}'s")
+            expect(row.check == check_of(who), f"row {number} has another check than {who}'s")
 
 
 # ---- running them
@@ -290,7 +310,7 @@ def case_text(name, lines):
     text = [f"case {name}", "words fleet --file fleet --store s", "file fleet"] + [f"| {line}" for line in lines]
     text += [f"file {own} {configuration_text(own)}" for own in PROVIDERS]
     seats = sum(line.startswith("worker ") for line in lines)
-    return "\n".join(text + [f"dice {seat} \\(4096*00)" for seat in range(seats)]) + "\n"
+    return "\n".join(text + ["tape s"] + [f"dice {seat} \\(4096*00)" for seat in range(seats)]) + "\n"
 
 
 def write_cases(count, seed, folder):
@@ -308,47 +328,71 @@ def write_cases(count, seed, folder):
 
 
 def judge_cases(folder, printed):
-    with open(os.path.join(folder, "..", "scripts.json")) as file:
-        scripts = json.load(file)
-    found = {}
-    with open(printed) as file:
-        for line in file:
-            match = re.match(r"[|+> -]*(fleet\d+) status=(\d+) output=([0-9a-f]*|-) errors=(\S+)", line)
-            if match:
-                found.setdefault(match[1], []).append((int(match[2]), match[3]))
-    return [(name, scripts[name], status, bytes.fromhex(text).decode()) for name, runs in found.items() for status, text in runs if text != "-"]
+    """The fleets of which kr_cases printed the output and the store whole."""
+    scripts = json.loads(Path(folder, "..", "scripts.json").read_text())
+    runs = []
+    for line in Path(printed).read_text().split("\n"):
+        found = re.match(r"[|+> -]*(fleet\d+) status=(\d+) output=([0-9a-f]+) .* tape:s=([0-9a-f]*|-):0", line)
+        if found:
+            it = int(found[2]), bytes.fromhex(found[3]).decode(), bytes.fromhex(found[4].strip("-"))
+            runs.append((found[1], scripts[found[1]], lambda it=it: it))
+    return runs
 
 
 def run_program(lines, program):
+    """The status, the output and the store's file."""
     with tempfile.TemporaryDirectory() as home:
         for name in PROVIDERS:
-            with open(os.path.join(home, name), "w") as file:
-                file.write(configuration_text(name))
-        with open(os.path.join(home, "fleet"), "w") as file:
-            file.write("\n".join(lines) + "\n")
+            Path(home, name).write_text(configuration_text(name))
+        Path(home, "fleet").write_text("\n".join(lines) + "\n")
         done = subprocess.run([program, "fleet", "--file", "fleet", "--store", "s"], cwd=home, capture_output=True, timeout=60)
-        return done.returncode, done.stdout.decode()
+        if done.stderr:
+            raise Illegal(f"it says {done.stderr.decode()}")
+        return done.returncode, done.stdout.decode(), Path(home, "s").read_bytes()
 
 
-def main():
-    mode, rest = sys.argv[1], sys.argv[2:]
-    if mode == "cases":
-        write_cases(int(rest[0]), int(rest[1]), rest[2])
-        return
-    if mode == "judge":
-        runs = judge_cases(*rest)
-    else:
-        draw = random.Random(int(rest[1]))
-        runs = [(f"fleet{number}", lines, *run_program(lines, rest[2])) for number, lines in enumerate(fleet(draw) for _ in range(int(rest[0])))]
+def judge_runs(runs):
+    """How many of the runs are none of their fleets; each gives its name, its script, and what was printed and left."""
     illegal = 0
-    for name, lines, status, output in runs:
+    for name, lines, given in runs:
+        output = ""
         try:
-            judge(lines, output, status)
+            status, output, *tape = given()
+            judge(lines, output, status, *tape)
         except Illegal as why:
             illegal += 1
             print(f"{name}: {why}\n" + "\n".join(lines) + "\n" + output)
-    print(f"fleets: {len(runs)} judged, {illegal} illegal")
-    sys.exit(illegal > 0 or not runs)
+    return illegal
 
 
-main()
+def is_limited(program):
+    """Whether a fleet file above the limit is refused; its bytes are a hole in the file."""
+    with tempfile.TemporaryDirectory() as home:
+        with open(Path(home, "fleet"), "wb") as file:
+            file.truncate(67_108_865)
+        done = subprocess.run([program, "fleet", "--file", "fleet", "--store", "s"], cwd=home, capture_output=True, timeout=60)
+        return (done.returncode, done.stdout, done.stderr) == (6, b"", b"kmsrest: limit script 67108864\n")
+
+
+def main(mode, *rest):
+    if mode == "cases":
+        write_cases(int(rest[0]), int(rest[1]), rest[2])
+        return 0
+    if mode == "judge":
+        runs = judge_cases(*rest)
+    else:
+        draw, program = random.Random(int(rest[1])), str(Path(rest[2]).resolve() if rest[2:] else TOP / "kmsrest")
+        if not is_limited(program):
+            print("not so: a fleet file of 67,108,865 bytes is above the limit")
+            return 1
+        scripts = [fleet(draw) for _ in range(int(rest[0]))]
+        runs = [(f"fleet{number}", lines, lambda lines=lines: run_program(lines, program)) for number, lines in enumerate(scripts)]
+    illegal = judge_runs(runs)
+    print(f"random_fleets: {len(runs)} fleets, {illegal} of them illegal")
+    return int(illegal > 0 or not runs)
+
+
+if __name__ == "__main__":
+    if len(sys.argv) < 4:
+        sys.exit(__doc__)
+    sys.exit(main(*sys.argv[1:]))

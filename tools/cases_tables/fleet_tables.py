@@ -1,6 +1,8 @@
 """Fleets in which one worker has lines, so that their output is the same at each run: what it does, what it begins with, and
 what fails."""
 
+from pathlib import Path
+
 from reference.store import written
 from reference.values import prefix
 
@@ -19,10 +21,11 @@ GCM = "secrets: aesgcm:g=K32, identity"
 KMS = "secrets: kms:p, identity"
 TWO = "secrets: kms:p, kms:q, identity"
 READS = "secrets: identity, kms:p"
-FILES = {"one": ONE, "old": OLD, "both": BOTH, "new": NEW, "last": LAST, "bare": BARE, "gcm": GCM, "kms": KMS, "two": TWO, "reads": READS}
+FILES = {"one": ONE, "one.json": ONE, "old": OLD, "both": BOTH, "new": NEW, "last": LAST, "bare": BARE, "gcm": GCM, "kms": KMS, "two": TWO, "reads": READS}
 DATA = "aGVsbG8="
 DRAWN = bytes(range(1, 129))
 WORDS = ["fleet", "--file", "fleet", "--store", "s"]
+EXAMPLES = Path(__file__).resolve().parent.parent.parent / "examples"
 
 
 def script_of(replicas, lines, workers=("w a",)):
@@ -59,11 +62,17 @@ def file(book, name, script, files=(), content=b"", drawn=None, plugins=(), prog
 
 
 def add_rollouts(book):
-    fleet(book, "one", ["a one"], [f"put secrets /registry/secrets/d/s {DATA}", "get /registry/secrets/d/s", "get /registry/secrets/d/t"])
+    fleet(book, "one", ["a one.json"], [f"put secrets /registry/secrets/d/s {DATA}", "get /registry/secrets/d/s", "get /registry/secrets/d/t"])
     rollout = ["reload a new", "reload a both", "reload b both", "reload a new", "reload b new", "reload a last", "rewrite"]
     fleet(book, "rollout", ["a old", "b old"], [f"put secrets /s {DATA}", *rollout, "reload a last", "reload b last"])
     comings = ["join b last", "join b both", "leave a", "get /s", "leave b", "join a last", "join a new", "get /s"]
     fleet(book, "joins_and_leaves", ["a both", "b -"], [f"put secrets /s {DATA}", *comings])
+
+
+def add_example(book):
+    """The fleet of examples/fleet, as the README shows it."""
+    files = [(f"../rotation/{name}.yaml", (EXAMPLES / "rotation" / f"{name}.yaml").read_text()) for name in ("old", "both", "new", "last")]
+    file(book, "of_the_examples", (EXAMPLES / "fleet" / "rollout").read_text(), files, b"", DRAWN)
 
 
 def add_lines(book):
@@ -243,6 +252,7 @@ def add_faults(book):
 def add_all(book):
     book.title("fleets of which one worker has lines: what the lines do")
     add_rollouts(book)
+    add_example(book)
     add_lines(book)
     book.title("fleets: what they begin with")
     add_stored(book)

@@ -56,7 +56,8 @@ module _ (T : Type 0) {L D : Type 0} (truth : Truth) (link : L → Link)
     -- the steps behind it ended the command, or want of memory did
     pub stopped : (stop : Stop) (output : Receipt)
         → Does (over_store words.store plan) now new (Err stop)
-        ⊎ LacksWorkers T truth link left count (over_store words.store plan) now new stop
+        ⊎ LacksWorkers T truth link left count (over_store words.store plan) words.store now new
+        stop
         → IsIdle output → DidFleet T truth link left count words old new output (Err stop)
     stopped stop output (inl e) idle =
         let all = goes_on (planning words.file words.options) (over_store words.store) plan d e in
@@ -66,11 +67,22 @@ module _ (T : Type 0) {L D : Type 0} (truth : Truth) (link : L → Link)
         }
     stopped stop output (inr l) idle =
         let all =
-            goes_on (planning words.file words.options) (over_store words.store) plan d l.does in
+        goes_on (planning words.file words.options) (over_store words.store) plan d l.does in
         record {
           home = home_trans d.home l.home;
-          did = inl (inr (l.stops, (l.mid, (l.begun, all.ends (left_of old) (stays_refl old)))),
-              idle);
+          did = inl (
+            inr (
+              l.stops,
+              (
+                l.mid,
+                (
+                  l.begun,
+                  (all.ends (left_of old) (stays_refl old), l.none),
+                ),
+              ),
+            ),
+            idle,
+          );
         }
 
     -- the workers ran
@@ -82,13 +94,13 @@ module _ (T : Type 0) {L D : Type 0} (truth : Truth) (link : L → Link)
         → DidFleet T truth link left count words old new output result
     ran made output result l w =
         let all =
-            goes_on (planning words.file words.options) (over_store words.store) plan d l.does in
+        goes_on (planning words.file words.options) (over_store words.store) plan d l.does in
         let journal = map (λ (e : Entry). e.line) l.history in
         let told = map (λ (worker : fleet_worker.Worker T L D). worker.told) l.ended in
         let by_lines = subst (λ lines. WritesFleet (fleet_output plan.fleet lines made.replies.0)
-            (ending_of made.replies.0) output result) l.lines w in
+        (ending_of made.replies.0) output result) l.lines w in
         let by_replies = subst (λ replies. WritesFleet (fleet_output plan.fleet journal replies)
-            (ending_of replies) output result) l.replies by_lines in
+        (ending_of replies) output result) l.replies by_lines in
         record {
           home = home_trans d.home l.home;
           did = inr (record {
@@ -133,6 +145,7 @@ module _ (T : Type 0) {L D : Type 0} (truth : Truth) (link : L → Link)
       begun = l.begun;
       mid = l.mid;
       does = goes_on first others x d l.does;
+      none = l.none;
       home = home_trans d.home l.home;
     })
 
@@ -187,8 +200,14 @@ module _ (rows : List LogRow) (parts : List Part) (live : ℕ) (is : IsLiveCount
   are_budgets budgets e = (live, (is, e))
 
   are_again : (budgets : List ℕ) → budgets ≡ Needed → AreBudgets rows (parts_again parts) budgets
-  are_again budgets e = (live, (is, e ∙ sym (same_budgets (live + put_lines parts) parts)
-      ∙ ap (λ n. budgets_of (live + n) (parts_again parts)) (sym (same_puts parts))))
+  are_again budgets e = (
+    live,
+    (
+      is,
+      e ∙ sym (same_budgets (live + put_lines parts) parts)
+          ∙ ap (λ n. budgets_of (live + n) (parts_again parts)) (sym (same_puts parts)),
+    ),
+  )
 
   pub budgeted : (budgets : List ℕ) → budgets ≡ Needed → sum budgets ≤ journal_limit
       → (a : Around) → Does (budgeting rows (parts_again parts)) a a (Ok budgets)
@@ -202,8 +221,11 @@ module _ (rows : List LogRow) (parts : List Part) (live : ℕ) (is : IsLiveCount
   not_budgeted budget.TooMany many a = record {
     home = home_refl a;
     ends = λ l s. reach l
-        (inr (Err (Limit limit.Journal), (refl, (Needed, are_again Needed refl, many refl)),
-        (refl, refl)))
+        (inr (
+          Err (Limit limit.Journal),
+          (refl, (Needed, are_again Needed refl, many refl)),
+          (refl, refl),
+        ))
         s;
   }
   not_budgeted budget.NoMemory many a =

@@ -1,5 +1,5 @@
 -- `fleet`: the steps up to its workers, and what a call did once they were started.
-use Rattle.std.specs.Prelude.{◌≡◌, ℕ, suc, zero, ◌+◌, ◌<◌, ◌≤◌, ◌⊎◌, Bool, true, false, List, [], ◌∷◌, ◌++◌, length, map, sum, get_or, All, Option, None, Some, Result, Ok, Err, ⊤, if◌then◌else◌}
+use Rattle.std.specs.Prelude.{◌≡◌, ◌≢◌, ℕ, suc, zero, ◌+◌, ◌<◌, ◌≤◌, ◌⊎◌, Bool, true, false, List, [], ◌∷◌, ◌++◌, length, map, sum, get_or, All, Option, None, Some, Result, Ok, Err, ⊤, if◌then◌else◌}
 use Rattle.std.specs.Io.KnownBytes.{Appends}
 use Rattle.std.specs.Option.{option_map}
 use Rattle.std.specs.Str.{bytes_eq}
@@ -29,6 +29,7 @@ use Rattle.kr_store.specs.declared.rows.LogRow.{LogRow}
 use Rattle.kr_workers.specs.Budgets.{AreBudgets, all_reloads, journal_limit}
 use Rattle.kr_workers.specs.Endings.{ending_of, status_of}
 use Rattle.kr_workers.specs.Histories.{IsOneHistory}
+use Rattle.kr_workers.specs.Sentences.{RepliesAreTrue}
 use Rattle.kr_workers.specs.declared.ending.Ending.{Ending}
 use Rattle.kr_workers.specs.declared.files.SettingsFile.{SettingsFile}
 use Rattle.kr_workers.specs.declared.worker.Worker as fleet_worker
@@ -132,10 +133,14 @@ starting plan stored budgets replicas =
       replicas = replicas;
     })))
 
--- with an outfit for each worker
+-- once each worker has an outfit, and with one for each
+abbrev pub outfitted : FleetPlan → Stored → List ℕ → Steps Begun
+outfitted plan stored budgets =
+    and_then (publishing plan.files [] plan.fleet.replicas) (starting plan stored budgets)
+
 abbrev pub equipped : FleetPlan → Stored → List ℕ → Steps Begun
 equipped plan stored budgets = equipping plan.programs 0 (length plan.fleet.workers)
-    (and_then (publishing plan.files [] plan.fleet.replicas) (starting plan stored budgets))
+    (outfitted plan stored budgets)
 
 abbrev pub beginning : FleetPlan → Stored → Steps Begun
 beginning plan stored =
@@ -187,9 +192,20 @@ HasRows (Some (Some bytes)) begun rows = (file : List ℕ) × (rest : List ℕ)
 HasRows (Some None) begun rows = ⊥
 HasRows None begun rows = ⊤
 
+-- beside the workers' links and random sources and the store's tape all is as it was when the
+-- workers started
+pub record LeavesRest (store : List ℕ) (mid new : Around) : Type 0 where
+  pub truth : new.truth ≡ mid.truth
+  pub file : new.world.file ≡ mid.world.file
+  pub tapes : (other : List ℕ) → other ≢ store
+      → new.world.tapes.told other ≡ mid.world.tapes.told other
+  pub asked : new.world.asked ≡ mid.world.asked
+  pub input : new.input ≡ mid.input
+  pub said : new.said ≡ mid.said
+
 -- One history: that of a core which began with the store's rows and what the replicas published,
--- legal, honest, with the lines of each worker and nothing else. The store has the opening's rows
--- and the written entries', and what the workers had is back.
+-- legal, honest, with the lines of each worker and nothing else; and what it says of the replies.
+-- The store has the opening's rows and the written entries', and what the workers had is back.
 pub record RunsFleet {T L D : Type 0} (truth : Truth) (link : L → Link)
     (left : D → Option (List ℕ)) (count : D → ℕ) (store : List ℕ) (begun : Begun)
     (mid new : Around) (history : List Entry) (ended : List (fleet_worker.Worker T L D))
@@ -199,13 +215,24 @@ pub record RunsFleet {T L D : Type 0} (truth : Truth) (link : L → Link)
   pub files : List SettingsFile
   pub files_are : map named_rows files ≡ begun.plan.files
   pub workers : List (fleet_worker.Worker T L D)
+  pub many : length workers ≡ length parts
   pub before : AreEquipped link left count begun.plan.programs mid workers
   pub one : IsOneHistory truth link left count files history (opening_of store begun mid) parts
       begun.budgets workers ended
   pub opens : truth.told ≡ true → IsHonest truth.opens (opening_of store begun mid) []
+  pub replies : RepliesAreTrue truth link count history (opening_of store begun mid) parts
+      begun.budgets workers ended
   pub after : AreEquipped link left count begun.plan.programs new ended
   pub stored : HasRows (new.world.tapes.told store) begun
       (state_of (opening_of store begun mid) history).rows
+  pub rest : LeavesRest store mid new
+
+-- no worker was started: the store has its rows, and what the workers would have had is as it was
+pub record StartsNone (store : List ℕ) (begun : Begun) (mid new : Around) : Type 0 where
+  pub stored : HasRows (new.world.tapes.told store) begun begun.stored.rows
+  pub links : new.world.links.told ≡ mid.world.links.told
+  pub dice : new.world.dice.told ≡ mid.world.dice.told
+  pub rest : LeavesRest store mid new
 
 -- the journal and the replies
 abbrev pub text_of : {T L D : Type 0} → Fleet → List Entry → List (fleet_worker.Worker T L D)
@@ -244,7 +271,8 @@ module _ (T : Type 0) {L D : Type 0} (truth : Truth) (link : L → Link)
   StopsBefore words old new output (Err stop) =
       (Ends (fleet_steps words) (left_of old) old new (Err stop)
       ⊎ ((stop ≡ NoMemory) × ((mid : Around) × (begun : Begun)
-      × Reaches (fleet_steps words) (left_of old) mid (gives begun))))
+      × Reaches (fleet_steps words) (left_of old) mid (gives begun)
+      × StartsNone words.store begun mid new)))
       × IsIdle output
 
   -- all that was handed out is back

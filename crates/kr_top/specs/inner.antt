@@ -2,6 +2,8 @@
 pub mod Phases
 pub mod Tapes
 pub mod Judging
+pub mod Outfits
+pub mod Crews
 pub mod FleetFiles
 pub mod Fleets
 pub mod Plugins

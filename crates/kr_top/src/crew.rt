@@ -1,4 +1,7 @@
 //! The workers of a fleet: an outfit becomes a worker's bench, and comes back with its replies.
+ghost use Rattle.std.specs.Prelude.{◌≡◌, ◌≤◌, All, IfErr, IfOk, None, [], length, map};
+ghost use Rattle.kr_top.specs.inner.Crews.{IsCrew, outfits_of};
+
 use crate::outfit::Outfit;
 use kr_base::{Dice, List, NoMemory, Tape};
 use kr_kms::Kms;
@@ -24,7 +27,11 @@ pub fn hire<T: Tape, L: Kms, D: Dice>(
     alloc: Global,
     parts: &[Part],
     outfits: List<Outfit<L, D>>,
-) -> Result<Crew<T, L, D>, (NoMemory, List<Outfit<L, D>>)> {
+) -> Result<Crew<T, L, D>, (NoMemory, List<Outfit<L, D>>)>
+    requires many { length outfits.0 ≡ length parts.now }
+    ensures hired { IfOk result (λ crew. IsCrew parts.now outfits.0 crew) }
+    ensures returned { IfErr result (λ refused. refused.1.0 ≡ outfits.0) }
+{
     let mut workers = List::new(alloc);
     let mut replies: List<List<Told>> = List::new(alloc);
     if workers.reserve(parts.len()).is_err() || replies.reserve(parts.len()).is_err() {
@@ -97,7 +104,15 @@ fn hire_one<T: Tape, L: Kms, D: Dice>(
 
 impl<T: Tape, L: Kms, D: Dice> Crew<T, L, D> {
     /// Lets the workers go: their outfits and their replies, in the order of their seats.
-    pub fn part(self) -> (List<Outfit<L, D>>, List<List<Told>>) {
+    pub fn part(self) -> (List<Outfit<L, D>>, List<List<Told>>)
+        requires seats { All (λ worker. worker.seat ≡ None) self.workers.items }
+        requires none_left { self.outfits.0 ≡ [] }
+        requires none_told { self.replies.0 ≡ [] }
+        requires room { length self.workers.items ≤ self.outfits.1 }
+        requires room_for_replies { length self.workers.items ≤ self.replies.1 }
+        ensures outfits { result.0.0 ≡ outfits_of self.workers.items }
+        ensures replies { result.1.0 ≡ map (λ worker. worker.told) self.workers.items }
+    {
         let Crew {
             workers,
             outfits,

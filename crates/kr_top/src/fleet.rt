@@ -1,15 +1,19 @@
 //! `fleet`: the fleet file and the configurations that it names, the store, each worker's random
 //! source and links, what each replica publishes, and the workers at one core.
-ghost use Rattle.std.specs.Prelude.{◌≡◌, ◌≤◌, List, ℕ, sum};
+ghost use Rattle.std.specs.Prelude.{◌≡◌, ◌≤◌, List, ℕ, IfOk, [], length, sum};
+ghost use Rattle.kr_base.specs.Limits.{store_limit};
 ghost use Rattle.kr_script.specs.Fleets.{fleet_of};
 ghost use Rattle.kr_script.specs.Output.{fleet_output};
 ghost use Rattle.kr_top.specs.Around.{Around, with_lent_tape, with_world};
 ghost use Rattle.kr_top.specs.Commands.{stored_on};
-ghost use Rattle.kr_top.specs.Fleets.{DidFleet, WritesFleet, beginning, equipped, over_store};
+ghost use Rattle.kr_top.specs.Fleets.{DidFleet, WritesFleet, beginning, equipped, outfitted};
+ghost use Rattle.kr_top.specs.Fleets.{over_store, publishing};
 ghost use Rattle.kr_top.specs.Ran.{receipt};
 ghost use Rattle.kr_top.specs.Steps.{and_then};
-ghost use Rattle.kr_top.specs.inner.FleetFiles.{plan_of};
-ghost use Rattle.kr_top.specs.inner.Fleets.{RunsBy, budget_stop};
+ghost use Rattle.kr_top.specs.inner.Crews.{IsCrew, IsReadyCore, RunsCrew, outfits_of};
+ghost use Rattle.kr_top.specs.inner.FleetFiles.{IsWholePlan, named, plan_of};
+ghost use Rattle.kr_top.specs.inner.Fleets.{ArePublished, RunsBy, budget_stop, published_in};
+ghost use Rattle.kr_top.specs.inner.Outfits.{AreLater, AreNamed, names_in, with_outfits};
 ghost use Rattle.kr_top.specs.inner.Tapes.{stored_of};
 ghost use Rattle.kr_workers.specs.Budgets.{AreBudgets, all_reloads, journal_limit};
 ghost use Rattle.kr_workers.specs.Endings.{ending_of};
@@ -76,6 +80,7 @@ fn fleet_by<R: Threads + Wait + Sync, W: World>(
     plan: &Plan,
     world: &mut W,
 ) -> Result<Record, Stop>
+    requires plan { IsWholePlan (plan_of plan.now) }
     ensures { (a : Around) → a.truth ≡ W.Link.truth
         → RunsBy W.Tap W.Link.truth W.Link.link W.Rand.left W.Rand.count
         (over_store store.now (plan_of plan.now)) store.now (plan_of plan.now)
@@ -98,6 +103,7 @@ fn fleet_on<R: Threads + Wait + Sync, W: World>(
     tape: W::Tap,
     world: &mut W,
 ) -> (Result<Record, Stop>, W::Tap)
+    requires plan { IsWholePlan (plan_of plan.now) }
     ensures made { (name : List ℕ) (a : Around) → a.truth ≡ W.Link.truth
         → RunsBy W.Tap W.Link.truth W.Link.link W.Rand.left W.Rand.count
         (and_then (stored_on Object.Store name) (beginning (plan_of plan.now))) name
@@ -142,6 +148,9 @@ fn fleet_with<R: Threads + Wait + Sync, W: World>(
     requires entries { AreBudgets store.rows plan.now.script.workers.0 budgets.now.entries.items }
     requires reloads { budgets.now.reloads.items ≡ all_reloads plan.now.script.workers.0 }
     requires few { sum budgets.now.entries.items ≤ journal_limit }
+    requires fit { sum budgets.now.reloads.items ≤ sum budgets.now.entries.items }
+    requires store { (store.limit ≡ store_limit) × (store.torn ≡ false) }
+    requires plan { IsWholePlan (plan_of plan.now) }
     ensures made { (name : List ℕ) (a : Around) → a.truth ≡ W.Link.truth
         → RunsBy W.Tap W.Link.truth W.Link.link W.Rand.left W.Rand.count
         (equipped (plan_of plan.now) (stored_of store) budgets.now.entries.items) name
@@ -171,7 +180,25 @@ fn begin<R: Threads + Wait + Sync, T: Tape + Send, L: Kms + Send, D: Dice + Send
     budgets: &Budgets,
     store: Store<T>,
     outfits: List<Outfit<L, D>>,
-) -> (Result<Record, Stop>, Store<T>, List<Outfit<L, D>>) {
+) -> (Result<Record, Stop>, Store<T>, List<Outfit<L, D>>)
+    requires entries { AreBudgets store.rows plan.now.script.workers.0 budgets.now.entries.items }
+    requires reloads { budgets.now.reloads.items ≡ all_reloads plan.now.script.workers.0 }
+    requires few { sum budgets.now.entries.items ≤ journal_limit }
+    requires fit { sum budgets.now.reloads.items ≤ sum budgets.now.entries.items }
+    requires store { (store.limit ≡ store_limit) × (store.torn ≡ false) }
+    requires plan { IsWholePlan (plan_of plan.now) }
+    requires seats { length outfits.0 ≡ length plan.now.script.workers.0 }
+    requires named { AreNamed L.link (names_in plan.now.programs) outfits.0 }
+    ensures made { (name : List ℕ) (a : Around) → a.truth ≡ L.truth
+        → RunsBy T L.truth L.link D.left D.count
+        (outfitted (plan_of plan.now) (stored_of store) budgets.now.entries.items) name
+        (plan_of plan.now)
+        (with_outfits L.link D.left D.count 0 outfits.0
+        (with_lent_tape name store.told store.count a))
+        (with_outfits L.link D.left D.count 0 result.2.0
+        (with_lent_tape name result.1.told result.1.count a)) result.0 }
+    ensures later { AreLater L.link D.count outfits.0 result.2.0 }
+{
     let (published, outfits) = publish_first(alloc, plan, outfits);
     let replicas = match published {
         Ok(replicas) => replicas,
@@ -199,7 +226,18 @@ fn run_crew<R: Threads + Wait + Sync, T: Tape + Send, L: Kms + Send, D: Dice + S
     budgets: &Budgets,
     core: Core<T>,
     crew: Crew<T, L, D>,
-) -> (Result<Record, Stop>, Store<T>, List<Outfit<L, D>>) {
+) -> (Result<Record, Stop>, Store<T>, List<Outfit<L, D>>)
+    requires plan { IsWholePlan (plan_of plan.now) }
+    requires core { IsReadyCore plan.now budgets.now.entries.items core }
+    requires entries { AreBudgets core.opening.rows plan.now.script.workers.0
+        budgets.now.entries.items }
+    requires few { sum budgets.now.entries.items ≤ journal_limit }
+    requires crew { IsCrew plan.now.script.workers.0 (outfits_of crew.workers.items) crew }
+    requires named { AreNamed L.link (names_in plan.now.programs)
+        (outfits_of crew.workers.items) }
+    ensures ran { RunsCrew L.truth L.link D.left D.count plan.now budgets.now.entries.items
+        core.opening crew.workers.items result.0 result.1 result.2.0 }
+{
     let mut crew = crew;
     let ended = run_fleet(
         rt,
@@ -231,7 +269,18 @@ fn publish_first<L: Kms, D: Dice>(
 ) -> (
     Result<List<Option<Shared<Published>>>, Stop>,
     List<Outfit<L, D>>,
-) {
+)
+    requires plan { IsWholePlan (plan_of plan.now) }
+    requires some { 1 ≤ length outfits.0 }
+    requires named { AreNamed L.link (names_in plan.now.programs) outfits.0 }
+    ensures does { (a : Around) → a.truth ≡ L.truth
+        → Does (publishing (named plan.now.files.0) [] plan.now.script.replicas.0)
+        (with_outfits L.link D.left D.count 0 outfits.0 a)
+        (with_outfits L.link D.left D.count 0 result.1.0 a) (published_in result.0) }
+    ensures replicas { IfOk result.0 (λ made. ArePublished L.truth
+        (named plan.now.files.0) plan.now.script.replicas.0 made.0) }
+    ensures later { AreLater L.link D.count outfits.0 result.1.0 }
+{
     let mut outfits = outfits.into_vec();
     let first = &mut outfits[0];
     let published = publish_each(alloc, plan, &mut first.links, &mut first.dice);

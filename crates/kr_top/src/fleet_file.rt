@@ -12,7 +12,8 @@ ghost use Rattle.kr_provider.specs.PluginOrder.{plugin_order};
 ghost use Rattle.kr_script.specs.Fleets.{fleet_of, worker_of};
 ghost use Rattle.kr_top.specs.Around.{Around, with_world};
 ghost use Rattle.kr_top.specs.FleetFiles.{all_rows, file_in, file_of_replica, fleet_in, mentioned, planning, programs_in};
-ghost use Rattle.kr_top.specs.inner.FleetFiles.{GoesThrough, ReadsBytes, ReadsFleet, fleet_in_result, named, plan_in, script_stop};
+ghost use Rattle.kr_top.specs.inner.FleetFiles.{GoesThrough, IsWholePlan, ReadsBytes, ReadsFleet};
+ghost use Rattle.kr_top.specs.inner.FleetFiles.{fleet_in_result, named, plan_in, plan_of, script_stop};
 ghost use Rattle.kr_top.specs.inner.Phases.{AskedFor, Does};
 
 use crate::options::Options;
@@ -44,8 +45,9 @@ pub fn load_plan<W: World>(
     options: &Options,
     world: &mut W,
 ) -> Result<Plan, Stop>
-    ensures { (a : Around) → Does (planning name.now options.now) (with_world (W.told world.old) a)
-        (with_world (W.told world.new) a) (plan_in result) }
+    ensures does { (a : Around) → Does (planning name.now options.now)
+        (with_world (W.told world.old) a) (with_world (W.told world.new) a) (plan_in result) }
+    ensures whole { IfOk result (λ plan. IsWholePlan (plan_of plan)) }
 {
     let script = match load_fleet(alloc, world, name) {
         Ok(script) => script,

@@ -1,4 +1,13 @@
 //! What a worker has of the world: a random source, and a link to each plugin.
+ghost use Rattle.std.specs.Prelude.{◌≡◌, ℕ, List, OnOk, [], length};
+ghost use Rattle.kr_config.specs.Kept.{Row};
+ghost use Rattle.kr_provider.specs.PluginOrder.{plugin_order};
+ghost use Rattle.kr_top.specs.Around.{Around, Tapes, with_tapes, with_world};
+ghost use Rattle.kr_top.specs.Fleets.{equipping};
+ghost use Rattle.kr_top.specs.Steps.{give};
+ghost use Rattle.kr_top.specs.inner.Outfits.{AreNamed, AreOut, names_in, with_outfits};
+ghost use Rattle.kr_top.specs.inner.Phases.{Does};
+
 use crate::phases::{close_dice, close_link, open_dice, open_link};
 use crate::programs::Program;
 use crate::refusal::Stop;
@@ -21,7 +30,18 @@ pub fn open_outfits<W: World>(
     programs: &[Program],
     seats: u32,
     outfits: &mut List<Outfit<W::Link, W::Rand>>,
-) -> Result<(), Stop> {
+) -> Result<(), Stop>
+    requires none { outfits.old.0 ≡ [] }
+    requires programs { (rows : List Row) × (names_in programs.now ≡ plugin_order rows) }
+    ensures does { (tapes : Tapes) (a : Around) → Does (equipping programs.now 0 seats (give tt))
+        (with_world (with_tapes tapes (W.told world.old)) a)
+        (with_outfits W.Link.link W.Rand.left W.Rand.count 0 outfits.new.0
+        (with_world (with_tapes tapes (W.told world.new)) a)) result }
+    ensures tapes { (W.told world.new).tapes ≡ (W.told world.old).tapes }
+    ensures many { OnOk result (length outfits.new.0 ≡ seats) }
+    ensures named { AreNamed W.Link.link (names_in programs.now) outfits.new.0 }
+    ensures out { AreOut (names_in programs.now) (length outfits.new.0) (W.told world.new) }
+{
     match outfits.reserve(seats as usize) {
         Ok(()) => {}
         Err(NoMemory) => return Err(Stop::NoMemory),
@@ -36,7 +56,15 @@ pub fn open_outfits<W: World>(
 }
 
 /// Gives all outfits back, that of the last seat first.
-pub fn close_outfits<W: World>(world: &mut W, outfits: List<Outfit<W::Link, W::Rand>>) {
+pub fn close_outfits<W: World>(world: &mut W, outfits: List<Outfit<W::Link, W::Rand>>)
+    requires out { (names : List (List ℕ)) × AreNamed W.Link.link names outfits.0
+        × AreOut names (length outfits.0) (W.told world.old) }
+    ensures back { (tapes : Tapes) (a : Around)
+        → with_outfits W.Link.link W.Rand.left W.Rand.count 0 outfits.0
+        (with_world (with_tapes tapes (W.told world.old)) a)
+        ≡ with_world (with_tapes tapes (W.told world.new)) a }
+    ensures tapes { (W.told world.new).tapes ≡ (W.told world.old).tapes }
+{
     let mut outfits = outfits;
     while let Some(outfit) = outfits.pop() {
         let seat = outfits.as_slice().len() as u32;

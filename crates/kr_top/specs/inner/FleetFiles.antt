@@ -1,16 +1,18 @@
 -- What the phases give that load what a fleet works by.
-use Rattle.std.specs.Prelude.{◌≡◌, ℕ, List, ◌++◌, map, Option, Result, Ok, Err, ⊤}
+use Rattle.std.specs.Prelude.{◌≡◌, ℕ, List, ◌++◌, map, All, IsSome, Option, Result, Ok, Err, ⊤}
 use Rattle.kr_base.specs.Faults.{Rose}
 use Rattle.kr_base.specs.Told.{Agrees}
 use Rattle.kr_kms.specs.Outside.{Outside, file_faults}
 use Rattle.kr_script.specs.Fleets.{Fleet, fleet_of}
 use Rattle.kr_script.specs.Meanings.{Means}
+use Rattle.kr_script.specs.Rules.{IsFleet, IsWhole, IsWithin}
 use Rattle.kr_script.specs.declared.script.Script.{Script}
 use Rattle.kr_script.specs.declared.script.ScriptNo.{ScriptNo}
 use Rattle.kr_script.specs.declared.script.ScriptNo.TheVariants as no
 use Rattle.kr_workers.specs.declared.files.SettingsFile.{SettingsFile}
+use Rattle.kr_provider.specs.PluginOrder.{plugin_order}
 use Rattle.kr_top.specs.Around.{Around, with_world}
-use Rattle.kr_top.specs.FleetFiles.{FleetPlan, IsFleetFile, MeansFleet, NamedRows, files_in, named_rows}
+use Rattle.kr_top.specs.FleetFiles.{FleetPlan, IsFleetFile, MeansFleet, NamedRows, all_rows, files_in, mentioned, named_rows, rows_at}
 use Rattle.kr_top.specs.declared.fleet_file.Plan.{Plan}
 use Rattle.kr_top.specs.declared.refusal.Limit.TheVariants as limit
 use Rattle.kr_top.specs.declared.refusal.Object.TheVariants.{Files}
@@ -18,6 +20,7 @@ use Rattle.kr_top.specs.declared.refusal.Refusal.{Refusal}
 use Rattle.kr_top.specs.declared.refusal.Refusal.TheVariants.{Limit, Script as bad_line}
 use Rattle.kr_top.specs.declared.refusal.Stop.{Stop}
 use Rattle.kr_top.specs.declared.refusal.Stop.TheVariants.{Words, Refused, Fault, NoMemory}
+use Rattle.kr_top.specs.inner.Outfits.{names_in}
 use Rattle.kr_top.specs.inner.Phases.{Does}
 
 -- ---- the fleet file
@@ -80,3 +83,12 @@ plan_of plan = record {
 abbrev pub plan_in : Result Plan Stop → Result FleetPlan Stop
 plan_in (Ok plan) = Ok (plan_of plan)
 plan_in (Err stop) = Err stop
+
+-- what is known of a plan beside the steps that gave it: its fleet keeps the rules of a fleet file,
+-- each file that it names was read, and there is a program for each plugin of all of them
+pub record IsWholePlan (plan : FleetPlan) : Type 0 where
+  pub rules : IsFleet plan.fleet
+  pub whole : IsWhole plan.fleet
+  pub within : IsWithin plan.fleet
+  pub read : All (λ name. IsSome (rows_at plan.files name)) (mentioned plan.fleet)
+  pub programs : names_in plan.programs ≡ plugin_order (all_rows plan.files)

@@ -21,5 +21,5 @@ returns-in-Err g c = (
     told = c.tell.ensures.later;
   },
   readings _ _ _ _ _ _ (Err c.in-Err.stop)
-  (inl (at_once _ c.in-Err.stop c.in-Err.ensures, (refl, (refl, refl)))) c.tell.ensures.told,
+      (inl (at_once _ c.in-Err.stop c.in-Err.ensures, (refl, (refl, refl)))) c.tell.ensures.told,
 )

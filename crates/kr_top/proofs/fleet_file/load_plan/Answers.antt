@@ -25,12 +25,12 @@ abbrev with_fleet : (options : List (List ℕ × List ℕ)) → Fleet → Steps 
 with_fleet options fleet =
     and_then (files_in [] (mentioned fleet)) (with_files options fleet)
 
-pub returns-in-Err : goal.returns-in-Err
-returns-in-Err g c a = stops (fleet_in c.args.name.now) (with_fleet c.args.options.now)
+pub returns-in-Err-clause-does : goal.returns-in-Err-clause-does
+returns-in-Err-clause-does g c a = stops (fleet_in c.args.name.now) (with_fleet c.args.options.now)
     c.in-Err.stop (c.in-Err.ensures a)
 
-pub returns-in-Err-load_files : goal.returns-in-Err-load_files
-returns-in-Err-load_files g c a =
+pub returns-in-Err-load_files-clause-does : goal.returns-in-Err-load_files-clause-does
+returns-in-Err-load_files-clause-does g c a =
     let fleet = fleet_of c.in-Ok.script in
     let options = c.args.options.now in
     let stop = c.in-Err-load_files.stop in
@@ -41,8 +41,8 @@ returns-in-Err-load_files g c a =
     (g.W.World.told c.load_fleet.new.world) (g.W.World.told c.load_files.new.world) (Err stop)
     c.new-files.ensures c.in-Err-load_files.ensures) a))
 
-pub returns-in-Err-programs_in : goal.returns-in-Err-programs_in
-returns-in-Err-programs_in g c a =
+pub returns-in-Err-programs_in-clause-does : goal.returns-in-Err-programs_in-clause-does
+returns-in-Err-programs_in-clause-does g c a =
     let fleet = fleet_of c.in-Ok.script in
     let options = c.args.options.now in
     let files = named c.load_files.new.files.0 in
@@ -58,8 +58,8 @@ returns-in-Err-programs_in g c a =
     (subst (λ fs. Does (programs_in options (named fs)) now now (Err stop)) c.as_slice.ensures
     (c.in-Err-programs_in.ensures.does now))))
 
-pub returns : goal.returns
-returns g c a =
+pub returns-clause-does : goal.returns-clause-does
+returns-clause-does g c a =
     let fleet = fleet_of c.in-Ok.script in
     let options = c.args.options.now in
     let files = named c.load_files.new.files.0 in
