@@ -345,7 +345,7 @@ def run_program(lines, program):
         for name in PROVIDERS:
             Path(home, name).write_text(configuration_text(name))
         Path(home, "fleet").write_text("\n".join(lines) + "\n")
-        done = subprocess.run([program, "fleet", "--file", "fleet", "--store", "s"], cwd=home, capture_output=True, timeout=60)
+        done = subprocess.run([program, "fleet", "--file", "fleet", "--store", "s"], cwd=home, capture_output=True, stdin=subprocess.DEVNULL, timeout=60)
         if done.stderr:
             raise Illegal(f"it says {done.stderr.decode()}")
         return done.returncode, done.stdout.decode(), Path(home, "s").read_bytes()
@@ -370,7 +370,7 @@ def is_limited(program):
     with tempfile.TemporaryDirectory() as home:
         with open(Path(home, "fleet"), "wb") as file:
             file.truncate(67_108_865)
-        done = subprocess.run([program, "fleet", "--file", "fleet", "--store", "s"], cwd=home, capture_output=True, timeout=60)
+        done = subprocess.run([program, "fleet", "--file", "fleet", "--store", "s"], cwd=home, capture_output=True, stdin=subprocess.DEVNULL, timeout=60)
         return (done.returncode, done.stdout, done.stderr) == (6, b"", b"kmsrest: limit script 67108864\n")
 
 

@@ -1,6 +1,7 @@
 """Fleets in which one worker has lines, so that their output is the same at each run: what it does, what it begins with, and
 what fails."""
 
+import random
 from pathlib import Path
 
 from reference.store import written
@@ -249,6 +250,39 @@ def add_faults(book):
     fleet(book, "input_is_not_read", ["a one"], ["get /s"], data=b"hello", fails=(("input", 1),))
 
 
+# ---- fleets that are drawn
+
+
+PATHS = ("/a", "/b", "/c/d")
+DRAWN_FILES = ("old", "both", "new", "bare", "reads", "kms", "kms")
+
+
+def drawn_line(draw, replicas):
+    kind = draw.choice(["put"] * 5 + ["get"] * 4 + ["delete"] + ["rewrite"] * 2 + ["refresh"] * 3 + ["reload"] * 4 + ["join", "leave"])
+    if kind == "put":
+        return f"put secrets {draw.choice(PATHS)} {draw.choice(('aGk=', DATA, '-', 'azhzOmVuYzp4'))}"
+    if kind in ("get", "delete"):
+        return f"{kind} {draw.choice(PATHS)}"
+    if kind in ("reload", "join"):
+        return f"{kind} {draw.choice(replicas)} {draw.choice(DRAWN_FILES)}"
+    return f"leave {draw.choice(replicas)}" if kind == "leave" else kind
+
+
+def add_drawn(book):
+    """Few lines each, so that a failing call of the outside is mostly met."""
+    draw = random.Random(19)
+    for at in range(40):
+        replicas = ["a", "b", "c"][: draw.randint(1, 3)]
+        first = draw.choice(DRAWN_FILES)
+        opening = [f"a {first}"] + [f"{name} {draw.choice((first, first, first, '-'))}" for name in replicas[1:]]
+        lines = [drawn_line(draw, replicas) for _ in range(draw.randint(4, 10))]
+        fails = draw.choice(((), (), (("writes:s", draw.randint(1, 3)),), (("dice:0", draw.randint(1, 4)),)))
+        plugins = [plugin(keys=((draw.randint(2, 5), "k2"),), fails=draw.choice((None, None, str(draw.randint(1, 6)))))]
+        stored = [put("/a", b"hi", check=bytes(8)), put("/b", b"ho", check=bytes(8))]
+        content = draw.choice((b"", written(2, stored), written(1, stored)))
+        fleet(book, f"drawn_{at}", opening, lines, content, bytes(range(256)) * 2, (f"w {draw.choice([*replicas, *'aaa'])}",), plugins, ("p=prog",), fails=fails)
+
+
 def add_all(book):
     book.title("fleets of which one worker has lines: what the lines do")
     add_rollouts(book)
@@ -263,3 +297,5 @@ def add_all(book):
     add_refusals(book)
     book.title("fleets: what fails")
     add_faults(book)
+    book.title("fleets: drawn")
+    add_drawn(book)
