@@ -9,7 +9,8 @@ table of its own, and each reply and the store against the journal.
 What is checked of a journal: that each line is a step from where the lines before it lead; that each worker's lines are those of
 its script, in order; and that each `get` gives the data last written at its path before its own fetch, or `absent`. Of the store:
 that its rows are the written lines, each with the prefix and the check of the provider that writes by the configuration held.
-`run` also hands the program a fleet file above the limit. It needs no package of Python's."""
+Some of the configurations name a plugin, for which each worker has a program of its own, examples/plugins/mask.py. `run` also
+hands the program a fleet file above the limit. It needs no package of Python's."""
 
 import base64
 import json
@@ -35,7 +36,10 @@ PROVIDERS = {
     "new": ["key2", "key1", ""],
     "last": ["key2", ""],
     "bare": ["", "key1", "key2"],
+    "reads": ["", "key1", "p"],
+    "plugin": ["p", "key1", ""],
 }
+PLUGIN = TOP / "examples" / "plugins" / "mask.py"
 PATHS = ["/a", "/b", "/c", "/d/e", "/d/f"]
 
 
@@ -48,9 +52,14 @@ def expect(holds, what):
         raise Illegal(what)
 
 
+def provider(name):
+    if name == "p":
+        return {"kms": {"apiVersion": "v2", "name": name, "endpoint": "unix:///run/p"}}
+    return {"aescbc": {"keys": [{"name": name, "secret": SECRETS[name]}]}} if name else {"identity": {}}
+
+
 def configuration_text(name):
-    providers = [{"aescbc": {"keys": [{"name": key, "secret": SECRETS[key]}]}} if key else {"identity": {}} for key in PROVIDERS[name]]
-    entries = [{"resources": ["secrets"], "providers": providers}]
+    entries = [{"resources": ["secrets"], "providers": [provider(it) for it in PROVIDERS[name]]}]
     return json.dumps({"apiVersion": "apiserver.config.k8s.io/v1", "kind": "EncryptionConfiguration", "resources": entries})
 
 
@@ -72,7 +81,7 @@ def script_line(draw, replicas):
 
 def fleet(draw, most_workers=4, most_lines=12):
     replicas = [f"r{number}" for number in range(draw.randrange(1, 5))]
-    first = draw.choice(["old", "both"])
+    first = draw.choice(["old", "both", "reads"])
     lines = ["fleet 1", f"replica r0 {first}"]
     lines += [f"replica {name} {draw.choice([first, '-'])}" for name in replicas[1:]]
     for number in range(draw.randint(2, most_workers)):
@@ -307,10 +316,11 @@ def judge_rows(wanted, tape):
 
 
 def case_text(name, lines):
-    text = [f"case {name}", "words fleet --file fleet --store s", "file fleet"] + [f"| {line}" for line in lines]
+    text = [f"case {name}", "words fleet --file fleet --store s --plugin p=prog", "file fleet"] + [f"| {line}" for line in lines]
     text += [f"file {own} {configuration_text(own)}" for own in PROVIDERS]
     seats = sum(line.startswith("worker ") for line in lines)
-    return "\n".join(text + ["tape s"] + [f"dice {seat} \\(4096*00)" for seat in range(seats)]) + "\n"
+    text += ["tape s"] + [line for seat in range(seats) for line in (f"dice {seat} \\(4096*00)", f"plugin {seat} p k1 {seat}")]
+    return "\n".join(text) + "\n"
 
 
 def write_cases(count, seed, folder):
@@ -345,7 +355,8 @@ def run_program(lines, program):
         for name in PROVIDERS:
             Path(home, name).write_text(configuration_text(name))
         Path(home, "fleet").write_text("\n".join(lines) + "\n")
-        done = subprocess.run([program, "fleet", "--file", "fleet", "--store", "s"], cwd=home, capture_output=True, stdin=subprocess.DEVNULL, timeout=60)
+        words = [program, "fleet", "--file", "fleet", "--store", "s", "--plugin", f"p={PLUGIN}"]
+        done = subprocess.run(words, cwd=home, capture_output=True, stdin=subprocess.DEVNULL, timeout=60)
         if done.stderr:
             raise Illegal(f"it says {done.stderr.decode()}")
         return done.returncode, done.stdout.decode(), Path(home, "s").read_bytes()
@@ -370,7 +381,8 @@ def is_limited(program):
     with tempfile.TemporaryDirectory() as home:
         with open(Path(home, "fleet"), "wb") as file:
             file.truncate(67_108_865)
-        done = subprocess.run([program, "fleet", "--file", "fleet", "--store", "s"], cwd=home, capture_output=True, stdin=subprocess.DEVNULL, timeout=60)
+        words = [program, "fleet", "--file", "fleet", "--store", "s"]
+        done = subprocess.run(words, cwd=home, capture_output=True, stdin=subprocess.DEVNULL, timeout=60)
         return (done.returncode, done.stdout, done.stderr) == (6, b"", b"kmsrest: limit script 67108864\n")
 
 

@@ -2,12 +2,12 @@
 
 import itertools
 
-from reference.store import Row, row_bytes, written
+from reference.store import row_bytes, written
 from reference.values import MARK, check_of
 
 from .call_tables import CBC, FIPS_BLOCK, FIPS_IV, HELLO, SEALED_ZEROS, Causes, files
-from .form import IV, repeated
-from .plugin_tables import DRAWN, KMS, ZEROS, plugin
+from .form import IV, PATH, repeated
+from .plugin_tables import DRAWN, KMS, OTHER, ZEROS, plugin, value
 from .store_tables import HI, ONE, TWO, delete, put as row
 
 BARE = "secrets: identity"
@@ -166,6 +166,27 @@ def add_get_refusals(book):
         book.case(f"get_words_{name}", words, files(BARE), b"", ((0, b""),), tapes=(("s", TWO),))
 
 
+def add_get_plugins(book):
+    """The value is looked up before a plugin is asked."""
+    stored = written(2, [row(PATH, value(), check=bytes(8))])
+
+    def by(name, *plugins, content=stored, path=PATH, drawn=OTHER, **more):
+        get(book, f"plugin_{name}", content, KMS, path, drawn, plugins or (plugin(),), ("p=prog",), **more)
+
+    by("fresh")
+    by("fresh_by_the_published_seed", drawn=ZEROS)
+    by("stale_after_another_key", plugin(key_id="k2"))
+    by("not_named_by_the_resource", content=written(2, [row(PATH, b"hi")]))
+    by("absent_before_45", plugin(says=("v1", "ok")), path="/t")
+    by("45", plugin(says=("v1", "ok")))
+    by("42_before_45", plugin(says=("v1", "ok")), content=stored[:-1])
+    by("refused_4", content=written(2, [row("/s", value(), check=bytes(8))]), path="/s")
+    by("without_a_seed", drawn=OTHER[:31])
+    by("link_fails", fails=(("files", 4),))
+    for number in (1, 2, 3):
+        by(f"fault_{number}", plugin(fails=str(number)))
+
+
 def add_get_faults(book):
     for number in (1, 2, 3):
         get(book, f"fault_files_{number}", TWO, fails=(("files", number),))
@@ -232,6 +253,7 @@ def add_all(book):
     book.title("get")
     add_gets(book)
     add_get_refusals(book)
+    add_get_plugins(book)
     add_get_faults(book)
     book.title("pairs of causes of put and get")
     add_pairs(book)
