@@ -81,8 +81,8 @@ returns-in-Err-next_line-clause-made g c name a t =
     let now = with_world (g.W.World.told c.args.world.now) a in
     let later = with_world (g.W.World.told c.make.new.world) a in
     let into = sealed_into words name rows c.args.programs.now c.args.bytes.now in
-    as_closed (and_then (stored_on Store name) into) name later _ c.close-2.ensures.told
-    c.close-2.ensures.count
+    as_closed (and_then (stored_on Store name) into) name later _ c.close-in-Err-next_line.ensures.told
+    c.close-in-Err-next_line.ensures.count
     (goes_on (stored_on Store name) into read (c.in-Ok.ensures.ok name now)
     (goes_on (bench_steps c.args.programs.now Encrypt words.resource words.path rows
     c.args.bytes.now) (added_then words name rows read) sealed
@@ -124,8 +124,8 @@ returns-clause-made g c name a t =
     let row = new_row read.format words rows sealed.bytes in
     let check_is = c.writer_check-check.ensures ∙ ap (λ list. store_check (writer_of list))
     (c.list_for.ensures ∙ ap (list_of rows) c.as_str.ensures) in
-    as_closed (and_then (stored_on Store name) into) name later _ c.close-3.ensures.told
-    c.close-3.ensures.count
+    as_closed (and_then (stored_on Store name) into) name later _ c.close-2.ensures.told
+    c.close-2.ensures.count
     (goes_on (stored_on Store name) into read (c.in-Ok.ensures.ok name now)
     (goes_on (bench_steps c.args.programs.now Encrypt words.resource words.path rows
     c.args.bytes.now) (added_then words name rows read) sealed
