@@ -1,5 +1,5 @@
 //! The phases over tapes and the stores that they hold.
-ghost use Rattle.std.specs.Prelude.{◌≡◌, ◌<◌, ◌≤◌, List, ℕ, Ok, Err, IfOk, IfErr, OnErr, length};
+ghost use Rattle.std.specs.Prelude.{◌≡◌, ◌<◌, ◌≤◌, List, ℕ, Ok, Err, IfOk, IfErr, OnErr, false, length};
 ghost use Rattle.kr_base.specs.Limits.{store_limit, value_limit};
 ghost use Rattle.kr_base.specs.Rules.{IsPath, IsResource};
 ghost use Rattle.kr_store.specs.Rows.{check_in, put_of};
@@ -64,7 +64,7 @@ pub fn load_store<T: Tape>(alloc: Global, tape: T, object: Object) -> Result<Sto
         → Does (stored_on object name)
         (with_lent_tape name (T.told tape) (T.count tape) a)
         (with_lent_tape name (T.told refused.1) (T.count refused.1) a) (Err refused.0)) }
-    ensures within { IfOk result (λ store. store.limit ≡ store_limit) }
+    ensures limit { IfOk result (λ store. (store.limit ≡ store_limit) × (store.torn ≡ false)) }
 {
     match Store::load(alloc, tape, STORE_LIMIT) {
         Ok(store) => Ok(store),

@@ -95,13 +95,13 @@ returns-in-Err-next_line-clause-made g c name a t =
     (lacks _ (with_lent_tape name store.told store.count later)))))
 
 pub next_line-requires-clause-within : goal.next_line-requires-clause-within
-next_line-requires-clause-within g c κs within = c.in-Ok.ensures.within
+next_line-requires-clause-within g c κs within = c.in-Ok.ensures.limit.0
 
 pub add_put-added-requires-clause-stored : goal.add_put-added-requires-clause-stored
 add_put-added-requires-clause-stored g c κs within = c.in-Ok-make.ensures.size refl
 
 pub add_put-added-requires-clause-within : goal.add_put-added-requires-clause-within
-add_put-added-requires-clause-within g c κs within = c.in-Ok.ensures.within
+add_put-added-requires-clause-within g c κs within = c.in-Ok.ensures.limit.0
 
 pub add_put-added-requires-clause-path : goal.add_put-added-requires-clause-path
 add_put-added-requires-clause-path g c κs within =
