@@ -1,6 +1,6 @@
 -- What words that ask for a fleet are, and which ask for none.
-use Rattle.std.proofs.Common.{◌≡◌, ◌≢◌, ℕ, ◌≤◌, ◌<◌, List, [], ◌∷◌, length, codes, get_or, Option, None, Some, Result, Ok, Err, refl, sym, ◌∙◌, ap, subst, inl, inr, arith}
-use Rattle.kr_words.specs.Grammar.{IsAboveSize, IsWithinSize, Means, Reads, replica_limit, replicas_of}
+use Rattle.std.proofs.Common.{◌≡◌, ℕ, ◌≤◌, List, [], ◌∷◌, length, codes, get_or, Option, None, Some, Ok, Err, sym, ◌∙◌, ap, subst, inl, inr, arith}
+use Rattle.kr_words.specs.Grammar.{IsWithinSize, Means, Reads, replica_limit, replicas_of}
 use Rattle.kr_words.specs.Options.{value_of}
 use Rattle.kr_words.specs.declared.command.Verb.{Verb}
 use Rattle.kr_words.specs.declared.command.Verb.TheVariants as verbs
@@ -8,8 +8,8 @@ use Rattle.kr_words.specs.declared.command.Command.{Command}
 use Rattle.kr_words.specs.declared.command.WordsNo.{WordsNo}
 use Rattle.kr_words.specs.declared.command.WordsNo.TheVariants as no
 use Rattle.kr_words.proofs.Meanings.{mean_one}
-use Rattle.kr_top.specs.Command.{AskBadly, AskNothing, AskReplicas, AskSize}
-use Rattle.kr_top.specs.FleetAsked.{AskNoFleet, AsksFleet, IsFleetAsked, IsFleetOf}
+use Rattle.kr_top.specs.Command.{AskNothing, AskReplicas, AskSize}
+use Rattle.kr_top.specs.FleetAsked.{AskNoFleet, IsFleetAsked, IsFleetOf}
 use Rattle.kr_top.specs.declared.fleet_words.FleetWords.{FleetWords}
 use Rattle.kr_top.proofs.Decided.{one_size}
 

@@ -1,9 +1,11 @@
 -- The configurations that a fleet file names are loaded one behind another, each once.
-use Rattle.std.proofs.Common.{◌≡◌, ℕ, zero, suc, ◌+◌, ◌<◌, ◌≤◌, Bool, true, false, cond, List, [], ◌∷◌, ◌++◌, length, take, get_or, map, append-nil, Option, None, Some, Result, Ok, Err, refl, sym, ◌∙◌, ap, subst, inl, inr, arith}
-use Rattle.std.specs.Prelude.{find, if◌then◌else◌}
+use Rattle.std.proofs.Common.{◌≡◌, ℕ, zero, suc, ◌+◌, ◌<◌, ◌≤◌, Bool, true, false, List, [], ◌∷◌, ◌++◌, length, take, get_or, map, append-nil, All, Option, None, Some, Result, Ok, Err, refl, sym, ◌∙◌, ap, subst, inl, inr, arith}
+use Rattle.std.specs.Prelude.{IfOk, IsSome, find, if◌then◌else◌}
 use Rattle.std.specs.List.{flat_map}
 use Rattle.std.specs.Option.{option_map}
 use Rattle.std.specs.Str.{bytes_eq}
+use Rattle.std.proofs.lemmas.List.Elements.{All-append, All-cons, All-nil, All-weaker}
+use Rattle.std.proofs.lemmas.Slice.Eq.{bytes_eq-Decides}
 use Rattle.std.proofs.lemmas.List.{append_assoc, take_all, take_more, flat_map_more, map-append}
 use Rattle.kr_base.specs.Limits.{store_limit}
 use Rattle.kr_base.specs.Told.{Agrees}
@@ -20,14 +22,14 @@ use Rattle.kr_script.specs.declared.script.ScriptNo.TheVariants as no
 use Rattle.kr_workers.specs.declared.files.SettingsFile.{SettingsFile}
 use Rattle.kr_workers.specs.Files as workers
 use Rattle.kr_top.specs.Around.{Around, Ends, Reaches, Stays, with_world}
-use Rattle.kr_top.specs.Commands.{by_result, configuration, with_memory}
+use Rattle.kr_top.specs.Commands.{configuration, with_memory}
 use Rattle.kr_top.specs.FleetFiles.{NamedRows, file_in, files_in, fleet_in, named_rows, rows_at, unless_read}
 use Rattle.kr_top.specs.Steps.{Steps, Left, and_then, awaits, loading, with_asked}
 use Rattle.kr_top.specs.declared.refusal.Refusal.{Refusal}
 use Rattle.kr_top.specs.declared.refusal.Stop.{Stop}
 use Rattle.kr_top.specs.declared.refusal.Stop.TheVariants.{Words, Refused, Fault, NoMemory}
-use Rattle.kr_top.specs.inner.FleetFiles.{GoesThrough, IsFleetRead, ReadsBytes, ReadsFleet, fleet_in_result, named, script_stop}
-use Rattle.kr_top.specs.inner.Phases.{AskedFor, Configures, Does, rows_in}
+use Rattle.kr_top.specs.inner.FleetFiles.{Covers, GoesThrough, IsFleetRead, IsRuled, ReadsBytes, ReadsFleet, fleet_in_result, named, script_stop}
+use Rattle.kr_top.specs.inner.Phases.{AskedFor, Configures, Does}
 use Rattle.kr_top.proofs.Goes.{asked_home, by_goes, by_point, configures, given, goes_on, reach, stays_noted, stops, unasked}
 use Rattle.kr_top.proofs.Made.{remembers}
 use Rattle.kr_top.proofs.Works.{lacks}
@@ -41,6 +43,16 @@ script_refused bytes no.Replicas m = (no.Replicas, m, refl)
 script_refused bytes no.Workers m = (no.Workers, m, refl)
 script_refused bytes no.TooLarge m = (no.TooLarge, m, refl)
 script_refused bytes no.NoMemory m = tt
+
+-- the rules of a fleet file
+pub rules_read : (old new : Outside) (name : List ℕ) (result : Result Script Stop)
+    → ReadsFleet old new name result
+    → IfOk result (λ script. IsRuled (fleet_of script))
+rules_read old new name (Ok script) (None, agrees, e) = absurd cc
+rules_read old new name (Ok script) (Some bytes, agrees, inl (long, e)) = absurd cc
+rules_read old new name (Ok script) (Some bytes, agrees, inr (short, (says, within, whole))) =
+    (says.rules, whole, within)
+rules_read old new name (Err stop) m = tt
 
 pub script_read : (old new : Outside) (name bytes : List ℕ) (result : Result Script Stop)
     → Agrees (old.file name) (Some bytes) × (length bytes ≤ store_limit)
@@ -91,23 +103,95 @@ module _ {old new : Outside} (files : KeepsFiles old new) (objects : KeepsObject
     ends = λ left s. fleet_at result s c q;
   }
 
+-- ---- which files are there
+
+-- the file of the name was read
+abbrev pub IsRead : List NamedRows → List ℕ → Type 0
+IsRead files name = IsSome (rows_at files name)
+
+covers_none : (files : List NamedRows) → Covers files files []
+covers_none files = record { read = All-nil (IsRead files); stays = λ name is. refl }
+
+-- what was read is there later on
+still_read : (f g : List NamedRows)
+    → ((name : List ℕ) → IsRead f name → rows_at g name ≡ rows_at f name) → (name : List ℕ)
+    → IsRead f name → IsRead g name
+still_read f g stays name is = subst IsSome (sym (stays name is)) is
+
+covers_both : (f g h : List NamedRows) (xs ys : List (List ℕ)) → Covers f g xs → Covers g h ys
+    → Covers f h (xs ++ ys)
+covers_both f g h xs ys first second = record {
+  read = All-append (IsRead h) xs ys
+      (All-weaker (IsRead g) (IsRead h) (still_read g h second.stays) xs first.read) second.read;
+  stays = λ name is. second.stays name (still_read f g first.stays name is)
+      ∙ first.stays name is;
+}
+
+-- the steps of a search, by the test of the first
+abbrev found_by : Bool → NamedRows → Option (List Row) → Option (List Row)
+found_by b file behind = if b then Some file.1 else behind
+
+first_found : (file : NamedRows) (files : List NamedRows) (name : List ℕ)
+    → rows_at (file ∷ files) name ≡ found_by (bytes_eq file.0 name) file (rows_at files name)
+first_found file files name = by (bytes_eq file.0 name)
+  where
+    by : (b : Bool) → option_map (λ (f : NamedRows). f.1) (if b then Some file
+        else find (λ (f : NamedRows). bytes_eq f.0 name) files)
+        ≡ found_by b file (rows_at files name)
+    by true = refl
+    by false = refl
+
+-- one more behind them changes nothing of those that are there
+more_stays : (files : List NamedRows) (file : NamedRows) (name : List ℕ) → IsRead files name
+    → rows_at (files ++ file ∷ []) name ≡ rows_at files name
+more_stays [] file name is = absurd (let f : false ≡ true = is in cc)
+more_stays (first ∷ files) file name is = first_found first (files ++ file ∷ []) name
+    ∙ by (bytes_eq first.0 name) (subst IsSome (first_found first files name) is)
+    (more_stays files file name)
+    ∙ sym (first_found first files name)
+  where
+    by : (b : Bool) → IsSome (found_by b first (rows_at files name))
+        → (IsRead files name → rows_at (files ++ file ∷ []) name ≡ rows_at files name)
+        → found_by b first (rows_at (files ++ file ∷ []) name)
+        ≡ found_by b first (rows_at files name)
+    by true is behind = refl
+    by false is behind = behind is
+
+-- it is there itself
+last_read : (files : List NamedRows) (name : List ℕ) (rows : List Row)
+    → IsRead (files ++ (name, rows) ∷ []) name
+last_read [] name rows = subst IsSome
+    (sym (first_found (name, rows) [] name
+    ∙ ap (λ b. found_by b (name, rows) None) ((bytes_eq-Decides name name).1 refl))) refl
+last_read (first ∷ files) name rows = subst IsSome
+    (sym (first_found first (files ++ (name, rows) ∷ []) name))
+    (by (bytes_eq first.0 name) (last_read files name rows))
+  where
+    by : (b : Bool) → IsRead (files ++ (name, rows) ∷ []) name
+        → IsSome (found_by b first (rows_at (files ++ (name, rows) ∷ []) name))
+    by true behind = refl
+    by false behind = behind
+
 -- ---- one behind another
 
 pub through_none : (files : List NamedRows) (world : Outside)
     → GoesThrough files files [] world world (Ok tt)
-through_none files world = λ a end names result d. d
+through_none files world = (covers_none files, λ a end names result d. d)
 
 module _ (f g h : List NamedRows) (xs ys : List (List ℕ)) (old mid new : Outside)
     (first : GoesThrough f g xs old mid (Ok tt)) where
   pub through_then : (result : Result (Unit {0}) Stop) → GoesThrough g h ys mid new result
       → GoesThrough f h (xs ++ ys) old new result
-  through_then (Ok done) second = λ a end names result d.
-      subst (λ l. Does (files_in f l) (with_world old a) end result)
-      (sym (append_assoc xs ys names)) (first a end (ys ++ names) result
-      (second a end names result d))
+  through_then (Ok done) second = (
+    covers_both f g h xs ys first.0 second.0,
+    λ a end names result d.
+        subst (λ l. Does (files_in f l) (with_world old a) end result)
+        (sym (append_assoc xs ys names))
+        (first.1 a end (ys ++ names) result (second.1 a end names result d)),
+  )
   through_then (Err stop) second = λ a names.
       subst (λ l. Does (files_in f l) (with_world old a) (with_world new a) (Err stop))
-      (sym (append_assoc xs ys names)) (first a (with_world new a) (ys ++ names) (Err stop)
+      (sym (append_assoc xs ys names)) (first.1 a (with_world new a) (ys ++ names) (Err stop)
       (second a names))
 
   -- what comes behind stays undone
@@ -206,8 +290,15 @@ module _ (files : List NamedRows) (name : List ℕ) where
 
   pub already : (world : Outside) (rows : List Row) → rows_at files name ≡ Some rows
       → GoesThrough files files (name ∷ []) world world (Ok tt)
-  already world rows there = λ a end names result d.
-      subst (λ r. Does (once names r) (with_world world a) end result) (sym there) d
+  already world rows there = (
+    record {
+      read = All-cons (IsRead files) name [] (subst IsSome (sym there) refl)
+          (All-nil (IsRead files));
+      stays = λ other is. refl;
+    },
+    λ a end names result d.
+        subst (λ r. Does (once names r) (with_world world a) end result) (sym there) d,
+  )
 
   module _ {old new : Outside} (kept : KeepsFiles old new) (objects : KeepsObjects old new)
       (absent : rows_at files name ≡ None) where
@@ -215,12 +306,21 @@ module _ (files : List NamedRows) (name : List ℕ) where
         → AskedFor {T = Settings} old.asked new.asked (File name) (Ok settings)
         → GoesThrough files (files ++ (name, rows_of settings.entries.0) ∷ []) (name ∷ []) old new
         (Ok tt)
-    loaded settings c q = λ a end names result d.
-        subst (λ r. Does (once names r) (with_world old a) end result) (sym absent)
-        (goes_on (configuration name)
-        (λ rows. with_memory (files_in (files ++ (name, rows) ∷ []) names))
-        (rows_of settings.entries.0) (configures kept objects a name (Ok settings) c q)
-        (remembers d))
+    loaded settings c q =
+        let file : NamedRows = (name, rows_of settings.entries.0) in (
+          record {
+            read = All-cons (IsRead (files ++ file ∷ [])) name []
+                (last_read files name (rows_of settings.entries.0))
+                (All-nil (IsRead (files ++ file ∷ [])));
+            stays = more_stays files file;
+          },
+          λ a end names result d.
+              subst (λ r. Does (once names r) (with_world old a) end result) (sym absent)
+              (goes_on (configuration name)
+              (λ rows. with_memory (files_in (files ++ (name, rows) ∷ []) names))
+              (rows_of settings.entries.0) (configures kept objects a name (Ok settings) c q)
+              (remembers d)),
+        )
 
     pub not_loaded : (others : List NamedRows) (stop : Stop)
         → Configures old new name (Err stop)
@@ -272,7 +372,12 @@ pub all_through : (files : List NamedRows) (names : List (List ℕ)) {old new : 
 all_through files names {old} {new} all a =
     subst (λ l. Does (files_in [] l) (with_world old a) (with_world new a) (Ok files))
     (append-nil names)
-    (all a (with_world new a) [] (Ok files) (given files (with_world new a)))
+    (all.1 a (with_world new a) [] (Ok files) (given files (with_world new a)))
+
+pub all_read : (files : List NamedRows) (names : List (List ℕ)) {old new : Outside}
+    → GoesThrough [] files names old new (Ok tt)
+    → All (λ name. IsSome (rows_at files name)) names
+all_read files names all = all.0.read
 
 pub not_through : (files : List NamedRows) (names : List (List ℕ)) {old new : Outside}
     (stop : Stop) → GoesThrough [] files names old new (Err stop) → (a : Around)

@@ -1,11 +1,9 @@
 -- The plugins of several configurations in the order of their names.
-use Rattle.std.proofs.Common.{◌≡◌, ℕ, ◌+◌, ◌<◌, ◌≤◌, ◌⊎◌, inl, inr, List, [], ◌∷◌, ◌++◌, length, get_or, map, take, Option, None, Some, Contains, IsTrue, refl, sym, ◌∙◌, ap, subst, arith, true, false}
-use Rattle.std.specs.Prelude.{All}
+use Rattle.std.proofs.Common.{◌≡◌, ℕ, ◌+◌, ◌<◌, ◌≤◌, ◌⊎◌, inl, inr, List, [], ◌∷◌, ◌++◌, length, get_or, take, Option, None, Contains, refl, sym, ◌∙◌, ap, subst, arith, true, false}
 use Rattle.std.specs.List.{flat_map}
-use Rattle.std.specs.List.Sorted.{IsStrictlySortedBy}
 use Rattle.std.proofs.lemmas.Grind.{flat_map-append}
 use Rattle.std.proofs.lemmas.List.Elements.{Contains-append_cases}
-use Rattle.kr_config.specs.Kept.{Row, keeps, plugins_in, rows_of}
+use Rattle.kr_config.specs.Kept.{Row, plugins_in, rows_of}
 use Rattle.kr_config.specs.Providers.{plugins_among}
 use Rattle.kr_config.specs.Nexts.{earlier, name_cmp, IsNextName}
 use Rattle.kr_config.proofs.Nexts.{names_joined, no_name}
@@ -26,7 +24,8 @@ names_parts : (files : List SettingsFile)
     → plugins_in (all_rows (named files)) ≡ flat_map file_names files
 names_parts [] = refl
 names_parts (file ∷ files) =
-    flat_map-append (λ (row : Row). plugins_among row.providers) (rows_of file.settings.entries.0) (all_rows (named files))
+    flat_map-append (λ (row : Row). plugins_among row.providers)
+    (rows_of file.settings.entries.0) (all_rows (named files))
     ∙ ap (λ l. file_names file ++ l) (names_parts files)
 
 pub files_begin : (files : List SettingsFile) (after : List ℕ)

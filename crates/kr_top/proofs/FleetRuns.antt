@@ -1,6 +1,7 @@
 -- How a fleet goes on from its plan, and how a call ends that a fleet was asked of.
-use Rattle.std.proofs.Common.{◌≡◌, ℕ, ◌+◌, ◌<◌, ◌≤◌, ◌⊎◌, List, [], ◌∷◌, map, codes, Option, None, Some, Result, Ok, Err, refl, sym, ◌∙◌, ap, subst, inl, inr, arith}
+use Rattle.std.proofs.Common.{◌≡◌, ℕ, ◌+◌, ◌<◌, ◌≤◌, ◌⊎◌, List, [], ◌∷◌, map, codes, Option, Some, Result, Ok, Err, refl, sym, ◌∙◌, ap, subst, inl, inr, arith}
 use Rattle.std.specs.Prelude.{true, sum, count_by}
+use Rattle.std.proofs.lemmas.List.Sums.{sum_by-cons}
 use Rattle.kr_kms.specs.Outside.{Outside}
 use Rattle.kr_kms.specs.Calls.{Link}
 use Rattle.kr_kms.specs.Truth.{Truth}
@@ -8,12 +9,14 @@ use Rattle.kr_rollout.specs.declared.opening.Entry.{Entry}
 use Rattle.kr_script.specs.Fleets.{worker_of}
 use Rattle.kr_script.specs.Output.{fleet_output}
 use Rattle.kr_script.specs.declared.script.Part.{Part}
+use Rattle.kr_script.specs.declared.script.ScriptLine.{ScriptLine}
+use Rattle.kr_script.specs.declared.script.ScriptLine.TheVariants as line
 use Rattle.kr_store.specs.Stores.{IsLiveCount}
 use Rattle.kr_store.specs.declared.rows.LogRow.{LogRow}
 use Rattle.kr_words.specs.declared.command.Verb.TheVariants as verbs
 use Rattle.kr_words.proofs.Meanings.{mean_one}
 use Rattle.kr_words.specs.Options.{value_of}
-use Rattle.kr_workers.specs.Budgets.{AreBudgets, budget_of, budgets_of, is_put, journal_limit, put_lines}
+use Rattle.kr_workers.specs.Budgets.{AreBudgets, all_reloads, brought_by, budget_of, budgets_of, entries_of, is_put, journal_limit, put_lines, reloads_of}
 use Rattle.kr_workers.specs.Endings.{ending_of}
 use Rattle.kr_workers.specs.declared.budget.BudgetNo.{BudgetNo}
 use Rattle.kr_workers.specs.declared.budget.BudgetNo.TheVariants as budget
@@ -41,31 +44,39 @@ use Rattle.kr_top.proofs.Tapes.{came_back, lent, nothing}
 module _ (T : Type 0) {L D : Type 0} (truth : Truth) (link : L → Link)
     (left : D → Option (List ℕ)) (count : D → ℕ) (words : FleetWords) where
   -- the plan wasn't made
-  pub unplanned : (old new : Around) (stop : Stop) (output : Receipt)
-      → Does (planning words.file words.options) old new (Err stop) → IsIdle output
+  pub unplanned : (old new : Around) (file : List ℕ) → file ≡ words.file → (stop : Stop)
+      (output : Receipt) → Does (planning file words.options) old new (Err stop)
+      → IsIdle output
       → DidFleet T truth link left count words old new output (Err stop)
-  unplanned old new stop output d idle =
-      let all = stops (planning words.file words.options) (over_store words.store) stop d in
+  unplanned old new file is stop output d idle =
+      let all = stops (planning words.file words.options) (over_store words.store) stop
+      (subst (λ f. Does (planning f words.options) old new (Err stop)) is d) in
       record {
         home = all.home;
         did = inl (inl (all.ends (left_of old) (stays_refl old)), idle);
       }
 
-  module _ (plan : FleetPlan) (old now new : Around)
-      (d : Does (planning words.file words.options) old now (Ok plan)) where
+  module _ (plan : FleetPlan) (old now new : Around) (file : List ℕ) (is : file ≡ words.file)
+      (planned : Does (planning file words.options) old now (Ok plan)) (store : List ℕ)
+      (is_store : store ≡ words.store) where
+    d : Does (planning words.file words.options) old now (Ok plan)
+    d = subst (λ f. Does (planning f words.options) old now (Ok plan)) is planned
+
     -- the steps behind it ended the command, or want of memory did
     pub stopped : (stop : Stop) (output : Receipt)
-        → Does (over_store words.store plan) now new (Err stop)
-        ⊎ LacksWorkers T truth link left count (over_store words.store plan) words.store now new
-        stop
+        → Does (over_store store plan) now new (Err stop)
+        ⊎ LacksWorkers T truth link left count (over_store store plan) store now new stop
         → IsIdle output → DidFleet T truth link left count words old new output (Err stop)
     stopped stop output (inl e) idle =
-        let all = goes_on (planning words.file words.options) (over_store words.store) plan d e in
+        let all = goes_on (planning words.file words.options) (over_store words.store) plan d
+        (subst (λ s. Does (over_store s plan) now new (Err stop)) is_store e) in
         record {
           home = all.home;
           did = inl (inl (all.ends (left_of old) (stays_refl old)), idle);
         }
-    stopped stop output (inr l) idle =
+    stopped stop output (inr lacking) idle =
+        let l = subst (λ s. LacksWorkers T truth link left count (over_store s plan) s now new
+        stop) is_store lacking in
         let all =
         goes_on (planning words.file words.options) (over_store words.store) plan d l.does in
         record {
@@ -73,13 +84,7 @@ module _ (T : Type 0) {L D : Type 0} (truth : Truth) (link : L → Link)
           did = inl (
             inr (
               l.stops,
-              (
-                l.mid,
-                (
-                  l.begun,
-                  (all.ends (left_of old) (stays_refl old), l.none),
-                ),
-              ),
+              (l.mid, l.begun, all.ends (left_of old) (stays_refl old), l.none),
             ),
             idle,
           );
@@ -87,12 +92,13 @@ module _ (T : Type 0) {L D : Type 0} (truth : Truth) (link : L → Link)
 
     -- the workers ran
     pub ran : (made : Record) (output : Receipt) (result : Result Ending Stop)
-        → LeavesRecord T truth link left count (over_store words.store plan) words.store plan now
-        new made
+        → LeavesRecord T truth link left count (over_store store plan) store plan now new made
         → WritesFleet (fleet_output plan.fleet made.lines.0 made.replies.0)
         (ending_of made.replies.0) output result
         → DidFleet T truth link left count words old new output result
-    ran made output result l w =
+    ran made output result left_so w =
+        let l = subst (λ s. LeavesRecord T truth link left count (over_store s plan) s plan now
+        new made) is_store left_so in
         let all =
         goes_on (planning words.file words.options) (over_store words.store) plan d l.does in
         let journal = map (λ (e : Entry). e.line) l.history in
@@ -124,10 +130,10 @@ module _ (T : Type 0) {L D : Type 0} (truth : Truth) (link : L → Link)
 
   module _ {A : Type 0} (first : Steps A) (others : A → Steps Begun) where
     -- the first steps gave something, and the fleet ran by the others
-    pub before : (x : A) {old mid new : Around} → Does first old mid (Ok x)
+    pub before : (x : A) (new : Around) {old mid : Around} → Does first old mid (Ok x)
         → (result : Result Record Stop) → Runs (others x) mid new result
         → Runs (and_then first others) old new result
-    before x d (Ok made) l = record {
+    before x new d (Ok made) l = record {
       begun = l.begun;
       plan_is = l.plan_is;
       mid = l.mid;
@@ -139,8 +145,8 @@ module _ (T : Type 0) {L D : Type 0} (truth : Truth) (link : L → Link)
       replies = l.replies;
       home = home_trans d.home l.home;
     }
-    before x d (Err stop) (inl e) = inl (goes_on first others x d e)
-    before x d (Err stop) (inr l) = inr (record {
+    before x new d (Err stop) (inl e) = inl (goes_on first others x d e)
+    before x new d (Err stop) (inr l) = inr (record {
       stops = l.stops;
       begun = l.begun;
       mid = l.mid;
@@ -170,8 +176,9 @@ module _ (T : Type 0) {L D : Type 0} (truth : Truth) (link : L → Link)
         → Runs steps (with_lent_tape store given first (with_world out a))
         (with_lent_tape store back n (with_world mid a)) result
         → Runs (tape_for store true steps) (with_world old a) (with_world new a) result
-    over_tape {out = out} {given = given} {first = first} result h returned r =
-        before (tape_for store true nothing) (λ u. steps) tt (lent store true _ h a) result
+    over_tape {out = out} {new = new} {given = given} {first = first} result h returned r =
+        before (tape_for store true nothing) (λ u. steps) tt (with_world new a)
+        (lent store true _ h a) result
         (subst (λ b. Runs steps (with_lent_tape store given first (with_world out a)) b result)
         (came_back store returned a) r)
 
@@ -187,26 +194,30 @@ same_budgets paths [] = refl
 same_budgets paths (part ∷ parts) =
     ap (λ rest. budget_of paths part.lines.0 ∷ rest) (same_budgets paths parts)
 
+-- how many lines of each part put an object
+abbrev puts_in : List Part → List ℕ
+puts_in parts = map (λ (part : Part). count_by is_put part.lines.0) parts
+
 same_puts : (parts : List Part) → put_lines (parts_again parts) ≡ put_lines parts
 same_puts [] = refl
 same_puts (part ∷ parts) =
-    ap (λ rest. count_by is_put part.lines.0 + rest) (same_puts parts)
+    sum_by-cons (λ x. x) (count_by is_put part.lines.0) (puts_in (parts_again parts))
+    ∙ ap (λ rest. count_by is_put part.lines.0 + rest) (same_puts parts)
+    ∙ sym (sum_by-cons (λ x. x) (count_by is_put part.lines.0) (puts_in parts))
 
 module _ (rows : List LogRow) (parts : List Part) (live : ℕ) (is : IsLiveCount rows live) where
   abbrev pub Needed : List ℕ
   Needed = budgets_of (live + put_lines parts) parts
 
   pub are_budgets : (budgets : List ℕ) → budgets ≡ Needed → AreBudgets rows parts budgets
-  are_budgets budgets e = (live, (is, e))
+  are_budgets budgets e = (live, is, e)
 
   are_again : (budgets : List ℕ) → budgets ≡ Needed → AreBudgets rows (parts_again parts) budgets
   are_again budgets e = (
     live,
-    (
-      is,
-      e ∙ sym (same_budgets (live + put_lines parts) parts)
-          ∙ ap (λ n. budgets_of (live + n) (parts_again parts)) (sym (same_puts parts)),
-    ),
+    is,
+    e ∙ sym (same_budgets (live + put_lines parts) parts)
+        ∙ ap (λ n. budgets_of (live + n) (parts_again parts)) (sym (same_puts parts)),
   )
 
   pub budgeted : (budgets : List ℕ) → budgets ≡ Needed → sum budgets ≤ journal_limit
@@ -230,6 +241,40 @@ module _ (rows : List LogRow) (parts : List Part) (live : ℕ) (is : IsLiveCount
   }
   not_budgeted budget.NoMemory many a =
       record { home = home_refl a; ends = λ l s. inr (reach l (inl (refl, refl)) s) }
+
+-- a line brings no more configurations than it may add lines to the journal
+line_fits : (paths : ℕ) (l : ScriptLine) → brought_by l ≤ entries_of paths l
+line_fits paths (line.Put resource path plain) = omega arith
+line_fits paths (line.Get path) = omega arith
+line_fits paths (line.Delete path) = omega arith
+line_fits paths line.Rewrite = omega arith
+line_fits paths (line.Reload replica file) = omega arith
+line_fits paths line.Refresh = omega arith
+line_fits paths (line.Join replica file) = omega arith
+line_fits paths (line.Leave replica) = omega arith
+
+lines_fit : (paths : ℕ) (lines : List ScriptLine) → reloads_of lines ≤ budget_of paths lines
+lines_fit paths [] = omega arith
+lines_fit paths (l ∷ lines) = omega (arith, line_fits paths l, lines_fit paths lines)
+
+parts_fit : (paths : ℕ) (parts : List Part)
+    → sum (all_reloads parts) ≤ sum (budgets_of paths parts)
+parts_fit paths [] = omega arith
+parts_fit paths (part ∷ parts) =
+    let reloads = sum_by-cons (λ x. x) (reloads_of part.lines.0) (all_reloads parts) in
+    let entries = sum_by-cons (λ x. x) (budget_of paths part.lines.0) (budgets_of paths parts) in
+    let here = lines_fit paths part.lines.0 in
+    let rest = parts_fit paths parts in
+    omega (arith, reloads, entries, here, rest)
+
+pub budgets_fit : (paths : ℕ) (parts : List Part) (entries reloads : List ℕ)
+    → entries ≡ budgets_of paths parts → reloads ≡ all_reloads parts
+    → sum reloads ≤ sum entries
+budgets_fit paths parts entries reloads e r =
+    let fits = parts_fit paths parts in
+    let same : sum entries ≡ sum (budgets_of paths parts) = ap sum e in
+    let all : sum reloads ≡ sum (all_reloads parts) = ap sum r in
+    omega (arith, fits, same, all)
 
 -- ---- what the words ask for
 

@@ -472,29 +472,37 @@ pub record IsSeen (call : WorldCall) (old new : Outside) : Type 0 where
   pub tapes : AreSeen old.tapes new.tapes
   pub links : AreSeen old.links new.links
 
+pub seen_home : {call : WorldCall} {old new : Outside} → IsSeen call old new → (a : Around)
+    → IsHome (with_world old a) (with_world new a)
+seen_home seen a = record {
+  files = seen.files;
+  dice = seen.dice.home;
+  tapes = seen.tapes.home;
+  links = seen.links.home;
+  input = omega arith;
+}
+
+pub seen_stays : {call : WorldCall} {old new : Outside} → IsSeen call old new → (a : Around)
+    → (l : Left) → Stays l (with_world old a) → Stays (with_asked call l) (with_world new a)
+seen_stays {call} seen a l s = record {
+  truth = s.truth;
+  file = seen.files.file ∙ s.file;
+  tapes = seen.tapes.told ∙ s.tapes;
+  links = seen.links.told ∙ s.links;
+  input = s.input;
+  dice = λ seat. subst (λ told. Keeps (l.dice seat) (told seat)) (sym seen.dice.told)
+      (s.dice seat);
+  asked = seen.asked ∙ ap (with_call call) s.asked;
+  said = s.said;
+}
+
 module _ {call : WorldCall} {old new : Outside} (seen : IsSeen call old new) (a : Around)
     {step : Steps (Unit {0})}
     (goes : (left : Left) → Goes (gives tt) (with_asked call left) step left) where
   pub borrowed : Does step (with_world old a) (with_world new a) (Ok tt)
   borrowed = record {
-    home = record {
-      files = seen.files;
-      dice = seen.dice.home;
-      tapes = seen.tapes.home;
-      links = seen.links.home;
-      input = omega arith;
-    };
-    ends = λ l s. reach (with_asked call l) (goes l) (record {
-      truth = s.truth;
-      file = seen.files.file ∙ s.file;
-      tapes = seen.tapes.told ∙ s.tapes;
-      links = seen.links.told ∙ s.links;
-      input = s.input;
-      dice = λ seat. subst (λ told. Keeps (l.dice seat) (told seat)) (sym seen.dice.told)
-          (s.dice seat);
-      asked = seen.asked ∙ ap (with_call call) s.asked;
-      said = s.said;
-    });
+    home = seen_home seen a;
+    ends = λ l s. reach (with_asked call l) (goes l) (seen_stays seen a l s);
   }
 
 -- a world is another where each part is
@@ -516,7 +524,7 @@ abbrev pub dice_seen : ℕ → Option (List ℕ) → ℕ → Outside → Outside
 dice_seen seat left count world =
     record world { dice = with_lent same_seat seat left count world.dice }
 
-lent_dice : (seat : ℕ) {old out : Outside} {left : Option (List ℕ)} {count : ℕ}
+pub lent_dice : (seat : ℕ) {old out : Outside} {left : Option (List ℕ)} {count : ℕ}
     → DiceLoan seat old out left count → IsSeen (RandomSource seat) old (dice_seen seat left count out)
 lent_dice seat h = record {
   files = record { file = h.files.file; later = h.files.later };
@@ -526,7 +534,7 @@ lent_dice seat h = record {
   links = seen_same h.links;
 }
 
-dice_back : (seat : ℕ) {out new : Outside} {left : Option (List ℕ)} {count : ℕ}
+pub dice_back : (seat : ℕ) {out new : Outside} {left : Option (List ℕ)} {count : ℕ}
     → DiceReturn seat out new left count → dice_seen seat left count out ≡ new
 dice_back seat h =
     one_world h.file h.faults h.asked (back_is same_seat seats_decide h.home h.left_is) (sym h.tapes) (sym h.links)

@@ -2,9 +2,13 @@
 mod Rooms
 pub mod Apart
 pub mod Asked
+pub mod Beginnings
+pub mod Crews
 pub mod Decided
+pub mod FleetCrews
 pub mod FleetAsked
 pub mod FleetLoads
+pub mod FleetOutfits
 pub mod FleetPrograms
 pub mod FleetRuns
 pub mod Found
@@ -13,7 +17,11 @@ pub mod Goes
 pub mod Listed
 pub mod Listings
 pub mod OnePoint
+pub mod Outfits
+pub mod Outfitting
+pub mod Plans
 pub mod Pieces
+pub mod Publishings
 pub mod Loading
 pub mod Loads
 pub mod Judging
@@ -23,6 +31,7 @@ pub mod Linked
 pub mod Links
 pub mod Made
 pub mod NamedPrograms
+pub mod Returning
 pub mod ReadOnly
 pub mod Readings
 pub mod SeedSteps

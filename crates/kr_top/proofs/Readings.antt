@@ -18,7 +18,7 @@ use Rattle.kr_top.specs.declared.refusal.BadWords.TheVariants.{Usage, Replicas, 
 use Rattle.kr_top.specs.declared.refusal.Object.{Object}
 use Rattle.kr_top.specs.declared.refusal.Object.TheVariants.{Output}
 use Rattle.kr_top.specs.declared.refusal.Refusal.{Refusal}
-use Rattle.kr_top.specs.declared.refusal.Refusal.TheVariants.{Absent, Configuration, Limit, Value, Placed, Broken, NoPath, NoPlugin, Unhealthy, Stray, OtherSecret, Unfit}
+use Rattle.kr_top.specs.declared.refusal.Refusal.TheVariants.{Absent, Configuration, Limit, Value, Placed, Broken, NoPath, NoPlugin, Unhealthy, Stray, OtherSecret, Unfit, Script}
 use Rattle.kr_top.specs.declared.refusal.Stop.{Stop}
 use Rattle.kr_top.specs.declared.refusal.Stop.TheVariants.{Words, Refused, Fault, NoMemory}
 use Rattle.kr_top.specs.declared.refusal.Done.{Done}
@@ -50,6 +50,7 @@ status_in (NoPath path) = inl refl
 status_in (Stray path) = inr (inl refl)
 status_in (OtherSecret path) = inr (inl refl)
 status_in (Unfit replica verdict) = inr (inl refl)
+status_in (Script line) = inr (inl refl)
 
 done_in : (done : Done) → (status_of_done done ≡ 0) ⊎ (status_of_done done ≡ 1)
 done_in Silent = inl refl

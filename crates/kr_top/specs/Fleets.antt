@@ -1,7 +1,6 @@
 -- `fleet`: the steps up to its workers, and what a call did once they were started.
-use Rattle.std.specs.Prelude.{◌≡◌, ◌≢◌, ℕ, suc, zero, ◌+◌, ◌<◌, ◌≤◌, ◌⊎◌, Bool, true, false, List, [], ◌∷◌, ◌++◌, length, map, sum, get_or, All, Option, None, Some, Result, Ok, Err, ⊤, if◌then◌else◌}
+use Rattle.std.specs.Prelude.{◌≡◌, ◌≢◌, ℕ, suc, zero, ◌+◌, ◌<◌, ◌≤◌, ◌⊎◌, true, false, List, [], ◌∷◌, ◌++◌, length, map, sum, get_or, All, Option, None, Some, Result, Ok, Err, ⊤, if◌then◌else◌}
 use Rattle.std.specs.Io.KnownBytes.{Appends}
-use Rattle.std.specs.Option.{option_map}
 use Rattle.std.specs.Str.{bytes_eq}
 use Rattle.kr_base.specs.Faults.{Rose}
 use Rattle.kr_base.specs.Limits.{store_limit}
@@ -10,7 +9,6 @@ use Rattle.kr_config.specs.Kept.{Row}
 use Rattle.kr_kms.specs.Calls.{Link}
 use Rattle.kr_kms.specs.Outside.{link_at}
 use Rattle.kr_kms.specs.Truth.{Truth}
-use Rattle.kr_kms.specs.declared.seeds.SeedRow.{SeedRow}
 use Rattle.kr_provider.specs.Names.{names_of}
 use Rattle.kr_provider.specs.PluginOrder.{plugin_order}
 use Rattle.kr_provider.specs.Publication.{Publication}
@@ -50,7 +48,7 @@ use Rattle.kr_top.specs.declared.refusal.Object.TheVariants.{Output, Store}
 use Rattle.kr_top.specs.declared.refusal.Refusal.{Refusal}
 use Rattle.kr_top.specs.declared.refusal.Refusal.TheVariants.{Limit}
 use Rattle.kr_top.specs.declared.refusal.Stop.{Stop}
-use Rattle.kr_top.specs.declared.refusal.Stop.TheVariants.{Words, Refused, Fault, NoMemory}
+use Rattle.kr_top.specs.declared.refusal.Stop.TheVariants.{Fault, NoMemory}
 
 -- ---- budgets
 

@@ -1,4 +1,5 @@
 -- The definitions of inner contracts.
+pub mod Beginnings
 pub mod Phases
 pub mod Tapes
 pub mod Judging

@@ -78,8 +78,8 @@ pub fn run<R: Threads + Wait + Sync, W: World, I: Source, O: Sink, E: Sink>(
     }
 }
 
-/// The same for each command but `fleet`. Where the words ask for a fleet nothing is done, and there
-/// is no status.
+/// The same for each command but `fleet`. Where the words ask for a fleet nothing is done, and
+/// there is no status.
 pub fn run_alone<W: World, I: Source, O: Sink, E: Sink>(
     alloc: Global,
     words: &[String],

@@ -1,6 +1,6 @@
 //! The workers of a fleet: an outfit becomes a worker's bench, and comes back with its replies.
-ghost use Rattle.std.specs.Prelude.{◌≡◌, ◌≤◌, All, IfErr, IfOk, None, [], length, map};
-ghost use Rattle.kr_top.specs.inner.Crews.{IsCrew, outfits_of};
+ghost use Rattle.std.specs.Prelude.{◌≡◌, ◌≤◌, All, IfErr, IfOk, None, OnOk, [], ◌++◌, length, map, reverse};
+ghost use Rattle.kr_top.specs.inner.Crews.{HiresFirst, IsCrew, IsFresh, outfit_of, outfits_of};
 
 use crate::outfit::Outfit;
 use kr_base::{Dice, List, NoMemory, Tape};
@@ -55,24 +55,33 @@ pub fn hire<T: Tape, L: Kms, D: Dice>(
 }
 
 /// The outfits from the last to the first.
-fn in_turn<L: Kms, D: Dice>(outfits: List<Outfit<L, D>>) -> List<Outfit<L, D>> {
+fn in_turn<L: Kms, D: Dice>(outfits: List<Outfit<L, D>>) -> List<Outfit<L, D>>
+    ensures { result.0 ≡ reverse outfits.0 }
+{
     let mut outfits = outfits.into_vec();
     outfits.reverse();
     List::from_vec(outfits)
 }
 
-/// Makes the workers, the one of the first seat first.
+/// Makes the workers, the one of the first seat first, with the outfits from the last on.
 fn hire_each<T: Tape, L: Kms, D: Dice>(
     alloc: Global,
     parts: &[Part],
     outfits: &mut List<Outfit<L, D>>,
     workers: &mut List<Worker<T, L, D>>,
-) -> Result<(), NoMemory> {
+) -> Result<(), NoMemory>
+    requires many { length outfits.old.0 ≡ length parts.now }
+    requires none { workers.old.0 ≡ [] }
+    requires room { length parts.now ≤ workers.old.1 }
+    ensures hired { HiresFirst parts.now (reverse outfits.old.0) workers.new.0 outfits.new.0
+        outfits.new.1 }
+    ensures all { OnOk result (outfits.new.0 ≡ []) }
+{
     for part in parts {
         let Some(outfit) = outfits.pop() else {
-            return Ok(());
+            unreachable!();
         };
-        match hire_one(alloc, part.lines.as_slice().len(), outfit) {
+        match hire_one(alloc, part, outfit) {
             Ok(worker) => workers.push_in_room(worker),
             Err((NoMemory, outfit)) => {
                 outfits.push_in_room(outfit);
@@ -83,17 +92,21 @@ fn hire_each<T: Tape, L: Kms, D: Dice>(
     Ok(())
 }
 
+/// Makes the worker of the part.
 fn hire_one<T: Tape, L: Kms, D: Dice>(
     alloc: Global,
-    lines: usize,
+    part: &Part,
     outfit: Outfit<L, D>,
-) -> Result<Worker<T, L, D>, (NoMemory, Outfit<L, D>)> {
+) -> Result<Worker<T, L, D>, (NoMemory, Outfit<L, D>)>
+    ensures hired { IfOk result (λ worker. (outfit_of worker ≡ outfit) × IsFresh part.now worker) }
+    ensures returned { IfErr result (λ refused. refused.1 ≡ outfit) }
+{
     let Outfit { links, dice } = outfit;
     let bench = match Bench::new(alloc, links, dice, PAGES, CACHE) {
         Ok(bench) => bench,
         Err((_, links, dice)) => return Err((NoMemory, Outfit { links, dice })),
     };
-    match Worker::new(alloc, bench, lines) {
+    match Worker::new(alloc, bench, part.lines.as_slice().len()) {
         Ok(worker) => Ok(worker),
         Err((_, bench)) => {
             let (links, dice) = bench.close();
@@ -103,14 +116,14 @@ fn hire_one<T: Tape, L: Kms, D: Dice>(
 }
 
 impl<T: Tape, L: Kms, D: Dice> Crew<T, L, D> {
-    /// Lets the workers go: their outfits and their replies, in the order of their seats.
+    /// Lets the workers go: their outfits and their replies, in the order of their seats. Outfits
+    /// for which there was no worker stand behind the others.
     pub fn part(self) -> (List<Outfit<L, D>>, List<List<Told>>)
         requires seats { All (λ worker. worker.seat ≡ None) self.workers.items }
-        requires none_left { self.outfits.0 ≡ [] }
         requires none_told { self.replies.0 ≡ [] }
         requires room { length self.workers.items ≤ self.outfits.1 }
         requires room_for_replies { length self.workers.items ≤ self.replies.1 }
-        ensures outfits { result.0.0 ≡ outfits_of self.workers.items }
+        ensures outfits { result.0.0 ≡ outfits_of self.workers.items ++ reverse self.outfits.0 }
         ensures replies { result.1.0 ≡ map (λ worker. worker.told) self.workers.items }
     {
         let Crew {

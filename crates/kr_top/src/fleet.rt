@@ -1,19 +1,26 @@
 //! `fleet`: the fleet file and the configurations that it names, the store, each worker's random
 //! source and links, what each replica publishes, and the workers at one core.
-ghost use Rattle.std.specs.Prelude.{◌≡◌, ◌≤◌, List, ℕ, IfOk, [], length, sum};
+ghost use Rattle.std.specs.Prelude.{◌≡◌, ◌≤◌, All, IfErr, IfOk, [], false, length, sum};
 ghost use Rattle.kr_base.specs.Limits.{store_limit};
+ghost use Rattle.kr_provider.specs.AskedLinks.{AskedOnly};
+ghost use Rattle.kr_provider.specs.Names.{names_of as plugin_names};
+ghost use Rattle.kr_rollout.specs.Openings.{AreAmong, IsFirstIn};
 ghost use Rattle.kr_script.specs.Fleets.{fleet_of};
 ghost use Rattle.kr_script.specs.Output.{fleet_output};
-ghost use Rattle.kr_top.specs.Around.{Around, with_lent_tape, with_world};
+ghost use Rattle.kr_top.specs.Around.{Around, Name, with_lent_tape, with_world};
 ghost use Rattle.kr_top.specs.Commands.{stored_on};
 ghost use Rattle.kr_top.specs.Fleets.{DidFleet, WritesFleet, beginning, equipped, outfitted};
-ghost use Rattle.kr_top.specs.Fleets.{over_store, publishing};
+ghost use Rattle.kr_top.specs.Fleets.{over_store, publishing, starting};
 ghost use Rattle.kr_top.specs.Ran.{receipt};
 ghost use Rattle.kr_top.specs.Steps.{and_then};
+ghost use Rattle.kr_top.specs.inner.Beginnings.{MayPublish, PublishesNext, begun_in, begun_with};
+ghost use Rattle.kr_top.specs.inner.Beginnings.{first_core, start_stop, with_first};
 ghost use Rattle.kr_top.specs.inner.Crews.{IsCrew, IsReadyCore, RunsCrew, outfits_of};
 ghost use Rattle.kr_top.specs.inner.FleetFiles.{IsWholePlan, named, plan_of};
-ghost use Rattle.kr_top.specs.inner.Fleets.{ArePublished, RunsBy, budget_stop, published_in};
+ghost use Rattle.kr_top.specs.inner.Fleets.{ArePublished, IsPublishedBy, RunsBy, budget_stop};
+ghost use Rattle.kr_top.specs.inner.Fleets.{published_in};
 ghost use Rattle.kr_top.specs.inner.Outfits.{AreLater, AreNamed, names_in, with_outfits};
+ghost use Rattle.kr_top.specs.inner.Phases.{Does};
 ghost use Rattle.kr_top.specs.inner.Tapes.{stored_of};
 ghost use Rattle.kr_workers.specs.Budgets.{AreBudgets, all_reloads, journal_limit};
 ghost use Rattle.kr_workers.specs.Endings.{ending_of};
@@ -104,7 +111,7 @@ fn fleet_on<R: Threads + Wait + Sync, W: World>(
     world: &mut W,
 ) -> (Result<Record, Stop>, W::Tap)
     requires plan { IsWholePlan (plan_of plan.now) }
-    ensures made { (name : List ℕ) (a : Around) → a.truth ≡ W.Link.truth
+    ensures made { (name : Name) (a : Around) → a.truth ≡ W.Link.truth
         → RunsBy W.Tap W.Link.truth W.Link.link W.Rand.left W.Rand.count
         (and_then (stored_on Object.Store name) (beginning (plan_of plan.now))) name
         (plan_of plan.now)
@@ -151,7 +158,7 @@ fn fleet_with<R: Threads + Wait + Sync, W: World>(
     requires fit { sum budgets.now.reloads.items ≤ sum budgets.now.entries.items }
     requires store { (store.limit ≡ store_limit) × (store.torn ≡ false) }
     requires plan { IsWholePlan (plan_of plan.now) }
-    ensures made { (name : List ℕ) (a : Around) → a.truth ≡ W.Link.truth
+    ensures made { (name : Name) (a : Around) → a.truth ≡ W.Link.truth
         → RunsBy W.Tap W.Link.truth W.Link.link W.Rand.left W.Rand.count
         (equipped (plan_of plan.now) (stored_of store) budgets.now.entries.items) name
         (plan_of plan.now)
@@ -163,16 +170,21 @@ fn fleet_with<R: Threads + Wait + Sync, W: World>(
     let mut outfits = List::new(alloc);
     let seats = plan.script.workers.as_slice().len() as u32;
     let opened = open_outfits(alloc, world, plan.programs.as_slice(), seats, &mut outfits);
-    let (made, store, outfits) = match opened {
-        Ok(()) => begin(rt, alloc, plan, budgets, store, outfits),
-        Err(stop) => (Err(stop), store, outfits),
-    };
-    close_outfits(world, outfits);
-    (made, store)
+    match opened {
+        Ok(()) => {
+            let (made, store, outfits) = begin(rt, alloc, plan, budgets, store, outfits);
+            close_outfits(world, outfits);
+            (made, store)
+        }
+        Err(stop) => {
+            close_outfits(world, outfits);
+            (Err(stop), store)
+        }
+    }
 }
 
-/// Publishes for each replica, starts the core, and lets the workers work. The store and the outfits
-/// come back.
+/// Publishes for each replica, starts the core, and lets the workers work. The store and the
+/// outfits come back.
 fn begin<R: Threads + Wait + Sync, T: Tape + Send, L: Kms + Send, D: Dice + Send>(
     rt: &R,
     alloc: Global,
@@ -189,7 +201,7 @@ fn begin<R: Threads + Wait + Sync, T: Tape + Send, L: Kms + Send, D: Dice + Send
     requires plan { IsWholePlan (plan_of plan.now) }
     requires seats { length outfits.0 ≡ length plan.now.script.workers.0 }
     requires named { AreNamed L.link (names_in plan.now.programs) outfits.0 }
-    ensures made { (name : List ℕ) (a : Around) → a.truth ≡ L.truth
+    ensures made { (name : Name) (a : Around) → a.truth ≡ L.truth
         → RunsBy T L.truth L.link D.left D.count
         (outfitted (plan_of plan.now) (stored_of store) budgets.now.entries.items) name
         (plan_of plan.now)
@@ -212,6 +224,7 @@ fn begin<R: Threads + Wait + Sync, T: Tape + Send, L: Kms + Send, D: Dice + Send
         Ok(crew) => crew,
         Err((_, outfits)) => {
             let (store, _lines) = core.close();
+            store.known();
             return (Err(Stop::NoMemory), store, outfits);
         }
     };
@@ -252,10 +265,12 @@ fn run_crew<R: Threads + Wait + Sync, T: Tape + Send, L: Kms + Send, D: Dice + S
     match ended {
         Ok(core) => {
             let (store, lines) = core.close();
+            store.known();
             (Ok(Record { lines, replies }), store, outfits)
         }
         Err((NoMemory, core)) => {
             let (store, _lines) = core.close();
+            store.known();
             (Err(Stop::NoMemory), store, outfits)
         }
     }
@@ -281,40 +296,66 @@ fn publish_first<L: Kms, D: Dice>(
         (named plan.now.files.0) plan.now.script.replicas.0 made.0) }
     ensures later { AreLater L.link D.count outfits.0 result.1.0 }
 {
+    let files = plan.files.as_slice();
+    let replicas = plan.script.replicas.as_slice();
     let mut outfits = outfits.into_vec();
     let first = &mut outfits[0];
-    let published = publish_each(alloc, plan, &mut first.links, &mut first.dice);
+    let published = publish_each(alloc, files, replicas, &mut first.links, &mut first.dice);
     (published, List::from_vec(outfits))
 }
 
+/// Publishes the configuration of each replica that is in.
 fn publish_each<L: Kms, D: Dice>(
     alloc: Global,
-    plan: &Plan,
+    files: &[SettingsFile],
+    replicas: &[(Text, Text)],
     links: &mut Links<L>,
     dice: &mut D,
-) -> Result<List<Option<Shared<Published>>>, Stop> {
-    let mut replicas = List::new(alloc);
-    for (_name, file) in plan.script.replicas.as_slice() {
-        let published = match publish_at(alloc, plan.files.as_slice(), file.as_str(), links, dice) {
+) -> Result<List<Option<Shared<Published>>>, Stop>
+    requires read { All (λ replica. MayPublish (plugin_names L.link links.old)
+        (named files.now) replica.1) replicas.now }
+    ensures does { (a : Around) → a.truth ≡ L.truth
+        → Does (publishing (named files.now) [] replicas.now)
+        (with_first L.link links.old (D.left dice.old) (D.count dice.old) a)
+        (with_first L.link links.new (D.left dice.new) (D.count dice.new) a)
+        (published_in result) }
+    ensures replicas { IfOk result (λ made. ArePublished L.truth (named files.now) replicas.now
+        made.0) }
+    ensures asked { AskedOnly L.link (plugin_names L.link links.old) links.old links.new }
+    ensures later { D.count dice.old ≤ D.count dice.new }
+{
+    let mut made = List::new(alloc);
+    for replica in replicas {
+        let published = match publish_at(alloc, files, replica, links, dice) {
             Ok(published) => published,
             Err(stop) => return Err(stop),
         };
-        match replicas.push(published) {
+        match made.push(published) {
             Ok(()) => {}
             Err(_) => return Err(Stop::NoMemory),
         }
     }
-    Ok(replicas)
+    Ok(made)
 }
 
-/// Publishes the configuration in the file, if the replica is in.
+/// Publishes the configuration of a replica, if it is in.
 fn publish_at<L: Kms, D: Dice>(
     alloc: Global,
     files: &[SettingsFile],
-    file: &str,
+    replica: &(Text, Text),
     links: &mut Links<L>,
     dice: &mut D,
-) -> Result<Option<Shared<Published>>, Stop> {
+) -> Result<Option<Shared<Published>>, Stop>
+    requires read { MayPublish (plugin_names L.link links.old) (named files.now) replica.now.1 }
+    ensures does { (a : Around) → a.truth ≡ L.truth
+        → PublishesNext (named files.now) replica.now
+        (with_first L.link links.old (D.left dice.old) (D.count dice.old) a)
+        (with_first L.link links.new (D.left dice.new) (D.count dice.new) a) result }
+    ensures published { IfOk result (IsPublishedBy L.truth (named files.now) replica.now) }
+    ensures asked { AskedOnly L.link (plugin_names L.link links.old) links.old links.new }
+    ensures later { D.count dice.old ≤ D.count dice.new }
+{
+    let file = replica.1.as_str();
     if file == NO_FILE {
         return Ok(None);
     }
@@ -340,13 +381,28 @@ fn start<T: Tape>(
     budgets: &Budgets,
     store: Store<T>,
     replicas: List<Option<Shared<Published>>>,
-) -> Result<Core<T>, (Stop, Store<T>)> {
+) -> Result<Core<T>, (Stop, Store<T>)>
+    requires first { IsFirstIn replicas.0 }
+    requires replicas { length replicas.0 ≤ 16 }
+    requires names { AreAmong (names_in plan.now.programs) replicas.0 }
+    requires seats { (1 ≤ length plan.now.script.workers.0)
+        × (length plan.now.script.workers.0 ≤ 64) }
+    requires reloads { budgets.now.reloads.items ≡ all_reloads plan.now.script.workers.0 }
+    requires few { sum budgets.now.entries.items ≤ journal_limit }
+    requires fit { sum budgets.now.reloads.items ≤ sum budgets.now.entries.items }
+    ensures does { (a : Around) → Does (starting (plan_of plan.now) (stored_of store)
+        budgets.now.entries.items replicas.0) a a (begun_in
+        (begun_with plan.now budgets.now.entries.items store replicas.0) result) }
+    ensures core { IfOk result (λ core. core ≡ first_core plan.now budgets.now.reloads.items
+        (sum budgets.now.entries.items) store replicas.0) }
+    ensures back { IfErr result (λ refused. refused.1 ≡ store) }
+{
     let names = match names_of(alloc, plan.programs.as_slice()) {
         Ok(names) => names,
         Err(NoMemory) => return Err((Stop::NoMemory, store)),
     };
     let seats = plan.script.workers.as_slice().len() as u32;
-    let room = sum_of(budgets.entries.as_slice());
+    let room = budgets.entries.iter().sum::<u64>();
     match Core::start(
         alloc,
         store,
@@ -362,7 +418,9 @@ fn start<T: Tape>(
 }
 
 /// Why a core didn't start, as a command says it.
-fn start_stop(why: StartNo) -> Stop {
+fn start_stop(why: StartNo) -> Stop
+    ensures { result ≡ start_stop why }
+{
     match why {
         StartNo::Stray { path } => Stop::Refused(Refusal::Stray(path)),
         StartNo::OtherSecret { path } => Stop::Refused(Refusal::OtherSecret(path)),
@@ -372,7 +430,9 @@ fn start_stop(why: StartNo) -> Stop {
 }
 
 /// The names of the programs' plugins.
-fn names_of(alloc: Global, programs: &[Program]) -> Result<List<Text>, NoMemory> {
+fn names_of(alloc: Global, programs: &[Program]) -> Result<List<Text>, NoMemory>
+    ensures { IfOk result (λ names. names.0 ≡ names_in programs.now) }
+{
     let mut names = List::new(alloc);
     for program in programs {
         let Ok(name) = Text::copy(alloc, program.plugin.as_str()) else {
@@ -384,14 +444,6 @@ fn names_of(alloc: Global, programs: &[Program]) -> Result<List<Text>, NoMemory>
         }
     }
     Ok(names)
-}
-
-fn sum_of(budgets: &[u64]) -> u64 {
-    let mut sum = 0u64;
-    for budget in budgets {
-        sum = sum.saturating_add(*budget);
-    }
-    sum
 }
 
 /// Writes the journal and the replies, which say how the fleet ended.

@@ -12,7 +12,7 @@ ghost use Rattle.kr_provider.specs.PluginOrder.{plugin_order};
 ghost use Rattle.kr_script.specs.Fleets.{fleet_of, worker_of};
 ghost use Rattle.kr_top.specs.Around.{Around, with_world};
 ghost use Rattle.kr_top.specs.FleetFiles.{all_rows, file_in, file_of_replica, fleet_in, mentioned, planning, programs_in};
-ghost use Rattle.kr_top.specs.inner.FleetFiles.{GoesThrough, IsWholePlan, ReadsBytes, ReadsFleet};
+ghost use Rattle.kr_top.specs.inner.FleetFiles.{GoesThrough, IsRuled, IsWholePlan, ReadsBytes, ReadsFleet};
 ghost use Rattle.kr_top.specs.inner.FleetFiles.{fleet_in_result, named, plan_in, plan_of, script_stop};
 ghost use Rattle.kr_top.specs.inner.Phases.{AskedFor, Does};
 
@@ -71,8 +71,9 @@ pub fn load_plan<W: World>(
 
 /// The fleet in a file.
 fn load_fleet<W: World>(alloc: Global, world: &mut W, name: &str) -> Result<Script, Stop>
-    ensures { (a : Around) → Does (fleet_in name.now) (with_world (W.told world.old) a)
+    ensures does { (a : Around) → Does (fleet_in name.now) (with_world (W.told world.old) a)
         (with_world (W.told world.new) a) (fleet_in_result result) }
+    ensures rules { IfOk result (λ script. IsRuled (fleet_of script)) }
 {
     load_script(alloc, world, name)
 }

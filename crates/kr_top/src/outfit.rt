@@ -1,11 +1,12 @@
 //! What a worker has of the world: a random source, and a link to each plugin.
-ghost use Rattle.std.specs.Prelude.{◌≡◌, ℕ, List, OnOk, [], length};
-ghost use Rattle.kr_config.specs.Kept.{Row};
-ghost use Rattle.kr_provider.specs.PluginOrder.{plugin_order};
+ghost use Rattle.std.specs.Prelude.{◌≡◌, ◌<◌, ◌≤◌, ◌^◌, IfOk, OnOk, [], length};
+ghost use Rattle.kr_provider.specs.Names.{names_of};
 ghost use Rattle.kr_top.specs.Around.{Around, Tapes, with_tapes, with_world};
 ghost use Rattle.kr_top.specs.Fleets.{equipping};
 ghost use Rattle.kr_top.specs.Steps.{give};
-ghost use Rattle.kr_top.specs.inner.Outfits.{AreNamed, AreOut, names_in, with_outfits};
+ghost use Rattle.kr_top.specs.inner.Outfits.{AreBorrowed, AreNamed, AreOut, ArePlugins, HasOut, IsOut};
+ghost use Rattle.kr_top.specs.inner.Outfits.{KeepsOthers, LinksReturn, Opens, OpensLinks, OutfitReturn};
+ghost use Rattle.kr_top.specs.inner.Outfits.{names_in, with_outfits};
 ghost use Rattle.kr_top.specs.inner.Phases.{Does};
 
 use crate::phases::{close_dice, close_link, open_dice, open_link};
@@ -32,13 +33,14 @@ pub fn open_outfits<W: World>(
     outfits: &mut List<Outfit<W::Link, W::Rand>>,
 ) -> Result<(), Stop>
     requires none { outfits.old.0 ≡ [] }
-    requires programs { (rows : List Row) × (names_in programs.now ≡ plugin_order rows) }
+    requires programs { ArePlugins programs.now }
     ensures does { (tapes : Tapes) (a : Around) → Does (equipping programs.now 0 seats (give tt))
         (with_world (with_tapes tapes (W.told world.old)) a)
         (with_outfits W.Link.link W.Rand.left W.Rand.count 0 outfits.new.0
         (with_world (with_tapes tapes (W.told world.new)) a)) result }
     ensures tapes { (W.told world.new).tapes ≡ (W.told world.old).tapes }
     ensures many { OnOk result (length outfits.new.0 ≡ seats) }
+    ensures few { length outfits.new.0 ≤ seats }
     ensures named { AreNamed W.Link.link (names_in programs.now) outfits.new.0 }
     ensures out { AreOut (names_in programs.now) (length outfits.new.0) (W.told world.new) }
 {
@@ -57,8 +59,8 @@ pub fn open_outfits<W: World>(
 
 /// Gives all outfits back, that of the last seat first.
 pub fn close_outfits<W: World>(world: &mut W, outfits: List<Outfit<W::Link, W::Rand>>)
-    requires out { (names : List (List ℕ)) × AreNamed W.Link.link names outfits.0
-        × AreOut names (length outfits.0) (W.told world.old) }
+    requires out { AreBorrowed W.Link.link outfits.0 (W.told world.old) }
+    requires few { length outfits.0 < 2 ^ 32 }
     ensures back { (tapes : Tapes) (a : Around)
         → with_outfits W.Link.link W.Rand.left W.Rand.count 0 outfits.0
         (with_world (with_tapes tapes (W.told world.old)) a)
@@ -79,7 +81,16 @@ fn open_outfit<W: World>(
     world: &mut W,
     programs: &[Program],
     seat: u32,
-) -> Result<Outfit<W::Link, W::Rand>, Stop> {
+) -> Result<Outfit<W::Link, W::Rand>, Stop>
+    requires programs { ArePlugins programs.now }
+    ensures does { Opens W.Link.link W.Rand.left W.Rand.count seat programs.now
+        (W.told world.old) (W.told world.new) result }
+    ensures tapes { (W.told world.new).tapes ≡ (W.told world.old).tapes }
+    ensures named { IfOk result
+        (λ outfit. names_of W.Link.link outfit.links ≡ names_in programs.now) }
+    ensures out { OnOk result (IsOut (names_in programs.now) seat (W.told world.new)) }
+    ensures others { KeepsOthers seat (W.told world.old) (W.told world.new) }
+{
     let dice = match open_dice(alloc, world, seat) {
         Ok(dice) => dice,
         Err(stop) => return Err(stop),
@@ -94,13 +105,24 @@ fn open_outfit<W: World>(
     }
 }
 
+/// Borrows a link of the seat to each plugin. After a refusal the first ones are there.
 fn open_links<W: World>(
     alloc: Global,
     world: &mut W,
     programs: &[Program],
     seat: u32,
     links: &mut Links<W::Link>,
-) -> Result<(), Stop> {
+) -> Result<(), Stop>
+    requires none { links.old ≡ [] }
+    requires programs { ArePlugins programs.now }
+    ensures does { OpensLinks W.Link.link W.Rand.left W.Rand.count seat programs.now
+        (W.told world.old) (W.told world.new) links.new result }
+    ensures tapes { (W.told world.new).tapes ≡ (W.told world.old).tapes }
+    ensures dice { (W.told world.new).dice ≡ (W.told world.old).dice }
+    ensures named { OnOk result (names_of W.Link.link links.new ≡ names_in programs.now) }
+    ensures out { HasOut W.Link.link seat links.new (W.told world.new) }
+    ensures others { KeepsOthers seat (W.told world.old) (W.told world.new) }
+{
     for program in programs {
         let link = match open_link(
             alloc,
@@ -123,12 +145,26 @@ fn open_links<W: World>(
     Ok(())
 }
 
-fn close_outfit<W: World>(world: &mut W, seat: u32, outfit: Outfit<W::Link, W::Rand>) {
+/// Gives an outfit of the seat back.
+fn close_outfit<W: World>(world: &mut W, seat: u32, outfit: Outfit<W::Link, W::Rand>)
+    requires out { IsOut (names_of W.Link.link outfit.links) seat (W.told world.old) }
+    ensures { OutfitReturn W.Link.link W.Rand.left W.Rand.count seat (W.told world.old)
+        (W.told world.new) outfit }
+{
     let Outfit { links, dice } = outfit;
+    close_links(world, seat, links);
+    close_dice(world, seat, dice);
+}
+
+/// Gives links of the seat back, the last one first.
+fn close_links<W: World>(world: &mut W, seat: u32, links: Links<W::Link>)
+    requires out { HasOut W.Link.link seat links (W.told world.old) }
+    ensures { LinksReturn W.Link.link seat (W.told world.old) (W.told world.new) links }
+{
+    links.known();
     let mut links = links;
     while let Some(link) = links.take() {
         close_link(world, seat, link);
     }
     links.end();
-    close_dice(world, seat, dice);
 }

@@ -1,5 +1,6 @@
 //! The phases over tapes and the stores that they hold.
-ghost use Rattle.std.specs.Prelude.{◌≡◌, ◌<◌, List, ℕ, Ok, Err, IfOk, IfErr, OnErr};
+ghost use Rattle.std.specs.Prelude.{◌≡◌, ◌<◌, List, ℕ, Ok, Err, IfOk, IfErr, OnErr, false};
+ghost use Rattle.kr_base.specs.Limits.{store_limit};
 ghost use Rattle.kr_kms.specs.Outside.{KeepsFiles, KeepsObjects};
 ghost use Rattle.kr_kms.specs.declared.world.WorldCall.{WorldCall};
 ghost use Rattle.kr_top.specs.Around.{Around, with_lent_tape};
@@ -61,6 +62,7 @@ pub fn load_store<T: Tape>(alloc: Global, tape: T, object: Object) -> Result<Sto
         → Does (stored_on object name)
         (with_lent_tape name (T.told tape) (T.count tape) a)
         (with_lent_tape name (T.told refused.1) (T.count refused.1) a) (Err refused.0)) }
+    ensures limit { IfOk result (λ store. (store.limit ≡ store_limit) × (store.torn ≡ false)) }
 {
     match Store::load(alloc, tape, STORE_LIMIT) {
         Ok(store) => Ok(store),

@@ -1,5 +1,5 @@
 -- The workers of a fleet, from when they are made to what they leave.
-use Rattle.std.specs.Prelude.{◌≡◌, ◌<◌, ◌≤◌, ℕ, List, [], ◌∷◌, length, map, sum, slice_index_or, Option, None, Some, Result, Ok, Err}
+use Rattle.std.specs.Prelude.{◌≡◌, ◌<◌, ◌≤◌, ℕ, List, [], ◌++◌, length, map, reverse, sum, slice_index_or, Option, None, Result, Ok, Err}
 use Rattle.kr_kms.specs.Calls.{Link}
 use Rattle.kr_kms.specs.Truth.{Truth}
 use Rattle.kr_rollout.specs.Cores.{CoreState}
@@ -36,6 +36,15 @@ module _ {T L D : Type 0} where
     pub none_told : worker.told.0 ≡ []
     pub room : length part.lines.0 ≤ worker.told.1
     pub pages : 64 ≤ size_of worker.bench.pages
+
+  -- workers for the first parts, in the order of the parts, with the first of these outfits; those
+  -- that are left stand from the last to the first, with room for the workers' own behind them
+  pub record HiresFirst (parts : List Part) (outfits : List (Outfit L D))
+      (workers : List (Worker T L D)) (left : List (Outfit L D)) (room : ℕ) : Type 0 where
+    pub outfits_are : outfits_of workers ++ reverse left ≡ outfits
+    pub fresh : (i : ℕ) (part : Part) (worker : Worker T L D) → i < length workers
+        → IsFresh (slice_index_or parts i part) (slice_index_or workers i worker)
+    pub room_left : length workers ≤ room
 
   -- a worker for each part, in the order of the parts, with these outfits; there is room for what
   -- they give back

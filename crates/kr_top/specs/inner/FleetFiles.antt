@@ -19,7 +19,7 @@ use Rattle.kr_top.specs.declared.refusal.Object.TheVariants.{Files}
 use Rattle.kr_top.specs.declared.refusal.Refusal.{Refusal}
 use Rattle.kr_top.specs.declared.refusal.Refusal.TheVariants.{Limit, Script as bad_line}
 use Rattle.kr_top.specs.declared.refusal.Stop.{Stop}
-use Rattle.kr_top.specs.declared.refusal.Stop.TheVariants.{Words, Refused, Fault, NoMemory}
+use Rattle.kr_top.specs.declared.refusal.Stop.TheVariants.{Refused, Fault, NoMemory}
 use Rattle.kr_top.specs.inner.Outfits.{names_in}
 use Rattle.kr_top.specs.inner.Phases.{Does}
 
@@ -56,18 +56,28 @@ abbrev pub fleet_in_result : Result Script Stop → Result Fleet Stop
 fleet_in_result (Ok script) = Ok (fleet_of script)
 fleet_in_result (Err stop) = Err stop
 
+-- it keeps the rules of a fleet file
+abbrev pub IsRuled : Fleet → Type 0
+IsRuled fleet = IsFleet fleet × IsWhole fleet × IsWithin fleet
+
 -- ---- the configurations
 
 abbrev pub named : List SettingsFile → List NamedRows
 named files = map named_rows files
 
--- these names were gone through: what the rest does completes it; or they ended the command
+-- each of these names has a file that was read, and what was read before stays
+pub record Covers (old new : List NamedRows) (names : List (List ℕ)) : Type 0 where
+  pub read : All (λ name. IsSome (rows_at new name)) names
+  pub stays : (name : List ℕ) → IsSome (rows_at old name) → rows_at new name ≡ rows_at old name
+
+-- these names were gone through: their files are there, and what the rest does completes it; or
+-- they ended the command
 abbrev pub GoesThrough : (old_files new_files : List NamedRows) (more : List (List ℕ))
     (old new : Outside) → Result (Unit {0}) Stop → Type 0
-GoesThrough old_files new_files more old new (Ok done) =
-    (a end : Around) (names : List (List ℕ)) (result : Result (List NamedRows) Stop)
+GoesThrough old_files new_files more old new (Ok done) = Covers old_files new_files more
+    × ((a end : Around) (names : List (List ℕ)) (result : Result (List NamedRows) Stop)
     → Does (files_in new_files names) (with_world new a) end result
-    → Does (files_in old_files (more ++ names)) (with_world old a) end result
+    → Does (files_in old_files (more ++ names)) (with_world old a) end result)
 GoesThrough old_files new_files more old new (Err stop) = (a : Around) (names : List (List ℕ))
     → Does (files_in old_files (more ++ names)) (with_world old a) (with_world new a) (Err stop)
 

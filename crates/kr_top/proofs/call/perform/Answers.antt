@@ -22,8 +22,8 @@ returns-in-Convert g c = does_by (sym c.in-Convert.is) c.convert.ensures
 pub returns-in-Check : goal.returns-in-Check
 returns-in-Check g c = does_by
     (ap (λ name. Check name c.in-Check.resource) c.as_str.ensures ∙ sym c.in-Check.is)
-    (c.check.ensures (around g.W.Link.Kms.truth (g.W.World.told c.args.world.now) (g.I.Source.left c.args.input.now)
-    (g.I.Source.count c.args.input.now)))
+    (c.check.ensures (around g.W.Link.Kms.truth (g.W.World.told c.args.world.now)
+    (g.I.Source.left c.args.input.now) (g.I.Source.count c.args.input.now)))
 
 pub returns-in-Inspect : goal.returns-in-Inspect
 returns-in-Inspect g c = does_by (sym c.in-Inspect.is)
@@ -31,12 +31,13 @@ returns-in-Inspect g c = does_by (sym c.in-Inspect.is)
     (g.I.Source.left c.args.input.now) (g.I.Source.count c.args.input.now)))
 
 pub get-requires-clause-path : goal.get-requires-clause-path
-get-requires-clause-path g c = λ κs lives. subst (λ k. HasShortPath (Some k)) c.in-Get.is c.requires.path
+get-requires-clause-path g c = λ κs lives.
+    subst (λ k. HasShortPath (Some k)) c.in-Get.is c.requires.path
 
 pub returns-in-Get : goal.returns-in-Get
 returns-in-Get g c = does_by (sym c.in-Get.is)
-    (c.get.ensures (around g.W.Link.Kms.truth (g.W.World.told c.args.world.now) (g.I.Source.left c.args.input.now)
-    (g.I.Source.count c.args.input.now)) refl)
+    (c.get.ensures (around g.W.Link.Kms.truth (g.W.World.told c.args.world.now)
+    (g.I.Source.left c.args.input.now) (g.I.Source.count c.args.input.now)) refl)
 
 pub returns-in-Rows : goal.returns-in-Rows
 returns-in-Rows g c = does_by

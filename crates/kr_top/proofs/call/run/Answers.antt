@@ -1,26 +1,35 @@
 -- `run`: a fleet, or another command, or words that mean none.
-use Rattle.std.proofs.Common.{Err, refl, inl, arith}
+use Rattle.std.proofs.Common.{Err, Ok, refl, inl, arith, subst}
 use Rattle.kr_words.specs.Grammar.{texts}
 use Rattle.kr_top.specs.Around.{around}
+use Rattle.kr_top.specs.FleetAsked.{IsFleetAsked}
 use Rattle.kr_top.proofs.FleetRuns.{at_once, for_asked, one_fleet, unread}
 use Rattle.kr_top.proofs.Readings.{readings}
 use Rattle.kr_top.proofs.call.run.Goals as goal
 
 pub returns-in-Ok-Some-clause-ran : goal.returns-in-Ok-Some-clause-ran
-returns-in-Ok-Some-clause-ran g c none = absurd (none c.in-Ok-Some.asked c.in-Ok-Some.ensures)
+returns-in-Ok-Some-clause-ran g c none = absurd (none c.in-Ok-Some.asked
+    (subst (λ o. IsFleetAsked (texts c.args.words.now) (Ok o)) c.in-Ok-Some.field-0-is
+    c.in-Ok-Some.ensures))
 
 pub returns-in-Ok-Some-clause-readings : goal.returns-in-Ok-Some-clause-readings
 returns-in-Ok-Some-clause-readings g c none =
-    absurd (none c.in-Ok-Some.asked c.in-Ok-Some.ensures)
+    absurd (none c.in-Ok-Some.asked
+    (subst (λ o. IsFleetAsked (texts c.args.words.now) (Ok o)) c.in-Ok-Some.field-0-is
+    c.in-Ok-Some.ensures))
 
 pub returns-in-Ok-Some-clause-tapes : goal.returns-in-Ok-Some-clause-tapes
 returns-in-Ok-Some-clause-tapes g c none =
-    absurd (none c.in-Ok-Some.asked c.in-Ok-Some.ensures)
+    absurd (none c.in-Ok-Some.asked
+    (subst (λ o. IsFleetAsked (texts c.args.words.now) (Ok o)) c.in-Ok-Some.field-0-is
+    c.in-Ok-Some.ensures))
 
 pub returns-in-Ok-Some-clause-fleet : goal.returns-in-Ok-Some-clause-fleet
 returns-in-Ok-Some-clause-fleet g c asked asks =
     for_asked
-    (one_fleet (texts c.args.words.now) c.in-Ok-Some.asked asked c.in-Ok-Some.ensures asks)
+    (one_fleet (texts c.args.words.now) c.in-Ok-Some.asked asked
+    (subst (λ o. IsFleetAsked (texts c.args.words.now) (Ok o)) c.in-Ok-Some.field-0-is
+    c.in-Ok-Some.ensures) asks)
     (c.run_fleet.ensures (around g.W.Link.Kms.truth (g.W.World.told c.args.world.now)
     (g.I.Source.left c.args.input.now) (g.I.Source.count c.args.input.now)) refl)
 
@@ -34,7 +43,9 @@ pub returns-in-Ok-None-clause-tapes : goal.returns-in-Ok-None-clause-tapes
 returns-in-Ok-None-clause-tapes g c none = c.alone.ensures.tapes
 
 pub returns-in-Ok-None-clause-fleet : goal.returns-in-Ok-None-clause-fleet
-returns-in-Ok-None-clause-fleet g c asked asks = absurd (c.in-Ok-None.ensures asked asks)
+returns-in-Ok-None-clause-fleet g c asked asks =
+    absurd (subst (λ o. IsFleetAsked (texts c.args.words.now) (Ok o)) c.in-Ok-None.field-0-is
+    c.in-Ok-None.ensures asked asks)
 
 pub returns-in-Err-clause-ran : goal.returns-in-Err-clause-ran
 returns-in-Err-clause-ran g c none = record {

@@ -1,7 +1,6 @@
 -- `fleet_by`: the tape of the store, which comes back.
-use Rattle.std.proofs.Common.{Err, inl, sym, subst, true}
+use Rattle.std.proofs.Common.{inl, sym, subst, true}
 use Rattle.std.specs.Prelude.{◌<◌}
-use Rattle.kr_top.specs.Around.{with_world}
 use Rattle.kr_top.specs.Commands.{stored_on}
 use Rattle.kr_top.specs.Fleets.{beginning}
 use Rattle.kr_top.specs.Steps.{and_then}

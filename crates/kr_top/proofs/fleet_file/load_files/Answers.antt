@@ -1,5 +1,5 @@
 -- `load_files`: the replicas' files, then the lines'.
-use Rattle.std.proofs.Common.{◌++◌, Err, Ok, ap, subst, sym, ◌∙◌}
+use Rattle.std.proofs.Common.{Err, Ok, ap, subst, ◌∙◌}
 use Rattle.std.specs.List.{flat_map}
 use Rattle.kr_script.specs.Fleets.{Worker, worker_of}
 use Rattle.kr_script.specs.declared.script.Part.{Part}

@@ -12,14 +12,16 @@ returns-in-Err g c = through_not file_in c.args.lines.now
     (named c.args.files.now.0) (named c.loop-line.files.0)
     (named c.load_line.new.files.0) (g.W.World.told c.args.world.now)
     (g.W.World.told c.loop-line.world) (g.W.World.told c.load_line.new.world)
-    c.loop-line.line-index c.line-item.result c.loop-line-test.true c.line-item.is c.loop-line.invariant c.in-Err.stop c.in-Err.ensures
+    c.loop-line.line-index c.line-item.result c.loop-line-test.true c.line-item.is
+    c.loop-line.invariant c.in-Err.stop c.in-Err.ensures
 
 pub loop-line-preserved : goal.loop-line-preserved
 loop-line-preserved g c = through_more file_in c.args.lines.now
     (named c.args.files.now.0) (named c.loop-line.files.0)
     (named c.load_line.new.files.0) (g.W.World.told c.args.world.now)
     (g.W.World.told c.loop-line.world) (g.W.World.told c.load_line.new.world)
-    c.loop-line.line-index c.line-item.result c.loop-line-test.true c.line-item.is c.loop-line.invariant c.in-Ok.ensures
+    c.loop-line.line-index c.line-item.result c.loop-line-test.true c.line-item.is
+    c.loop-line.invariant c.in-Ok.ensures
 
 pub returns : goal.returns
 returns g c = through_all file_in c.args.lines.now (named c.args.files.now.0)

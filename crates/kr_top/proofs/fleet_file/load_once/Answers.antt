@@ -1,10 +1,9 @@
 -- `load_once`: it is there already, or is loaded and kept.
-use Rattle.std.proofs.Common.{◌≡◌, ◌∷◌, ◌++◌, [], None, Ok, Some, ap, subst, sym, ◌∙◌}
+use Rattle.std.proofs.Common.{◌∷◌, [], Ok, ap, subst, sym, ◌∙◌}
 use Rattle.kr_config.specs.Kept.{rows_of}
 use Rattle.kr_config.specs.declared.settings.Settings.{Settings}
 use Rattle.kr_workers.specs.Files as workers
 use Rattle.kr_workers.specs.declared.files.SettingsFile.{SettingsFile}
-use Rattle.kr_top.specs.FleetFiles.{rows_at}
 use Rattle.kr_top.specs.inner.FleetFiles.{GoesThrough, named}
 use Rattle.kr_top.proofs.FleetLoads.{already, loaded, named_more, not_kept, not_loaded, same_rows}
 use Rattle.kr_top.proofs.fleet_file.load_once.Goals as goal

@@ -8,5 +8,5 @@ use Rattle.kr_top.proofs.fleet_file.load_parts.Given as goal
 
 abbrev pub invariant-loop-part : goal.invariant-loop-part
 invariant-loop-part g l = GoesThrough (named l.initial.files.0) (named l.files.0)
-    (flat_map (λ (part : Part). flat_map file_in part.lines.0) (take l.part-index l.parts)) (g.W.World.told l.initial.world)
-    (g.W.World.told l.world) (Ok tt)
+    (flat_map (λ (part : Part). flat_map file_in part.lines.0) (take l.part-index l.parts))
+    (g.W.World.told l.initial.world) (g.W.World.told l.world) (Ok tt)

@@ -12,14 +12,16 @@ returns-in-Err g c = through_not file_of_replica c.args.replicas.now
     (named c.args.files.now.0) (named c.loop-replica.files.0)
     (named c.load_replica.new.files.0) (g.W.World.told c.args.world.now)
     (g.W.World.told c.loop-replica.world) (g.W.World.told c.load_replica.new.world)
-    c.loop-replica.replica-index c.replica-item.result c.loop-replica-test.true c.replica-item.is c.loop-replica.invariant c.in-Err.stop c.in-Err.ensures
+    c.loop-replica.replica-index c.replica-item.result c.loop-replica-test.true c.replica-item.is
+    c.loop-replica.invariant c.in-Err.stop c.in-Err.ensures
 
 pub loop-replica-preserved : goal.loop-replica-preserved
 loop-replica-preserved g c = through_more file_of_replica c.args.replicas.now
     (named c.args.files.now.0) (named c.loop-replica.files.0)
     (named c.load_replica.new.files.0) (g.W.World.told c.args.world.now)
     (g.W.World.told c.loop-replica.world) (g.W.World.told c.load_replica.new.world)
-    c.loop-replica.replica-index c.replica-item.result c.loop-replica-test.true c.replica-item.is c.loop-replica.invariant c.in-Ok.ensures
+    c.loop-replica.replica-index c.replica-item.result c.loop-replica-test.true c.replica-item.is
+    c.loop-replica.invariant c.in-Ok.ensures
 
 pub returns : goal.returns
 returns g c = through_all file_of_replica c.args.replicas.now (named c.args.files.now.0)
