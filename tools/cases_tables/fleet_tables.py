@@ -53,6 +53,7 @@ def file(book, name, script, files=(), content=b"", drawn=None, plugins=(), prog
         files=[("fleet", script), *files],
         dice=tuple(seats.items()),
         tapes=() if content is None else (("s", content),),
+        absent=("s",) if content is None else (),
         plugins=[line for it in plugins for line in it],
         **more,
     )
