@@ -11,6 +11,7 @@ pub mod FleetAsked
 pub mod FleetLoads
 pub mod FleetOutfits
 pub mod FleetPrograms
+pub mod FleetReadings
 pub mod FleetRuns
 pub mod Found
 pub mod Frames
