@@ -122,7 +122,8 @@ module _ (object : Object) (name : List ℕ) (row : LogRow) (old new : Kept)
       (omega (arith, long, limit_is)))
 
   passes : {left end : Left} {point : Point Stored} → length_with old row ≤ old.limit
-      → Goes point end (next grown) left → Goes point end (adding object name (stored_of old) row) left
+      → Goes point end (next grown) left
+      → Goes point end (adding object name (stored_of old) row) left
   passes {left} {end} {point} short goes = inr (
     tt,
     tt,

@@ -4,6 +4,7 @@ pub mod Adding
 pub mod Apart
 pub mod Asked
 pub mod Decided
+pub mod EquallyLong
 pub mod Found
 pub mod Frames
 pub mod Goes
