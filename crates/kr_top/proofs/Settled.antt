@@ -1,5 +1,5 @@
 -- What each command's steps find is one thing, and what they draw decides nothing but the value.
-use Rattle.std.proofs.Common.{◌≡◌, ℕ, zero, suc, List, [], ◌∷◌, ◌++◌, length, map, Bool, true, false, Option, None, Some, Ok, Err, Contains, refl, sym, ◌∙◌, ap, subst, inl, inr, arith, ◌+◌}
+use Rattle.std.proofs.Common.{◌≡◌, ℕ, zero, suc, List, [], ◌∷◌, ◌++◌, length, map, Bool, true, false, Option, None, Some, Ok, Err, Contains, refl, sym, ◌∙◌, ap, subst, inl, inr, arith}
 use Rattle.std.specs.Prelude.{codes, cond, not, ◌||◌, Result, IsSome, is_some, nat_lt, if◌then◌else◌}
 use Rattle.std.specs.List.{list_any}
 use Rattle.std.specs.Option.{option_map}
