@@ -13,6 +13,7 @@ pub mod FleetOutfits
 pub mod FleetPrograms
 pub mod FleetReadings
 pub mod FleetRuns
+pub mod EquallyLong
 pub mod Found
 pub mod Frames
 pub mod Goes
