@@ -7,11 +7,11 @@ use Rattle.kr_kms.specs.Truth.{Truth}
 use Rattle.kr_workers.specs.Endings.{status_of}
 use Rattle.kr_workers.specs.declared.ending.Ending.{Ending}
 use Rattle.kr_workers.specs.declared.ending.Ending.TheVariants as ending
-use Rattle.kr_top.specs.Around.{Around, Ends, IsHome, left_of}
+use Rattle.kr_top.specs.Around.{Around, IsHome}
 use Rattle.kr_top.specs.FleetReadings.{FleetReadings, HasEnded, HasFailed, HasRefused}
-use Rattle.kr_top.specs.Fleets.{DidFleet, RanFleet, Starts, StopsBefore, TellsFleet, fleet_steps}
+use Rattle.kr_top.specs.Fleets.{DidFleet, RanFleet, Starts, StopsBefore, TellsFleet}
 use Rattle.kr_top.specs.Message.{line_of, status_of as stop_status, status_of_refusal}
-use Rattle.kr_top.specs.Ran.{IsIdle, Receipt, Tells}
+use Rattle.kr_top.specs.Ran.{IsIdle, Receipt}
 use Rattle.kr_top.specs.Steps.{Call}
 use Rattle.kr_top.specs.declared.fleet_words.FleetWords.{FleetWords}
 use Rattle.kr_top.specs.declared.refusal.Refusal.{Refusal}
