@@ -53,6 +53,7 @@ def file(book, name, script, files=(), content=b"", drawn=None, plugins=(), prog
         files=[("fleet", script), *files],
         dice=tuple(seats.items()),
         tapes=() if content is None else (("s", content),),
+        absent=("s",) if content is None else (),
         plugins=[line for it in plugins for line in it],
         **more,
     )
@@ -204,8 +205,7 @@ def add_refusals(book):
     file(book, "limit_replicas", f"fleet 1\n{replicas}worker w r0\n", [], b"")
     file(book, "limit_workers", f"fleet 1\nreplica a one\n{workers}", [], b"")
     start = Spelled(spell("fleet 1\nreplica a one\nworker w a\n"))
-    # (by large pieces, which are quickly spelled out)
-    file(book, "limit_script", repeated(65_536, b"#" * 1024) + "#", [], b"")
+    # (a file above 64 MiB is handed to the built program by tools/random_fleets.py)
     file(book, "limit_data", start + "put secrets /s " + repeated(2_796_204, b"A"), [], b"")
     many = start + repeated(1000, b"put secrets /s -\n") + repeated(1000, b"rewrite\n")
     file(book, "limit_journal_before_dice", many, [("one", config(ONE))], b"", fails=(("files", 4),))

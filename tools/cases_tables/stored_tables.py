@@ -1,13 +1,13 @@
-"""Values that are read from stores."""
+"""Values that are put into stores and read from them."""
 
 import itertools
 
 from reference.store import row_bytes, written
-from reference.values import check_of
+from reference.values import MARK, check_of
 
 from .call_tables import CBC, FIPS_BLOCK, FIPS_IV, HELLO, SEALED_ZEROS, Causes, files
-from .form import IV, PATH
-from .plugin_tables import KMS, OTHER, ZEROS, plugin, value
+from .form import IV, PATH, repeated
+from .plugin_tables import DRAWN, KMS, OTHER, ZEROS, plugin, value
 from .store_tables import HI, ONE, TWO, delete, put as row
 
 BARE = "secrets: identity"
@@ -15,14 +15,75 @@ KEYED = "secrets: aescbc:key1=K16, identity"
 K16_CHECK = check_of(("aescbc", "key1", bytes(range(16))))
 
 
+def put_words(path="/s", resource="secrets", store="s", programs=()):
+    words = ["put", "--config", "c.json", "--store", store, "--resource", resource, "--path", path]
+    return words + [word for program in programs for word in ("--plugin", program)]
+
+
 def get_words(path="/s", store="s", programs=()):
     words = ["get", "--config", "c.json", "--store", store, "--path", path]
     return words + [word for program in programs for word in ("--plugin", program)]
 
 
+def put(book, name, content=None, text=BARE, data=b"hi", drawn=IV, path="/s", resource="secrets", plugins=(), programs=(), **more):
+    """A call of `put` on the tape `s`; without a content there is none."""
+    held = {"absent": ("s",)} if content is None else {"tapes": (("s", content),)}
+    lines = [line for it in plugins for line in it]
+    book.case(f"put_{name}", put_words(path, resource, programs=programs), files(text), data, ((0, drawn),), plugins=lines, **held, **more)
+
+
 def get(book, name, content, text=BARE, path="/s", drawn=b"", plugins=(), programs=(), **more):
     lines = [line for it in plugins for line in it]
     book.case(f"get_{name}", get_words(path, programs=programs), files(text), b"", ((0, drawn),), tapes=(("s", content),), plugins=lines, **more)
+
+
+# ---- put
+
+
+def add_puts(book):
+    put(book, "new")
+    put(book, "into_empty", b"")
+    put(book, "into_bare_magic_1", written(1, []))
+    put(book, "into_bare_magic_2", written(2, []))
+    put(book, "into_format_1", ONE)
+    put(book, "into_format_2", TWO)
+    put(book, "another_path", TWO, path="/t")
+    put(book, "behind_a_delete", written(2, [HI, delete("/s")]))
+    put(book, "behind_a_hundred", written(2, [row(f"/r/{number}") for number in range(100)]), path="/r/7")
+    put(book, "empty_data", data=b"")
+    put(book, "longest_path_and_resource", path="/" * 1024, resource="r" * 253)
+    put(book, "longer", data=repeated(70_001, b"a"), step=8192)
+    put(book, "aescbc", text=KEYED, data=b"hello", drawn=FIPS_IV)
+    put(book, "aescbc_keeps_its_check", TWO, text=KEYED, data=b"hello", drawn=FIPS_IV + b"more")
+    put(book, "aescbc_into_format_1", ONE, text=KEYED, data=b"hello", drawn=FIPS_IV)
+    put(book, "aesgcm", text="secrets: aesgcm:g=Z16", data=bytes(16), drawn=bytes(12))
+    put(book, "second_entry", text="a: identity | secrets: aesgcm:g=K24 | *.: identity")
+    put(book, "group", text="*.apps: aescbc:a=K24", resource="deployments.apps")
+    put(book, "fallback", text="configmaps: aescbc:k=K16")
+    put(book, "mark_under_aescbc", text=KEYED, data=MARK, drawn=bytes(16))
+    put(book, "plugin", text=KMS, data=b"hello", drawn=ZEROS + DRAWN, plugins=(plugin(),), programs=("p=prog",))
+    put(book, "plugin_into_format_1", ONE, text=KMS, data=b"hello", drawn=ZEROS + DRAWN, plugins=(plugin(),), programs=("p=prog",))
+    put(book, "plugin_of_another_resource", text="secrets: aescbc:key1=K16 | a: kms:p", drawn=ZEROS + FIPS_IV, plugins=(plugin(),), programs=("p=prog",))
+
+
+def add_put_refusals(book):
+    put(book, "refused_13", TWO, data=b"k8s:enc:x")
+    put(book, "refused_13_makes_the_store", data=MARK)
+    put(book, "long_input_makes_no_store", data=repeated(2_097_153, b"a"), step=8192)
+    put(book, "44_makes_no_store", text=KMS)
+    put(book, "unhealthy", TWO, text=KMS, drawn=ZEROS + DRAWN, plugins=(plugin(says=("v1", "ok")),), programs=("p=prog",))
+    for name, content in BROKEN.items():
+        put(book, f"{name}_stays", content)
+    put(book, "breach_makes_no_store", text="secrets: aescbc:a=K16+a=K16")
+    book.case("put_absent_configuration", put_words(), (), b"hi", ((0, IV),), absent=("s",))
+    for name, words in {
+        "empty_path": put_words(path=""), "path_with_a_space": put_words(path="/ s"), "resource_in_capitals": put_words(resource="Secrets"),
+        "without_store": put_words()[:3] + put_words()[5:], "without_path": put_words()[:-2], "with_to": put_words() + ["--to", "t"],
+        "two_stores": put_words() + ["--store", "t"],
+    }.items():
+        book.case(f"put_words_{name}", words, files(BARE), b"hi", ((0, IV),), absent=("s",))
+    book.case("put_store_with_equals", put_words(store="a=b"), files(BARE), b"hi", ((0, IV),), absent=("a=b",))
+    book.case("put_into_one_of_two", put_words(store="t"), files(BARE), b"hi", ((0, IV),), tapes=(("s", ONE), ("t", TWO)))
 
 
 BROKEN = {
@@ -32,6 +93,31 @@ BROKEN = {
     "43": TWO + row_bytes(2, 2, row("/ s")),
     "46": TWO + row_bytes(2, 1, HI),
 }
+
+
+def add_put_faults(book):
+    for number in (1, 2, 3):
+        put(book, f"fault_files_{number}", TWO, fails=(("files", number),))
+        put(book, f"fault_files_{number}_of_a_new_store", fails=(("files", number),))
+    put(book, "fault_link", TWO, text=KMS, drawn=ZEROS + DRAWN, plugins=(plugin(),), programs=("p=prog",), fails=(("files", 4),))
+    put(book, "no_link", TWO, text=KMS, drawn=ZEROS + DRAWN, programs=("p=prog",))
+    put(book, "fault_plugin_status", TWO, text=KMS, drawn=ZEROS + DRAWN, plugins=(plugin(fails="1"),), programs=("p=prog",))
+    put(book, "fault_plugin_wrap", TWO, text=KMS, drawn=ZEROS + DRAWN, plugins=(plugin(fails="2"),), programs=("p=prog",))
+    for number in (1, 2, 3):
+        put(book, f"fault_input_{number}", TWO, fails=(("input", number),))
+    for number in (1, 2):
+        put(book, f"fault_read_{number}", TWO, fails=(("reads:s", number),))
+        put(book, f"fault_draw_{number}_of_a_seed", TWO, text=KMS, drawn=ZEROS + DRAWN, plugins=(plugin(),), programs=("p=prog",), fails=(("dice:0", number),))
+        put(book, f"fault_write_{number}", TWO, fails=(("writes:s", number),))
+    put(book, "fault_write_of_the_first_row", b"", fails=(("writes:s", 1),))
+    put(book, "fault_write_into_format_1", ONE, fails=(("writes:s", 1),))
+    put(book, "fault_draw", TWO, text=KEYED, fails=(("dice:0", 1),))
+    put(book, "short_dice", TWO, text=KEYED, drawn=IV[:15])
+    book.case("put_no_dice", put_words(), files(BARE), b"hi", (), tapes=(("s", TWO),))
+    for number in (1, 2, 11):
+        put(book, f"fault_output_{number}", fails=(("output", number),))
+    put(book, "output_without_room", TWO, room=4)
+    put(book, "fault_of_the_line", b"KRSTORE3", fails=(("errors", 4),))
 
 
 # ---- get
@@ -72,7 +158,7 @@ def add_get_refusals(book):
     get(book, "44_before_the_store", b"KRSTORE3", text=KMS)
     for name, content in BROKEN.items():
         get(book, name, content)
-    book.case("get_absent_store", get_words(), files(BARE), b"", ((0, b""),))
+    book.case("get_absent_store", get_words(), files(BARE), b"", ((0, b""),), absent=("s",))
     book.case("get_absent_configuration", get_words(), (), b"", ((0, b""),), tapes=(("s", TWO),))
     for name, words in {
         "empty_path": get_words(path=""), "with_resource": get_words() + ["--resource", "secrets"], "without_store": get_words()[:3] + get_words()[5:],
@@ -131,6 +217,15 @@ ENDS = {
     "errors_fail": lambda it: it.but(fails=(("errors", 1),)),
 }
 CAUSES = {
+    "put": {
+        **SHARED,
+        "input_fails": lambda it: it.but(fails=(("input", 1),)),
+        **STORE,
+        "dice_fails": lambda it: it.but(fails=(("files", 3),)),
+        "refused": lambda it: it.but(data=MARK),
+        "write_fails": lambda it: it.but(fails=(("writes:s", 1),)),
+        **ENDS,
+    },
     "get": {
         **SHARED,
         **STORE,
@@ -144,16 +239,21 @@ CAUSES = {
 
 def add_pairs(book):
     for command, causes in CAUSES.items():
-        plain = Causes(words=get_words(), files=files(BARE), data=b"hi", dice=((0, IV),), fails=(), tapes=(("s", TWO),))
+        words = put_words() if command == "put" else get_words()
+        plain = Causes(words=words, files=files(BARE), data=b"hi", dice=((0, IV),), fails=(), tapes=(("s", TWO),))
         for (one, first), (other, second) in itertools.combinations(causes.items(), 2):
             book.case(f"pair_{command}_{one}_{other}", **first(second(plain)))
 
 
 def add_all(book):
+    book.title("put")
+    add_puts(book)
+    add_put_refusals(book)
+    add_put_faults(book)
     book.title("get")
     add_gets(book)
     add_get_refusals(book)
     add_get_plugins(book)
     add_get_faults(book)
-    book.title("pairs of causes of get")
+    book.title("pairs of causes of put and get")
     add_pairs(book)

@@ -76,6 +76,18 @@ def inspect(source, output):
     return b"", 0
 
 
+def put(options, world, source, output):
+    entries, programs = settings_of_object(options, world)
+    data = source.read_all(MOST_DATA, "data")
+    tape = world.tape(options["store"], make=True)
+    form, rows = tape.load()
+    providers = configuration.list_for(entries, options["resource"])
+    value = Bench(world, programs).seal(providers, options["path"], data)
+    tape.add(form, rows, store.Row(options["path"].encode(), options["resource"].encode(), value, check_of(providers[0])))
+    output.write_all(b"revision %d\n" % (len(rows) + 1))
+    return b"", 0
+
+
 def get(options, world, output):
     entries, programs = settings_of_object(options, world)
     _form, rows = world.tape(options["store"]).load()
@@ -176,6 +188,8 @@ def answer(words, world, source, output):
             return judge(options, world, output)
         if command == "list":
             return list_rows(options, world, output)
+        if command == "put":
+            return put(options, world, source, output)
         if command == "get":
             return get(options, world, output)
         if command == "fleet":

@@ -130,7 +130,10 @@ class World(Numbered):
 
     def tape(self, name, make=False):
         self.call()
-        found = next((tape for other, tape in self.tapes if other == name), Tape(b"", (), ()) if make else None)
+        found = next((tape for other, tape in self.tapes if other == name), None)
+        if found is None and make:
+            found = Tape(b"", (), ())
+            self.tapes.append((name, found))
         if found is None:
             raise Stop(3, "text 40 " + printed(name.encode()).decode())
         return found

@@ -16,7 +16,7 @@ OPTIONS = {
     "fleet": (("file", "store"), ("plugin",)),
     "gen": (("seed", "size", "store"), ()),
 }
-BUILT = ("encrypt", "decrypt", "check", "inspect", "get", "list", "judge", "rewrite", "fleet")
+BUILT = ("encrypt", "decrypt", "check", "inspect", "put", "get", "list", "judge", "rewrite", "fleet")
 REPEATED = ("plugin", "replica")
 MOST_REPLICAS = 16
 MOST_SIZE = 10_000

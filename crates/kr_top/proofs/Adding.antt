@@ -19,7 +19,6 @@ use Rattle.kr_top.specs.inner.Phases.{Does}
 use Rattle.kr_top.specs.inner.Tapes.{answered, grown_by, stored_of}
 use Rattle.kr_top.specs.declared.refusal.Limit.TheVariants as limit
 use Rattle.kr_top.specs.declared.refusal.Object.{Object}
-use Rattle.kr_top.specs.declared.refusal.Refusal.{Refusal}
 use Rattle.kr_top.specs.declared.refusal.Refusal.TheVariants.{Limit}
 use Rattle.kr_top.specs.declared.refusal.Outcome.{Outcome}
 use Rattle.kr_top.specs.declared.refusal.Stop.{Stop}
@@ -127,7 +126,8 @@ module _ (object : Object) (name : List ℕ) (row : LogRow) (old new : Kept)
       (omega (arith, long, limit_is)))
 
   passes : {left end : Left} {point : Point Stored} → length_with old row ≤ old.limit
-      → Goes point end (next grown) left → Goes point end (adding object name (stored_of old) row) left
+      → Goes point end (next grown) left
+      → Goes point end (adding object name (stored_of old) row) left
   passes {left} {end} {point} short goes = inr (
     tt,
     tt,

@@ -14,7 +14,9 @@ use Rattle.kr_kms.specs.Outside.{Objects, same_name, same_seat}
 use Rattle.kr_kms.specs.Truth.{Truth}
 use Rattle.kr_kms.proofs.Lent.{names_decide, seats_decide}
 use Rattle.kr_rollout.specs.Cores.{CoreState}
-use Rattle.kr_rollout.specs.Histories.{state_of}
+use Rattle.kr_rollout.specs.Histories.{IsLegal, state_of}
+use Rattle.kr_rollout.proofs.NoNames.{no_names_no_plugin}
+use Rattle.kr_rollout.proofs.WithoutPlugin.{honest_without_plugin}
 use Rattle.kr_rollout.specs.Honesty.{IsHonestEntry}
 use Rattle.kr_rollout.specs.Openings.{opening_by}
 use Rattle.kr_rollout.specs.declared.opening.Opening.{Opening}
@@ -48,7 +50,7 @@ use Rattle.kr_top.specs.inner.Tapes.{stored_of}
 use Rattle.kr_top.proofs.Goes.{files_same, goes_on}
 use Rattle.kr_top.proofs.Lending.{by_key, home_behind, home_same}
 use Rattle.kr_top.proofs.Outfits.{LinksOf, later_named, later_refl, later_trans, names_differ, outfits_asked, outfits_equipped, outfits_file, outfits_home, outfits_input, outfits_said, outfits_tapes, outfits_truth, told_apart, outfits_faults, later_many}
-use Rattle.kr_top.proofs.Publishings.{published_open}
+use Rattle.kr_top.proofs.Publishings.{published_open, published_settings}
 use Rattle.kr_top.proofs.Tapes.{own_name}
 
 -- ---- the core
@@ -399,6 +401,8 @@ module _ {L D : Type 0} (truth : Truth) (link : L → Link) (left : D → Option
           let names = names_in plan.programs in
           let back_named = later_named link left count names outs back (further_on made r)
           outs_named in record {
+            published = published_settings truth (named plan.files.0) plan.script.replicas.0
+                replicas published;
             parts = plan.script.workers.0;
             parts_are = refl;
             files = plan.files.0;
@@ -414,7 +418,12 @@ module _ {L D : Type 0} (truth : Truth) (link : L → Link) (left : D → Option
                   replicas published;
               entries = All-nil (IsHonestEntry truth.opens);
             };
-            replies = subst (λ p. RepliesAreTrue truth link count r.history p
+            bare = λ none any.
+                let here = opening_of name begun Mid in
+                let legal = subst (λ (p : Opening). IsLegal p r.history) opening_is r.one.legal in
+                honest_without_plugin any here r.history legal
+                (no_names_no_plugin here r.history legal (ap names_in none));
+            replies = subst (λ p. RepliesAreTrue truth link left count plan.files.0 r.history p
                 plan.script.workers.0 budgets workers r.ended) opening_is r.replies;
             after = workers_equipped link left count plan.programs distinct r.ended back
                 r.outfits_are back_named (Over_now kept);

@@ -93,7 +93,7 @@ module _ {old new : Outside} (files : KeepsFiles old new) (objects : KeepsObject
   fleet_at (Err (Fault object count)) s c q = (loading name, fleet_not_loaded s q, c)
   fleet_at (Err NoMemory) s c (inl q) =
       inr (unasked files objects a s q (inl (refl, refl)))
-  fleet_at (Err NoMemory) s c (inr q) = inl (loading name, fleet_not_loaded s q)
+  fleet_at (Err NoMemory) s c (inr q) = inl (loading name, tt, fleet_not_loaded s q)
 
   pub fleet_loads : (result : Result Script Stop) → ReadsFleet old new name result
       → AskedFor old.asked new.asked (File name) result

@@ -179,8 +179,8 @@ module _ (words : Conversion) (store : List ℕ) (p : Point Outcome) (end left :
   told_there told other f =
       ap (λ q. if q then option_map Some told else out other) f ∙ out_there other f
 
-  module _ (rows : List Row) (bytes : List ℕ) (read : Stored) (held : Agrees (out store) (Some bytes))
-      (is : IsStored bytes (Ok read)) where
+  module _ (rows : List Row) (bytes : List ℕ) (read : Stored)
+      (held : Agrees (out store) (Some bytes)) (is : IsStored bytes (Ok read)) where
     at_row : (value : List ℕ) (mid : Left) → mid.tapes ≡ out
         → Goes p end (and_then (adding Store store read (new_row read.format words rows value))
         (λ grown. give (silently (revision_line grown)))) mid

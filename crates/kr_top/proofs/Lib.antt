@@ -12,7 +12,9 @@ pub mod FleetAsked
 pub mod FleetLoads
 pub mod FleetOutfits
 pub mod FleetPrograms
+pub mod FleetReadings
 pub mod FleetRuns
+pub mod EquallyLong
 pub mod Found
 pub mod Frames
 pub mod Goes

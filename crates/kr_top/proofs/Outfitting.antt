@@ -220,6 +220,7 @@ module _ {L D : Type 0} (link : L → Link) (left : D → Option (List ℕ)) (co
             home = seen_home seen b;
             ends = λ l s. inl (
               linking seat plugin,
+              tt,
               reach (with_asked (calls.Link seat plugin program) l) (inr (inl (refl, refl)))
                   (seen_stays seen b l s),
             );

@@ -1,6 +1,6 @@
 -- What the replicas publish, one behind another.
 use Rattle.std.proofs.Common.{◌≡◌, ℕ, suc, ◌+◌, ◌<◌, ◌≤◌, Bool, true, false, List, [], ◌∷◌, ◌++◌, length, take, drop, get_or, set, drop-cons, add-one, Option, None, Some, Result, Ok, Err, refl, sym, ◌∙◌, ap, subst, inl, inr, arith, Contains}
-use Rattle.std.specs.Prelude.{All, IfSome, IsSome, if◌then◌else◌}
+use Rattle.std.specs.Prelude.{All, IfSome, IsSome, map, if◌then◌else◌}
 use Rattle.std.specs.Option.{option_map}
 use Rattle.std.specs.Str.{bytes_eq}
 use Rattle.std.proofs.lemmas.List.{drop_all, take_all, take_more}
@@ -16,7 +16,7 @@ use Rattle.kr_provider.specs.PluginOrder.{plugin_order}
 use Rattle.kr_provider.specs.Publication.{Publication}
 use Rattle.kr_provider.proofs.AskedLists.{asked_none, asked_then, names_stay}
 use Rattle.kr_rollout.specs.Honesty.{SeedsOpen}
-use Rattle.kr_rollout.specs.Openings.{AreAmong, IsFirstIn, NamesAmong}
+use Rattle.kr_rollout.specs.Openings.{AreAmong, IsFirstIn, NamesAmong, settings_of}
 use Rattle.kr_workers.specs.Files as workers
 use Rattle.kr_workers.specs.declared.files.SettingsFile.{SettingsFile}
 use Rattle.kr_top.specs.Around.{Around}
@@ -300,6 +300,16 @@ module _ (truth : Truth) (files : List NamedRows) where
   published_many (replica ∷ replicas) [] all = absurd all
   published_many (replica ∷ replicas) (p ∷ made) all =
       ap (λ n. suc n) (published_many replicas made all.1)
+
+  -- in order, the settings of their files
+  pub published_settings : (replicas : List (List ℕ × List ℕ)) (made : Replicas)
+      → ArePublished truth files replicas made
+      → settings_of made ≡ map (rows_of_replica files) replicas
+  published_settings [] [] all = refl
+  published_settings [] (p ∷ made) all = absurd all
+  published_settings (replica ∷ replicas) [] all = absurd all
+  published_settings (replica ∷ replicas) (p ∷ made) all =
+      λ i. all.0.0 i ∷ published_settings replicas made all.1 i
 
   is_in : (p : Option Publication) (rows : Option (List Row))
       → option_map (λ (q : Publication). q.rows) p ≡ rows → IsSome rows → IsSome p

@@ -82,7 +82,7 @@ file_rose {old} {new} h r =
     h.files.later.links r
 
 -- a call that failed raised its object's count
-object_rose : {old new : Around} (call : Call) → IsHome old new
+pub object_rose : {old new : Around} (call : Call) → IsHome old new
     → Rose (faults_at call old) (faults_at call new) → Rose (count_at call old) (count_at call new)
 object_rose (loading name) h r = file_rose h (inl r)
 object_rose reading h r = r

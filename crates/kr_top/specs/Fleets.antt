@@ -8,7 +8,7 @@ use Rattle.kr_base.specs.Streams.{AppendsFront}
 use Rattle.kr_config.specs.Kept.{Row}
 use Rattle.kr_kms.specs.Calls.{Link}
 use Rattle.kr_kms.specs.Outside.{link_at}
-use Rattle.kr_kms.specs.Truth.{Truth}
+use Rattle.kr_kms.specs.Truth.{Opens, Truth}
 use Rattle.kr_provider.specs.Names.{names_of}
 use Rattle.kr_provider.specs.PluginOrder.{plugin_order}
 use Rattle.kr_provider.specs.Publication.{Publication}
@@ -210,13 +210,17 @@ pub record LeavesRest (store : List ℕ) (seats : ℕ) (mid new : Around) : Type
   pub said : new.said ≡ mid.said
 
 -- One history: that of a core which began with the store's rows and what the replicas published,
--- legal, honest, with the lines of each worker and nothing else; and what it says of the replies.
+-- in order the settings of their files, a gap for one that isn't in. It is legal, honest (without a
+-- program for a plugin whatever sources open to), with the lines of each worker and nothing else;
+-- and this is what it says of the replies.
 -- The store has the opening's rows and the written entries', and its count is that of the last
 -- line; what the workers had is back.
 pub record RunsFleet {T L D : Type 0} (truth : Truth) (link : L → Link)
     (left : D → Option (List ℕ)) (count : D → ℕ) (store : List ℕ) (begun : Begun)
     (mid new : Around) (history : List Entry) (ended : List (fleet_worker.Worker T L D))
     : Type 0 where
+  pub published : settings_of begun.replicas
+      ≡ map (rows_of_replica begun.plan.files) begun.plan.fleet.replicas
   pub parts : List Part
   pub parts_are : map worker_of parts ≡ begun.plan.fleet.workers
   pub files : List SettingsFile
@@ -227,8 +231,10 @@ pub record RunsFleet {T L D : Type 0} (truth : Truth) (link : L → Link)
   pub one : IsOneHistory truth link left count files history (opening_of store begun mid) parts
       begun.budgets workers ended
   pub opens : truth.told ≡ true → IsHonest truth.opens (opening_of store begun mid) []
-  pub replies : RepliesAreTrue truth link count history (opening_of store begun mid) parts
-      begun.budgets workers ended
+  pub bare : begun.plan.programs ≡ [] → (any : Opens)
+      → IsHonest any (opening_of store begun mid) history
+  pub replies : RepliesAreTrue truth link left count files history (opening_of store begun mid)
+      parts begun.budgets workers ended
   pub after : AreEquipped link left count begun.plan.programs new ended
   pub stored : HasRows (new.world.tapes.told store) begun
       (state_of (opening_of store begun mid) history).rows (mid.world.tapes.faults store)

@@ -6,6 +6,7 @@ pub mod Command
 pub mod Commands
 pub mod FleetAsked
 pub mod FleetFiles
+pub mod FleetReadings
 pub mod Fleets
 pub mod Configuration
 pub mod Inspect

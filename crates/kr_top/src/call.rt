@@ -5,6 +5,7 @@ ghost use Rattle.kr_top.specs.Afterwards.{AreLeft};
 ghost use Rattle.kr_top.specs.Around.{Around, around, with_world};
 ghost use Rattle.kr_top.specs.Commands.{steps};
 ghost use Rattle.kr_top.specs.FleetAsked.{AskNoFleet, AsksFleet};
+ghost use Rattle.kr_top.specs.FleetReadings.{FleetReadings};
 ghost use Rattle.kr_top.specs.Fleets.{RanAlone, RanFleet};
 ghost use Rattle.kr_top.specs.Ran.{receipt, Answers, Ran, Readings};
 ghost use Rattle.kr_top.specs.declared.fleet_words.FleetWords.{FleetWords};
@@ -37,7 +38,8 @@ use std::thread::Threads;
 /// other than 0 has one line on `errors`, but for a reload that was refused and for those that a
 /// fleet's replies decide, of which the output says why; where the line can't be written the status
 /// is 4. A fleet's workers wait for each other by `rt`. `readings` is what follows from `ran`, for
-/// readers; `tapes` is what is left of the tapes, by the status.
+/// readers; `tapes` is what is left of the tapes, by the status. For words that ask for a fleet
+/// `fleet` says what was done, and `fleet_readings` what the status comes from.
 pub fn run<R: Threads + Wait + Sync, W: World, I: Source, O: Sink, E: Sink>(
     rt: &R,
     alloc: Global,
@@ -70,6 +72,15 @@ pub fn run<R: Threads + Wait + Sync, W: World, I: Source, O: Sink, E: Sink>(
         (I.count input.new)) result }
     ensures fleet { (asked : FleetWords) → AsksFleet (texts words.now) asked
         → RanFleet W.Tap W.Link.truth W.Link.link W.Rand.left W.Rand.count asked
+        (around W.Link.truth (W.told world.old) (I.left input.old)
+        (I.count input.old))
+        (around W.Link.truth (W.told world.new) (I.left input.new)
+        (I.count input.new))
+        (receipt (O.held output.old) (O.held output.new) (O.count output.old) (O.count output.new))
+        (receipt (E.held errors.old) (E.held errors.new) (E.count errors.old) (E.count errors.new))
+        result }
+    ensures fleet_readings { (asked : FleetWords) → AsksFleet (texts words.now) asked
+        → FleetReadings W.Tap W.Link.truth W.Link.link W.Rand.left W.Rand.count asked
         (around W.Link.truth (W.told world.old) (I.left input.old)
         (I.count input.old))
         (around W.Link.truth (W.told world.new) (I.left input.new)

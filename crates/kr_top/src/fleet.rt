@@ -450,17 +450,17 @@ pub fn names_of(alloc: Global, programs: &[Program]) -> Result<List<Text>, NoMem
 fn write_record<O: Sink>(
     alloc: Global,
     script: &Script,
-    record: &Record,
+    made: &Record,
     output: &mut O,
 ) -> Result<Ending, Stop>
     ensures written { WritesFleet
-        (fleet_output (fleet_of script.now) record.now.lines.0 record.now.replies.0)
-        (ending_of record.now.replies.0) (receipt (O.held output.old) (O.held output.new)
+        (fleet_output (fleet_of script.now) made.now.lines.0 made.now.replies.0)
+        (ending_of made.now.replies.0) (receipt (O.held output.old) (O.held output.new)
         (O.count output.old) (O.count output.new)) result }
     ensures later { O.count output.old ≤ O.count output.new }
 {
-    let lines = record.lines.as_slice();
-    let replies = record.replies.as_slice();
+    let lines = made.lines.as_slice();
+    let replies = made.replies.as_slice();
     match write_fleet(alloc, output, script, lines, replies) {
         Ok(()) => Ok(ending_of(replies)),
         Err(WriteNo::Failed) => Err(Stop::Fault(Object::Output, output.faults())),

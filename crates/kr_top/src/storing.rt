@@ -1,5 +1,5 @@
-//! `put`: configuration, programs of its plugins, input, store, random source, links, publish, seal,
-//! the row.
+//! `put`: configuration, programs of its plugins, input, store, random source, links, publish,
+//! seal, the row.
 ghost use Rattle.std.specs.Prelude.{◌≡◌, ◌≤◌, ◌++◌, ℕ, List, map, IfOk, codes, decimal, length};
 ghost use Rattle.kr_base.specs.Rules.{IsPath, IsResource};
 ghost use Rattle.kr_base.specs.Limits.{data_limit, store_limit};

@@ -146,20 +146,16 @@ module _ {L D : Type 0} (truth : Truth) (link : L → Link) (left : D → Option
         (first_place o number (slice_index budgets number) before.bench) r.worker.told.0
         r.worker.bench s d.done d.there))
 
-    pub replies_are_true : RepliesAreTrue truth link count history o parts budgets old new
+    pub replies_are_true : RepliesAreTrue truth link left count files history o parts budgets old new
     replies_are_true = record {
       each = all_told;
-      gets = λ number part worker part_is worker_is.
-          let before = was number worker in
-          let s = stands_there number part before worker part_is (still number worker)
-          worker_is in record {
-            run = s.run;
-            lines_are = s.lines_are;
-            replies_are = s.replies_are;
-            parts_are = s.parts_are;
+      gets = λ number part before after part_is before_is after_is.
+          let s = stands_there number part before after part_is
+          (there_of old number before before before_is) after_is in record {
+            stands = s;
             tell = gets_tell_content truth link left count files history part
-                (first_place o number (slice_index budgets number) before.bench) worker.told.0
-                worker.bench s refl;
+                (first_place o number (slice_index budgets number) before.bench) after.told.0
+                after.bench s refl;
           };
       honest = λ told begun front rest is. honest_by_entries.front truth.opens o front rest
           (subst (λ (l : List Entry). IsHonest truth.opens o l) is (one.honest told begun));

@@ -8,6 +8,7 @@ use Rattle.kr_kms.specs.Health.{HasBreach}
 use Rattle.kr_kms.specs.Truth.{Truth}
 use Rattle.kr_kms.specs.declared.health.Field.{Field}
 use Rattle.kr_provider.specs.AskedLinks.{FaultRose, HasLinkWith}
+use Rattle.kr_provider.specs.BenchState.{BenchState}
 use Rattle.kr_rollout.specs.declared.line.Gave.TheVariants as gave
 use Rattle.kr_rollout.specs.declared.opening.Entry.{Entry}
 use Rattle.kr_rollout.specs.declared.opening.Opening.{Opening}
@@ -23,8 +24,8 @@ use Rattle.kr_workers.specs.declared.worker.Worker.{Worker}
 use Rattle.kr_workers.specs.Causes.{AreCounted, HasCause}
 use Rattle.kr_workers.specs.Endings.{ending_of}
 use Rattle.kr_workers.specs.Gets.{TellContents}
-use Rattle.kr_workers.specs.Histories.{IsOneHistory, first_place}
-use Rattle.kr_workers.specs.Runs.{LineDone, entries_in, lines_in, replies_in}
+use Rattle.kr_workers.specs.Histories.{IsOneHistory, StandsIn, first_place}
+use Rattle.kr_workers.specs.ScriptLines.{Workplace}
 
 module _ {T L D : Type 0} (parts : List Part) (workers : List (Worker T L D)) where
   -- the line at this place of the part of this number, and what its worker replied
@@ -36,16 +37,14 @@ module _ {T L D : Type 0} (parts : List Part) (workers : List (Worker T L D)) wh
     pub line_is : slice_get part.lines.0 at ≡ Some asked
     pub reply_is : slice_get worker.told.0 at ≡ Some reply
 
--- a seat's run in a history: these lines, each once, in order and with its reply, and their parts
--- are just the seat's entries. Each reply to a `get` tells the content of its path before the
--- line's own Fetch
-pub record TellsRun (truth : Truth) (o : Opening) (history : List Entry) (seat : ℕ)
-    (lines : List ScriptLine) (replies : List Told) : Type 0 where
-  pub run : List LineDone
-  pub lines_are : lines_in run ≡ lines
-  pub replies_are : replies ≡ replies_in run
-  pub parts_are : entries_in run ≡ of_seat seat_of seat history
-  pub tell : TellContents truth o history seat run
+-- a seat's lines stand in the history, and each reply to a `get` tells the content of its path
+-- before the line's own Fetch
+pub record TellsRun {L D : Type 0} (truth : Truth) (link : L → Link)
+    (left : D → Option (List ℕ)) (count : D → ℕ) (files : List SettingsFile) (o : Opening)
+    (history : List Entry) (seat : ℕ) (part : Part) (first : Workplace L D)
+    (replies : List Told) (after : BenchState L D) : Type 0 where
+  pub stands : StandsIn truth link left count files history part first replies after
+  pub tell : TellContents truth o history seat stands.run
 
 -- ---- what an ending rests on
 
@@ -86,8 +85,8 @@ module _ {T L D : Type 0} (link : L → Link) (count : D → ℕ) (history : Lis
 
 -- ---- the sentences
 
-module _ {T L D : Type 0} (truth : Truth) (link : L → Link) (count : D → ℕ)
-    (history : List Entry) (o : Opening) where
+module _ {T L D : Type 0} (truth : Truth) (link : L → Link) (left : D → Option (List ℕ))
+    (count : D → ℕ) (files : List SettingsFile) (history : List Entry) (o : Opening) where
   -- each line has a reply, and one to a `get` tells the content of its path before the line's own
   -- Fetch; that what stands there is honest, which this asks for, follows where the truth is told
   -- and the opening is honest by it. Each reply has its cause, no worker's replies name an object
@@ -97,9 +96,11 @@ module _ {T L D : Type 0} (truth : Truth) (link : L → Link) (count : D → ℕ
     pub each : (number : ℕ) (part : Part) (worker : Worker T L D)
         → slice_get parts number ≡ Some part → slice_get new number ≡ Some worker
         → length worker.told.0 ≡ length part.lines.0
-    pub gets : (number : ℕ) (part : Part) (worker : Worker T L D)
-        → slice_get parts number ≡ Some part → slice_get new number ≡ Some worker
-        → TellsRun truth o history number part.lines.0 worker.told.0
+    pub gets : (number : ℕ) (part : Part) (before after : Worker T L D)
+        → slice_get parts number ≡ Some part → slice_get old number ≡ Some before
+        → slice_get new number ≡ Some after
+        → TellsRun truth link left count files o history number part
+        (first_place o number (slice_index budgets number) before.bench) after.told.0 after.bench
     pub honest : truth.told ≡ true → IsHonest truth.opens o [] → (front rest : List Entry)
         → history ≡ front ++ rest → IsHonest truth.opens o front
     pub causes : (number at : ℕ) (asked : ScriptLine) (reply : Told) (before : Worker T L D)
@@ -121,4 +122,4 @@ HistoriesTell T {L} {D} truth link left count = (files : List SettingsFile)
     (history : List Entry) (o : Opening) (parts : List Part) (budgets : List ℕ)
     (old new : List (Worker T L D))
     → IsOneHistory truth link left count files history o parts budgets old new
-    → RepliesAreTrue truth link count history o parts budgets old new
+    → RepliesAreTrue truth link left count files history o parts budgets old new

@@ -87,8 +87,8 @@ module _ {T L D : Type 0} (truth : Truth) (link : L → Link) (left : D → Opti
     pub ended : List (Worker T L D)
     pub one : IsOneHistory truth link left count plan.files.0 history o plan.script.workers.0
         budgets workers ended
-    pub replies : RepliesAreTrue truth link count history o plan.script.workers.0 budgets workers
-        ended
+    pub replies : RepliesAreTrue truth link left count plan.files.0 history o
+        plan.script.workers.0 budgets workers ended
     pub lines_are : made.lines.0 ≡ map (λ (e : Entry). e.line) history
     pub replies_are : made.replies.0 ≡ map (λ (w : Worker T L D). w.told) ended
     pub outfits_are : outfits ≡ outfits_of ended
