@@ -11,6 +11,7 @@ stored answers, crates/kr_cases/stdout, with what it makes of the stored cases; 
     input CONTENT
     dice SEAT CONTENT     random bytes of a seat
     tape NAME CONTENT     a tape of the world
+    absent NAME           a tape that isn't there, which the call may make
     plugin SEAT NAME KEY_ID SALT
                           a plugin in memory, of version v2 and health ok, to which there is a link of a seat
     says VERSION HEALTHZ  what the plugin named last says in place of these
@@ -26,9 +27,9 @@ backslash, \\e is nothing, \\(HEX) is bytes in hex, \\(N*HEX) N times these.
 
 A line of the answer is NAME, and then: `status`; `output` and `errors` in hex, `-` for none, of more than 2,048 bytes their
 number and SHA-256; `left`, how many bytes of the input weren't taken; `faults` of input, output, errors and files; and for
-each seat how many random bytes are left and how often they failed; for each tape its bytes and how often it failed; for each link
-that was asked for its program; for each plugin how many calls were made on its link and how often they failed; `out` where they
-didn't come back.
+each seat how many random bytes are left and how often they failed; for each tape, those that weren't there behind the others, its
+bytes and how often it failed; for each link that was asked for its program; for each plugin how many calls were made on its link and
+how often they failed; `out` where they didn't come back, or where there is none.
 """
 
 import hashlib
@@ -38,7 +39,8 @@ from pathlib import Path
 
 sys.dont_write_bytecode = True
 
-from reference.calls import Dice, Numbered, Sink, Source, Tape, World, run
+from reference.calls import run
+from reference.outside import Dice, Numbered, Sink, Source, Tape, World
 from reference.plugins import Plugin
 
 CRATE = Path(__file__).resolve().parent.parent / "crates" / "kr_cases"
@@ -63,7 +65,7 @@ def spelled(text):
 
 class Case:
     def __init__(self, name):
-        self.name, self.words, self.files, self.input, self.dice, self.tapes = name, [], [], b"", [], []
+        self.name, self.words, self.files, self.input, self.dice, self.tapes, self.absent = name, [], [], b"", [], [], []
         self.plugins, self.fails, self.room, self.step = [], {}, ROOM, 1
 
     def add(self, key, rest):
@@ -81,6 +83,8 @@ class Case:
             self.dice.append((int(front), spelled(behind)))
         elif key == "tape":
             self.tapes.append((spelled(front).decode(), spelled(behind)))
+        elif key == "absent":
+            self.absent.append(spelled(rest).decode())
         elif key == "plugin":
             name, key_id, salt = behind.split(" ")
             told = {"seat": int(front), "name": spelled(name).decode(), "key_id": spelled(key_id).decode(), "salt": int(salt)}
@@ -121,9 +125,16 @@ class Case:
         line = f"{self.name} status={status} output={printed(output.held)} errors={printed(errors.held)}"
         line += f" left={len(source.content) - source.taken} faults=" + ":".join(str(it.faults) for it in (source, output, errors, world))
         line += "".join(f" dice:{seat}={len(it.content)}:{it.faults}" for seat, it in dice)
-        line += "".join(f" tape:{name}={printed(it.content)}:{it.faults + it.writes.faults}" for name, it in tapes)
+        names = [name for name, _ in self.tapes] + self.absent
+        line += "".join(f" tape:{name}={left_of(world.tapes, name)}" for name in names)
         line += "".join(f" link:{seat}:{name}={program}" for seat, name, program in world.asked)
         return line + "".join(f" plugin:{seat}:{it.name}={it.log.made}:{it.log.faults}" for seat, it in links)
+
+
+def left_of(tapes, name):
+    """What is left of the first tape of a name."""
+    found = next((tape for other, tape in tapes if other == name), None)
+    return f"{printed(found.content)}:{found.faults + found.writes.faults}" if found else "out"
 
 
 def printed(data):

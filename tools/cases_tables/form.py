@@ -65,7 +65,7 @@ class Book:
     def title(self, text):
         self.lines += ["", f"# ---- {text}", ""]
 
-    def case(self, name, words, files=(), data=b"", dice=None, fails=(), room=None, step=None, tapes=(), plugins=()):
+    def case(self, name, words, files=(), data=b"", dice=None, fails=(), room=None, step=None, tapes=(), plugins=(), absent=()):
         """A case; `dice` are pairs of seats and bytes, `fails` pairs of objects and numbers, `plugins` the lines of plugins."""
         if name in self.names:
             raise ValueError(f"two cases of one name: {name}")
@@ -82,6 +82,8 @@ class Book:
             add(f"dice {seat} {spelled(content)}".rstrip(" "))
         for tape, content in tapes:
             add(f"tape {spell(tape, True)} {spelled(content)}".rstrip(" "))
+        for tape in absent:
+            add(f"absent {spell(tape, True)}")
         self.lines += plugins
         for item, numbers in fails:
             add(f"fails {item} {numbers}")

@@ -3,7 +3,7 @@
 import itertools
 import random
 
-from reference.calls import Numbered
+from reference.outside import Numbered
 from reference.plugins import INFO, SALT, SEED, Plugin, expanded, object_bytes, seal
 from reference.values import MARK, NONCE, prefix, seal_gcm
 

@@ -1,157 +1,15 @@
-"""Whole calls: the outside in memory, and the steps of the commands."""
+"""Whole calls: the steps of the commands."""
 
 import functools
 
-from . import configuration, plugins, store
+from . import configuration, fleet, plugins, store
 from .board import Board
-from .values import Refused, check_of, inspected, printed, reader_of, seal, unseal
+from .outside import Stop, load_settings, programs_of
+from .values import Refused, check_of, inspected, reader_of, seal, unseal
 from .words import Usage, WordsLimit, command_of
 
 MOST_DATA = 2_097_152
 MOST_VALUE = 2_162_688
-MOST_CONFIG = 1_048_576
-
-
-class Stop(Exception):
-    """A step refuses, with a status and what the line says."""
-
-    def __init__(self, status, line):
-        super().__init__(status, line)
-        self.status, self.line = status, line
-
-
-class Numbered:
-    """An object whose calls fail by their numbers."""
-
-    def __init__(self, name, fails):
-        self.name, self.fails, self.made, self.faults = name, fails, 0, 0
-
-    def call(self, serves=True):
-        self.made += 1
-        if self.made in self.fails or not serves:
-            self.fault()
-
-    def fault(self):
-        self.faults += 1
-        raise Stop(4, f"fault {self.name} {self.faults}")
-
-
-class Source(Numbered):
-    """Gives a byte a call, and at the end nothing."""
-
-    def __init__(self, content, fails):
-        super().__init__("input", fails)
-        self.content, self.taken = content, 0
-
-    def read_all(self, limit, what):
-        if not self.fails:
-            # (the same as byte by byte)
-            self.taken = min(len(self.content), limit + 1)
-        while self.fails and self.taken <= limit:
-            self.call()
-            if self.taken == len(self.content):
-                break
-            self.taken += 1
-        if self.taken > limit:
-            raise Stop(6, f"limit {what} {limit}")
-        return self.content
-
-
-class Sink(Numbered):
-    """Takes a byte a call."""
-
-    def __init__(self, name, room, fails):
-        super().__init__(name, fails)
-        self.room, self.held = room, b""
-
-    def write_all(self, data):
-        if not self.fails and len(self.held) + len(data) <= self.room:
-            self.held += data
-            return
-        for at in range(len(data)):
-            self.call(len(self.held) < self.room)
-            self.held += data[at : at + 1]
-
-
-class Dice(Numbered):
-    """Gives random bytes that were written down."""
-
-    def __init__(self, seat, content, fails):
-        super().__init__(f"dice {seat}", fails)
-        self.content = content
-
-    def draw(self, size):
-        self.call(size <= len(self.content))
-        drawn, self.content = self.content[:size], self.content[size:]
-        return drawn
-
-
-class Tape(Numbered):
-    """A file that is read and written at places; reads and writes fail by numbers of their own."""
-
-    def __init__(self, content, reads, writes):
-        super().__init__("store", reads)
-        self.content, self.writes = content, Numbered("store", writes)
-
-    def load(self):
-        """The store in it: its length is asked for, and then it is read, which is one call where it is short."""
-        self.call()
-        if len(self.content) > store.MOST_STORE:
-            raise Stop(6, f"limit store {store.MOST_STORE}")
-        if self.content:
-            self.call()
-        try:
-            return store.read(self.content)
-        except store.Broken as no:
-            raise Stop(3, f"text {no.code} {no.place}") from None
-
-
-class World(Numbered):
-    """Files and tapes by their names and random sources by their seats; the first of one name or seat counts."""
-
-    def __init__(self, files, dice, tapes, fails, links=()):
-        super().__init__("files", fails)
-        self.files, self.dice, self.tapes, self.links, self.asked = files, dice, tapes, links, []
-
-    def load(self, name, limit):
-        self.call()
-        content = next((content for other, content in self.files if other == name), None)
-        if content is None:
-            raise Stop(3, "text 40 " + printed(name.encode()).decode())
-        if len(content) > limit:
-            raise Stop(6, f"limit config {limit}")
-        return content
-
-    def tape(self, name):
-        self.call()
-        found = next((tape for other, tape in self.tapes if other == name), None)
-        if found is None:
-            raise Stop(3, "text 40 " + printed(name.encode()).decode())
-        return found
-
-    def dice_of(self, seat):
-        found = next((dice for other, dice in self.dice if other == seat), None)
-        self.call(found is not None)
-        return found
-
-    def link_of(self, seat, name, program):
-        self.asked.append((seat, name, program))
-        found = next((link for other, link in self.links if (other, link.name) == (seat, name)), None)
-        self.call(found is not None)
-        return found
-
-
-# ---- the commands
-
-
-def load_settings(world, name):
-    content = world.load(name, MOST_CONFIG)
-    try:
-        return configuration.read(content)
-    except configuration.Breach as no:
-        if no.code == 39:
-            raise Stop(6, "limit %s %d" % configuration.LIMITS[no.first]) from None
-        raise Stop(3, f"text {no.code} {no.first} {no.second}") from None
 
 
 def provider_text(provider):
@@ -174,12 +32,7 @@ def settings_of_object(options, world):
     """The settings of a call on an object, and the programs of the plugins that they name. The least name of a plugin without a
     program ends it."""
     entries = load_settings(world, options["config"])
-    given = dict(value.split("=", 1) for value in options.get("plugin", ()))
-    names = plugins.names_in(entries)
-    for name in names:
-        if name not in given:
-            raise Stop(3, f"text 44 {name}")
-    return entries, {name: given[name] for name in names}
+    return entries, programs_of(options, entries)
 
 
 class Bench:
@@ -220,6 +73,30 @@ def decrypt(options, world, source, output):
 def inspect(source, output):
     output.write_all(inspected(source.read_all(MOST_VALUE, "value")))
     return b"", 0
+
+
+def put(options, world, source, output):
+    entries, programs = settings_of_object(options, world)
+    data = source.read_all(MOST_DATA, "data")
+    tape = world.tape(options["store"], make=True)
+    form, rows = tape.load()
+    providers = configuration.list_for(entries, options["resource"])
+    value = Bench(world, programs).seal(providers, options["path"], data)
+    tape.add(form, rows, store.Row(options["path"].encode(), options["resource"].encode(), value, check_of(providers[0])))
+    output.write_all(b"revision %d\n" % (len(rows) + 1))
+    return b"", 0
+
+
+def get(options, world, output):
+    entries, programs = settings_of_object(options, world)
+    _form, rows = world.tape(options["store"]).load()
+    found = store.live(rows).get(options["path"].encode())
+    if found is None:
+        raise Stop(1, f"absent {options['path']}")
+    row = found[1]
+    data, is_stale = Bench(world, programs).unseal(configuration.list_for(entries, row.resource.decode()), options["path"], row.value)
+    output.write_all(data)
+    return b"stale\n" if is_stale else b"fresh\n", 0
 
 
 def list_rows(options, world, output):
@@ -272,6 +149,12 @@ def answer(words, world, source, output):
             return judge(options, world, output)
         if command == "list":
             return list_rows(options, world, output)
+        if command == "put":
+            return put(options, world, source, output)
+        if command == "get":
+            return get(options, world, output)
+        if command == "fleet":
+            return fleet.run(options, world, output)
         if command == "inspect":
             return inspect(source, output)
         return (encrypt if command == "encrypt" else decrypt)(options, world, source, output)

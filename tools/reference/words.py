@@ -16,7 +16,7 @@ OPTIONS = {
     "fleet": (("file", "store"), ("plugin",)),
     "gen": (("seed", "size", "store"), ()),
 }
-BUILT = ("encrypt", "decrypt", "check", "inspect", "list", "judge")
+BUILT = ("encrypt", "decrypt", "check", "inspect", "put", "get", "list", "judge", "fleet")
 REPEATED = ("plugin", "replica")
 MOST_REPLICAS = 16
 MOST_SIZE = 10_000

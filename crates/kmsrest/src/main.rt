@@ -34,6 +34,7 @@ fn main(rt: HostRuntime) -> ExitCode {
     let mut input = StdSource::new(rt.stdin());
     let mut output = StdSink::new(rt.stdout());
     ExitCode::from(run(
+        &rt,
         alloc,
         words.as_slice(),
         &mut world,

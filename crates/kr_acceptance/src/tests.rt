@@ -1,6 +1,6 @@
 use kr_base::{Bytes, List, MemDice, MemSink, MemSource, NoMemory, Text};
 use kr_kms::TablePlugin;
-use kr_top::{MemWorld, run};
+use kr_top::{MemWorld, run_alone};
 use std::alloc::Global;
 use std::test::Fail;
 
@@ -112,14 +112,16 @@ fn left_by(alloc: Global, call: &Call<'_>) -> Result<Left, NoMemory> {
         fails(alloc, call.output_fails)?,
     )?;
     let mut errors = MemSink::new(Bytes::new(alloc), 1000, fails(alloc, call.errors_fail)?)?;
-    let status = run(
+    let Some(status) = run_alone(
         alloc,
         words.as_slice(),
         &mut world,
         &mut input,
         &mut output,
         &mut errors,
-    );
+    ) else {
+        return Err(NoMemory);
+    };
     Ok(Left {
         status,
         output: Bytes::copy(alloc, output.bytes())?,

@@ -9,6 +9,8 @@ use kr_base::{
 use kr_kms::{Kms, TablePlugin, World, WorldCall};
 use kr_top::{MemWorld, run};
 use std::alloc::Global;
+use std::sync::Wait;
+use std::thread::Threads;
 
 /// What a call left.
 #[derive(Drop)]
@@ -36,7 +38,7 @@ pub struct DiceLeft {
     pub home: Option<(usize, u64)>,
 }
 
-/// A tape: its bytes and how often it failed, or nothing where it isn't back.
+/// A tape: its bytes and how often it failed, or nothing where it isn't there.
 #[derive(Drop)]
 pub struct TapeLeft {
     pub name: Text,
@@ -69,10 +71,15 @@ struct Streams {
 }
 
 /// Makes the case's call.
-pub fn left_by(alloc: Global, case: &Case) -> Result<Left, NoMemory> {
+pub fn left_by<R: Threads + Wait + Sync>(
+    rt: &R,
+    alloc: Global,
+    case: &Case,
+) -> Result<Left, NoMemory> {
     let mut world = world_of(alloc, case)?;
     let mut streams = streams_of(alloc, case)?;
     let status = run(
+        rt,
         alloc,
         case.words.as_slice(),
         &mut world,
@@ -247,7 +254,7 @@ fn dice_left(alloc: Global, case: &Case, world: &FailingWorld) -> Result<List<Di
     Ok(all)
 }
 
-/// What is left of each tape of the case.
+/// What is left of each tape of the case, and of those that it says aren't there.
 fn tapes_left(
     alloc: Global,
     case: &Case,
@@ -255,17 +262,30 @@ fn tapes_left(
 ) -> Result<List<TapeLeft>, NoMemory> {
     let mut all = List::new(alloc);
     for (name, _content) in &case.tapes {
-        let home = match world.tape_of(name.as_str()) {
-            Some(tape) => Some((Bytes::copy(alloc, tape.bytes())?, tape.faults())),
-            None => None,
-        };
-        let name = Text::copy(alloc, name.as_str())?;
-        match all.push(TapeLeft { name, home }) {
-            Ok(()) => {}
-            Err(_) => return Err(NoMemory),
-        }
+        add_left(alloc, &mut all, world, name.as_str())?;
+    }
+    for name in &case.absent {
+        add_left(alloc, &mut all, world, name.as_str())?;
     }
     Ok(all)
+}
+
+/// Adds what is left of the tape of a name.
+fn add_left(
+    alloc: Global,
+    all: &mut List<TapeLeft>,
+    world: &FailingWorld,
+    name: &str,
+) -> Result<(), NoMemory> {
+    let home = match world.tape_of(name) {
+        Some(tape) => Some((Bytes::copy(alloc, tape.bytes())?, tape.faults())),
+        None => None,
+    };
+    let name = Text::copy(alloc, name)?;
+    match all.push(TapeLeft { name, home }) {
+        Ok(()) => Ok(()),
+        Err(_) => Err(NoMemory),
+    }
 }
 
 /// What is left of each link of the case.

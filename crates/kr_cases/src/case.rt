@@ -56,6 +56,8 @@ pub struct Case {
     pub dice: Vec<(u32, Vec<u8>)>,
     /// The tapes by their names.
     pub tapes: Vec<(String, Vec<u8>)>,
+    /// Names of tapes that aren't there, which the call may make.
+    pub absent: Vec<String>,
     pub plugins: Vec<Plugin>,
     /// Which calls fail, by their numbers from 1.
     pub fails: Vec<(Object, u64)>,
@@ -80,6 +82,7 @@ impl Case {
             input: Vec::new(alloc),
             dice: Vec::new(alloc),
             tapes: Vec::new(alloc),
+            absent: Vec::new(alloc),
             plugins: Vec::new(alloc),
             fails: Vec::new(alloc),
             tape_fails: Vec::new(alloc),

@@ -15,10 +15,17 @@ use anyhow::{Result, bail};
 use case::{Case, Wrong};
 use std::alloc::Global;
 use std::io::{BufRead, BufReader, BufWriter, Write};
+use std::sync::Wait;
+use std::thread::Threads;
 
 /// Makes the case's call, and writes the line of what it left.
-fn finish<W: Write>(alloc: Global, output: &mut W, case: &Case) -> Result<()> {
-    match calling::left_by(alloc, case) {
+fn finish<R: Threads + Wait + Sync, W: Write>(
+    rt: &R,
+    alloc: Global,
+    output: &mut W,
+    case: &Case,
+) -> Result<()> {
+    match calling::left_by(rt, alloc, case) {
         Ok(left) => {
             let line = printing::line_of(alloc, case, &left)?;
             output.write_all(line.as_bytes())?;
@@ -39,7 +46,7 @@ fn main(rt: HostRuntime) -> Result<()> {
         number = number.saturating_add(1);
         if let Some(name) = line.as_str().strip_prefix("case ") {
             if let Some(case) = &current {
-                finish(alloc, &mut output, case)?;
+                finish(&rt, alloc, &mut output, case)?;
             }
             current = Some(Case::new(alloc, name)?);
             continue;
@@ -51,7 +58,7 @@ fn main(rt: HostRuntime) -> Result<()> {
         }
     }
     if let Some(case) = &current {
-        finish(alloc, &mut output, case)?;
+        finish(&rt, alloc, &mut output, case)?;
     }
     output.flush()?;
     Ok(())

@@ -22,6 +22,7 @@ pub fn add(alloc: Global, current: &mut Option<Case>, line: &str) -> Result<(), 
         "input" => add_bytes(alloc, &mut case.input, rest),
         "dice" => add_dice(alloc, case, rest),
         "tape" => add_tape(alloc, case, rest),
+        "absent" => add_absent(alloc, case, rest),
         "plugin" => add_plugin(alloc, case, rest),
         "says" => set_status(alloc, case, rest),
         "key" => add_key_id(alloc, case, rest),
@@ -207,6 +208,13 @@ fn add_plugin_fails(case: &mut Case, numbers: &str) -> Result<(), Wrong> {
         };
         plugin.fails.push(number).map_err(AllocError::from)?;
     }
+    Ok(())
+}
+
+/// The name of a tape that isn't there.
+fn add_absent(alloc: Global, case: &mut Case, name: &str) -> Result<(), Wrong> {
+    let name = text_of(alloc, name)?;
+    case.absent.push(name).map_err(AllocError::from)?;
     Ok(())
 }
 

@@ -1,9 +1,10 @@
 -- What comes of a question, and of the reply to a request.
-use Rattle.std.proofs.Common.{true, false, ◌≡◌, ℕ, List, length, Option, sym, ◌∙◌, ap, subst, arith, ◌⊎◌, inl, inr}
+use Rattle.std.proofs.Common.{true, false, ◌≡◌, ◌≤◌, ℕ, List, length, take, Option, refl, sym, ◌∙◌, ap, subst, arith, ◌⊎◌, inl, inr}
 use Rattle.std.specs.Prelude.{Result, Ok, Err, ⊤}
-use Rattle.std.proofs.lemmas.List.{take_all}
+use Rattle.std.proofs.lemmas.List.{length-take, take_all}
 use Rattle.std.specs.Io.KnownBytes.{Appends}
 use Rattle.std.proofs.KnownBytes.{Appends-nil}
+use Rattle.kr_base.specs.Numbering.{next_number}
 use Rattle.kr_base.specs.Streams.{AppendsFront}
 use Rattle.kr_kms.specs.declared.plugin.KmsNo.{KmsNo}
 use Rattle.kr_kms.specs.declared.plugin.KmsNo.TheVariants.{Failed, NoMemory}
@@ -31,36 +32,41 @@ asked-all a b question p = (
 pub cut_before : (old : Ends) (question : List ℕ) → old.broken ≡ true → IsCutOff old old question
 cut_before old question is = record {
   asked = asked-nothing old.written question;
-  cause = inl is;
+  cause = inl (is, refl);
   broken = is;
 }
 
-pub cut_asking : (old new : Ends) (question : List ℕ)
+pub cut_asking : (old new : Ends) (question : List ℕ) → old.broken ≡ false
     → AppendsFront old.written new.written question → Rose old.write_faults new.write_faults
     → new.broken ≡ true → IsCutOff old new question
-cut_asking old new question front rose is = record {
+cut_asking old new question before front rose is = record {
   asked = front;
-  cause = inr (inl rose);
+  cause = inr (before, inl rose);
   broken = is;
 }
 
-pub cut_reading : (old new : Ends) (question : List ℕ) (room : ℕ)
+pub cut_reading : (old new : Ends) (question : List ℕ) (room : ℕ) → old.broken ≡ false
     → Appends old.written new.written question → room ≡ 131073
     → Rose old.read_faults new.read_faults ⊎ TakesNoLine room old.left new.left
     → new.broken ≡ true → IsCutOff old new question
-cut_reading old new question room whole size none is = record {
+cut_reading old new question room before whole size none is = record {
   asked = asked-all old.written new.written question whole;
-  cause = inr (inr (subst (λ n. Rose old.read_faults new.read_faults
-      ⊎ TakesNoLine n old.left new.left) size none));
+  cause = inr (
+    before,
+    inr (subst (λ n. Rose old.read_faults new.read_faults
+        ⊎ TakesNoLine n old.left new.left) size none),
+  );
   broken = is;
 }
 
-pub exchanged : (old new : Ends) (question line : List ℕ)
-    → Appends old.written new.written question → TakesLine old.left new.left line
-    → new.broken ≡ false → Exchanged old new question line
-exchanged old new question line whole taken is = record {
+pub exchanged : (old new : Ends) (question line : List ℕ) (size : ℕ) → old.broken ≡ false
+    → Appends old.written new.written question → TakesLine old.left new.left (take size line)
+    → size ≤ 131072 → new.broken ≡ false → Exchanged old new question (take size line)
+exchanged old new question line size before whole taken short is = record {
+  before = before;
   asked = whole;
   answered = taken;
+  short = omega (arith, short, length-take size line);
   whole = is;
 }
 
@@ -99,3 +105,7 @@ refused reply usable old new asked request found ((line, exchanged, is), _) none
 
     ok_once : {B : Type 0} (x y : Reply) → ◌≡◌ {A = Result Reply B} (Ok x) (Ok y) → x ≡ y
     ok_once x y e = ap (value_of x) e
+
+-- a failure that counts behind a call that counted none
+pub counts_behind : (old mid new : ℕ) → mid ≡ old → new ≡ next_number mid → new ≡ next_number old
+counts_behind old mid new same rises = rises ∙ ap next_number same

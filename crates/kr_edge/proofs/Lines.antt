@@ -1,6 +1,6 @@
 -- How far a line was read into a buffer.
 use Rattle.std.proofs.Common.{◌≡◌, ◌≢◌, ℕ, zero, suc, ◌+◌, ◌-◌, ◌<◌, ◌≤◌, ◌==◌, List, [], ◌∷◌, ◌++◌, length, get_or, take, drop, Option, None, Some, Bool, true, false, cond, refl, sym, ◌∙◌, ap, subst, arith, inl, inr, length-drop}
-use Rattle.std.specs.Prelude.{All, find, position}
+use Rattle.std.specs.Prelude.{find, position}
 use Rattle.std.proofs.lemmas.Bool.Decides.{Decides-eqb}
 use Rattle.std.proofs.lemmas.List.{append_assoc, get_or-take, length-take-le, take_all, take-append-le, take-take, take_more, take-append-drop}
 use Rattle.std.proofs.Math.Seq.{take-append-add}

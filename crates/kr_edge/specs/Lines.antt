@@ -1,5 +1,5 @@
 -- Lines, each with LF, the byte 10, as its end, and exchanges of a question for a line.
-use Rattle.std.specs.Prelude.{◌≡◌, ◌≢◌, ℕ, ◌<◌, List, [], ◌∷◌, ◌++◌, length, Bool, true, false, Option, All, ◌⊎◌}
+use Rattle.std.specs.Prelude.{◌≡◌, ◌≢◌, ℕ, ◌<◌, ◌≤◌, List, [], ◌∷◌, ◌++◌, length, Bool, true, false, Option, All, ◌⊎◌}
 use Rattle.std.specs.Io.KnownBytes.{Appends, Consumes, IsAtEnd}
 use Rattle.kr_base.specs.Faults.{Rose}
 use Rattle.kr_base.specs.Streams.{AppendsFront}
@@ -44,16 +44,24 @@ ends_of contents remaining exchange = record {
   broken = exchange.broken;
 }
 
--- the question was written, once, and the line was taken as its answer
+-- no exchange was cut off before; the question was written, once, and a line of at most 131,072
+-- bytes was taken as its answer
 pub record Exchanged (old new : Ends) (question line : List ℕ) : Type 0 where
+  pub before : old.broken ≡ false
   pub asked : Appends old.written new.written question
   pub answered : TakesLine old.left new.left line
+  pub short : length line ≤ 131072
   pub whole : new.broken ≡ false
 
--- one was cut off before; or an end failed, or no line of at most 131,072 bytes came
-abbrev pub CutsOff : Ends → Ends → Type 0
-CutsOff old new = (old.broken ≡ true) ⊎ Rose old.write_faults new.write_faults
+-- an end failed, or no line of at most 131,072 bytes came
+abbrev pub FailsToAnswer : Ends → Ends → Type 0
+FailsToAnswer old new = Rose old.write_faults new.write_faults
     ⊎ Rose old.read_faults new.read_faults ⊎ TakesNoLine 131073 old.left new.left
+
+-- one was cut off before, so nothing was asked; or this one fails
+abbrev pub CutsOff : Ends → Ends → Type 0
+CutsOff old new = ((old.broken ≡ true) × (new ≡ old))
+    ⊎ ((old.broken ≡ false) × FailsToAnswer old new)
 
 -- a front of the question was written at most
 pub record IsCutOff (old new : Ends) (question : List ℕ) : Type 0 where

@@ -1,5 +1,7 @@
 -- Calls on a plugin that reads a line for each, and answers with one.
-use Rattle.std.specs.Prelude.{◌≡◌, List, ℕ, ⊤, ◌⊎◌, Result, Ok, Err}
+use Rattle.std.specs.Prelude.{◌≡◌, List, ℕ, ⊤, ◌⊎◌, None, Result, Ok, Err}
+use Rattle.kr_base.specs.Numbering.{next_number}
+use Rattle.kr_kms.specs.Calls.{Link}
 use Rattle.kr_kms.specs.declared.plugin.KmsNo.{KmsNo}
 use Rattle.kr_kms.specs.declared.plugin.KmsNo.TheVariants.{Failed, NoMemory}
 use Rattle.kr_kms.specs.declared.replies.Asked.{Asked}
@@ -35,3 +37,19 @@ Answers reply usable old new asked request (Err Failed) =
     ⊎ Asks old new request (λ line. IsRefusal reply usable asked line)
 Answers reply usable old new asked request (Err NoMemory) =
     (new ≡ old) ⊎ Asks old new request (λ line. ⊤)
+
+-- ---- counts
+
+-- what a call that gives no answer adds: a failure counts once
+abbrev pub CountsFor : KmsNo → (old new : ℕ) → Type 0
+CountsFor Failed old new = new ≡ next_number old
+CountsFor NoMemory old new = new ≡ old
+
+-- a call that fails counts once, any other not at all
+abbrev pub Counts : {T : Type 0} → Result T KmsNo → (old new : ℕ) → Type 0
+Counts (Ok answer) old new = new ≡ old
+Counts (Err why) old new = CountsFor why old new
+
+-- a link over a plugin's lines: it tells no status
+abbrev pub line_link : (name : List ℕ) → (count : ℕ) → Link
+line_link name count = record { name = name; count = count; status = None }

@@ -1,21 +1,33 @@
-//! A link to a plugin that is a child program.
-ghost use Rattle.std.specs.Prelude.{◌≡◌, None};
+//! A link to a plugin over its lines, as over the pipes of a child program.
+ghost use Rattle.std.specs.Prelude.{◌≡◌, false, ⊤};
+ghost use Rattle.kr_base.specs.Numbering.{next_number};
+ghost use Rattle.kr_kms.specs.Calls.{Says, Unwraps, Wraps};
+ghost use Rattle.kr_kms.specs.Limits.{IsWithinLimits};
 ghost use Rattle.kr_kms.specs.Truth.{untold};
+ghost use Rattle.kr_kms.specs.declared.replies.Asked.{Asked};
+ghost use Rattle.kr_kms.specs.declared.replies.Reply.{Reply};
+ghost use Rattle.kr_kms.specs.declared.requests.Request.{Request};
+ghost use Rattle.kr_edge.specs.Lines.{ends_of};
+ghost use Rattle.kr_edge.specs.Plugins.{Answers, Counts, line_link};
 
 use crate::answer_room::AnswerRoom;
 use crate::plugin_lines::PluginLines;
 use kr_base::{Annotations, Bytes, Text};
 use kr_kms::{Kms, KmsNo, Status, Wrapped};
 use std::alloc::Global;
+use std::io::{Read, Write};
 use std::process::{Child, ChildStdin, ChildStdout, SystemProcess};
+
+/// A link to a plugin of which each call is one of its lines. It keeps what runs the plugin.
+pub struct LineLink<C, W, R> {
+    name: Text,
+    child: C,
+    lines: PluginLines<W, R>,
+}
 
 /// A link to a plugin that is a child program: it reads requests from its input and writes replies
 /// to its output. A link has no way to stop a program that neither answers nor ends.
-pub struct ChildLink {
-    name: Text,
-    child: Child<SystemProcess>,
-    lines: PluginLines<ChildStdin, ChildStdout>,
-}
+pub type ChildLink = LineLink<Child<SystemProcess>, ChildStdin, ChildStdout>;
 
 /// A started child with its pipes.
 #[derive(Drop)]
@@ -63,6 +75,11 @@ impl ChildLink {
     pub fn first(name: Text, ends: ChildEnds, room: AnswerRoom) -> ChildLink
         ensures name { result.name ≡ name }
         ensures faults { result.lines.faults ≡ 0 }
+        ensures child { result.child ≡ ends.child }
+        ensures input { result.lines.exchange.input.writer ≡ ends.input }
+        ensures output { result.lines.exchange.output.reader ≡ ends.output }
+        ensures whole { result.lines.exchange.broken ≡ false }
+        ensures uid { result.lines.uid ≡ 0 }
     {
         ChildLink::new(name, ends, room, 0)
     }
@@ -71,6 +88,11 @@ impl ChildLink {
     pub fn new(name: Text, ends: ChildEnds, room: AnswerRoom, faults: u64) -> ChildLink
         ensures name { result.name ≡ name }
         ensures faults { result.lines.faults ≡ faults }
+        ensures child { result.child ≡ ends.child }
+        ensures input { result.lines.exchange.input.writer ≡ ends.input }
+        ensures output { result.lines.exchange.output.reader ≡ ends.output }
+        ensures whole { result.lines.exchange.broken ≡ false }
+        ensures uid { result.lines.uid ≡ 0 }
     {
         let ChildEnds {
             child,
@@ -101,10 +123,10 @@ impl ChildLink {
     }
 }
 
-impl Kms for ChildLink {
+impl<C, W: Write, R: Read> Kms for LineLink<C, W, R> {
     ghost truth = { untold };
 
-    ghost link = { λ link. record { name = link.name; count = link.lines.faults; status = None } };
+    ghost link = { λ link. line_link link.name link.lines.faults };
 
     fn name(&self) -> &str {
         self.name.as_str()
@@ -114,11 +136,33 @@ impl Kms for ChildLink {
         self.lines.faults()
     }
 
-    fn status(&mut self, alloc: Global) -> Result<Status, KmsNo> {
+    fn status(&mut self, alloc: Global) -> Result<Status, KmsNo>
+        ensures answers { Answers Reply.Status (λ _. ⊤)
+            (ends_of W.contents R.remaining self.old.lines.exchange)
+            (ends_of W.contents R.remaining self.new.lines.exchange)
+            Asked.Status Request.Status result }
+        ensures uid { self.new.lines.uid ≡ self.old.lines.uid }
+        ensures once { Counts result self.old.lines.faults self.new.lines.faults }
+
+        // As the trait says.
+        ensures says { Says (line_link self.old.name self.old.lines.faults) result
+            (line_link self.new.name self.new.lines.faults) }
+    {
         self.lines.status(alloc)
     }
 
-    fn wrap(&mut self, alloc: Global, plain: &[u8]) -> Result<Wrapped, KmsNo> {
+    fn wrap(&mut self, alloc: Global, plain: &[u8]) -> Result<Wrapped, KmsNo>
+        ensures answers { Answers Reply.Encrypt IsWithinLimits
+            (ends_of W.contents R.remaining self.old.lines.exchange)
+            (ends_of W.contents R.remaining self.new.lines.exchange)
+            Asked.Encrypt (Request.Encrypt plain.now (next_number self.old.lines.uid)) result }
+        ensures uid { self.new.lines.uid ≡ next_number self.old.lines.uid }
+        ensures once { Counts result self.old.lines.faults self.new.lines.faults }
+
+        // As the trait says.
+        ensures wraps { Wraps untold (line_link self.old.name self.old.lines.faults) plain.now
+            result (line_link self.new.name self.new.lines.faults) }
+    {
         self.lines.wrap(alloc, plain)
     }
 
@@ -128,7 +172,20 @@ impl Kms for ChildLink {
         key_id: &str,
         annotations: &Annotations,
         source: &[u8],
-    ) -> Result<Bytes, KmsNo> {
+    ) -> Result<Bytes, KmsNo>
+        ensures answers { Answers Reply.Decrypt (λ _. ⊤)
+            (ends_of W.contents R.remaining self.old.lines.exchange)
+            (ends_of W.contents R.remaining self.new.lines.exchange)
+            Asked.Decrypt (Request.Decrypt source.now key_id.now annotations.now
+            (next_number self.old.lines.uid)) result }
+        ensures uid { self.new.lines.uid ≡ next_number self.old.lines.uid }
+        ensures once { Counts result self.old.lines.faults self.new.lines.faults }
+
+        // As the trait says.
+        ensures unwraps { Unwraps untold (line_link self.old.name self.old.lines.faults)
+            key_id.now annotations.now source.now result
+            (line_link self.new.name self.new.lines.faults) }
+    {
         self.lines.unwrap_source(alloc, key_id, annotations, source)
     }
 }

@@ -3,7 +3,7 @@
 #![tactic(auto)]
 
 pub use answer_room::AnswerRoom;
-pub use child_link::ChildLink;
+pub use child_link::{ChildLink, LineLink};
 pub use exchange::Exchange;
 pub use files::{NamedFiles, OpenNo, StartNo, SystemFiles};
 pub use plugin_lines::PluginLines;

@@ -8,7 +8,7 @@ ghost use Rattle.kr_kms.specs.declared.replies.Reply.{Reply};
 ghost use Rattle.kr_kms.specs.declared.requests.Request.{Request};
 ghost use Rattle.kr_kms.specs.declared.plugin.KmsNo.{KmsNo};
 ghost use Rattle.kr_edge.specs.Lines.{ends_of};
-ghost use Rattle.kr_edge.specs.Plugins.{Answers, Judges};
+ghost use Rattle.kr_edge.specs.Plugins.{Answers, Counts, Judges};
 
 use crate::answer_room::AnswerRoom;
 use crate::exchange::Exchange;
@@ -54,14 +54,16 @@ impl<W: Write, R: Read> PluginLines<W, R> {
     }
 
     /// Asks for the status.
-    #[tactic(auto, using(crate::proofs::Asking::passes_on, crate::proofs::Asking::refused))]
+    #[tactic(auto, using(crate::proofs::Asking::passes_on, crate::proofs::Asking::refused, crate::proofs::Asking::counts_behind))]
     pub fn status(&mut self, alloc: Global) -> Result<Status, KmsNo>
         ensures later { self.old.faults ≤ self.new.faults }
         ensures failed { IsErrOf result KmsNo.Failed → Rose self.old.faults self.new.faults }
+        ensures once { Counts result self.old.faults self.new.faults }
         ensures answers { Answers Reply.Status (λ _. ⊤)
             (ends_of W.contents R.remaining self.old.exchange)
             (ends_of W.contents R.remaining self.new.exchange)
             Asked.Status Request.Status result }
+        ensures uid { self.new.uid ≡ self.old.uid }
     {
         match self.ask(alloc, Asked::Status, &Request::Status) {
             Ok(Reply::Status(status)) => Ok(status),
@@ -75,10 +77,11 @@ impl<W: Write, R: Read> PluginLines<W, R> {
 
     /// Wraps plain bytes. Requests to wrap and to unwrap are numbered from 1 up to the greatest
     /// number.
-    #[tactic(auto, using(crate::proofs::Asking::passes_on, crate::proofs::Asking::refused))]
+    #[tactic(auto, using(crate::proofs::Asking::passes_on, crate::proofs::Asking::refused, crate::proofs::Asking::counts_behind))]
     pub fn wrap(&mut self, alloc: Global, plain: &[u8]) -> Result<Wrapped, KmsNo>
         ensures later { self.old.faults ≤ self.new.faults }
         ensures failed { IsErrOf result KmsNo.Failed → Rose self.old.faults self.new.faults }
+        ensures once { Counts result self.old.faults self.new.faults }
         ensures answers { Answers Reply.Encrypt IsWithinLimits
             (ends_of W.contents R.remaining self.old.exchange)
             (ends_of W.contents R.remaining self.new.exchange)
@@ -108,7 +111,7 @@ impl<W: Write, R: Read> PluginLines<W, R> {
     }
 
     /// Unwraps what was wrapped under this key id with these annotations.
-    #[tactic(auto, using(crate::proofs::Asking::passes_on, crate::proofs::Asking::refused))]
+    #[tactic(auto, using(crate::proofs::Asking::passes_on, crate::proofs::Asking::refused, crate::proofs::Asking::counts_behind))]
     pub fn unwrap_source(
         &mut self,
         alloc: Global,
@@ -118,6 +121,7 @@ impl<W: Write, R: Read> PluginLines<W, R> {
     ) -> Result<Bytes, KmsNo>
         ensures later { self.old.faults ≤ self.new.faults }
         ensures failed { IsErrOf result KmsNo.Failed → Rose self.old.faults self.new.faults }
+        ensures once { Counts result self.old.faults self.new.faults }
         ensures answers { Answers Reply.Decrypt (λ _. ⊤)
             (ends_of W.contents R.remaining self.old.exchange)
             (ends_of W.contents R.remaining self.new.exchange)
@@ -166,6 +170,7 @@ impl<W: Write, R: Read> PluginLines<W, R> {
     fn ask(&mut self, alloc: Global, asked: Asked, request: &Request) -> Result<Reply, KmsNo>
         ensures later { self.old.faults ≤ self.new.faults }
         ensures failed { IsErrOf result KmsNo.Failed → Rose self.old.faults self.new.faults }
+        ensures once { Counts result self.old.faults self.new.faults }
         ensures answers { Answers (λ reply. reply) (λ _. ⊤)
             (ends_of W.contents R.remaining self.old.exchange)
             (ends_of W.contents R.remaining self.new.exchange) asked request.now result }

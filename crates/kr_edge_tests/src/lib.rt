@@ -1,8 +1,11 @@
-//! Tests of the system's streams over doubles that stop, break off and take little. They stand in a
-//! crate of their own, so that kr_edge isn't proved a second time.
+//! Tests of the system's streams over doubles that stop, break off and take little, of stores, and
+//! of child programs. They stand in a crate of their own, so that kr_edge isn't proved a second
+//! time.
 #![tactic(auto)]
 
 #[cfg(test)]
 mod children;
+#[cfg(test)]
+mod stores;
 #[cfg(test)]
 mod tests;

@@ -63,4 +63,4 @@ unsealed_asks link truth seeds list path bytes olds news (Ok opened) u = u.asked
 unsealed_asks link truth seeds list path bytes olds news (Err (Refused why)) u = u.asked
 unsealed_asks link truth seeds list path bytes olds news (Err (PluginFailed name)) u =
     subst (λ o. AskedOnly link (plugin_reading o) olds news) (sym u.reader) u.others
-unsealed_asks link truth seeds list path bytes olds news (Err NoMemory) u = u
+unsealed_asks link truth seeds list path bytes olds news (Err NoMemory) u = u.asked

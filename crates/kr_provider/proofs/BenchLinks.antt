@@ -30,7 +30,7 @@ module _ {L : Type 0} (link : L → Link) where
   unsealed_asks truth seeds list path bytes olds news (Err (Refused why)) u = u.asked
   unsealed_asks truth seeds list path bytes olds news (Err (PluginFailed name)) u =
       subst (λ o. AskedOnly link (plugin_reading o) olds news) (sym u.reader) u.others
-  unsealed_asks truth seeds list path bytes olds news (Err NoMemory) u = u
+  unsealed_asks truth seeds list path bytes olds news (Err NoMemory) u = u.asked
 
   pub unsealed_stay : (truth : Truth) (resource path bytes : List ℕ) (olds news : List L)
       (o : Option Publication) (result : Result Opened UnsealNo)

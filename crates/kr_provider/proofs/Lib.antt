@@ -23,6 +23,7 @@ pub mod InOrder
 pub mod PluginNames
 mod Unsealings
 mod ObjectSources
+mod Cached
 mod SeedValues
 pub mod BenchLinks
 pub mod WithoutPlugins

@@ -127,7 +127,7 @@ module _ {L : Type 0} (truth : Truth) (link : L → Link) (row : SeedRow) (name 
     unasked = inl refl;
   }
   seed_taken links (Err (PluginFailed failed)) is g = absurd g
-  seed_taken links (Err NoMemory) is g = asked_none link (name ∷ []) links
+  seed_taken links (Err NoMemory) is g = (asked_none link (name ∷ []) links, inl refl)
 
   pub source_opened : (olds news : List L) (opened : List ℕ) (result : Result (List ℕ) UnsealNo)
       → (IsSeedOf row name found → ⊥) → OpensSource truth link name found olds (Ok opened) news
@@ -148,7 +148,7 @@ module _ {L : Type 0} (truth : Truth) (link : L → Link) (row : SeedRow) (name 
     unasked = inr n;
   }
   source_opened olds news opened (Err (PluginFailed failed)) n o g = absurd g
-  source_opened olds news opened (Err NoMemory) n o g = o.1
+  source_opened olds news opened (Err NoMemory) n o g = (o.1, inr n)
 
   pub source_fails : (olds news : List L) (why : UnsealNo) → (IsSeedOf row name found → ⊥)
       → OpensSource truth link name found olds (Err why) news
@@ -156,7 +156,7 @@ module _ {L : Type 0} (truth : Truth) (link : L → Link) (row : SeedRow) (name 
   source_fails olds news (Refused why) n o = absurd o
   source_fails olds news (PluginFailed failed) n o =
       record { name_is = o.0; other = n; rose = o.1; asked = o.2 }
-  source_fails olds news NoMemory n o = o
+  source_fails olds news NoMemory n o = (o, inr n)
 
 -- ---- what a fetch through the cache tells
 

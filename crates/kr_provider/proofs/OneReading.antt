@@ -17,7 +17,7 @@ use Rattle.kr_provider.specs.Readers.{body_by, is_reader, reader_in}
 use Rattle.kr_provider.specs.Reading.{object_reading, reader_reading}
 use Rattle.kr_provider.proofs.Booleans.{or_left, or_right}
 
-both_answered : (a b : Result EncryptedObject ObjectNo) → a ≢ Err NoMemory → b ≢ Err NoMemory
+pub both_answered : (a b : Result EncryptedObject ObjectNo) → a ≢ Err NoMemory → b ≢ Err NoMemory
     → AreOne a b → a ≡ b
 both_answered a b n m one = elim one [
   | inl e ↦ absurd (n e)

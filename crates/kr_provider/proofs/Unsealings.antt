@@ -90,7 +90,10 @@ module _ {L : Type 0} (truth : Truth) (link : L → Link) (seeds : List SeedRow)
     key_refuses (Refused why) k r g = unasked_reading links (Err (Refused why))
         (subst IsNoPlugin (sym r.reader) k) (by_reader unknown r ∙ g)
     key_refuses (PluginFailed name) k r g = absurd g
-    key_refuses NoMemory k r g = asked_none link (plugin_reading (reader_in list bytes)) links
+    key_refuses NoMemory k r g = record {
+      asked = asked_none link (plugin_reading (reader_in list bytes)) links;
+      unasked = inl refl;
+    }
 
   module _ (name body : List ℕ) (first : Bool) where
     spelled : (answer : Result EncryptedObject ObjectNo) → IsReadBy list bytes (Kms name) body first
@@ -120,8 +123,10 @@ module _ {L : Type 0} (truth : Truth) (link : L → Link) (seeds : List SeedRow)
           unasked = λ m. refl;
         }
     object_refuses links (PluginFailed failed) r i = absurd i
-    object_refuses links NoMemory r i = asked_none link
-        (plugin_reading (reader_in list bytes)) links
+    object_refuses links NoMemory r i = record {
+      asked = asked_none link (plugin_reading (reader_in list bytes)) links;
+      unasked = inl refl;
+    }
 
     module _ (row : SeedRow) (is_row : seed_of name seeds ≡ Some row)
         (found_object : EncryptedObject)
@@ -207,4 +212,14 @@ module _ {L : Type 0} (truth : Truth) (link : L → Link) (seeds : List SeedRow)
             rose = o.rose;
             others = o.asked;
           })
-      object_fails olds news NoMemory o = asked_by olds news r o
+      object_fails olds news NoMemory o = record {
+        asked = asked_by olds news r o.0;
+        unasked = elim o.1 [
+          | inl e ↦ inl e
+          | inr n ↦ inr (
+            Ok found_object,
+            subst (λ w. HasObject w bytes (Ok found_object)) (sym r.reader) object_is,
+            subst (λ w. MayAsk seeds w (Ok found_object)) (sym r.reader) (may_ask n),
+          )
+        ];
+      }

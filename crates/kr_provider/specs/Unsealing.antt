@@ -1,13 +1,15 @@
 -- How a bench unseals: what it may ask of plugins, and how its answer stands to the value's
 -- reading.
-use Rattle.std.specs.Prelude.{◌≡◌, ℕ, true, List, [], ◌∷◌, Option, Some, None, Result, Ok, Err, ⊤}
+use Rattle.std.specs.Prelude.{◌≡◌, ◌⊎◌, ℕ, true, List, [], ◌∷◌, Option, Some, None, IsSome, Result, Ok, Err, ⊤}
 use Rattle.kr_config.specs.declared.who.Who.{Who}
 use Rattle.kr_config.specs.declared.who.Who.TheVariants.{Identity, Aescbc, Aesgcm, Kms}
 use Rattle.kr_config.specs.Providers.{plugin_of}
 use Rattle.kr_envelope.specs.declared.object.EncryptedObject.{EncryptedObject}
 use Rattle.kr_envelope.specs.declared.object.ObjectNo.{ObjectNo}
+use Rattle.kr_kms.specs.Cache.{seed_at}
 use Rattle.kr_kms.specs.Calls.{Link}
 use Rattle.kr_kms.specs.Truth.{Truth, OpenAll, key_of}
+use Rattle.kr_kms.specs.declared.seeds.SeedKey.{SeedKey}
 use Rattle.kr_kms.specs.declared.seeds.SeedRow.{SeedRow}
 use Rattle.kr_provider.specs.AskedLinks.{AskedOnly, FaultRose}
 use Rattle.kr_provider.specs.Envelopes.{Envelope, HasObject, IsEnvelopeOf, IsObjectOf, seed_key}
@@ -80,6 +82,13 @@ pub record FailsAt {L : Type 0} (link : L → Link) (seeds : List SeedRow) (list
   pub rose : FaultRose link name old new
   pub others : AskedOnly link (name ∷ []) old new
 
+-- there was no memory. No link was asked, or that to the reader was, which may be asked
+pub record LacksMemory {L : Type 0} (link : L → Link) (seeds : List SeedRow) (list : List Who)
+    (bytes : List ℕ) (old new : List L) : Type 0 where
+  pub asked : AskedOnly link (plugin_reading (reader_in list bytes)) old new
+  pub unasked : (new ≡ old) ⊎ ((object : Result EncryptedObject ObjectNo)
+      × HasObject (reader_in list bytes) bytes object × MayAsk seeds (reader_in list bytes) object)
+
 -- each answer, in the order in which a refusal comes
 module _ {L : Type 0} (truth : Truth) (link : L → Link) where
   abbrev pub UnsealsBy : List SeedRow → List Who → (path bytes : List ℕ) → List L
@@ -91,4 +100,23 @@ module _ {L : Type 0} (truth : Truth) (link : L → Link) where
   UnsealsBy seeds list path bytes old (Err (PluginFailed name)) new =
       FailsAt link seeds list bytes old name new
   UnsealsBy seeds list path bytes old (Err NoMemory) new =
-      AskedOnly link (plugin_reading (reader_in list bytes)) old new
+      LacksMemory link seeds list bytes old new
+
+-- ---- the cache
+
+-- the cache has what the source of this object opens to, by the plugin that reads the value
+abbrev pub IsCached : List (SeedKey × List ℕ) → Option Who → Result EncryptedObject ObjectNo
+    → Type 0
+IsCached rows None object = ⊥
+IsCached rows (Some Identity) object = ⊥
+IsCached rows (Some (Aescbc name secret)) object = ⊥
+IsCached rows (Some (Aesgcm name secret)) object = ⊥
+IsCached rows (Some (Kms name)) (Ok object) = IsSome (seed_at rows (seed_key name object))
+IsCached rows (Some (Kms name)) (Err why) = ⊥
+
+-- where it has, no link is asked
+abbrev pub HeedsCache : {L : Type 0} → List (SeedKey × List ℕ) → List Who → (bytes : List ℕ)
+    → (old new : List L) → Type 0
+HeedsCache rows list bytes old new = (object : Result EncryptedObject ObjectNo)
+    → HasObject (reader_in list bytes) bytes object → IsCached rows (reader_in list bytes) object
+    → new ≡ old

@@ -8,7 +8,7 @@ ghost use Rattle.kr_provider.specs.Names.{HasLinks, names_of};
 ghost use Rattle.kr_provider.specs.Publication.{list_at, writer_at};
 ghost use Rattle.kr_provider.specs.Publishing.{Publishes, TellsKeyIdOf};
 ghost use Rattle.kr_provider.specs.Sealing.{Seals, IsSealing};
-ghost use Rattle.kr_provider.specs.Unsealing.{UnsealsBy};
+ghost use Rattle.kr_provider.specs.Unsealing.{HeedsCache, UnsealsBy};
 
 use crate::adoption::Adoption;
 use crate::links::Links;
@@ -159,6 +159,8 @@ impl<L: Kms, D: Dice> Bench<L, D> {
         requires fits { length bytes.now ≤ value_limit }
         ensures opened { IfSome self.old.published (λ p. UnsealsBy L.truth L.link p.seeds
             (list_at p resource.now) path.now bytes.now self.old.links result self.new.links) }
+        ensures cached { IfSome self.old.published (λ p. HeedsCache self.old.cache.rows
+            (list_at p resource.now) bytes.now self.old.links self.new.links) }
         ensures kept { self.new
             ≡ record self.old { links = self.new.links; cache = self.new.cache } }
     {

@@ -44,7 +44,7 @@ module _ {L : Type 0} (truth : Truth) (link : L → Link) (p : Publication)
   unsealed_asks (Err (Refused why)) u = u.asked
   unsealed_asks (Err (PluginFailed name)) u =
       subst (λ o. AskedOnly link (plugin_reading o) olds news) (sym u.reader) u.others
-  unsealed_asks (Err NoMemory) u = u
+  unsealed_asks (Err NoMemory) u = u.asked
 
 pub unsealed_all : {L : Type 0} (truth : Truth) (link : L → Link) (resource path bytes : List ℕ)
     (olds news : List L) (published : Option Publication) (result : Result Opened UnsealNo)

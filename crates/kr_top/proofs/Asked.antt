@@ -3,14 +3,15 @@ use Rattle.std.proofs.Common.{◌≡◌, ℕ, ◌≤◌, ◌⊎◌, List, [], le
 use Rattle.std.specs.Prelude.{IfOk, IfSome}
 use Rattle.kr_base.specs.declared.errors.NoMemory.{NoMemory}
 use Rattle.kr_base.specs.Limits.{path_limit}
-use Rattle.kr_base.specs.Rules.{IsPath}
+use Rattle.kr_base.specs.Rules.{IsPath, IsResource}
 use Rattle.kr_words.specs.Grammar.{Means, Reads, replica_limit, replicas_of, IsWithinSize}
 use Rattle.kr_words.specs.Options.{value_of}
 use Rattle.kr_words.specs.Rules.{IsCommand, MayHaveEmptyPath}
 use Rattle.kr_words.specs.declared.command.Verb.{Verb}
+use Rattle.kr_words.specs.declared.command.Verb.TheVariants.{Decrypt, Encrypt, Put}
 use Rattle.kr_words.specs.declared.command.WordsNo.{WordsNo}
 use Rattle.kr_words.specs.declared.command.WordsNo.TheVariants.{Usage}
-use Rattle.kr_words.specs.declared.name.OptionName.TheVariants.{Path}
+use Rattle.kr_words.specs.declared.name.OptionName.TheVariants.{Path, Resource}
 use Rattle.kr_words.proofs.Values.{value_rule}
 use Rattle.kr_words.proofs.Meanings.{mean_one}
 use Rattle.kr_top.specs.Command.{command_of, Asks, AskNothing}
@@ -33,6 +34,26 @@ path_fits {verb} {options} command (Ok None) e = tt
 path_fits {verb} {options} command (Ok (Some path)) e =
     short_path verb _ path (sym e) (value_rule {verb = verb} {options = options} Path command)
 path_fits {verb} {options} command (Err why) e = tt
+
+-- the path and the resource of a value that is put keep their rules
+is_path : {verb : Verb} → verb ≡ Put → (o : Option (List ℕ))
+    → IfSome o (λ v. IsPath v ⊎ (MayHaveEmptyPath verb × (v ≡ []))) → IfSome o IsPath
+is_path e None h = tt
+is_path e (Some v) (inl h) = h
+is_path e (Some v) (inr (inl m, n)) = absurd (let x : Encrypt ≡ Put = sym m ∙ e in cc)
+is_path e (Some v) (inr (inr m, n)) = absurd (let x : Decrypt ≡ Put = sym m ∙ e in cc)
+
+pub put_path : {verb : Verb} {options : List (List ℕ × List ℕ)} → IsCommand verb options
+    → verb ≡ Put → (path : Option (List ℕ)) → path ≡ value_of options (codes "path")
+    → IfSome path IsPath
+put_path {verb} {options} command e path is = subst (λ o. IfSome o IsPath) (sym is)
+    (is_path e _ (value_rule {verb = verb} {options = options} Path command))
+
+pub put_resource : {verb : Verb} {options : List (List ℕ × List ℕ)} → IsCommand verb options
+    → (resource : Option (List ℕ)) → resource ≡ value_of options (codes "resource")
+    → IfSome resource IsResource
+put_resource {verb} {options} command resource is = subst (λ o. IfSome o IsResource) (sym is)
+    (value_rule {verb = verb} {options = options} Resource command)
 
 -- words that mean nothing ask for nothing
 pub means_nothing : {words : List (List ℕ)} (why : WordsNo) → why ≡ Usage

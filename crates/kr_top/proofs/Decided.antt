@@ -34,7 +34,7 @@ one_command {words} {a} {b} h k =
     ∙ ap (λ o. command_of k.verb o) (sym same.1) ∙ k.is in cc
 
 -- a size isn't both within the limit and above
-one_size : (size : Option (List ℕ)) → IfSome size (λ text. (n : ℕ) × IsDecimal text n × (n ≤ 10000))
+pub one_size : (size : Option (List ℕ)) → IfSome size (λ text. (n : ℕ) × IsDecimal text n × (n ≤ 10000))
     → IsSomeAnd size (λ text. (n : ℕ) × IsDecimal text n × (10000 < n)) → ⊥
 one_size None h k = absurd k
 one_size (Some text) (n, is, small) (m, so, large) = omega (arith, small, large, is.1, so.1)

@@ -12,10 +12,10 @@ use Rattle.kr_kms.specs.declared.world.WorldCall.{WorldCall}
 use Rattle.kr_kms.specs.declared.world.WorldCall.TheVariants.{File, Link, RandomSource}
 use Rattle.kr_kms.proofs.Lent.{seats_decide}
 use Rattle.kr_config.specs.declared.settings.Settings.{Settings}
-use Rattle.kr_top.specs.Around.{Around, with_world, with_told_input, with_lent, with_lent_dice, left_of, faults_at, Stays, Reaches, AreHome, IsHome, Ends, count_at}
+use Rattle.kr_top.specs.Around.{Around, with_world, with_told_input, with_lent, with_lent_dice, left_of, faults_at, Stays, Reaches, AreHome, IsHome, Ends, MayLack, count_at}
 use Rattle.kr_top.specs.Commands.{by_result, configuration, show, input_of, limit_of, long_input}
 use Rattle.kr_top.specs.Configuration.{Entries}
-use Rattle.kr_top.specs.Steps.{Steps, load, take_input, borrow_dice, borrow_tape, read_tape, draw, note, find, refuse, give, and_then, Call, loading, reading, opening, lending, scanning, drawing, Point, awaits, amid, refuses, gives, Left, with_input, with_asked, IsAt, Goes, borrow_link, ask_status, wrap, unwrap, linking, asking, object_of}
+use Rattle.kr_top.specs.Steps.{Steps, load, take_input, borrow_dice, borrow_tape, read_tape, write_row, draw, note, find, refuse, give, and_then, Call, loading, reading, opening, lending, scanning, writing, drawing, Point, awaits, amid, refuses, gives, Left, with_input, with_asked, IsAt, Goes, borrow_link, ask_status, wrap, unwrap, linking, asking, object_of}
 use Rattle.kr_top.specs.inner.Phases.{Does, AskedUnless, AskedFor, rows_in, IsFileRead, Configures, TakesInput, Yields, shown_as, DiceLoan, DiceReturn, LendsNothing}
 use Rattle.kr_top.specs.declared.command.Direction.{Direction}
 use Rattle.kr_top.specs.declared.refusal.Object.TheVariants.{Files}
@@ -88,6 +88,10 @@ module _ {A B : Type 0} (point : Point B) (last : Left) (others : A → Steps B)
       inl (land (awaits (scanning object name)) at f)
   further p end f (read_tape object name next) left (inr (bytes, agrees, goes)) =
       inr (bytes, agrees, further p end f (next bytes) left goes)
+  further p end f (write_row object name store row next) left (inl (told, begins, at)) =
+      inl (told, begins, land (awaits (writing object name)) at f)
+  further p end f (write_row object name store row next) left (inr (told, holds, goes)) =
+      inr (told, holds, further p end f next _ goes)
   further p end f (draw seat size next) left (inl at) = inl (land (awaits (drawing seat)) at f)
   further p end f (draw seat size next) left (inr (bytes, rest, c, fits, goes)) =
       inr (bytes, rest, c, fits, further p end f (next bytes) _ goes)
@@ -150,6 +154,7 @@ earlier new reading h r = Rose-later _ _ _ h.input r
 earlier new (opening seat) h r = Rose-later _ _ _ h.files.later.dice r
 earlier new (lending name) h r = Rose-later _ _ _ h.files.later.tapes r
 earlier new (scanning object name) h r = Rose-later _ _ _ (h.tapes.later name) r
+earlier new (writing object name) h r = Rose-later _ _ _ (h.tapes.later name) r
 earlier new (drawing seat) h r = Rose-later _ _ _ (h.dice.later seat) r
 earlier new (linking seat plugin) h r = Rose-later _ _ _ h.files.later.links r
 earlier new (asking seat plugin) h r = Rose-later _ _ _ (h.links.later (seat, plugin)) r
@@ -174,7 +179,7 @@ module _ {A B : Type 0} (first : Steps A) (others : A → Steps B) where
   goes_at new (Err (Refused why)) r h q = joins r q
   goes_at new (Err (Fault object count)) r h (call, q, f) =
       (call, joins r q, (f.0, earlier new call h f.1, f.2))
-  goes_at new (Err NoMemory) r h (inl (call, q)) = inl (call, joins r q)
+  goes_at new (Err NoMemory) r h (inl (call, may, q)) = inl (call, may, joins r q)
   goes_at new (Err NoMemory) r h (inr q) = inr (joins r q)
 
   stops_at : (left : Left) (old new : Around) (stop : Stop) → Ends first left old new (Err stop)
@@ -183,7 +188,8 @@ module _ {A B : Type 0} (first : Steps A) (others : A → Steps B) where
   stops_at left old new (Refused why) q = onward q q.end (refl, refl) q.stays
   stops_at left old new (Fault object count) (call, q, f) =
       (call, onward q q.end (refl, refl) q.stays, f)
-  stops_at left old new NoMemory (inl (call, q)) = inl (call, onward q q.end (refl, refl) q.stays)
+  stops_at left old new NoMemory (inl (call, may, q)) =
+      inl (call, may, onward q q.end (refl, refl) q.stays)
   stops_at left old new NoMemory (inr q) = inr (onward q q.end (refl, refl) q.stays)
 
   -- the first steps gave something, and the others ended so
@@ -303,7 +309,7 @@ module _ (limit : ℕ) (long : Refusal) (old new : Option (List ℕ)) (before co
       (taken s)
   takes_at (Err (Fault object n)) s (o, rose, is, some) =
       (reading, takes_some s some, (o, rose, is))
-  takes_at (Err NoMemory) s some = inl (reading, takes_some s some)
+  takes_at (Err NoMemory) s some = inl (reading, tt, takes_some s some)
 
   takes : (result : Result (List ℕ) Stop) → TakesInput limit long old new before count result
       → before ≤ count
@@ -404,7 +410,7 @@ module _ {old new : Outside} (files : KeepsFiles old new) (objects : KeepsObject
   configures_at name (Err (Refused why)) s c q = passes (Err why) s c q
   configures_at name (Err (Fault object count)) s c q = (loading name, not_loaded name s q, c)
   configures_at name (Err NoMemory) s c (inl q) = inr (unasked s q (inl (refl, refl)))
-  configures_at name (Err NoMemory) s c (inr q) = inl (loading name, not_loaded name s q)
+  configures_at name (Err NoMemory) s c (inr q) = inl (loading name, tt, not_loaded name s q)
 
   pub configures : (name : List ℕ) (result : Result Settings Stop)
       → Configures old new name result → AskedFor old.asked new.asked (File name) result
@@ -414,7 +420,7 @@ module _ {old new : Outside} (files : KeepsFiles old new) (objects : KeepsObject
 
   -- what was asked for wasn't handed out
   module _ (asked : WorldCall) {A : Type 0} (step : Steps A) (call : Call)
-      (object_is : object_of call ≡ Files)
+      (object_is : object_of call ≡ Files) (may : MayLack call)
       (faults_are : (b : Around) → count_at call b ≡ file_faults b.world)
       (awaited : (left : Left) → Goes (awaits call) (with_asked asked left) step left)
       (lacked : (left : Left) → Goes amid left step left) where
@@ -442,14 +448,14 @@ module _ {old new : Outside} (files : KeepsFiles old new) (objects : KeepsObject
     not_lent NoMemory n (inl q) =
         record { home = asked_home; ends = λ left s. inr (unasked s q (lacked left)) }
     not_lent NoMemory n (inr q) =
-        record { home = asked_home; ends = λ left s. inl (call, not_lent_at s q) }
+        record { home = asked_home; ends = λ left s. inl (call, may, not_lent_at s q) }
 
   pub not_opened : (seat : ℕ) {A : Type 0} {next : Steps A} (stop : Stop)
       → LendsNothing old.faults.dice new.faults.dice (file_faults new) stop
       → AskedUnless old.asked new.asked (RandomSource seat) stop
       → Does (borrow_dice seat next) (with_world old a) (with_world new a) (Err stop)
   not_opened seat {next = next} stop n q = not_lent (RandomSource seat) (borrow_dice seat next)
-      (opening seat) refl (λ b. refl) (λ left. inr (inl (refl, refl))) (λ left. inl (refl, refl))
+      (opening seat) refl tt (λ b. refl) (λ left. inr (inl (refl, refl))) (λ left. inl (refl, refl))
       stop n q
 
   pub not_linked : (seat : ℕ) (plugin program : List ℕ) {A : Type 0} {next : Steps A} (stop : Stop)
@@ -459,7 +465,7 @@ module _ {old new : Outside} (files : KeepsFiles old new) (objects : KeepsObject
       (Err stop)
   not_linked seat plugin program {next = next} stop n q =
       not_lent (Link seat plugin program) (borrow_link seat plugin program next)
-      (linking seat plugin) refl (λ b. refl) (λ left. inr (inl (refl, refl)))
+      (linking seat plugin) refl tt (λ b. refl) (λ left. inr (inl (refl, refl)))
       (λ left. inl (refl, refl)) stop n q
 
 -- ---- what is borrowed, and comes back
@@ -472,29 +478,37 @@ pub record IsSeen (call : WorldCall) (old new : Outside) : Type 0 where
   pub tapes : AreSeen old.tapes new.tapes
   pub links : AreSeen old.links new.links
 
+pub seen_home : {call : WorldCall} {old new : Outside} → IsSeen call old new → (a : Around)
+    → IsHome (with_world old a) (with_world new a)
+seen_home seen a = record {
+  files = seen.files;
+  dice = seen.dice.home;
+  tapes = seen.tapes.home;
+  links = seen.links.home;
+  input = omega arith;
+}
+
+pub seen_stays : {call : WorldCall} {old new : Outside} → IsSeen call old new → (a : Around)
+    → (l : Left) → Stays l (with_world old a) → Stays (with_asked call l) (with_world new a)
+seen_stays {call} seen a l s = record {
+  truth = s.truth;
+  file = seen.files.file ∙ s.file;
+  tapes = seen.tapes.told ∙ s.tapes;
+  links = seen.links.told ∙ s.links;
+  input = s.input;
+  dice = λ seat. subst (λ told. Keeps (l.dice seat) (told seat)) (sym seen.dice.told)
+      (s.dice seat);
+  asked = seen.asked ∙ ap (with_call call) s.asked;
+  said = s.said;
+}
+
 module _ {call : WorldCall} {old new : Outside} (seen : IsSeen call old new) (a : Around)
     {step : Steps (Unit {0})}
     (goes : (left : Left) → Goes (gives tt) (with_asked call left) step left) where
   pub borrowed : Does step (with_world old a) (with_world new a) (Ok tt)
   borrowed = record {
-    home = record {
-      files = seen.files;
-      dice = seen.dice.home;
-      tapes = seen.tapes.home;
-      links = seen.links.home;
-      input = omega arith;
-    };
-    ends = λ l s. reach (with_asked call l) (goes l) (record {
-      truth = s.truth;
-      file = seen.files.file ∙ s.file;
-      tapes = seen.tapes.told ∙ s.tapes;
-      links = seen.links.told ∙ s.links;
-      input = s.input;
-      dice = λ seat. subst (λ told. Keeps (l.dice seat) (told seat)) (sym seen.dice.told)
-          (s.dice seat);
-      asked = seen.asked ∙ ap (with_call call) s.asked;
-      said = s.said;
-    });
+    home = seen_home seen a;
+    ends = λ l s. reach (with_asked call l) (goes l) (seen_stays seen a l s);
   }
 
 -- a world is another where each part is
@@ -516,7 +530,7 @@ abbrev pub dice_seen : ℕ → Option (List ℕ) → ℕ → Outside → Outside
 dice_seen seat left count world =
     record world { dice = with_lent same_seat seat left count world.dice }
 
-lent_dice : (seat : ℕ) {old out : Outside} {left : Option (List ℕ)} {count : ℕ}
+pub lent_dice : (seat : ℕ) {old out : Outside} {left : Option (List ℕ)} {count : ℕ}
     → DiceLoan seat old out left count → IsSeen (RandomSource seat) old (dice_seen seat left count out)
 lent_dice seat h = record {
   files = record { file = h.files.file; later = h.files.later };
@@ -526,7 +540,7 @@ lent_dice seat h = record {
   links = seen_same h.links;
 }
 
-dice_back : (seat : ℕ) {out new : Outside} {left : Option (List ℕ)} {count : ℕ}
+pub dice_back : (seat : ℕ) {out new : Outside} {left : Option (List ℕ)} {count : ℕ}
     → DiceReturn seat out new left count → dice_seen seat left count out ≡ new
 dice_back seat h =
     one_world h.file h.faults h.asked (back_is same_seat seats_decide h.home h.left_is) (sym h.tapes) (sym h.links)

@@ -132,30 +132,30 @@ lacks_links (program ∷ programs) next a =
     record { home = home_refl a; ends = λ l s. inr (reach l (inl (refl, refl)) s) }
 
 -- while a random source is out, and comes back
-loan_within : {plugin program : List ℕ} (left : Option (List ℕ)) (count : ℕ) {old out : Outside}
-    {it : Link}
-    → LinkLoan 0 plugin program old out it
-    → LinkLoan 0 plugin program (dice_seen 0 left count old) (dice_seen 0 left count out) it
-loan_within left count h = record {
+pub loan_within : {seat : ℕ} {plugin program : List ℕ} (left : Option (List ℕ)) (count : ℕ)
+    {old out : Outside} {it : Link} → LinkLoan seat plugin program old out it
+    → LinkLoan seat plugin program (dice_seen seat left count old) (dice_seen seat left count out)
+    it
+loan_within {seat} left count h = record {
   out = h.out;
   link_is = h.link_is;
   files = record { file = h.files.file; later = h.files.later };
   asked = h.asked;
   tapes = h.tapes;
-  dice = ap (with_lent same_seat 0 left count) h.dice;
+  dice = ap (with_lent same_seat seat left count) h.dice;
 }
 
-return_within : (left : Option (List ℕ)) (count : ℕ) {out new : Outside} {it : Link}
-    → LinkReturn 0 out new it
-    → LinkReturn 0 (dice_seen 0 left count out) (dice_seen 0 left count new) it
-return_within left count h = record {
+pub return_within : {seat : ℕ} (left : Option (List ℕ)) (count : ℕ) {out new : Outside} {it : Link}
+    → LinkReturn seat out new it
+    → LinkReturn seat (dice_seen seat left count out) (dice_seen seat left count new) it
+return_within {seat} left count h = record {
   home = h.home;
   status_is = h.status_is;
   file = h.file;
   faults = h.faults;
   asked = h.asked;
   tapes = h.tapes;
-  dice = ap (with_lent same_seat 0 left count) h.dice;
+  dice = ap (with_lent same_seat seat left count) h.dice;
 }
 
 -- the programs are none, or this and others

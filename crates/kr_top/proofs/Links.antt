@@ -25,13 +25,13 @@ LinksOf = Objects (ℕ × List ℕ) (Option Status)
 -- ---- several that are out
 
 module _ {L : Type 0} (link : L → Link) (seat : ℕ) where
-  seen_links : {x y : LinksOf} (links : List L) → AreSeen x y
+  pub seen_links : {x y : LinksOf} (links : List L) → AreSeen x y
       → AreSeen (lent_links link seat links x) (lent_links link seat links y)
   seen_links [] s = s
   seen_links (first ∷ more) s = seen_behind same_link (seat, (link first).name) (link first).status
       (no_more (link first).count) (seen_links more s)
 
-  lent_behind : (links : List L) (last : L) (x : LinksOf)
+  pub lent_behind : (links : List L) (last : L) (x : LinksOf)
       → lent_links link seat (links ++ last ∷ []) x
       ≡ lent_links link seat links (lent_links link seat (last ∷ []) x)
   lent_behind [] last x = refl
@@ -44,7 +44,7 @@ module _ {L : Type 0} (link : L → Link) (seat : ℕ) where
   links_seen links world = record world { links = lent_links link seat links world.links }
 
   -- one more is out, behind the others
-  lent_link : (links : List L) (last : L) {plugin program : List ℕ} {old out : Outside}
+  pub lent_link : (links : List L) (last : L) {plugin program : List ℕ} {old out : Outside}
       → LinkLoan seat plugin program old out (link last)
       → IsSeen (calls.Link seat plugin program) (links_seen links old)
       (links_seen (links ++ last ∷ []) out)
@@ -65,7 +65,7 @@ module _ {L : Type 0} (link : L → Link) (seat : ℕ) where
       }
 
   -- it comes back
-  link_back : (links : List L) (last : L) {out new : Outside}
+  pub link_back : (links : List L) (last : L) {out new : Outside}
       → LinkReturn seat out new (link last)
       → links_seen (links ++ last ∷ []) out ≡ links_seen links new
   link_back links last {out} {new} h = one_world h.file h.faults h.asked (sym h.dice)
@@ -112,7 +112,7 @@ module _ {L : Type 0} (link : L → Link) (seat : ℕ) (x : LinksOf) where
 
 -- ---- what is told of one that is out
 
-apart : (name : List ℕ) (names : List (List ℕ)) (other : List ℕ)
+pub apart : (name : List ℕ) (names : List (List ℕ)) (other : List ℕ)
     → AllByRecursion (λ y. bytes_eq name y ≡ false) names → Contains names other → name ≡ other → ⊥
 apart name [] other a c e = omega (arith, c.1)
 apart name (first ∷ names) other a (zero, lt, is) e =

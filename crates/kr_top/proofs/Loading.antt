@@ -27,7 +27,7 @@ use Rattle.kr_top.proofs.Goes.{reach, by_point, by_goes, files_same}
 use Rattle.kr_top.proofs.Lending.{home_same}
 use Rattle.kr_top.proofs.Tapes.{own_name}
 
-no_less : (q : Bool) (a b n : ℕ) → a ≤ b → (if q then a else n) ≤ (if q then b else n)
+pub no_less : (q : Bool) (a b n : ℕ) → a ≤ b → (if q then a else n) ≤ (if q then b else n)
 no_less true a b n h = h
 no_less false a b n h = omega arith
 
@@ -111,7 +111,7 @@ module _ (name : List ℕ) (told : Option (List ℕ)) (before : ℕ) (a : Around
           scans bytes count (Err (Limit limit.Store)) is (inl (long, refl)) s
       refuses_at count no.Failed s h r =
           (scanning object name, not_scanned count s, (refl, tape_rose count (r refl), sym (count_here count)))
-      refuses_at count no.NoMemory s h r = inl (scanning object name, not_scanned count s)
+      refuses_at count no.NoMemory s h r = inl (scanning object name, tt, not_scanned count s)
 
       pub refuses_store : (new : Option (List ℕ)) (count : ℕ) (why : StoreNo)
           → Loads told store_limit (Err (why, tape)) → new ≡ told → before ≤ count

@@ -21,7 +21,7 @@ use Rattle.kr_top.proofs.Goes.{goes_on, home_refl, nothing, reach, stops}
 use Rattle.kr_top.proofs.Works.{lacks}
 
 -- there was memory
-remembers : {A : Type 0} {next : Steps A} {old new : Around} {result : Result A Stop}
+pub remembers : {A : Type 0} {next : Steps A} {old new : Around} {result : Result A Stop}
     → Does next old new result → Does (with_memory next) old new result
 remembers {next = next} {old} d = goes_on (with_memory nothing) (λ u. next) tt
     (record { home = home_refl old; ends = λ l s. reach l (inr (tt, tt, (refl, refl))) s }) d

@@ -5,7 +5,7 @@ use Rattle.std.specs.Prelude.{Bool, true, false, IsSome}
 use Rattle.std.specs.Io.KnownBytes.{Consumes, IsAtEnd}
 use Rattle.kr_base.specs.Told.{Agrees}
 use Rattle.kr_kms.specs.declared.world.WorldCall.TheVariants.{File, Tape, RandomSource, Link}
-use Rattle.kr_top.specs.Steps.{Steps, load, take_input, borrow_dice, borrow_tape, read_tape, draw, note, find, refuse, give, Point, refuses, gives, Left, with_input, with_dice, with_tape, with_asked, with_said, Goes, borrow_link, ask_status, wrap, unwrap}
+use Rattle.kr_top.specs.Steps.{Steps, load, take_input, borrow_dice, borrow_tape, read_tape, write_row, draw, note, find, refuse, give, Point, refuses, gives, Left, with_input, with_dice, with_tape, with_told, with_asked, with_said, Goes, borrow_link, ask_status, wrap, unwrap}
 use Rattle.kr_kms.specs.Limits.{IsWithinLimits}
 use Rattle.kr_kms.specs.declared.plugin.Status.{Status}
 use Rattle.kr_kms.specs.declared.plugin.Wrapped.{Wrapped}
@@ -53,9 +53,11 @@ IsSettled (borrow_tape name make absent next) (borrow_tape other also cause more
 IsSettled (read_tape object name next) (read_tape thing other more) left right =
     IsSome (left.tapes name) × (right.tapes other ≡ left.tapes name)
     × ((bytes : List ℕ) → IsSettled (next bytes) (more bytes) left right)
+IsSettled (write_row object name store row next) (write_row thing other held line more) left right =
+    (a b : Option (List ℕ)) → IsSettled next more (with_told name a left) (with_told other b right)
 IsSettled (draw seat size next) (draw other count more) left right =
-    (a b : List ℕ) (ra rb : Option (List ℕ)) → IsSettled (next a) (more b)
-    (with_dice seat ra left) (with_dice other rb right)
+    (a b : List ℕ) (ra rb : Option (List ℕ)) → length a ≡ size → length b ≡ count
+    → IsSettled (next a) (more b) (with_dice seat ra left) (with_dice other rb right)
 IsSettled (borrow_link seat plugin program next) (borrow_link other name file more) left right =
     IsSettled next more (with_asked (Link seat plugin program) left)
     (with_asked (Link other name file) right)
@@ -206,13 +208,22 @@ module _ (p q : Point Outcome) (end last : Left) where
       one_point (next a) (more a) left right (s.2 a) g
       (subst (λ c. Goes q last (more c) right)
       (one_tape (left.tapes name) a b s.0 x (subst (λ t. Agrees t (Some b)) s.1 y)) k)
+  one_point (write_row object name store row next) (write_row thing other held line more) left right
+      s (inl (told, begins, e)) k =
+      no_first p q _ refl e.0
+  one_point (write_row object name store row next) (write_row thing other held line more) left right
+      s (inr g) (inl (told, begins, f)) =
+      no_second p q _ refl f.0
+  one_point (write_row object name store row next) (write_row thing other held line more) left right
+      s (inr (a, x, g)) (inr (b, y, k)) =
+      one_point next more _ _ (s a b) g k
   one_point (draw seat size next) (draw other count more) left right s (inl e) k =
       no_first p q _ refl e.0
   one_point (draw seat size next) (draw other count more) left right s (inr g) (inl f) =
       no_second p q _ refl f.0
   one_point (draw seat size next) (draw other count more) left right s (inr (a, ra, ca, x, g))
       (inr (b, rb, cb, y, k)) =
-      one_point (next a) (more b) _ _ (s a b ra rb) g k
+      one_point (next a) (more b) _ _ (s a b ra rb x y) g k
   one_point (borrow_link seat plugin program next) (borrow_link other name file more) left right s
       (inl e) k =
       no_first p q _ refl e.0

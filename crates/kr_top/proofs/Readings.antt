@@ -10,7 +10,7 @@ use Rattle.kr_top.specs.Around.{Around, left_of, IsHome, IsFault, faults_at, cou
 use Rattle.kr_top.specs.Command.{Asks, AskBadly}
 use Rattle.kr_top.specs.Commands.{steps}
 use Rattle.kr_top.specs.Message.{status_of, status_of_done, status_of_configuration, status_of_refusal, line_of, fault_line}
-use Rattle.kr_top.specs.Steps.{Call, loading, reading, opening, lending, scanning, drawing, object_of, Point, refuses, gives, linking, asking}
+use Rattle.kr_top.specs.Steps.{Call, loading, reading, opening, lending, scanning, writing, drawing, object_of, Point, refuses, gives, linking, asking}
 use Rattle.kr_top.specs.Ran.{Receipt, IsIdle, Reports, IsUntouched, StopsAtOnce, Did, Comes, Writes, Answers, Tells, FailsAt, FailsToWrite, Readings}
 use Rattle.kr_top.specs.declared.command.Command.{Command}
 use Rattle.kr_top.specs.declared.refusal.BadWords.{BadWords}
@@ -18,7 +18,7 @@ use Rattle.kr_top.specs.declared.refusal.BadWords.TheVariants.{Usage, Replicas, 
 use Rattle.kr_top.specs.declared.refusal.Object.{Object}
 use Rattle.kr_top.specs.declared.refusal.Object.TheVariants.{Output}
 use Rattle.kr_top.specs.declared.refusal.Refusal.{Refusal}
-use Rattle.kr_top.specs.declared.refusal.Refusal.TheVariants.{Absent, Configuration, Limit, Value, Placed, Broken, NoPlugin, Unhealthy, Stray, OtherSecret, Unfit}
+use Rattle.kr_top.specs.declared.refusal.Refusal.TheVariants.{Absent, Configuration, Limit, Value, Placed, Broken, NoPath, NoPlugin, Unhealthy, Stray, OtherSecret, Unfit, Script}
 use Rattle.kr_top.specs.declared.refusal.Stop.{Stop}
 use Rattle.kr_top.specs.declared.refusal.Stop.TheVariants.{Words, Refused, Fault, NoMemory}
 use Rattle.kr_top.specs.declared.refusal.Done.{Done}
@@ -29,7 +29,7 @@ use Rattle.kr_top.proofs.Decided.{asks_something, no_stop, same_end}
 -- ---- statuses
 
 -- those of refusals
-abbrev Statuses : ℕ → Type 0
+abbrev pub Statuses : ℕ → Type 0
 Statuses n = (n ≡ 1) ⊎ (n ≡ 3) ⊎ (n ≡ 6)
 
 status_of_why : (why : ConfigNo) → Statuses (status_of_configuration why)
@@ -37,7 +37,7 @@ status_of_why (config.Breach broken place) = inr (inl refl)
 status_of_why (config.Yaml broken line) = inr (inl refl)
 status_of_why (config.Limit counted) = inr (inr refl)
 
-status_in : (why : Refusal) → Statuses (status_of_refusal why)
+pub status_in : (why : Refusal) → Statuses (status_of_refusal why)
 status_in (Absent name) = inr (inl refl)
 status_in (Configuration why) = status_of_why why
 status_in (NoPlugin name) = inr (inl refl)
@@ -46,9 +46,11 @@ status_in (Limit which) = inr (inr refl)
 status_in (Value number) = inl refl
 status_in (Placed number at) = inl refl
 status_in (Broken why) = inr (inl refl)
+status_in (NoPath path) = inl refl
 status_in (Stray path) = inr (inl refl)
 status_in (OtherSecret path) = inr (inl refl)
 status_in (Unfit replica verdict) = inr (inl refl)
+status_in (Script line) = inr (inl refl)
 
 done_in : (done : Done) → (status_of_done done ≡ 0) ⊎ (status_of_done done ≡ 1)
 done_in Silent = inl refl
@@ -80,13 +82,14 @@ file_rose {old} {new} h r =
     h.files.later.links r
 
 -- a call that failed raised its object's count
-object_rose : {old new : Around} (call : Call) → IsHome old new
+pub object_rose : {old new : Around} (call : Call) → IsHome old new
     → Rose (faults_at call old) (faults_at call new) → Rose (count_at call old) (count_at call new)
 object_rose (loading name) h r = file_rose h (inl r)
 object_rose reading h r = r
 object_rose (opening seat) h r = file_rose h (inr (inr (inl r)))
 object_rose (lending name) h r = file_rose h (inr (inl r))
 object_rose (scanning object name) h r = r
+object_rose (writing object name) h r = r
 object_rose (drawing seat) h r = r
 object_rose (linking seat plugin) h r = file_rose h (inr (inr (inr r)))
 object_rose (asking seat plugin) h r = r

@@ -271,11 +271,13 @@ module _ {L D : Type 0} (truth : Truth) (link : L → Link) (left : D → Option
       → Does (make_seeds (plugin_order rows)) Before After (Err NoMemory)
   forgot (name, inl e) = ended name [] NoMemory e (λ rest c l s. inl (
     asking 0 name,
+    tt,
     at_status truth link olds (count old) a distinct truth_is name rest (left new) at_after c l s,
   ))
   forgot (name, inr (drawn, size, e, healthy)) = ended name drawn NoMemory e
       (λ rest c l s. inl (
         asking 0 name,
+        tt,
         at_wrap truth link olds (count old) a distinct truth_is name rest (left new) at_after
             drawn size healthy c l s,
       ))

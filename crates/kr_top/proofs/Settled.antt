@@ -4,7 +4,8 @@ use Rattle.std.specs.Prelude.{codes, cond, not, ◌||◌, Result, IsSome, is_som
 use Rattle.std.specs.List.{list_any}
 use Rattle.std.specs.Option.{option_map}
 use Rattle.std.specs.Str.{bytes_eq}
-use Rattle.kr_base.specs.Limits.{data_limit}
+use Rattle.kr_base.specs.Limits.{data_limit, store_limit}
+use Rattle.kr_base.specs.Told.{Agrees}
 use Rattle.std.specs.Result.{result_map_both}
 use Rattle.kr_config.specs.Kept.{Row}
 use Rattle.kr_config.specs.Lists.{list_of}
@@ -24,37 +25,47 @@ use Rattle.kr_kms.specs.Health.{breach_in}
 use Rattle.kr_kms.specs.declared.health.Field.{Field}
 use Rattle.kr_kms.specs.declared.plugin.Wrapped.{Wrapped}
 use Rattle.kr_kms.specs.declared.seeds.SeedRow.{SeedRow}
-use Rattle.kr_kms.specs.declared.world.WorldCall.TheVariants.{File}
+use Rattle.kr_kms.specs.declared.world.WorldCall.TheVariants.{File, RandomSource}
 use Rattle.kr_provider.specs.Envelopes.{Envelope}
 use Rattle.kr_provider.specs.PluginOrder.{in_order, plugin_order}
-use Rattle.kr_provider.specs.Publication.{seed_of}
+use Rattle.kr_provider.specs.Publication.{names_plugin, seed_of}
 use Rattle.kr_provider.specs.Reading.{Reading, data_of, refused, unopened, value_reading, is_rotated, is_stale}
 use Rattle.kr_provider.specs.Readers.{is_reader, reader_in, writer_of}
 use Rattle.kr_provider.proofs.Lists.{no_names}
 use Rattle.kr_provider.proofs.OneReading.{IsNoPlugin, any_envelope, no_plugin}
 use Rattle.kr_provider.proofs.WithoutPlugins.{none_listed}
 use Rattle.kr_provider.specs.Sealing.{draw_size, sealed_by}
+use Rattle.kr_rollout.specs.Checks.{store_check}
+use Rattle.kr_top.specs.Commands.{by_result, value_steps, draw_some, input_of, linking_programs, opening, read_with, reading_steps, unsealing, working, working_by, converting, steps, bench_steps, configuration, getting, row_found, row_on, tape_for, with_memory, configurations, judging_at, judging_by, telling, adding, new_row, putting, revision_line, sealed_into, silently, stored_into}
+use Rattle.kr_store.specs.Rows.{live, check_in}
+use Rattle.kr_store.specs.File.{file_bytes}
 use Rattle.kr_store.specs.declared.rows.LogRow.{LogRow}
-use Rattle.kr_top.specs.Commands.{by_result, value_steps, draw_some, input_of, linking_programs, opening, read_with, reading_steps, unsealing, working, working_by, converting, configurations, judging_at, judging_by, telling, steps}
+use Rattle.kr_store.specs.declared.rows.Row as stored
 use Rattle.kr_top.specs.Configuration.{IsConfiguration}
 use Rattle.kr_top.specs.Inspect.{Inspects, ShowsBody, ShowsObject}
 use Rattle.kr_top.specs.Plugins.{borrow_links, make_seeds, programs_of, seed_row, unless_breach, wrap_seed}
-use Rattle.kr_top.specs.Steps.{Steps, load, take_input, borrow_dice, borrow_tape, read_tape, draw, borrow_link, ask_status, wrap, unwrap, note, find, refuse, give, and_then, Left, with_asked, with_dice}
+use Rattle.kr_top.specs.Steps.{Steps, load, take_input, borrow_dice, borrow_tape, read_tape, write_row, draw, borrow_link, ask_status, wrap, unwrap, note, find, refuse, give, and_then, Left, with_asked, with_dice, or_empty, tapes_with}
+use Rattle.kr_top.specs.StoreFiles.{Stored, with_row}
 use Rattle.kr_top.specs.Texts.{line, word_and_number}
 use Rattle.kr_top.specs.declared.command.Command.{Command}
-use Rattle.kr_top.specs.declared.command.Command.TheVariants.{Convert, Check, Inspect, Rows, Judge}
+use Rattle.kr_top.specs.declared.command.Command.TheVariants.{Convert, Check, Inspect, Put, Get, Rows, Judge}
 use Rattle.kr_top.specs.declared.command.Conversion.{Conversion}
+use Rattle.kr_top.specs.declared.command.Lookup.{Lookup}
 use Rattle.kr_top.specs.declared.command.Direction.{Direction}
 use Rattle.kr_top.specs.declared.command.Direction.TheVariants.{Encrypt, Decrypt}
 use Rattle.kr_top.specs.declared.programs.Program.{Program}
+use Rattle.kr_top.specs.declared.refusal.Limit.TheVariants as limit
+use Rattle.kr_top.specs.declared.refusal.Object.TheVariants.{Store}
 use Rattle.kr_top.specs.declared.refusal.Refusal.{Refusal}
-use Rattle.kr_top.specs.declared.refusal.Refusal.TheVariants.{Configuration}
+use Rattle.kr_top.specs.declared.refusal.Refusal.TheVariants.{Configuration, Limit}
 use Rattle.kr_top.specs.declared.refusal.Outcome.{Outcome}
 use Rattle.kr_top.specs.Around.{Around, left_of}
 use Rattle.kr_top.specs.Command.{replica_names, reload_in, reload_number, reload_file}
 use Rattle.kr_top.specs.Ran.{IsTelling, ArePluginsTold, AreTold}
+use Rattle.kr_top.proofs.EquallyLong.{AreAsLong, as_long, no_kms_writer, same_file}
 use Rattle.kr_top.proofs.Listed.{one_stored, one_shown}
 use Rattle.kr_top.proofs.Judging.{one_judged, read_then}
+use Rattle.kr_top.proofs.Tapes.{own_name}
 use Rattle.kr_top.proofs.OnePoint.{IsSettled}
 
 settled_result : {A : Type 0} (left right : Left) (r : Result A Refusal) (next : A → Steps Outcome)
@@ -255,7 +266,7 @@ settled_draw : (left right : Left) (size : ℕ) (sealed other : List ℕ → Opt
     (draw_some size (λ d. value_steps (other d))) left right
 settled_draw left right zero sealed other same = settled_value left right _ _ (same [] [])
 settled_draw left right (suc more) sealed other same =
-    λ x y rx ry. settled_value _ _ (sealed x) (other y) (same x y)
+    λ x y rx ry p q. settled_value _ _ (sealed x) (other y) (same x y)
 
 settled_reading : (left right : Left) (reading : Reading) (stale : Bool)
     → IsSettled (reading_steps reading stale) (reading_steps reading stale) left right
@@ -323,6 +334,8 @@ regroup (borrow_tape name make absent next) f g =
     λ i. borrow_tape name make absent (regroup next f g i)
 regroup (read_tape object name next) f g =
     λ i. read_tape object name (λ bytes. regroup (next bytes) f g i)
+regroup (write_row object name store row next) f g =
+    λ i. write_row object name store row (regroup next f g i)
 regroup (draw seat size next) f g = λ i. draw seat size (λ bytes. regroup (next bytes) f g i)
 regroup (borrow_link seat plugin program next) f g =
     λ i. borrow_link seat plugin program (regroup next f g i)
@@ -375,7 +388,7 @@ settled_seeds (name ∷ names) left right same told next more f = (
         (and_then (and_then (unless_breach name breach (wrap_seed name)) (more_seeds names)) more)
         left right
     by_breach others (Some breach) = refl
-    by_breach others None = λ x y rx ry. λ u v within short.
+    by_breach others None = λ x y rx ry p q. λ u v within short.
         after (seed_row name x u) (seed_row name y v) (with_dice 0 rx left) (with_dice 0 ry right)
         (others x y rx ry u v)
 
@@ -450,6 +463,226 @@ settled_converting old words (told, input, plugins) = (
       (subst (IsConfiguration words.config file) is x) agrees)),
 )
 
+-- ---- get
+
+-- what was read is one thing, from which the first steps go on, and then the others
+settled_pair : {A B : Type 0} (left right : Left) (a b : Result A Refusal) (f : A → Steps B)
+    (g : B → Steps Outcome) → a ≡ b
+    → ((x : A) → IsSettled (and_then (f x) g) (and_then (f x) g) left right)
+    → IsSettled (and_then (and_then (by_result a) f) g) (and_then (and_then (by_result b) f) g)
+    left right
+settled_pair {A} left right a b f g e s =
+    subst (λ r. IsSettled (and_then (and_then (by_result a) f) g)
+    (and_then (and_then (by_result r) f) g) left right) e (by_cases a)
+  where
+    by_cases : (r : Result A Refusal) → IsSettled (and_then (and_then (by_result r) f) g)
+        (and_then (and_then (by_result r) f) g) left right
+    by_cases (Ok x) = s x
+    by_cases (Err why) = refl
+
+-- the entries of a told configuration are one thing
+settled_configuration : (old : Around) (name : List ℕ) (next : List Row → Steps Outcome)
+    → IsSome (old.world.file name)
+    → ((file : Option (List ℕ)) (rows : List Row) → IsConfiguration name file (Ok rows)
+    → Agrees (old.world.file name) file
+    → IsSettled (next rows) (next rows) (with_asked (File name) (left_of old))
+    (with_asked (File name) (left_of old)))
+    → IsSettled (and_then (configuration name) next) (and_then (configuration name) next)
+    (left_of old) (left_of old)
+settled_configuration old name next told each = (
+  told,
+  refl,
+  λ file agrees a b x y. subst (λ r. IsSettled (and_then (by_result a) next)
+      (and_then (by_result r) next) now now) (one_configuration name file a b x y)
+      (by_cases a (λ rows is. each file rows (subst (IsConfiguration name file) is x) agrees)),
+)
+  where
+    now : Left
+    now = with_asked (File name) (left_of old)
+
+    by_cases : (r : Result (List Row) Refusal)
+        → ((rows : List Row) → r ≡ Ok rows → IsSettled (next rows) (next rows) now now)
+        → IsSettled (and_then (by_result r) next) (and_then (by_result r) next) now now
+    by_cases (Ok rows) s = s rows refl
+    by_cases (Err why) s = refl
+
+abbrev read_so : Lookup → List Row → List Program → stored.Row → Steps Outcome
+read_so words rows programs row =
+    bench_steps programs Decrypt row.resource words.path rows row.stored
+
+abbrev looked_up : Lookup → List Row → List Program → Steps Outcome
+looked_up words rows programs = and_then (tape_for words.store false
+    (row_on words.store words.path)) (read_so words rows programs)
+
+settled_row : (old : Around) (words : Lookup) (rows : List Row) (programs : List Program)
+    (left right : Left) → left.links ≡ old.world.links.told → right.links ≡ left.links
+    → names_plugin rows ≡ false → (row : stored.Row)
+    → IsSettled (read_so words rows programs row) (read_so words rows programs row) left right
+settled_row old words rows programs left right at same none row =
+    settled_links programs (working Decrypt row.resource words.path rows row.stored) _ _ same
+    (λ l r x y. settled_working l r old Decrypt row.resource words.path row.stored rows (x ∙ at)
+    (y ∙ at) none)
+
+settled_getting : (old : Around) (words : Lookup) → IsTelling (Get words) old
+    → IsSettled (getting words) (getting words) (left_of old) (left_of old)
+settled_getting old words (file, tape, plugins) = settled_configuration old words.config
+    (λ rows. and_then (linking_programs words.options rows) (looked_up words rows)) file
+    (λ file rows is agrees. λ u v h k. settled_result _ _
+    (programs_of words.options (plugin_order rows)) (looked_up words rows) (λ programs. (
+      tape,
+      refl,
+      refl,
+      refl,
+      (
+        tape,
+        refl,
+        λ bytes a b x y. settled_pair _ _ a b
+            (λ read. with_memory (by_result (row_found words.path (live read.rows words.path))))
+            (read_so words rows programs) (one_stored bytes a b x y) (λ read. λ s t p q.
+            settled_result _ _ (row_found words.path (live read.rows words.path))
+            (read_so words rows programs)
+            (settled_row old words rows programs _ _ refl refl (plugins file rows is agrees))),
+      ),
+    )))
+
+-- ---- put, where no plugin is named
+
+links_then : {A B : Type 0} (programs : List Program) (next : Steps A) (f : A → Steps B)
+    → and_then (borrow_links programs next) f ≡ borrow_links programs (and_then next f)
+links_then [] next f = refl
+links_then (program ∷ programs) next f =
+    λ i. borrow_link 0 program.plugin program.file (links_then programs next f i)
+
+abbrev put_then : Conversion → (name : List ℕ) → List Row → Stored → Outcome → Steps Outcome
+put_then words name rows read sealed =
+    and_then (adding Store name read (new_row read.format words rows sealed.bytes))
+    (λ grown. give (silently (revision_line grown)))
+
+module _ (words : Conversion) (name : List ℕ) (rows : List Row) (read : Stored) where
+  abbrev onward : Outcome → Steps Outcome
+  onward = put_then words name rows read
+
+  -- a row is within the limit where another one as long is
+  settled_row_of : (left right : Left) (v w : List ℕ) → length v ≡ length w
+      → IsSettled (onward (silently v)) (onward (silently w)) left right
+  settled_row_of left right v w e = λ s t p q. by_cases
+      (nat_lt store_limit (length (file_bytes read.format (read.rows ++ row v ∷ []))))
+      (nat_lt store_limit (length (file_bytes read.format (read.rows ++ row w ∷ []))))
+      (ap (λ n. nat_lt store_limit n) (same_file read.format read.rows words.path words.resource v w
+      (check_in read.format (store_check (writer_of (list_of rows words.resource)))) e))
+    where
+      row : List ℕ → LogRow
+      row value = new_row read.format words rows value
+
+      written : List ℕ → Stored → Steps Outcome
+      written value grown = and_then (write_row Store name read (row value) (give grown))
+          (λ store. give (silently (revision_line store)))
+
+      judged : (large : Bool) → List ℕ → Result Stored Refusal
+      judged large value = if large then Err (Limit limit.Store) else Ok (with_row (row value) read)
+
+      by_cases : (a b : Bool) → a ≡ b → IsSettled
+          (and_then (and_then (by_result (judged a v))
+          (λ grown. write_row Store name read (row v) (give grown)))
+          (λ store. give (silently (revision_line store))))
+          (and_then (and_then (by_result (judged b w))
+          (λ grown. write_row Store name read (row w) (give grown)))
+          (λ store. give (silently (revision_line store)))) left right
+      by_cases true true same = refl
+      by_cases true false same = absurd cc
+      by_cases false true same = absurd cc
+      by_cases false false same = λ a b. refl
+
+  settled_put_value : (left right : Left) (x y : Option (List ℕ)) → AreAsLong x y
+      → IsSettled (and_then (value_steps x) onward) (and_then (value_steps y) onward) left right
+  settled_put_value left right (Some v) (Some w) same = settled_row_of left right v w same
+  settled_put_value left right (Some v) None same = absurd same
+  settled_put_value left right None (Some w) same = absurd same
+  settled_put_value left right None None same = refl
+
+  settled_put_draw : (left right : Left) (size : ℕ) (sealed : List ℕ → Option (List ℕ))
+      → ((x y : List ℕ) → length x ≡ size → length y ≡ size → AreAsLong (sealed x) (sealed y))
+      → IsSettled (and_then (draw_some size (λ d. value_steps (sealed d))) onward)
+      (and_then (draw_some size (λ d. value_steps (sealed d))) onward) left right
+  settled_put_draw left right zero sealed same =
+      settled_put_value left right (sealed []) (sealed []) (same [] [] refl refl)
+  settled_put_draw left right (suc more) sealed same =
+      λ x y rx ry p q. settled_put_value _ _ (sealed x) (sealed y) (same x y p q)
+
+  settled_sealing : (left right : Left) (bytes : List ℕ) → names_plugin rows ≡ false
+      → IsSettled (and_then (working Encrypt words.resource words.path rows bytes) onward)
+      (and_then (working Encrypt words.resource words.path rows bytes) onward) left right
+  settled_sealing left right bytes none = λ u v h k.
+      let writer = writer_of (list_of rows words.resource) in
+      let no_seeds : plugin_order rows ≡ [] = ap in_order (no_names rows none) in
+      subst (λ names. IsSettled
+      (and_then (and_then (make_seeds names)
+      (working_by Encrypt words.resource words.path rows bytes)) onward)
+      (and_then (and_then (make_seeds names)
+      (working_by Encrypt words.resource words.path rows bytes)) onward) left right)
+      (sym no_seeds)
+      (λ s t p q. settled_put_draw left right (draw_size writer)
+      (sealed_by [] writer words.path bytes)
+      (λ x y e f. as_long writer words.path bytes x y
+      (no_kms_writer (list_of rows words.resource) (none_listed rows words.resource none))
+      (e ∙ sym f)))
+
+  settled_sealed_into : (programs : List Program) (left right : Left) (bytes : List ℕ)
+      → right.links ≡ left.links → names_plugin rows ≡ false
+      → IsSettled (sealed_into words name rows programs bytes read)
+      (sealed_into words name rows programs bytes read) left right
+  settled_sealed_into programs left right bytes same none =
+      subst (λ steps. IsSettled steps
+      (and_then (borrow_links programs (working Encrypt words.resource words.path rows bytes)) onward)
+      (with_asked (RandomSource 0) left) (with_asked (RandomSource 0) right))
+      (sym (links_then programs (working Encrypt words.resource words.path rows bytes) onward))
+      (subst (λ steps. IsSettled (borrow_links programs
+      (and_then (working Encrypt words.resource words.path rows bytes) onward)) steps
+      (with_asked (RandomSource 0) left) (with_asked (RandomSource 0) right))
+      (sym (links_then programs (working Encrypt words.resource words.path rows bytes) onward))
+      (settled_links programs (and_then (working Encrypt words.resource words.path rows bytes) onward)
+      _ _ same (λ l r x y. settled_sealing l r bytes none)))
+
+-- a tape that is told is told when it may be made
+told_or_empty : (told : Option (Option (List ℕ))) → IsSome told → IsSome (or_empty told)
+told_or_empty None t = absurd cc
+told_or_empty (Some None) t = refl
+told_or_empty (Some (Some bytes)) t = refl
+
+settled_putting : (old : Around) (words : Conversion) (store : List ℕ)
+    → IsTelling (Put words store) old
+    → IsSettled (putting words store) (putting words store) (left_of old) (left_of old)
+settled_putting old words store (file, tape, input, plugins) = settled_configuration old words.config
+    (λ rows. and_then (linking_programs words.options rows) (passed rows)) file
+    (λ file rows is agrees. λ u v h k. settled_result _ _
+    (programs_of words.options (plugin_order rows)) (passed rows) (λ programs. (
+      refl,
+      refl,
+      input,
+      refl,
+      λ bytes rest. (
+        tape,
+        refl,
+        refl,
+        refl,
+        (
+          there,
+          refl,
+          λ held a b x y. settled_by _ _ a b (sealed_into words store rows programs bytes)
+              (one_stored held a b x y) (λ read. settled_sealed_into words store rows read
+              programs _ _ bytes refl (plugins file rows is agrees)),
+        ),
+      ),
+    )))
+  where
+    passed : List Row → List Program → Steps Outcome
+    passed rows programs = and_then (input_of Encrypt) (stored_into words store rows programs)
+
+    there : IsSome (tapes_with true store old.world.tapes.told store)
+    there = subst (λ q. IsSome (if q then or_empty (old.world.tapes.told store)
+        else old.world.tapes.told store)) (sym (own_name store))
+        (told_or_empty (old.world.tapes.told store) tape)
+
 pub settled : (command : Command) (old : Around) → IsTelling command old
     → IsSettled (steps command) (steps command) (left_of old) (left_of old)
 settled (Convert words) old tells = settled_converting old words tells
@@ -459,6 +692,8 @@ settled (Check config resource) old told = (
   λ file agrees a b x y. settled_by _ _ a b _ (one_configuration config file a b x y) (λ rows.
       λ c d h k. settled_by _ _ c d _ (h ∙ sym k) (λ text. refl)),
 )
+settled (Put words store) old tells = settled_putting old words store tells
+settled (Get words) old tells = settled_getting old words tells
 settled (Rows store) old told = (
   told,
   refl,

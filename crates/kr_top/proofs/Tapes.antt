@@ -48,7 +48,7 @@ may_borrow None make held e n = absurd cc
 may_borrow (Some None) make held t n = t.0
 may_borrow (Some (Some bytes)) make held e n = absurd cc
 
-one_of : {B : Type 0} (q : Bool) (x y u v : B) → x ≡ u → (q ≡ false → y ≡ v)
+pub one_of : {B : Type 0} (q : Bool) (x y u v : B) → x ≡ u → (q ≡ false → y ≡ v)
     → (if q then x else y) ≡ (if q then u else v)
 one_of true x y u v e f = e
 one_of false x y u v e f = f refl
@@ -103,7 +103,7 @@ module _ {old new : Outside} (files : KeepsFiles old new) (objects : KeepsObject
   }
   not_lent name make NoMemory n (inr q) = record {
     home = asked_home files objects a;
-    ends = λ left s. inl (lending name, not_lent_at name make _ s q);
+    ends = λ left s. inl (lending name, tt, not_lent_at name make _ s q);
   }
 
 -- ---- one that was
@@ -117,10 +117,10 @@ is_out name {old = old} {out} h = omega (
 )
 
 -- steps that give nothing
-abbrev nothing : Steps (Unit {0})
+abbrev pub nothing : Steps (Unit {0})
 nothing = give tt
 
-lent : (name : List ℕ) (make : Bool) (absent : Refusal) {old out : Outside}
+pub lent : (name : List ℕ) (make : Bool) (absent : Refusal) {old out : Outside}
     {held : Option (List ℕ)} {count : ℕ} → LentTape name make old out held count → (a : Around)
     → Does (borrow_tape name make absent nothing) (with_world old a)
     (with_lent_tape name held count (with_world out a)) (Ok tt)
@@ -150,7 +150,7 @@ lent name make absent {old} {out} {held} {count} h a = record {
       });
 }
 
-came_back : (name : List ℕ) {out new : Outside} {held : Option (List ℕ)} {count : ℕ}
+pub came_back : (name : List ℕ) {out new : Outside} {held : Option (List ℕ)} {count : ℕ}
     → ReturnedTape name out new held count → (a : Around)
     → with_lent_tape name held count (with_world out a) ≡ with_world new a
 came_back name h a = λ i. record a {

@@ -179,7 +179,7 @@ asks_reader truth link seeds list path bytes olds news (Ok opened) u = u.asked
 asks_reader truth link seeds list path bytes olds news (Err (unseal.Refused why)) u = u.asked
 asks_reader truth link seeds list path bytes olds news (Err (unseal.PluginFailed name)) u =
     subst (λ r. AskedOnly link (plugin_reading r) olds news) (sym u.reader) u.others
-asks_reader truth link seeds list path bytes olds news (Err unseal.NoMemory) u = u
+asks_reader truth link seeds list path bytes olds news (Err unseal.NoMemory) u = u.asked
 
 module _ {L : Type 0} (truth : Truth) (link : L → Link) (seeds : List SeedRow)
     (opens : All (λ row. TellsOf truth (key_of row) row.seed) seeds) (list : List Who)

@@ -1,9 +1,9 @@
 -- How the steps of a bench end, by what it made of the bytes.
 use Rattle.std.proofs.Common.{◌≡◌, ◌≢◌, ℕ, zero, suc, ◌≤◌, List, [], ◌∷◌, length, Bool, true, false, Option, None, Some, Result, Ok, Err, refl, sym, ◌∙◌, ap, subst, inl, inr, arith}
-use Rattle.std.specs.Prelude.{IfSome, nat_lt, if◌then◌else◌}
+use Rattle.std.specs.Prelude.{IfOk, IfSome, nat_lt, if◌then◌else◌}
 use Rattle.std.specs.Io.KnownBytes.{Consumes, Keeps}
 use Rattle.std.proofs.KnownBytes.{Keeps-refl}
-use Rattle.kr_base.specs.Limits.{data_limit}
+use Rattle.kr_base.specs.Limits.{data_limit, value_limit}
 use Rattle.kr_config.specs.declared.who.Who.{Who}
 use Rattle.kr_config.specs.declared.who.Who.TheVariants.{Identity, Aescbc, Aesgcm, Kms}
 use Rattle.kr_envelope.specs.Prefixes.{is_marked}
@@ -160,3 +160,13 @@ seal_made link left count resource path bytes a (Some p) direction links back ol
     (subst (λ n. Made Encrypt links n (seal_outcome (count mid) result)) (sym at)
     (seals link left count links old mid a (writer_of (list_at p resource)) p.seeds path bytes
     result later (subst (λ d. length bytes ≤ limit_of d) e fits) s))))
+
+-- a value that was sealed isn't too long
+pub sealed_size : (faults : ℕ) (sealed : Result (List ℕ) SealNo)
+    → IfOk sealed (λ value. length value ≤ value_limit)
+    → IfOk (seal_outcome faults sealed) (λ made. length made.bytes ≤ value_limit)
+sealed_size faults (Ok value) s = s
+sealed_size faults (Err seal.LooksEncrypted) s = tt
+sealed_size faults (Err (seal.TooLarge size)) s = tt
+sealed_size faults (Err seal.DiceFailed) s = tt
+sealed_size faults (Err seal.NoMemory) s = tt

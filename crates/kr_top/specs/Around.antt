@@ -1,10 +1,10 @@
 -- What is around a command, and how its steps end there.
-use Rattle.std.specs.Prelude.{◌≡◌, ℕ, ◌-◌, ◌≤◌, ◌⊎◌, Bool, List, [], Option, Some, Result, Ok, Err, if◌then◌else◌, ◌∷◌}
+use Rattle.std.specs.Prelude.{◌≡◌, ℕ, ◌-◌, ◌≤◌, ◌⊎◌, Bool, List, [], Option, Some, Result, Ok, Err, if◌then◌else◌, ◌∷◌, ⊤}
 use Rattle.std.specs.Io.KnownBytes.{Keeps}
 use Rattle.std.specs.Option.{option_map}
 use Rattle.kr_base.specs.Faults.{Rose}
 use Rattle.kr_kms.specs.Outside.{Outside, Objects, KeepsFiles, file_faults, at_key, same_seat, same_name, same_link}
-use Rattle.kr_top.specs.Steps.{Steps, Call, loading, reading, opening, lending, scanning, drawing, object_of, Point, awaits, amid, refuses, gives, Left, Goes, linking, asking}
+use Rattle.kr_top.specs.Steps.{Steps, Call, loading, reading, opening, lending, scanning, writing, drawing, object_of, Point, awaits, amid, refuses, gives, Left, Goes, linking, asking}
 use Rattle.kr_kms.specs.Calls.{Link}
 use Rattle.kr_kms.specs.Truth.{Truth}
 use Rattle.kr_kms.specs.declared.plugin.Status.{Status}
@@ -91,6 +91,7 @@ faults_at reading around = around.faults
 faults_at (opening seat) around = around.world.faults.dice
 faults_at (lending name) around = around.world.faults.tapes
 faults_at (scanning object name) around = around.world.tapes.faults name
+faults_at (writing object name) around = around.world.tapes.faults name
 faults_at (drawing seat) around = around.world.dice.faults seat
 faults_at (linking seat plugin) around = around.world.faults.links
 faults_at (asking seat plugin) around = around.world.links.faults (seat, plugin)
@@ -102,6 +103,7 @@ count_at reading around = around.faults
 count_at (opening seat) around = file_faults around.world
 count_at (lending name) around = file_faults around.world
 count_at (scanning object name) around = around.world.tapes.faults name
+count_at (writing object name) around = around.world.tapes.faults name
 count_at (drawing seat) around = around.world.dice.faults seat
 count_at (linking seat plugin) around = file_faults around.world
 count_at (asking seat plugin) around = around.world.links.faults (seat, plugin)
@@ -111,6 +113,18 @@ abbrev pub IsFault : Call → Object → ℕ → Around → Around → Type 0
 IsFault call object count old new =
     (object ≡ object_of call) × Rose (faults_at call old) (faults_at call new)
     × (count ≡ count_at call new)
+
+-- memory may lack at the call, but not at a write, so that a row is written whole or a fault tells
+abbrev pub MayLack : Call → Type 0
+MayLack (loading name) = ⊤
+MayLack reading = ⊤
+MayLack (opening seat) = ⊤
+MayLack (lending name) = ⊤
+MayLack (scanning object name) = ⊤
+MayLack (writing object name) = ⊥
+MayLack (drawing seat) = ⊤
+MayLack (linking seat plugin) = ⊤
+MayLack (asking seat plugin) = ⊤
 
 -- ---- what steps did
 
@@ -157,8 +171,8 @@ pub record IsHome (old new : Around) : Type 0 where
   pub links : AreHome old.world.links new.world.links
   pub input : old.faults ≤ new.faults
 
--- how steps end: a fault stands only for the call that they come to, and want of memory for any, or
--- between two
+-- how steps end: a fault stands only for the call that they come to, and want of memory for any
+-- where it may lack, or between two
 abbrev pub Ends : {A : Type 0} → Steps A → Left → Around → Around → Result A Stop → Type 0
 Ends next left old new (Ok x) = Reaches next left new (gives x)
 Ends next left old new (Err (Words why)) = ⊥
@@ -166,4 +180,5 @@ Ends next left old new (Err (Refused why)) = Reaches next left new (refuses why)
 Ends next left old new (Err (Fault object count)) =
     (call : Call) × Reaches next left new (awaits call) × IsFault call object count old new
 Ends next left old new (Err NoMemory) =
-    ((call : Call) × Reaches next left new (awaits call)) ⊎ Reaches next left new amid
+    ((call : Call) × MayLack call × Reaches next left new (awaits call))
+    ⊎ Reaches next left new amid

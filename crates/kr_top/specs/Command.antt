@@ -7,7 +7,7 @@ use Rattle.kr_words.specs.Rules.{before_equals, after_equals}
 use Rattle.kr_words.specs.declared.command.Verb.{Verb}
 use Rattle.kr_words.specs.declared.command.Verb.TheVariants as verbs
 use Rattle.kr_top.specs.declared.command.Command.{Command}
-use Rattle.kr_top.specs.declared.command.Command.TheVariants.{Convert, Check, Inspect, Rows, Judge}
+use Rattle.kr_top.specs.declared.command.Command.TheVariants.{Convert, Check, Inspect, Put, Get, Rows, Judge}
 use Rattle.kr_top.specs.declared.command.Direction.{Direction}
 use Rattle.kr_top.specs.declared.command.Direction.TheVariants.{Encrypt, Decrypt}
 use Rattle.kr_top.specs.declared.refusal.BadWords.{BadWords}
@@ -31,6 +31,29 @@ conversion_of direction options (Some config) (Some resource) (Some path) =
 abbrev pub check_of : (config resource : Option (List ℕ)) → Option Command
 check_of None resource = None
 check_of (Some config) resource = Some (Check config resource)
+
+abbrev pub put_of : (options : List (List ℕ × List ℕ))
+    → (config store resource path : Option (List ℕ)) → Option Command
+put_of options None store resource path = None
+put_of options (Some config) None resource path = None
+put_of options (Some config) (Some store) None path = None
+put_of options (Some config) (Some store) (Some resource) None = None
+put_of options (Some config) (Some store) (Some resource) (Some path) =
+    Some (Put (record {
+      direction = Encrypt;
+      config = config;
+      resource = resource;
+      path = path;
+      options = options;
+    }) store)
+
+abbrev pub lookup_of : (options : List (List ℕ × List ℕ)) → (config store path : Option (List ℕ))
+    → Option Command
+lookup_of options None store path = None
+lookup_of options (Some config) None path = None
+lookup_of options (Some config) (Some store) None = None
+lookup_of options (Some config) (Some store) (Some path) =
+    Some (Get (record { config = config; store = store; path = path; options = options }))
 
 abbrev pub listing_of : (store : Option (List ℕ)) → Option Command
 listing_of None = None
@@ -70,6 +93,12 @@ command_of verbs.Decrypt options =
 command_of verbs.Check options =
     check_of (value_of options (codes "config")) (value_of options (codes "resource"))
 command_of verbs.Inspect options = Some Inspect
+command_of verbs.Put options =
+    put_of options (value_of options (codes "config")) (value_of options (codes "store"))
+    (value_of options (codes "resource")) (value_of options (codes "path"))
+command_of verbs.Get options =
+    lookup_of options (value_of options (codes "config")) (value_of options (codes "store"))
+    (value_of options (codes "path"))
 command_of verbs.Rows options = listing_of (value_of options (codes "store"))
 command_of verbs.Judge options = judgement_of options (value_of options (codes "store"))
 command_of other options = None
@@ -83,7 +112,7 @@ pub record Asks (words : List (List ℕ)) (command : Command) : Type 0 where
   pub small : IsWithinSize options
   pub is : command_of verb options ≡ Some command
 
--- the words mean no command, or one that isn't built
+-- the words mean no command, or one that isn't built, or a fleet, which `FleetAsked` has
 abbrev pub AskNothing : List (List ℕ) → Type 0
 AskNothing words = (verb : Verb) (options : List (List ℕ × List ℕ)) → Means words verb options
     → command_of verb options ≡ None

@@ -1,6 +1,6 @@
 -- The steps of each command, and the phases that they are made of.
-use Rattle.std.specs.Prelude.{◌≡◌, ℕ, zero, suc, Bool, false, List, [], ◌∷◌, ◌++◌, Option, Some, None, Result, Ok, Err, ⊤, if◌then◌else◌}
-use Rattle.kr_base.specs.Limits.{data_limit, value_limit}
+use Rattle.std.specs.Prelude.{◌≡◌, ℕ, zero, suc, Bool, false, List, [], ◌∷◌, ◌++◌, Option, Some, None, Result, Ok, Err, ⊤, if◌then◌else◌, true, length, codes, decimal, nat_lt}
+use Rattle.kr_base.specs.Limits.{data_limit, value_limit, store_limit}
 use Rattle.kr_config.specs.Kept.{Row}
 use Rattle.kr_config.specs.Lists.{list_of}
 use Rattle.kr_config.specs.declared.who.Who.{Who}
@@ -18,20 +18,26 @@ use Rattle.kr_provider.specs.Reading.{Reading, data_of, refused, unopened, value
 use Rattle.kr_provider.specs.Readers.{reader_in, writer_of}
 use Rattle.kr_provider.specs.Sealing.{draw_size, sealed_by}
 use Rattle.kr_provider.specs.declared.refusal.ValueNo.TheVariants.{LooksEncrypted}
-use Rattle.kr_judge.specs.declared.verdict.Verdict.{Verdict}
+use Rattle.kr_rollout.specs.Checks.{store_check}
+use Rattle.kr_store.specs.File.{file_bytes}
+use Rattle.kr_store.specs.Rows.{check_in, live, put_of}
+use Rattle.kr_store.specs.declared.format.Format.{Format}
 use Rattle.kr_store.specs.declared.rows.LogRow.{LogRow}
+use Rattle.kr_store.specs.declared.rows.Row as stored
+use Rattle.kr_judge.specs.declared.verdict.Verdict.{Verdict}
 use Rattle.kr_top.specs.Check.{listing}
 use Rattle.kr_top.specs.Command.{replica_names, reload_in, reload_number, reload_file}
 use Rattle.kr_top.specs.Configuration.{Entries, IsConfiguration}
 use Rattle.kr_top.specs.Inspect.{Inspects}
 use Rattle.kr_top.specs.Judgements.{IsJudged, verdict_outcome}
 use Rattle.kr_top.specs.RowLines.{ShowsRows}
-use Rattle.kr_top.specs.StoreFiles.{Stored, IsStored}
-use Rattle.kr_top.specs.Steps.{Steps, load, take_input, borrow_dice, borrow_tape, read_tape, draw, find, refuse, give, and_then, unwrap}
+use Rattle.kr_top.specs.StoreFiles.{Stored, IsStored, with_row}
+use Rattle.kr_top.specs.Steps.{Steps, load, take_input, borrow_dice, borrow_tape, read_tape, write_row, draw, find, refuse, give, and_then, unwrap}
 use Rattle.kr_top.specs.Plugins.{borrow_links, make_seeds, programs_of}
 use Rattle.kr_top.specs.declared.command.Command.{Command}
-use Rattle.kr_top.specs.declared.command.Command.TheVariants.{Convert, Check, Inspect, Rows, Judge}
+use Rattle.kr_top.specs.declared.command.Command.TheVariants.{Convert, Check, Inspect, Put, Get, Rows, Judge}
 use Rattle.kr_top.specs.declared.command.Conversion.{Conversion}
+use Rattle.kr_top.specs.declared.command.Lookup.{Lookup}
 use Rattle.kr_top.specs.declared.command.Judgement.{Judgement}
 use Rattle.kr_top.specs.declared.command.Direction.{Direction}
 use Rattle.kr_top.specs.declared.command.Direction.TheVariants.{Encrypt, Decrypt}
@@ -40,7 +46,7 @@ use Rattle.kr_top.specs.declared.refusal.Object.{Object}
 use Rattle.kr_top.specs.declared.refusal.Object.TheVariants.{Store}
 use Rattle.kr_top.specs.declared.programs.Program.{Program}
 use Rattle.kr_top.specs.declared.refusal.Refusal.{Refusal}
-use Rattle.kr_top.specs.declared.refusal.Refusal.TheVariants.{Absent, Limit, Value}
+use Rattle.kr_top.specs.declared.refusal.Refusal.TheVariants.{Absent, Limit, NoPath, Value}
 use Rattle.kr_top.specs.declared.refusal.Limit.TheVariants as limit
 use Rattle.kr_top.specs.declared.refusal.Done.{Done}
 use Rattle.kr_top.specs.declared.refusal.Done.TheVariants.{Silent, Fresh, Stale}
@@ -155,6 +161,12 @@ abbrev pub working : Direction → (resource path : List ℕ) → List Row → L
 working direction resource path rows bytes = with_memory
     (and_then (make_seeds (plugin_order rows)) (working_by direction resource path rows bytes))
 
+-- with the random source and the links that this wants
+abbrev pub bench_steps : List Program → Direction → (resource path : List ℕ) → List Row → List ℕ
+    → Steps Outcome
+bench_steps programs direction resource path rows bytes =
+    borrow_dice 0 (borrow_links programs (working direction resource path rows bytes))
+
 -- the most bytes of the input: of an object's data, or of a stored value
 abbrev pub limit_of : Direction → ℕ
 limit_of Encrypt = data_limit
@@ -176,8 +188,68 @@ converting words =
     and_then (configuration words.config) (λ rows.
     and_then (linking_programs words.options rows) (λ programs.
     and_then (input_of words.direction) (λ bytes.
-    borrow_dice 0 (borrow_links programs
-    (working words.direction words.resource words.path rows bytes)))))
+    bench_steps programs words.direction words.resource words.path rows bytes)))
+
+-- ---- put
+
+-- the store, if its file is within the limit
+abbrev pub within_limit : Stored → Result Stored Refusal
+within_limit store = if nat_lt store_limit (length (file_bytes store.format store.rows))
+    then Err (Limit limit.Store) else Ok store
+
+-- a row is written behind those of the store, where there is memory and the limit isn't passed
+abbrev pub adding : Object → (name : List ℕ) → Stored → LogRow → Steps Stored
+adding object name store row = with_memory (and_then (by_result (within_limit (with_row row store)))
+    (λ grown. write_row object name store row (give grown)))
+
+-- the row of a value, with the check of its writer where the format keeps one
+abbrev pub new_row : Format → Conversion → List Row → (value : List ℕ) → LogRow
+new_row format words rows value = put_of words.path words.resource value
+    (check_in format (store_check (writer_of (list_of rows words.resource))))
+
+-- how many rows the store has now, which is the revision of the last
+abbrev pub revision_line : Stored → List ℕ
+revision_line store = codes "revision " ++ (decimal (length store.rows) ++ codes "\n")
+
+-- the data are sealed, and the value is put behind the rows of the store
+abbrev pub sealed_into : Conversion → (store : List ℕ) → List Row → List Program
+    → (bytes : List ℕ) → Stored → Steps Outcome
+sealed_into words store rows programs bytes read =
+    and_then (bench_steps programs Encrypt words.resource words.path rows bytes) (λ sealed.
+    and_then (adding Store store read (new_row read.format words rows sealed.bytes)) (λ grown.
+    give (silently (revision_line grown))))
+
+-- the store's tape is out from before the sealing until the row is written
+abbrev pub stored_into : Conversion → (store : List ℕ) → List Row → List Program → (bytes : List ℕ)
+    → Steps Outcome
+stored_into words store rows programs bytes = tape_for store true
+    (and_then (stored_on Store store) (sealed_into words store rows programs bytes))
+
+abbrev pub putting : Conversion → (store : List ℕ) → Steps Outcome
+putting words store =
+    and_then (configuration words.config) (λ rows.
+    and_then (linking_programs words.options rows) (λ programs.
+    and_then (input_of Encrypt) (stored_into words store rows programs)))
+
+-- ---- get
+
+-- the row, where the path has one
+abbrev pub row_found : (path : List ℕ) → Option stored.Row → Result stored.Row Refusal
+row_found path None = Err (NoPath path)
+row_found path (Some row) = Ok row
+
+-- the live row of the path in the store on a tape that is lent
+abbrev pub row_on : (store path : List ℕ) → Steps stored.Row
+row_on store path = and_then (stored_on Store store)
+    (λ read. with_memory (by_result (row_found path (live read.rows path))))
+
+-- the tape is back before the value is read
+abbrev pub getting : Lookup → Steps Outcome
+getting words =
+    and_then (configuration words.config) (λ rows.
+    and_then (linking_programs words.options rows) (λ programs.
+    and_then (tape_for words.store false (row_on words.store words.path)) (λ row.
+    bench_steps programs Decrypt row.resource words.path rows row.stored)))
 
 -- ---- list
 
@@ -226,6 +298,8 @@ abbrev pub steps : Command → Steps Outcome
 steps (Convert words) = converting words
 steps (Check config resource) =
     and_then (configuration config) (λ rows. show (λ shown. shown ≡ Ok (listing rows resource)))
+steps (Put words store) = putting words store
+steps (Get words) = getting words
 steps (Rows store) = tape_for store false (listing_on store)
 steps (Judge words) = judging words
 steps Inspect = and_then (input_of Decrypt) (λ bytes. show (Inspects bytes))

@@ -1,8 +1,13 @@
 -- The definitions that contracts cite.
+pub mod Afterwards
 pub mod Around
 pub mod Check
 pub mod Command
 pub mod Commands
+pub mod FleetAsked
+pub mod FleetFiles
+pub mod FleetReadings
+pub mod Fleets
 pub mod Configuration
 pub mod Inspect
 pub mod Judgements

@@ -14,7 +14,7 @@ use Rattle.kr_provider.specs.Refusals.{number_of, name_of}
 use Rattle.kr_top.specs.declared.refusal.Object.{Object}
 use Rattle.kr_top.specs.declared.refusal.Object.TheVariants.{Input, Output, Files, Dice, Store, Plugin}
 use Rattle.kr_top.specs.declared.refusal.Refusal.{Refusal}
-use Rattle.kr_top.specs.declared.refusal.Refusal.TheVariants.{Absent, Configuration, Limit, Value, Placed, Broken, NoPlugin, Unhealthy, Stray, OtherSecret, Unfit}
+use Rattle.kr_top.specs.declared.refusal.Refusal.TheVariants.{Absent, Configuration, Limit, Value, Placed, Broken, NoPath, NoPlugin, Unhealthy, Stray, OtherSecret, Unfit, Script}
 use Rattle.kr_top.specs.declared.refusal.Limit as limits
 use Rattle.kr_top.specs.declared.refusal.Limit.TheVariants as limit
 use Rattle.kr_top.specs.declared.refusal.Breach.{Breach}
@@ -52,9 +52,11 @@ status_of_refusal (Limit which) = 6
 status_of_refusal (Value why) = 1
 status_of_refusal (Placed why at) = 1
 status_of_refusal (Broken why) = 3
+status_of_refusal (NoPath path) = 1
 status_of_refusal (Stray path) = 3
 status_of_refusal (OtherSecret path) = 3
 status_of_refusal (Unfit replica verdict) = 3
+status_of_refusal (Script line) = 3
 
 abbrev pub status_of : Result Done Stop → ℕ
 status_of (Ok done) = status_of_done done
@@ -97,12 +99,20 @@ limit_text limit.Config = codes "config"
 limit_text limit.Data = codes "data"
 limit_text limit.Value = codes "value"
 limit_text limit.Store = codes "store"
+limit_text limit.Script = codes "script"
+limit_text limit.Replicas = codes "replicas"
+limit_text limit.Workers = codes "workers"
+limit_text limit.Journal = codes "journal"
 
 abbrev pub limit_size : limits.Limit → ℕ
 limit_size limit.Config = config_limit
 limit_size limit.Data = data_limit
 limit_size limit.Value = value_limit
 limit_size limit.Store = store_limit
+limit_size limit.Script = store_limit
+limit_size limit.Replicas = replica_limit
+limit_size limit.Workers = 64
+limit_size limit.Journal = 4000000
 
 -- the code of what a store's file breaks, and its place
 abbrev pub broken_code : Breach → List ℕ
@@ -139,10 +149,12 @@ refusal_line (Placed why at) =
     codes "kmsrest: refused " ++ (decimal (number_of why)
     ++ (codes " " ++ (name_of why ++ (codes " " ++ (decimal at ++ codes "\n")))))
 refusal_line (Broken why) = counted_line (codes "kmsrest: text ") (broken_code why) (place_of why)
+refusal_line (NoPath path) = codes "kmsrest: absent " ++ (path ++ codes "\n")
 refusal_line (Stray path) = codes "kmsrest: text 48 " ++ (path ++ codes "\n")
 refusal_line (OtherSecret path) = codes "kmsrest: text 51 " ++ (path ++ codes "\n")
 refusal_line (Unfit replica verdict) = codes "kmsrest: text 49 " ++ (decimal replica
     ++ (codes " " ++ (verdict_text verdict ++ codes "\n")))
+refusal_line (Script line) = counted_line (codes "kmsrest: text ") (codes "47") line
 
 abbrev pub object_text : Object → List ℕ
 object_text Input = codes "input"

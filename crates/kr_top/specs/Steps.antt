@@ -1,6 +1,7 @@
 -- What a command asks of the outside, step by step, and how it goes on by what it saw.
 use Rattle.std.specs.Prelude.{◌≡◌, ℕ, ◌+◌, ◌≤◌, ◌==◌, ◌⊎◌, Bool, true, false, List, [], length, Option, None, Some, if◌then◌else◌}
 use Rattle.std.specs.Io.KnownBytes.{Consumes, IsAtEnd}
+use Rattle.std.specs.Option.{option_map}
 use Rattle.kr_base.specs.Told.{Agrees}
 use Rattle.kr_kms.specs.Outside.{with_call, same_name}
 use Rattle.kr_kms.specs.Calls.{key_in}
@@ -11,6 +12,8 @@ use Rattle.kr_kms.specs.declared.plugin.Wrapped.{Wrapped}
 use Rattle.kr_kms.specs.declared.seeds.SeedKey.{SeedKey}
 use Rattle.kr_kms.specs.declared.world.WorldCall.{WorldCall}
 use Rattle.kr_kms.specs.declared.world.WorldCall.TheVariants.{File, Tape, RandomSource, Link}
+use Rattle.kr_store.specs.declared.rows.LogRow.{LogRow}
+use Rattle.kr_top.specs.StoreFiles.{Stored, with_row, HoldsRows, BeginsWith}
 use Rattle.kr_top.specs.declared.refusal.Object.{Object}
 use Rattle.kr_top.specs.declared.refusal.Object.TheVariants.{Input, Files, Dice, Plugin}
 use Rattle.kr_top.specs.declared.refusal.Refusal.{Refusal}
@@ -27,6 +30,8 @@ pub data Steps (A : Type 0) : Type 1 where
   borrow_tape : (name : List ℕ) (make : Bool) → Refusal → Steps A → Steps A
   -- all bytes of a tape that is lent; a fault's line names the object
   read_tape : Object → (name : List ℕ) → (List ℕ → Steps A) → Steps A
+  -- a row behind the rows of a store, on a tape that is lent; a fault's line names the object
+  write_row : Object → (name : List ℕ) → Stored → LogRow → Steps A → Steps A
   -- so many bytes of the random source of a seat
   draw : (seat size : ℕ) → (List ℕ → Steps A) → Steps A
   -- the link of a seat to a plugin, which a program is
@@ -54,6 +59,8 @@ and_then (borrow_tape name make absent next) others =
     borrow_tape name make absent (and_then next others)
 and_then (read_tape object name next) others =
     read_tape object name (λ bytes. and_then (next bytes) others)
+and_then (write_row object name store row next) others =
+    write_row object name store row (and_then next others)
 and_then (draw seat size next) others = draw seat size (λ bytes. and_then (next bytes) others)
 and_then (borrow_link seat plugin program next) others =
     borrow_link seat plugin program (and_then next others)
@@ -75,6 +82,7 @@ pub data Call : Type 0 where
   opening : (seat : ℕ) → Call
   lending : (name : List ℕ) → Call
   scanning : Object → (name : List ℕ) → Call
+  writing : Object → (name : List ℕ) → Call
   drawing : (seat : ℕ) → Call
   linking : (seat : ℕ) → (plugin : List ℕ) → Call
   asking : (seat : ℕ) → (plugin : List ℕ) → Call
@@ -86,6 +94,7 @@ object_of reading = Input
 object_of (opening seat) = Files
 object_of (lending name) = Files
 object_of (scanning object name) = object
+object_of (writing object name) = object
 object_of (drawing seat) = Dice seat
 object_of (linking seat plugin) = Files
 object_of (asking seat plugin) = Plugin plugin
@@ -140,6 +149,12 @@ with_dice seat rest left = record left { dice = instead seat rest left.dice }
 abbrev pub with_tape : (make : Bool) (name : List ℕ) → Left → Left
 with_tape make name left = record left { tapes = tapes_with make name left.tapes }
 
+-- a tape that is lent tells this
+abbrev pub with_told : (name : List ℕ) → Option (List ℕ) → Left → Left
+with_told name told left = record left {
+  tapes = λ other. if same_name name other then option_map Some told else left.tapes other;
+}
+
 abbrev pub with_asked : WorldCall → Left → Left
 with_asked call left = record left { asked = with_call call left.asked }
 
@@ -177,6 +192,11 @@ module _ {A : Type 0} (point : Point A) (end : Left) where
   Goes (read_tape object name next) left =
       IsAt (awaits (scanning object name)) left
       ⊎ ((bytes : List ℕ) × Agrees (left.tapes name) (Some bytes) × Goes (next bytes) left)
+  Goes (write_row object name store row next) left =
+      ((told : Option (List ℕ)) × BeginsWith store told
+      × IsAt (awaits (writing object name)) (with_told name told left))
+      ⊎ ((told : Option (List ℕ)) × HoldsRows (with_row row store) told
+      × Goes next (with_told name told left))
   Goes (draw seat size next) left =
       IsAt (awaits (drawing seat)) left
       ⊎ ((bytes : List ℕ) × (rest : Option (List ℕ)) × Consumes (left.dice seat) rest bytes

@@ -1,5 +1,5 @@
 -- The store in a file, as a command reads it.
-use Rattle.std.specs.Prelude.{◌≡◌, ℕ, ◌<◌, ◌≤◌, ◌⊎◌, List, length, Result, Ok, Err}
+use Rattle.std.specs.Prelude.{◌≡◌, ℕ, ◌<◌, ◌≤◌, ◌⊎◌, List, [], ◌∷◌, ◌++◌, length, Option, IfSome, Result, Ok, Err}
 use Rattle.kr_base.specs.Limits.{store_limit}
 use Rattle.kr_store.specs.Breaches.{IsBreach}
 use Rattle.kr_store.specs.File.{IsFile}
@@ -17,6 +17,19 @@ use Rattle.kr_top.specs.declared.refusal.Limit.TheVariants.{Store}
 pub record Stored : Type 0 where
   pub format : Format
   pub rows : List LogRow
+
+-- with one more row
+abbrev pub with_row : LogRow → Stored → Stored
+with_row row store = record { format = store.format; rows = store.rows ++ row ∷ [] }
+
+-- where a tape tells its bytes, they are the file of the rows
+abbrev pub HoldsRows : Stored → Option (List ℕ) → Type 0
+HoldsRows store told = IfSome told (IsFile store.format store.rows)
+
+-- or begin with it
+abbrev pub BeginsWith : Stored → Option (List ℕ) → Type 0
+BeginsWith store told = IfSome told (λ bytes. (file : List ℕ) × (rest : List ℕ)
+    × IsFile store.format store.rows file × (bytes ≡ file ++ rest))
 
 -- a breach, as kr_store answers it
 abbrev pub store_no : Breach → StoreNo

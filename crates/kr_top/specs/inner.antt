@@ -1,5 +1,10 @@
 -- The definitions of inner contracts.
+pub mod Beginnings
 pub mod Phases
 pub mod Tapes
 pub mod Judging
+pub mod Outfits
+pub mod Crews
+pub mod FleetFiles
+pub mod Fleets
 pub mod Plugins

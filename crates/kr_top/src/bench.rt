@@ -1,10 +1,11 @@
 //! Seals or unseals by a bench of one configuration.
 ghost use Rattle.std.specs.Prelude.{◌≡◌, ◌≤◌, All, length, Some, IfOk, IfSome, IsSome, MatchResult};
-ghost use Rattle.kr_base.specs.Limits.{path_limit};
+ghost use Rattle.kr_base.specs.Limits.{path_limit, value_limit};
 ghost use Rattle.kr_kms.specs.Truth.{TellsOf, key_of};
 ghost use Rattle.kr_provider.specs.Names.{AreDistinct, HasLinks, names_of};
 ghost use Rattle.kr_top.specs.Around.{Around, with_lent_dice, with_lent_links};
 ghost use Rattle.kr_top.specs.Commands.{freshness, working_by, limit_of};
+ghost use Rattle.kr_top.specs.declared.command.Direction.{Direction};
 ghost use Rattle.kr_top.specs.inner.Phases.{Does};
 ghost use Rattle.kr_top.specs.inner.Plugins.{NamesAnUnread, IsUnsealEnd, seal_outcome};
 
@@ -72,6 +73,8 @@ pub fn work<L: Kms, D: Dice>(
         (with_lent_dice 0 (D.left result.2) (D.count result.2) a))
         result.0) }
     ensures names { names_of L.link result.1 ≡ names_of L.link bench.links }
+    ensures size { direction ≡ Direction.Encrypt
+        → IfOk result.0 (λ made. length made.bytes ≤ value_limit) }
 {
     match direction {
         Direction::Encrypt => {

@@ -1,31 +1,149 @@
 //! The call that does a command.
-ghost use Rattle.std.specs.Prelude.{◌≤◌, Some};
+ghost use Rattle.std.specs.Prelude.{◌≡◌, ◌≤◌, Some};
 ghost use Rattle.kr_words.specs.Grammar.{texts};
-ghost use Rattle.kr_top.specs.Around.{around};
+ghost use Rattle.kr_top.specs.Afterwards.{AreLeft};
+ghost use Rattle.kr_top.specs.Around.{Around, around, with_world};
 ghost use Rattle.kr_top.specs.Commands.{steps};
+ghost use Rattle.kr_top.specs.FleetAsked.{AskNoFleet, AsksFleet};
+ghost use Rattle.kr_top.specs.FleetReadings.{FleetReadings};
+ghost use Rattle.kr_top.specs.Fleets.{RanAlone, RanFleet};
 ghost use Rattle.kr_top.specs.Ran.{receipt, Answers, Ran, Readings};
-ghost use Rattle.kr_top.specs.inner.Phases.{Does, HasShortPath};
+ghost use Rattle.kr_top.specs.declared.fleet_words.FleetWords.{FleetWords};
+ghost use Rattle.kr_top.specs.inner.Phases.{Does, KeepsRules};
 
 use crate::check::check;
 use crate::command::{Command, read_command};
 use crate::convert::convert;
+use crate::fleet::fleet;
+use crate::fleet_words::{FleetWords, read_fleet};
 use crate::inspect::inspect;
 use crate::judge::judge;
+use crate::lookup::get;
 use crate::message::tell;
 use crate::phases::write_output;
 use crate::refusal::{Done, Outcome, Stop};
 use crate::rows::list;
+use crate::storing::put;
 use kr_base::{Sink, Source};
 use kr_kms::World;
 use std::alloc::Global;
+use std::sync::Wait;
+use std::thread::Threads;
 
 /// Does the command that the words mean, and answers its status: 0 done, 1 a value or a reload was
 /// refused, 2 the words mean no command, 3 a configuration or a store is not read, or they don't go
 /// together, 4 an object of the outside failed, 5 want of memory, 6 a limit was passed. Each status
-/// other than 0 has one line on `errors`, but for a reload that was refused, of which the output
-/// says why; where the line can't be written the status is 4. `readings` is what follows from `ran`,
-/// for readers.
-pub fn run<W: World, I: Source, O: Sink, E: Sink>(
+/// other than 0 has one line on `errors`, but for a reload that was refused and for those that a
+/// fleet's replies decide, of which the output says why; where the line can't be written the status
+/// is 4. A fleet's workers wait for each other by `rt`. `readings` is what follows from `ran`, for
+/// readers; `tapes` is what is left of the tapes, by the status. For words that ask for a fleet
+/// `fleet` says what was done, and `fleet_readings` what the status comes from.
+pub fn run<R: Threads + Wait + Sync, W: World, I: Source, O: Sink, E: Sink>(
+    rt: &R,
+    alloc: Global,
+    words: &[String],
+    world: &mut W,
+    input: &mut I,
+    output: &mut O,
+    errors: &mut E,
+) -> u8
+    ensures ran { AskNoFleet (texts words.now) → Ran (texts words.now)
+        (around W.Link.truth (W.told world.old) (I.left input.old)
+        (I.count input.old))
+        (around W.Link.truth (W.told world.new) (I.left input.new)
+        (I.count input.new))
+        (receipt (O.held output.old) (O.held output.new) (O.count output.old) (O.count output.new))
+        (receipt (E.held errors.old) (E.held errors.new) (E.count errors.old) (E.count errors.new))
+        result }
+    ensures readings { AskNoFleet (texts words.now) → Readings (texts words.now)
+        (around W.Link.truth (W.told world.old) (I.left input.old)
+        (I.count input.old))
+        (around W.Link.truth (W.told world.new) (I.left input.new)
+        (I.count input.new))
+        (receipt (O.held output.old) (O.held output.new) (O.count output.old) (O.count output.new))
+        (receipt (E.held errors.old) (E.held errors.new) (E.count errors.old) (E.count errors.new))
+        result }
+    ensures tapes { AskNoFleet (texts words.now) → AreLeft (texts words.now)
+        (around W.Link.truth (W.told world.old) (I.left input.old)
+        (I.count input.old))
+        (around W.Link.truth (W.told world.new) (I.left input.new)
+        (I.count input.new)) result }
+    ensures fleet { (asked : FleetWords) → AsksFleet (texts words.now) asked
+        → RanFleet W.Tap W.Link.truth W.Link.link W.Rand.left W.Rand.count asked
+        (around W.Link.truth (W.told world.old) (I.left input.old)
+        (I.count input.old))
+        (around W.Link.truth (W.told world.new) (I.left input.new)
+        (I.count input.new))
+        (receipt (O.held output.old) (O.held output.new) (O.count output.old) (O.count output.new))
+        (receipt (E.held errors.old) (E.held errors.new) (E.count errors.old) (E.count errors.new))
+        result }
+    ensures fleet_readings { (asked : FleetWords) → AsksFleet (texts words.now) asked
+        → FleetReadings W.Tap W.Link.truth W.Link.link W.Rand.left W.Rand.count asked
+        (around W.Link.truth (W.told world.old) (I.left input.old)
+        (I.count input.old))
+        (around W.Link.truth (W.told world.new) (I.left input.new)
+        (I.count input.new))
+        (receipt (O.held output.old) (O.held output.new) (O.count output.old) (O.count output.new))
+        (receipt (E.held errors.old) (E.held errors.new) (E.count errors.old) (E.count errors.new))
+        result }
+{
+    match read_fleet(alloc, words) {
+        Ok(Some(asked)) => run_fleet(rt, alloc, &asked, world, output, errors),
+        Ok(None) => alone(alloc, words, world, input, output, errors),
+        Err(stop) => tell(errors, &Err(stop)),
+    }
+}
+
+/// The same for each command but `fleet`. Where the words ask for a fleet nothing is done, and
+/// there is no status.
+pub fn run_alone<W: World, I: Source, O: Sink, E: Sink>(
+    alloc: Global,
+    words: &[String],
+    world: &mut W,
+    input: &mut I,
+    output: &mut O,
+    errors: &mut E,
+) -> Option<u8>
+    ensures { RanAlone (texts words.now)
+        (around W.Link.truth (W.told world.old) (I.left input.old)
+        (I.count input.old))
+        (around W.Link.truth (W.told world.new) (I.left input.new)
+        (I.count input.new))
+        (receipt (O.held output.old) (O.held output.new) (O.count output.old) (O.count output.new))
+        (receipt (E.held errors.old) (E.held errors.new) (E.count errors.old) (E.count errors.new))
+        result }
+{
+    match read_fleet(alloc, words) {
+        Ok(Some(_asked)) => None,
+        Ok(None) => Some(alone(alloc, words, world, input, output, errors)),
+        Err(stop) => Some(tell(errors, &Err(stop))),
+    }
+}
+
+/// Runs a fleet, and tells how it ended where its replies don't.
+fn run_fleet<R: Threads + Wait + Sync, W: World, O: Sink, E: Sink>(
+    rt: &R,
+    alloc: Global,
+    asked: &FleetWords,
+    world: &mut W,
+    output: &mut O,
+    errors: &mut E,
+) -> u8
+    ensures { (a : Around) → a.truth ≡ W.Link.truth
+        → RanFleet W.Tap W.Link.truth W.Link.link W.Rand.left W.Rand.count asked.now
+        (with_world (W.told world.old) a) (with_world (W.told world.new) a)
+        (receipt (O.held output.old) (O.held output.new) (O.count output.old) (O.count output.new))
+        (receipt (E.held errors.old) (E.held errors.new) (E.count errors.old) (E.count errors.new))
+        result }
+{
+    match fleet(rt, alloc, asked, world, output) {
+        Ok(ending) => ending.status(),
+        Err(stop) => tell(errors, &Err(stop)),
+    }
+}
+
+/// Does a command that no one waits in. Words that ask for a fleet mean none here.
+fn alone<W: World, I: Source, O: Sink, E: Sink>(
     alloc: Global,
     words: &[String],
     world: &mut W,
@@ -49,6 +167,11 @@ pub fn run<W: World, I: Source, O: Sink, E: Sink>(
         (receipt (O.held output.old) (O.held output.new) (O.count output.old) (O.count output.new))
         (receipt (E.held errors.old) (E.held errors.new) (E.count errors.old) (E.count errors.new))
         result }
+    ensures tapes { AreLeft (texts words.now)
+        (around W.Link.truth (W.told world.old) (I.left input.old)
+        (I.count input.old))
+        (around W.Link.truth (W.told world.new) (I.left input.new)
+        (I.count input.new)) result }
 {
     let answer = answer(alloc, words, world, input, output);
     tell(errors, &answer)
@@ -86,7 +209,7 @@ fn perform<W: World, I: Source>(
     world: &mut W,
     input: &mut I,
 ) -> Result<Outcome, Stop>
-    requires path { HasShortPath (Some command.now) }
+    requires path { KeepsRules (Some command.now) }
     ensures { Does (steps command.now)
         (around W.Link.truth (W.told world.old) (I.left input.old)
         (I.count input.old))
@@ -98,6 +221,8 @@ fn perform<W: World, I: Source>(
         Command::Convert(words) => convert(alloc, words, world, input),
         Command::Check { config, resource } => check(alloc, config.as_str(), resource, world),
         Command::Inspect => inspect(alloc, input),
+        Command::Put { object, store } => put(alloc, object, store, world, input),
+        Command::Get(words) => get(alloc, words, world),
         Command::Rows { store } => list(alloc, store.as_str(), world),
         Command::Judge(words) => judge(alloc, words, world),
     }

@@ -5,8 +5,9 @@ ghost use Rattle.kr_words.specs.Grammar.{texts, replicas_of, replica_limit};
 ghost use Rattle.kr_words.specs.declared.command.Verb.{Verb};
 ghost use Rattle.kr_words.specs.Options.{value_of};
 ghost use Rattle.kr_words.specs.Rules.{IsCommand};
-ghost use Rattle.kr_top.specs.Command.{command_of, conversion_of, check_of, listing_of, judgement_of};
-ghost use Rattle.kr_top.specs.inner.Phases.{IsReadAs, HasShortPath};
+ghost use Rattle.kr_top.specs.Command.{command_of, conversion_of, check_of, lookup_of, listing_of, judgement_of, put_of};
+ghost use Rattle.kr_base.specs.Rules.{IsPath, IsResource};
+ghost use Rattle.kr_top.specs.inner.Phases.{IsReadAs, KeepsRules};
 
 use crate::options::Options;
 use crate::refusal::{BadWords, Stop};
@@ -38,6 +39,19 @@ pub struct Conversion {
     pub options: Options,
 }
 
+/// Which value of a store is to be read.
+#[derive(Debug, Drop)]
+pub struct Lookup {
+    /// The name of the configuration file.
+    pub config: Text,
+    /// The name of the store's file.
+    pub store: Text,
+    /// The path of the value.
+    pub path: Text,
+    /// All options of the words, which give the programs of plugins.
+    pub options: Options,
+}
+
 /// Which reload is to be judged.
 #[derive(Debug, Drop)]
 pub struct Judgement {
@@ -61,6 +75,15 @@ pub enum Command {
     },
     /// Shows what the input, a stored value, says of itself.
     Inspect,
+    /// Encrypts the input, and puts the value into a store.
+    Put {
+        /// The object.
+        object: Conversion,
+        /// The name of the store's file.
+        store: Text,
+    },
+    /// Reads a value of a store.
+    Get(Lookup),
     /// Lists the rows of a store.
     Rows {
         /// The name of the store's file.
@@ -96,13 +119,15 @@ fn command_of(alloc: Global, words: kr_words::Command) -> Result<Option<Command>
     requires command { IsCommand words.verb words.options.0 }
     requires few { replicas_of words.options.0 ≤ replica_limit }
     ensures command { IfOk result (λ command. command ≡ command_of words.verb words.options.0) }
-    ensures path { IfOk result HasShortPath }
+    ensures path { IfOk result KeepsRules }
 {
     match words.verb {
         Verb::Encrypt => conversion_of(alloc, Direction::Encrypt, words),
         Verb::Decrypt => conversion_of(alloc, Direction::Decrypt, words),
         Verb::Check => check_of(alloc, &words),
         Verb::Inspect => Ok(Some(Command::Inspect)),
+        Verb::Put => put_of(alloc, words),
+        Verb::Get => lookup_of(alloc, words),
         Verb::Rows => listing_of(alloc, &words),
         Verb::Judge => judgement_of(alloc, words),
         _ => Ok(None),
@@ -120,7 +145,7 @@ fn conversion_of(
         (value_of words.options.0 (codes "config"))
         (value_of words.options.0 (codes "resource"))
         (value_of words.options.0 (codes "path"))) }
-    ensures path { IfOk result HasShortPath }
+    ensures path { IfOk result KeepsRules }
 {
     let config = value_of(alloc, &words, "config")?;
     let resource = value_of(alloc, &words, "resource")?;
@@ -145,7 +170,7 @@ fn conversion_at(
     requires { IfSome path (λ path. length path ≤ path_limit) }
     ensures command { result
         ≡ conversion_of direction options (Some config) (Some resource) path }
-    ensures path { HasShortPath result }
+    ensures path { KeepsRules result }
 {
     match path {
         Some(path) => Some(Command::Convert(Conversion {
@@ -174,7 +199,7 @@ fn check_of(alloc: Global, words: &kr_words::Command) -> Result<Option<Command>,
     ensures command { IfOk result (λ command. command ≡ check_of
         (value_of words.now.options.0 (codes "config"))
         (value_of words.now.options.0 (codes "resource"))) }
-    ensures path { IfOk result HasShortPath }
+    ensures path { IfOk result KeepsRules }
 {
     let config = value_of(alloc, words, "config")?;
     let resource = value_of(alloc, words, "resource")?;
@@ -184,11 +209,102 @@ fn check_of(alloc: Global, words: &kr_words::Command) -> Result<Option<Command>,
     }
 }
 
+/// The words of `put`.
+fn put_of(alloc: Global, words: kr_words::Command) -> Result<Option<Command>, NoMemory>
+    requires command { IsCommand words.verb words.options.0 }
+    requires verb { words.verb ≡ Verb.Put }
+    ensures command { IfOk result (λ command. command ≡ put_of words.options.0
+        (value_of words.options.0 (codes "config"))
+        (value_of words.options.0 (codes "store"))
+        (value_of words.options.0 (codes "resource"))
+        (value_of words.options.0 (codes "path"))) }
+    ensures path { IfOk result KeepsRules }
+{
+    let config = value_of(alloc, &words, "config")?;
+    let store = value_of(alloc, &words, "store")?;
+    let resource = value_of(alloc, &words, "resource")?;
+    let path = value_of(alloc, &words, "path")?;
+    let Some(config) = config else {
+        return Ok(None);
+    };
+    let Some(store) = store else {
+        return Ok(None);
+    };
+    Ok(put_at(config, store, resource, path, Options::new(words)))
+}
+
+/// A put of an object at a path, where there is one.
+fn put_at(
+    config: Text,
+    store: Text,
+    resource: Option<Text>,
+    path: Option<Text>,
+    options: Options,
+) -> Option<Command>
+    requires path { IfSome path IsPath }
+    requires resource { IfSome resource IsResource }
+    ensures command { result ≡ put_of options (Some config) (Some store) resource path }
+    ensures path { KeepsRules result }
+{
+    let Some(resource) = resource else {
+        return None;
+    };
+    let Some(path) = path else {
+        return None;
+    };
+    let object = Conversion {
+        direction: Direction::Encrypt,
+        config,
+        resource,
+        path,
+        options,
+    };
+    Some(Command::Put { object, store })
+}
+
+/// The words of `get`.
+fn lookup_of(alloc: Global, words: kr_words::Command) -> Result<Option<Command>, NoMemory>
+    requires { IsCommand words.verb words.options.0 }
+    ensures command { IfOk result (λ command. command ≡ lookup_of words.options.0
+        (value_of words.options.0 (codes "config"))
+        (value_of words.options.0 (codes "store"))
+        (value_of words.options.0 (codes "path"))) }
+    ensures path { IfOk result KeepsRules }
+{
+    let config = value_of(alloc, &words, "config")?;
+    let store = value_of(alloc, &words, "store")?;
+    let path = path_of(alloc, &words)?;
+    let Some(config) = config else {
+        return Ok(None);
+    };
+    let Some(store) = store else {
+        return Ok(None);
+    };
+    Ok(lookup_at(config, store, path, Options::new(words)))
+}
+
+/// A look-up of a path, where there is one.
+fn lookup_at(config: Text, store: Text, path: Option<Text>, options: Options) -> Option<Command>
+    requires { IfSome path (λ path. length path ≤ path_limit) }
+    ensures command { result ≡ lookup_of options (Some config) (Some store) path }
+    ensures path { KeepsRules result }
+{
+    match path {
+        Some(path) => Some(Command::Get(Lookup {
+            config,
+            store,
+            path,
+            options,
+        })),
+        None => None,
+    }
+}
+
 /// The words of `list`.
 fn listing_of(alloc: Global, words: &kr_words::Command) -> Result<Option<Command>, NoMemory>
     ensures command { IfOk result (λ command. command ≡ listing_of
         (value_of words.now.options.0 (codes "store"))) }
-    ensures path { IfOk result HasShortPath }
+    ensures path { IfOk result KeepsRules }
 {
     match value_of(alloc, words, "store")? {
         Some(store) => Ok(Some(Command::Rows { store })),
@@ -203,7 +319,7 @@ fn judgement_of(alloc: Global, words: kr_words::Command) -> Result<Option<Comman
     requires verb { words.verb ≡ Verb.Judge }
     ensures command { IfOk result (λ command. command ≡ judgement_of words.options.0
         (value_of words.options.0 (codes "store"))) }
-    ensures path { IfOk result HasShortPath }
+    ensures path { IfOk result KeepsRules }
 {
     let Some(_reload) = words.reload() else {
         unreachable!();

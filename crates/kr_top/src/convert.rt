@@ -10,7 +10,7 @@ use crate::command::Conversion;
 use crate::phases::{configure, take_input};
 use crate::programs::programs_of;
 use crate::refusal::{Outcome, Stop};
-use crate::work::make;
+use crate::work::{Task, make};
 use kr_base::Source;
 use kr_kms::World;
 use std::alloc::Global;
@@ -42,12 +42,11 @@ pub fn convert<W: World, I: Source>(
         Ok(bytes) => bytes,
         Err(stop) => return Err(stop),
     };
-    make(
-        alloc,
-        words,
-        settings,
-        programs.as_slice(),
-        world,
-        bytes.as_slice(),
-    )
+    let task = Task {
+        direction: words.direction,
+        resource: words.resource.as_str(),
+        path: words.path.as_str(),
+        bytes: bytes.as_slice(),
+    };
+    make(alloc, &task, settings, programs.as_slice(), world)
 }

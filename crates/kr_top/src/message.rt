@@ -50,11 +50,13 @@ fn status_of_refusal(why: &Refusal) -> u8
     match why {
         Refusal::Value(_) => 1,
         Refusal::Placed(_, _) => 1,
+        Refusal::NoPath(_) => 1,
         Refusal::Absent(_) => 3,
         Refusal::Broken(_) => 3,
         Refusal::Stray(_) => 3,
         Refusal::OtherSecret(_) => 3,
         Refusal::Unfit(_, _) => 3,
+        Refusal::Script(_) => 3,
         Refusal::NoPlugin(_) => 3,
         Refusal::Unhealthy(_, _, _) => 3,
         Refusal::Configuration(why) => status_of_configuration(*why),
@@ -142,11 +144,13 @@ fn write_refusal<E: Sink>(errors: &mut E, why: &Refusal) -> Result<(), Failed>
         Refusal::Value(why) => write_value(errors, *why),
         Refusal::Placed(why, at) => write_placed(errors, *why, *at),
         Refusal::Broken(why) => write_broken(errors, *why),
+        Refusal::NoPath(path) => write_each(errors, &["kmsrest: absent ", path.as_str(), "\n"]),
         Refusal::Stray(path) => write_each(errors, &["kmsrest: text 48 ", path.as_str(), "\n"]),
         Refusal::OtherSecret(path) => {
             write_each(errors, &["kmsrest: text 51 ", path.as_str(), "\n"])
         }
         Refusal::Unfit(replica, verdict) => write_unfit(errors, *replica, verdict),
+        Refusal::Script(line) => write_counted(errors, "kmsrest: text ", "47", *line),
     }
 }
 
@@ -195,6 +199,10 @@ fn limit_text(which: Limit) -> &'static str
         Limit::Data => "data",
         Limit::Value => "value",
         Limit::Store => "store",
+        Limit::Script => "script",
+        Limit::Replicas => "replicas",
+        Limit::Workers => "workers",
+        Limit::Journal => "journal",
     }
 }
 
@@ -206,6 +214,10 @@ fn limit_size(which: Limit) -> u64
         Limit::Data => DATA_LIMIT,
         Limit::Value => VALUE_LIMIT,
         Limit::Store => STORE_LIMIT,
+        Limit::Script => STORE_LIMIT,
+        Limit::Replicas => 16,
+        Limit::Workers => 64,
+        Limit::Journal => 4_000_000,
     }
 }
 

@@ -100,12 +100,12 @@ pub fn programs_of(alloc: Global, options: &Options, settings: &Settings) -> Res
 }
 
 /// Tells that a text is one.
-fn tell_text(text: &str)
+pub(crate) fn tell_text(text: &str)
     ensures { IsUtf8 text.now }
 {}
 
 /// The refusal of a plugin without a program, or that there is no memory for it.
-fn without_program(alloc: Global, plugin: &str) -> Stop
+pub(crate) fn without_program(alloc: Global, plugin: &str) -> Stop
     ensures { (result ≡ Stop.Refused (Refusal.NoPlugin plugin.now)) ⊎ (result ≡ Stop.NoMemory) }
 {
     match Text::copy(alloc, plugin) {

@@ -36,6 +36,7 @@ pub fn publish_by<L: Kms, D: Dice>(
     ensures rows { IfOk result (λ p. p.rows ≡ rows_of settings.entries.0) }
     ensures opens { IfOk result (λ p. All (λ row. TellsOf L.truth (key_of row) row.seed) p.seeds) }
     ensures asked { AskedOnly L.link (plugins_in (rows_of settings.entries.0)) links.old links.new }
+    ensures later { D.count dice.old ≤ D.count dice.new }
 {
     links.known();
     match publish(alloc, settings, links, dice) {

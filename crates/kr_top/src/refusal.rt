@@ -34,7 +34,7 @@ pub enum BadWords {
     Size,
 }
 
-/// A limit of bytes.
+/// A limit, of bytes where nothing else is said.
 #[derive(Clone, Copy, Debug, PartialEq, Eq)]
 pub enum Limit {
     /// That of a configuration file: 1,048,576.
@@ -45,6 +45,14 @@ pub enum Limit {
     Value,
     /// That of a store's file: 67,108,864.
     Store,
+    /// That of a fleet file: 67,108,864.
+    Script,
+    /// How many replicas a fleet may have: 16.
+    Replicas,
+    /// How many workers: 64.
+    Workers,
+    /// How many lines their journal may need: 4,000,000.
+    Journal,
 }
 
 /// What the bytes of a store's file break first; the place is that of the row that breaks it.
@@ -79,12 +87,16 @@ pub enum Refusal {
     Placed(ValueNo, u64),
     /// The file of a store is none.
     Broken(Breach),
+    /// The store has no value at this path.
+    NoPath(Text),
     /// No provider of the first replica reads what is stored at this path.
     Stray(Text),
     /// What is stored at this path was sealed with another secret of the same name.
     OtherSecret(Text),
     /// The configuration of this replica is refused beside those before it.
     Unfit(u32, Verdict),
+    /// This line of the fleet file, from 1, can't stand there.
+    Script(u64),
 }
 
 /// Why a command wasn't done.

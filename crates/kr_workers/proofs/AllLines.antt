@@ -83,10 +83,12 @@ module _ {L D : Type 0} (truth : Truth) (link : L → Link) (left : D → Option
           there = subst (λ (o : Opening). replica < length o.replicas) (sym going.opening)
               ready.there;
           idle = going.idle;
-          room = subst (λ (o : Opening). reloads_in c.mine + brought_by asked ≤ get_or o.reloads c.seat 0)
+          room = subst (λ (o : Opening). reloads_in c.mine + brought_by asked ≤ get_or o.reloads
+              c.seat 0)
               (sym going.opening) (subst (λ s. reloads_in c.mine + brought_by asked
               ≤ get_or old.opening.reloads s 0) (sym going.seat) (omega (arith, room_is)));
-          links = subst (λ (o : Opening). AreServed o.names (names_of link now.links)) (sym going.opening)
+          links = subst (λ (o : Opening). AreServed o.names (names_of link now.links))
+              (sym going.opening)
               (subst (λ names. AreServed old.opening.names names)
               (sym (names_stay link (names_of link bench.links) bench.links now.links
               going.asked_only)) ready.links);
@@ -138,7 +140,8 @@ module _ {L D : Type 0} (truth : Truth) (link : L → Link) (left : D → Option
                 seat = ap (λ (d : Caller). d.seat) s.adds.1.new_is ∙ going.seat;
                 idle = s.idle;
                 room = subst (λ n. reloads_in new.mine + reloads_of (drop n lines)
-                    ≤ get_or old.opening.reloads old.seat 0) (let one : suc k ≡ k + 1 = omega arith in
+                    ≤ get_or old.opening.reloads old.seat 0)
+                    (let one : suc k ≡ k + 1 = omega arith in
                     one) (omega (arith, room_is, brought, s.adds.2.brings_few));
                 honest = honest_on (Ok reply) s;
                 asked_only = asked_on (Ok reply) s;
@@ -149,7 +152,8 @@ module _ {L D : Type 0} (truth : Truth) (link : L → Link) (left : D → Option
           -- it was cut short
           pub cut_short : Serves truth link left count files replica asked c now
               (Err (record {})) new after
-              → Runs truth link left count files replica lines old bench replies (Err (record {})) new
+              → Runs truth link left count files replica lines old bench replies (Err (record {}))
+              new
               after
           cut_short s = record {
             run = going.run;

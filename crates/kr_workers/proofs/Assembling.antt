@@ -453,7 +453,8 @@ module _ {T L D : Type 0} (truth : Truth) (link : L → Link) (left : D → Opti
       put_known path resource plain c =
           let d : Did = did.Put path resource plain in
           let p = put_by_entry history d c in
-          let a = All-contains (λ e. (seat : Place (SharedCore T) Entry Opening) × Contains back seat
+          let a = All-contains (λ e. (seat : Place (SharedCore T) Entry Opening) × Contains back
+          seat
           × (number_of seat ≡ seat_of e) × Contains (mine seat) e) history p.entry added p.there in
           let b = is_back a.0 a.1.0 a.1.1 a.0 a.1.2 in
           let h = b.at.has in
@@ -561,6 +562,7 @@ module _ {T L D : Type 0} (truth : Truth) (link : L → Link) (left : D → Opti
               (subst (λ (p : Opening). IsHonest truth.opens p []) (sym all.basis) opening) back_its
               (back_keeps told));
           many = length-map done unseated ∙ done_long ∙ sym all.many;
+          whole = all.many;
           each = λ i part worker l.
               let done_is = done_long in
               let same : get_or (map unseated done) i worker ≡ unseated (get_or done i worker) =

@@ -1,5 +1,5 @@
 -- Each reply has its cause, by the relation of its line's call: of a rewrite, and of all lines.
-use Rattle.std.proofs.Common.{◌≡◌, ℕ, Bool, true, false, List, [], ◌∷◌, Option, Result, Ok, Err, inl, inr, ap, sym, subst}
+use Rattle.std.proofs.Common.{◌≡◌, ℕ, Bool, true, false, List, [], ◌∷◌, Option, Result, Ok, Err, inl, inr, refl, ap, sym, subst}
 use Rattle.std.proofs.lemmas.Bool.{false≢true}
 use Rattle.kr_kms.specs.Calls.{Link}
 use Rattle.kr_kms.specs.Truth.{Truth}
@@ -30,10 +30,11 @@ use Rattle.kr_script.specs.declared.script.ScriptLine.TheVariants as line
 use Rattle.kr_script.specs.declared.told.Told.{Told}
 use Rattle.kr_script.specs.declared.told.Told.TheVariants as told
 use Rattle.kr_workers.specs.declared.files.SettingsFile.{SettingsFile}
+use Rattle.kr_workers.specs.Causes.{TellsAnswer}
 use Rattle.kr_workers.specs.Files.{rows_at}
 use Rattle.kr_workers.specs.Replies.{told_of_drive}
 use Rattle.kr_workers.specs.ScriptLines.{Does, Workplace}
-use Rattle.kr_workers.proofs.Causing.{Causes, HasCauseAt, caused_later, caused_within, deleted_caused, early_caused, get_caused, held_caused, is_done, left_caused, put_caused, refused_caused, spent_caused, store_failed, told_caused}
+use Rattle.kr_workers.proofs.Causing.{Causes, HasCauseAt, caused_later, caused_within, deleted_caused, early_caused, get_caused, held_caused, is_done, left_caused, own_gave, put_caused, refused_caused, spent_caused, store_failed, told_caused}
 use Rattle.kr_workers.proofs.CausingLoads.{joined_caused, refresh_caused, reloaded_caused}
 
 module _ {L D : Type 0} (truth : Truth) (link : L → Link) (left : D → Option (List ℕ))
@@ -64,9 +65,13 @@ module _ {L D : Type 0} (truth : Truth) (link : L → Link) (left : D → Option
       absurd (undone why (step.Changed path) r)
   replaces_caused path row stored old new olds news dice after why answer.StoreFailed a r =
       as_told old new olds news dice after why refusal.StoreFailed r
-      (store_failed old new (event.Replace path row.revision stored) a)
+      (tt, store_failed old new (event.Replace path row.revision stored) a)
   replaces_caused path row stored old new olds news dice after why (answer.StoreFull needed) a r =
-      as_told old new olds news dice after why (refusal.StoreFull needed) r tt
+      as_told old new olds news dice after why (refusal.StoreFull needed) r (
+        tt,
+        own_gave old new (event.Replace path row.revision stored) (answer.StoreFull needed)
+            (TellsAnswer told.Full) a (needed, refl),
+      )
   replaces_caused path row stored old new olds news dice after why answer.NoMemory a r =
       as_told old new olds news dice after why refusal.NoMemory r tt
   replaces_caused path row stored old new olds news dice after why (answer.Adopted number p) a r =
@@ -105,7 +110,7 @@ module _ {L D : Type 0} (truth : Truth) (link : L → Link) (left : D → Option
   reseals_caused p row plain old new olds news dice after why (Err (sealing.TooLarge size)) s r =
       absurd (undone why (step.Left row.path) r.0)
   reseals_caused p row plain old new olds news dice after why (Err sealing.DiceFailed) s r =
-      as_told old new olds news dice after why refusal.DiceFailed r.0 s.2
+      as_told old new olds news dice after why refusal.DiceFailed r.0 (tt, s.2)
   reseals_caused p row plain old new olds news dice after why (Err sealing.NoMemory) s r =
       as_told old new olds news dice after why refusal.NoMemory r.0 tt
 
@@ -130,7 +135,7 @@ module _ {L D : Type 0} (truth : Truth) (link : L → Link) (left : D → Option
   opens_caused p row old new olds news dice after why (Err (unsealing.Refused wrong)) u r =
       absurd (undone why (step.Left row.path) r.0)
   opens_caused p row old new olds news dice after why (Err (unsealing.PluginFailed name)) u r =
-      as_told old new olds news dice after why (refusal.PluginFailed name) r.0 u.rose
+      as_told old new olds news dice after why (refusal.PluginFailed name) r.0 (tt, u.rose)
   opens_caused p row old new olds news dice after why (Err unsealing.NoMemory) u r =
       as_told old new olds news dice after why refusal.NoMemory r.0 tt
 
@@ -173,7 +178,7 @@ module _ {L D : Type 0} (truth : Truth) (link : L → Link) (left : D → Option
       → IsStep truth link left count replica above old olds dice (Err why) new news after
       → CausesStep old olds dice why new news after
   step_caused replica above old new olds news dice after why (inl e) =
-      early_caused link count line.Rewrite tt replica old new olds news dice after why e.0
+      early_caused link count line.Rewrite tt tt replica old new olds news dice after why e.0
   step_caused replica above old new olds news dice after why (inr h) =
       held_caused link count line.Rewrite
       (λ (number : ℕ) (p : Publication) (from : Caller) (done : Result Step CallNo) (to : Caller).

@@ -1,15 +1,16 @@
 -- The cause of a reply, by the whole of its worker's run.
-use Rattle.std.proofs.Common.{◌≡◌, ℕ, zero, suc, ◌≤◌, List, [], ◌∷◌, ◌++◌, Contains, Option, inl, inr, refl, ap, sym, subst, ◌∙◌, arith}
+use Rattle.std.proofs.Common.{◌≡◌, ℕ, zero, suc, ◌≤◌, List, [], ◌∷◌, ◌++◌, Contains, Option, Some, inl, inr, refl, ap, sym, subst, ◌∙◌, arith}
 use Rattle.std.proofs.Math.Nat.{eq-or-lt_of_le}
 use Rattle.std.proofs.lemmas.List.{append_assoc}
 use Rattle.kr_base.proofs.Counting.{Rose-later}
 use Rattle.kr_base.specs.Faults.{Rose}
 use Rattle.kr_kms.specs.Calls.{IsSameLink, Link}
+use Rattle.kr_kms.specs.Health.{HasBreach}
 use Rattle.kr_kms.specs.Truth.{Truth}
 use Rattle.kr_provider.specs.AskedLinks.{AskedOnly, FaultRose}
 use Rattle.kr_provider.specs.BenchState.{BenchState}
 use Rattle.kr_provider.specs.Names.{names_of}
-use Rattle.kr_provider.proofs.AskedLists.{asked_none, asked_then, names_stay, rose_later}
+use Rattle.kr_provider.proofs.AskedLists.{asked_none, asked_then, breach_back, had, names_stay, rose_later}
 use Rattle.kr_rollout.specs.declared.opening.Entry.{Entry}
 use Rattle.kr_rollout.specs.Acting.{Caller}
 use Rattle.kr_rollout.specs.Parts.{Adds}
@@ -19,12 +20,13 @@ use Rattle.kr_script.specs.declared.script.ScriptLine.{ScriptLine}
 use Rattle.kr_script.specs.declared.told.Told.{Told}
 use Rattle.kr_script.specs.declared.told.Told.TheVariants as told
 use Rattle.kr_workers.specs.declared.files.SettingsFile.{SettingsFile}
-use Rattle.kr_workers.specs.Causes.{HasCause, RepliesHaveCauses}
+use Rattle.kr_workers.specs.Causes.{HasCause, OwnGave, RepliesHaveCauses, TellsAnswer}
 use Rattle.kr_workers.specs.Histories.{StandsIn}
 use Rattle.kr_workers.specs.Runs.{DoesAll, IsDone, LineDone}
 use Rattle.kr_workers.specs.ScriptLines.{Workplace}
-use Rattle.kr_workers.proofs.Causing.{HasCauseAt, store_within}
+use Rattle.kr_workers.proofs.Causing.{HasCauseAt, gave_within, store_within}
 use Rattle.kr_workers.proofs.CausingRewrites.{line_caused}
+use Rattle.kr_workers.proofs.CausingCounts.{often_caused}
 
 -- ---- a count that rose stays risen
 
@@ -111,38 +113,68 @@ module _ {L D : Type 0} (link : L → Link) (count : D → ℕ) where
     later = omega (arith, s.later, t.later);
   }
 
+  -- so is an own entry's answer
+  own_within : (a b c : Workplace L D) (reply : Told) (seen : List Entry) (links : List L)
+      (dice : D) → HasGone link count a b → IsFurther link count c seen links dice
+      → OwnGave b.caller c.caller.seen (TellsAnswer reply)
+      → OwnGave a.caller seen (TellsAnswer reply)
+  own_within a b c reply seen links dice s t g = gave_within a.caller b.caller s.part c.caller.seen
+      t.rest seen (TellsAnswer reply) s.adds g t.seen_is
+
   -- a cause in the midst is one of the whole
   cause_within : (asked : ScriptLine) (a b c : Workplace L D) (reply : Told) (seen : List Entry)
       (links : List L) (dice : D) → HasGone link count a b → IsFurther link count c seen links dice
       → HasCauseAt link count asked b reply c → HasCause link count asked a reply seen links dice
-  cause_within asked a b c (told.Put revision) seen links dice s t h = h
-  cause_within asked a b c (told.Got revision plain) seen links dice s t h = h
-  cause_within asked a b c (told.Deleted revision) seen links dice s t h = h
-  cause_within asked a b c told.Absent seen links dice s t h = h
+  cause_within asked a b c (told.Put revision) seen links dice s t h =
+      (h.0, own_within a b c (told.Put revision) seen links dice s t h.1)
+  cause_within asked a b c (told.Got revision plain) seen links dice s t h =
+      (h.0, own_within a b c (told.Got revision plain) seen links dice s t h.1)
+  cause_within asked a b c (told.Deleted revision) seen links dice s t h =
+      (h.0, own_within a b c (told.Deleted revision) seen links dice s t h.1)
+  cause_within asked a b c told.Absent seen links dice s t h =
+      (h.0, own_within a b c told.Absent seen links dice s t h.1)
+  cause_within asked a b c (told.Reloaded generation) seen links dice s t h =
+      (h.0, own_within a b c (told.Reloaded generation) seen links dice s t h.1)
+  cause_within asked a b c (told.Joined generation) seen links dice s t h =
+      (h.0, own_within a b c (told.Joined generation) seen links dice s t h.1)
+  cause_within asked a b c (told.Present generation) seen links dice s t h =
+      (h.0, own_within a b c (told.Present generation) seen links dice s t h.1)
+  cause_within asked a b c (told.Left generation) seen links dice s t h =
+      (h.0, own_within a b c (told.Left generation) seen links dice s t h.1)
+  cause_within asked a b c told.Gone seen links dice s t h =
+      (h.0, own_within a b c told.Gone seen links dice s t h.1)
+  cause_within asked a b c (told.Refused verdict) seen links dice s t h =
+      (h.0, own_within a b c (told.Refused verdict) seen links dice s t h.1)
+  cause_within asked a b c (told.Refreshed generation) seen links dice s t h =
+      (h.0, own_within a b c (told.Refreshed generation) seen links dice s t h.1)
+  cause_within asked a b c (told.Moved generation) seen links dice s t h =
+      (h.0, own_within a b c (told.Moved generation) seen links dice s t h.1)
+  cause_within asked a b c told.Full seen links dice s t h =
+      (h.0, own_within a b c told.Full seen links dice s t h.1)
   cause_within asked a b c (told.Rewritten rewritten fresh changed left) seen links dice s t h = h
-  cause_within asked a b c (told.Reloaded generation) seen links dice s t h = h
-  cause_within asked a b c (told.Joined generation) seen links dice s t h = h
-  cause_within asked a b c (told.Present generation) seen links dice s t h = h
-  cause_within asked a b c (told.Left generation) seen links dice s t h = h
-  cause_within asked a b c told.Gone seen links dice s t h = h
-  cause_within asked a b c (told.Refused verdict) seen links dice s t h = h
-  cause_within asked a b c (told.Refreshed generation) seen links dice s t h = h
   cause_within asked a b c told.Unchanged seen links dice s t h = h
-  cause_within asked a b c (told.Moved generation) seen links dice s t h = h
   cause_within asked a b c (told.Value why) seen links dice s t h = h
-  cause_within asked a b c (told.Unhealthy name field text) seen links dice s t h = h
-  cause_within asked a b c (told.FaultPlugin name) seen links dice s t h =
-      fault_still link (names_of link c.links) name a.links c.links links
-      (rose_later link (names_of link a.links) name a.links b.links c.links s.asked h) t.asked
-  cause_within asked a b c (told.FaultDice seat) seen links dice s t h = (
-    h.0 ∙ ap (λ (w : Caller). w.seat) s.adds.new_is,
-    rose_still (count a.dice) (count c.dice) (count dice)
-        (Rose-later (count a.dice) (count b.dice) (count c.dice) s.later h.1) t.later,
-  )
-  cause_within asked a b c told.FaultStore seen links dice s t h =
-      store_within a.caller b.caller s.part c.caller.seen t.rest seen s.adds h t.seen_is
-  cause_within asked a b c told.Full seen links dice s t h = h
   cause_within asked a b c told.Memory seen links dice s t h = h
+  cause_within asked a b c (told.Unhealthy name field text) seen links dice s t h = (
+    h.0,
+    had link (names_of link a.links) name (λ it. HasBreach it (Some (field, text))) a.links b.links
+        (breach_back (Some (field, text))) s.asked h.1,
+  )
+  cause_within asked a b c (told.FaultPlugin name) seen links dice s t h = (
+    h.0,
+    fault_still link (names_of link c.links) name a.links c.links links
+        (rose_later link (names_of link a.links) name a.links b.links c.links s.asked h.1) t.asked,
+  )
+  cause_within asked a b c (told.FaultDice seat) seen links dice s t h = (
+    h.0,
+    h.1 ∙ ap (λ (w : Caller). w.seat) s.adds.new_is,
+    rose_still (count a.dice) (count c.dice) (count dice)
+        (Rose-later (count a.dice) (count b.dice) (count c.dice) s.later h.2) t.later,
+  )
+  cause_within asked a b c told.FaultStore seen links dice s t h = (
+    h.0,
+    store_within a.caller b.caller s.part c.caller.seen t.rest seen s.adds h.1 t.seen_is,
+  )
 
 -- ---- a run
 
@@ -208,4 +240,6 @@ replies_have_causes truth link left count files = record {
       new done.reply d.does;
   whole = λ history part first replies after stands done there. whole_caused truth link left count
       files part.replica history part first replies after stands refl done there;
+  often = λ history part first replies after stands. often_caused truth link left count files
+      history part first replies after stands;
 }

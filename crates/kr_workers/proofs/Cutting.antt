@@ -49,7 +49,8 @@ module _ {T : Type 0}
     (none : (number : ℕ) (p : Publication) (from to : Caller)
     → Does number p from (Err refusal.Spent) to → from.left ≡ 0) where
   spent_by : (replica number : ℕ) (p : Publication) (old adopted acted new : Caller)
-      (done : Result T CallNo) → AddsEntry old (event.Adopt replica) (answer.Adopted number p) adopted
+      (done : Result T CallNo)
+      → AddsEntry old (event.Adopt replica) (answer.Adopted number p) adopted
       → Does number p adopted done acted → LetsGo acted done (Err refusal.Spent) new → old.left < 3
   spent_by replica number p old adopted acted new done a d (inl g) =
       let z = none number p adopted acted

@@ -1,7 +1,9 @@
--- A reply to a `get` tells the content before its Fetch.
-use Rattle.std.specs.Prelude.{⊤, Contains}
-use Rattle.std.proofs.Common.{◌≡◌, ℕ, zero, suc, List, [], ◌∷◌, ◌++◌, Option, None, Result, Ok, Err, inl, inr, append-nil, refl, ap, sym, subst, ◌∙◌, arith}
-use Rattle.std.proofs.lemmas.List.{append_assoc}
+-- A reply to a `get` tells the content before the line's own Fetch.
+use Rattle.std.specs.Prelude.{⊤}
+use Rattle.std.proofs.Common.{◌≡◌, ℕ, ◌==◌, List, [], ◌∷◌, ◌++◌, Option, None, Result, Ok, Err, inl, inr, append-nil, ap, sym, subst, ◌∙◌}
+use Rattle.std.proofs.lemmas.List.{append_assoc, append_cancel_left}
+use Rattle.std.proofs.lemmas.List.Elements.{filter-append}
+use Rattle.kr_base.specs.Lines.{of_seat}
 use Rattle.kr_kms.specs.Calls.{Link}
 use Rattle.kr_kms.specs.Truth.{Opens, Truth}
 use Rattle.kr_provider.specs.Publication.{Publication}
@@ -15,11 +17,15 @@ use Rattle.kr_rollout.specs.declared.answer.Answer.TheVariants as answer
 use Rattle.kr_rollout.specs.declared.call.CallNo.{CallNo}
 use Rattle.kr_rollout.specs.declared.call.CallNo.TheVariants as refusal
 use Rattle.kr_rollout.specs.declared.event.Event.TheVariants as event
+use Rattle.kr_rollout.specs.declared.line.Gave.TheVariants as gave
 use Rattle.kr_rollout.specs.declared.opening.Entry.{Entry}
 use Rattle.kr_rollout.specs.declared.opening.Opening.{Opening}
 use Rattle.kr_rollout.specs.Acting.{Caller, AddsEntry}
 use Rattle.kr_rollout.specs.Calls.{LetsGo}
 use Rattle.kr_rollout.specs.Contents.{IsContent}
+use Rattle.kr_rollout.specs.Entries.{seat_of}
+use Rattle.kr_rollout.specs.Parts.{Adds}
+use Rattle.kr_rollout.proofs.PartsAdd.{parts_follow}
 use Rattle.kr_fleet.specs.declared.outcome.Read.{Read}
 use Rattle.kr_fleet.specs.declared.outcome.Read.TheVariants as found
 use Rattle.kr_fleet.specs.ReadCalls.{Finds, FindsRow, IsRead}
@@ -27,7 +33,7 @@ use Rattle.kr_script.specs.declared.told.Told.{Told}
 use Rattle.kr_workers.specs.declared.files.SettingsFile.{SettingsFile}
 use Rattle.kr_workers.specs.Gets.{FetchesWhere, GetsTellContent, ReadsContent, TellsContent}
 use Rattle.kr_workers.specs.Replies.{Reply, told_of_read, told_of_refusal}
-use Rattle.kr_workers.specs.Runs.{DoesAll, IsDone, LineDone}
+use Rattle.kr_workers.specs.Runs.{DoesAll, IsDone, LineDone, entries_in}
 use Rattle.kr_workers.specs.ScriptLines.{Does, Workplace}
 
 -- ---- a line's place in a run
@@ -70,36 +76,32 @@ module _ {L D : Type 0} (truth : Truth) (link : L → Link) (left : D → Option
   run_later a (done ∷ run) b all = then_later a all.0 b (done_later a all.0 done all.1)
       (run_later all.0 run b all.2)
 
-  -- what was done of a run was done somewhere in it
-  record IsDoneWithin (first : Workplace L D) (done : LineDone) (last : Workplace L D)
-      : Type 0 where
+  -- a line was done behind those ahead of it
+  record IsDoneBehind (first : Workplace L D) (ahead : List LineDone) (done : LineDone)
+      (last : Workplace L D) : Type 0 where
     before : Workplace L D
     after : Workplace L D
-    begun : IsLater first before
+    ran : Adds first.caller (entries_in ahead) before.caller
     is_done : IsDone truth link left count files replica before done after
     ended : IsLater after last
 
-  done_within : (first : Workplace L D) (run : List LineDone) (last : Workplace L D)
-      (done : LineDone) → DoesAll truth link left count files replica first run last
-      → Contains run done → IsDoneWithin first done last
-  done_within first [] last done all (k, l, is) = absurd (omega (arith, l))
-  done_within first (d ∷ run) last done all (zero, l, is) = record {
+  done_behind : (first : Workplace L D) (ahead : List LineDone) (done : LineDone)
+      (behind : List LineDone) (last : Workplace L D)
+      → DoesAll truth link left count files replica first (ahead ++ done ∷ behind) last
+      → IsDoneBehind first ahead done last
+  done_behind first [] done behind last all = record {
     before = first;
     after = all.0;
-    begun = record {
-      more = [];
-      seen_is = sym (append-nil first.caller.seen);
-      opening = refl;
-      seat = refl;
-    };
-    is_done = subst (λ x. IsDone truth link left count files replica first x all.0) is all.1;
-    ended = run_later all.0 run last all.2;
+    ran = parts_follow.none first.caller;
+    is_done = all.1;
+    ended = run_later all.0 behind last all.2;
   }
-  done_within first (d ∷ run) last done all (suc k, l, is) =
-      let w = done_within all.0 run last done all.2 (k, omega (arith, l), is) in record {
+  done_behind first (one ∷ ahead) done behind last all =
+      let w = done_behind all.0 ahead done behind last all.2 in record {
         before = w.before;
         after = w.after;
-        begun = then_later first all.0 w.before (done_later first all.0 d all.1) w.begun;
+        ran = parts_follow.both first.caller all.0.caller w.before.caller one.part
+            (entries_in ahead) all.1.adds w.ran;
         is_done = w.is_done;
         ended = w.ended;
       }
@@ -115,35 +117,93 @@ ok_no_err reply other ok is = subst is_ok (sym is) ok
 
 -- ---- the Fetch of a `get`
 
--- the entry of an event stands in each history in which the caller's view does
-entry_there : (old new : Caller) (path : List ℕ) (given : Answer)
-    (a : AddsEntry old (event.Fetch path) given new) (history more : List Entry)
-    → history ≡ new.seen ++ more → (o : Opening) (seat : ℕ) → old.opening ≡ o → old.seat ≡ seat
-    → (Holds : Opening → List Entry → Entry → Type 0)
-    → Holds old.opening (old.seen ++ a.others) a.entry
-    → FetchesWhere history seat path (Holds o)
-entry_there old new path given a history more is o seat opening own Holds holds = record {
-  front = old.seen ++ a.others;
-  fetch = a.entry;
-  rest = more;
-  there = is ∙ ap (λ l. l ++ more) (ap (λ (c : Caller). c.seen) a.new_is)
-      ∙ append_assoc (old.seen ++ a.others) (a.entry ∷ []) more;
-  own = a.records.seat_is ∙ own;
-  fetches = a.records.did_is;
-  holds = subst (λ p. Holds p (old.seen ++ a.others) a.entry) opening holds;
-}
+-- what a caller adds is one part alone
+same_part : (old new : Caller) (p q : List Entry) → Adds old p new → Adds old q new → p ≡ q
+same_part old new p q x y = append_cancel_left old.mine p q
+    (sym (ap (λ (c : Caller). c.mine) x.new_is) ∙ ap (λ (c : Caller). c.mine) y.new_is)
+
+-- a line whose part stands in a history behind those ahead of it: an Adopt, what is done by what
+-- was adopted, and a LetGo
+record IsLineIn (history : List Entry) (o : Opening) (seat : ℕ) (ahead part : List Entry)
+    (p : Publication) (before adopted acted after : Caller) : Type 0 where
+  replica : ℕ
+  number : ℕ
+  adopts : AddsEntry before (event.Adopt replica) (answer.Adopted number p) adopted
+  lets_go : AddsEntry acted event.LetGo answer.Released after
+  more : List Entry
+  is : history ≡ after.seen ++ more
+  opening : before.opening ≡ o
+  own : before.seat ≡ seat
+  seen_own : of_seat seat_of before.seat before.seen ≡ ahead
+  adds : Adds before part after
+
+module _ (history : List Entry) (o : Opening) (seat : ℕ) (ahead part : List Entry)
+    (p : Publication) (before adopted acted after : Caller) (path : List ℕ) (given : Answer)
+    (a : AddsEntry adopted (event.Fetch path) given acted)
+    (it : IsLineIn history o seat ahead part p before adopted acted after) where
+  adopts_one : Adds before (it.adopts.entry ∷ []) adopted
+  adopts_one = parts_follow.one before adopted (event.Adopt it.replica)
+      (answer.Adopted it.number p) it.adopts
+
+  adds_three : Adds before (it.adopts.entry ∷ (a.entry ∷ (it.lets_go.entry ∷ []))) after
+  adds_three = parts_follow.both before adopted after (it.adopts.entry ∷ [])
+      (a.entry ∷ (it.lets_go.entry ∷ [])) adopts_one
+      (parts_follow.both adopted acted after (a.entry ∷ []) (it.lets_go.entry ∷ [])
+      (parts_follow.one adopted acted (event.Fetch path) given a)
+      (parts_follow.one acted after event.LetGo answer.Released it.lets_go))
+
+  same_seat : adopted.seat ≡ before.seat
+  same_seat = ap (λ (c : Caller). c.seat) it.adopts.new_is
+
+  front_own : of_seat seat_of before.seat (adopted.seen ++ a.others)
+      ≡ ahead ++ it.adopts.entry ∷ []
+  front_own =
+      let first : of_seat seat_of before.seat adopted.seen ≡ ahead ++ it.adopts.entry ∷ [] =
+      ap (of_seat seat_of before.seat) (ap (λ (c : Caller). c.seen) adopts_one.new_is)
+      ∙ filter-append (λ (e : Entry). seat_of e == before.seat) before.seen adopts_one.more
+      ∙ (λ i. it.seen_own i ++ adopts_one.own i) in
+      let apart : of_seat seat_of before.seat a.others ≡ [] =
+      subst (λ n. of_seat seat_of n a.others ≡ []) same_seat a.apart in
+      filter-append (λ (e : Entry). seat_of e == before.seat) adopted.seen a.others
+      ∙ (λ i. first i ++ apart i) ∙ append-nil (ahead ++ it.adopts.entry ∷ [])
+
+  fetch_there : (Holds : Opening → List Entry → Entry → Type 0)
+      → Holds adopted.opening (adopted.seen ++ a.others) a.entry
+      → FetchesWhere history seat path ahead part (Holds o)
+  fetch_there Holds holds =
+      let tail : List Entry = it.lets_go.others ++ it.lets_go.entry ∷ [] in record {
+        front = adopted.seen ++ a.others;
+        adopt = it.adopts.entry;
+        fetch = a.entry;
+        let_go = it.lets_go.entry;
+        rest = tail ++ it.more;
+        there = it.is ∙ ap (λ l. l ++ it.more) (ap (λ (c : Caller). c.seen) it.lets_go.new_is
+            ∙ append_assoc acted.seen it.lets_go.others (it.lets_go.entry ∷ []))
+            ∙ append_assoc acted.seen tail it.more
+            ∙ ap (λ l. l ++ (tail ++ it.more)) (ap (λ (c : Caller). c.seen) a.new_is)
+            ∙ append_assoc (adopted.seen ++ a.others) (a.entry ∷ []) (tail ++ it.more);
+        own = a.records.seat_is ∙ same_seat ∙ it.own;
+        fetches = a.records.did_is;
+        part_is = same_part before after part
+            (it.adopts.entry ∷ (a.entry ∷ (it.lets_go.entry ∷ []))) it.adds adds_three;
+        its = subst (λ n. of_seat seat_of n (adopted.seen ++ a.others)
+            ≡ ahead ++ it.adopts.entry ∷ []) it.own front_own;
+        holds = subst (λ q. Holds q (adopted.seen ++ a.others) a.entry)
+            (ap (λ (c : Caller). c.opening) it.adopts.new_is ∙ it.opening) holds;
+      }
 
 -- what is told behind a call that let its generation go
 module _ {L : Type 0} (truth : Truth) (link : L → Link) (path : List ℕ) (olds news : List L)
-    (history : List Entry) (o : Opening) (seat : ℕ) where
+    (history : List Entry) (o : Opening) (seat : ℕ) (ahead part : List Entry) where
   -- what was found tells the content
   abbrev TellsFound : Result Read CallNo → Type 0
-  TellsFound (Ok found.Absent) = FetchesWhere history seat path
-      (λ front fetch. (opens : Opens) → IsContent opens o front path None)
-  TellsFound (Ok (found.Value revision plain stale)) =
-      FetchesWhere history seat path (ReadsContent truth o path (data_of plain))
+  TellsFound (Ok found.Absent) = FetchesWhere history seat path ahead part (λ front fetch.
+      (fetch.line.gave ≡ gave.Absent) × ((opens : Opens) → IsContent opens o front path None))
+  TellsFound (Ok (found.Value revision plain stale)) = FetchesWhere history seat path ahead part
+      (λ front fetch. (fetch.line.gave ≡ gave.Found revision)
+      × ReadsContent truth o path (data_of plain) front fetch)
   TellsFound (Err (refusal.Refused why)) =
-      FetchesWhere history seat path (ReadsContent truth o path (refused why))
+      FetchesWhere history seat path ahead part (ReadsContent truth o path (refused why))
   TellsFound (Err why) = ⊤
 
   value_read : (p : Publication) (old new : Caller) (row : Row) (opened : Opened)
@@ -178,61 +238,75 @@ module _ {L : Type 0} (truth : Truth) (link : L → Link) (path : List ℕ) (old
     by_any = f.by_any;
   }
 
-  found_tells : (p : Publication) (old new : Caller) (done : Result Read CallNo)
-      → Finds truth link path p old olds done new news → (more : List Entry)
-      → history ≡ new.seen ++ more → old.opening ≡ o → old.seat ≡ seat → TellsFound done
-  found_tells p old new (Ok found.Absent) d more is opening own =
-      entry_there old new path answer.Absent d.0.absent history more is o seat opening own
-      (λ o front fetch. (opens : Opens) → IsContent opens o front path None) d.0.content
-  found_tells p old new (Ok (found.Value revision plain stale)) d more is opening own =
-      entry_there old new path (answer.Found d.0) d.1.found history more is o seat opening own
-      (λ o front fetch. ReadsContent truth o path (data_of plain) front fetch)
-      (value_read p old new d.0 (record { plain = plain; stale = stale }) d.1)
-  found_tells p old new (Err (refusal.Refused why)) d more is opening own =
-      entry_there old new path (answer.Found d.0) d.1.found history more is o seat opening own
-      (λ o front fetch. ReadsContent truth o path (refused why) front fetch)
-      (value_refused p old new d.0 why d.1)
-  found_tells p old new (Err (refusal.PluginFailed name)) d more is opening own = tt
-  found_tells p old new (Err refusal.DiceFailed) d more is opening own = tt
-  found_tells p old new (Err refusal.StoreFailed) d more is opening own = tt
-  found_tells p old new (Err (refusal.StoreFull needed)) d more is opening own = tt
-  found_tells p old new (Err (refusal.Unhealthy name field text)) d more is opening own = tt
-  found_tells p old new (Err refusal.Gone) d more is opening own = tt
-  found_tells p old new (Err refusal.Spent) d more is opening own = tt
-  found_tells p old new (Err refusal.NoMemory) d more is opening own = tt
+  found_tells : (p : Publication) (before adopted acted after : Caller)
+      → IsLineIn history o seat ahead part p before adopted acted after
+      → (done : Result Read CallNo) → Finds truth link path p adopted olds done acted news
+      → TellsFound done
+  found_tells p before adopted acted after it (Ok found.Absent) d =
+      fetch_there history o seat ahead part p before adopted acted after path answer.Absent
+      d.0.absent it (λ o front fetch. (fetch.line.gave ≡ gave.Absent)
+      × ((opens : Opens) → IsContent opens o front path None))
+      (d.0.absent.records.gave_is, d.0.content)
+  found_tells p before adopted acted after it (Ok (found.Value revision plain stale)) d =
+      fetch_there history o seat ahead part p before adopted acted after path (answer.Found d.0)
+      d.1.found it (λ o front fetch. (fetch.line.gave ≡ gave.Found revision)
+      × ReadsContent truth o path (data_of plain) front fetch) (
+        d.1.found.records.gave_is ∙ ap (λ n. gave.Found n) d.2,
+        value_read p adopted acted d.0 (record { plain = plain; stale = stale }) d.1,
+      )
+  found_tells p before adopted acted after it (Err (refusal.Refused why)) d =
+      fetch_there history o seat ahead part p before adopted acted after path (answer.Found d.0)
+      d.1.found it (λ o front fetch. ReadsContent truth o path (refused why) front fetch)
+      (value_refused p adopted acted d.0 why d.1)
+  found_tells p before adopted acted after it (Err (refusal.PluginFailed name)) d = tt
+  found_tells p before adopted acted after it (Err refusal.DiceFailed) d = tt
+  found_tells p before adopted acted after it (Err refusal.StoreFailed) d = tt
+  found_tells p before adopted acted after it (Err (refusal.StoreFull needed)) d = tt
+  found_tells p before adopted acted after it (Err (refusal.Unhealthy name field text)) d = tt
+  found_tells p before adopted acted after it (Err refusal.Gone) d = tt
+  found_tells p before adopted acted after it (Err refusal.Spent) d = tt
+  found_tells p before adopted acted after it (Err refusal.NoMemory) d = tt
 
-  -- with the LetGo behind it
-  let_go_tells : (p : Publication) (old acted new : Caller) (done result : Result Read CallNo)
-      → Finds truth link path p old olds done acted news → LetsGo acted done result new
-      → (more : List Entry) → history ≡ new.seen ++ more → old.opening ≡ o → old.seat ≡ seat
-      → TellsFound result
-  let_go_tells p old acted new done result d (inl g) more is opening own = subst
-      (λ (r : Result Read CallNo). TellsFound r) (sym g.1)
-      (found_tells p old acted done d ((g.0.others ++ g.0.entry ∷ []) ++ more)
-      (is ∙ ap (λ l. l ++ more) (ap (λ (c : Caller). c.seen) g.0.new_is
-      ∙ append_assoc acted.seen g.0.others (g.0.entry ∷ []))
-      ∙ append_assoc acted.seen (g.0.others ++ g.0.entry ∷ []) more) opening own)
-  let_go_tells p old acted new done result d (inr n) more is opening own = subst
-      (λ (r : Result Read CallNo). TellsFound r) (sym n.1) tt
+  module _ (replica : ℕ) (old new : Caller) (more : List Entry) (is : history ≡ new.seen ++ more)
+      (opening : old.opening ≡ o) (own : old.seat ≡ seat)
+      (seen_own : of_seat seat_of old.seat old.seen ≡ ahead) (adds : Adds old part new) where
+    -- with the LetGo behind it
+    let_go_tells : (number : ℕ) (p : Publication) (adopted acted : Caller)
+        (done result : Result Read CallNo)
+        → AddsEntry old (event.Adopt replica) (answer.Adopted number p) adopted
+        → Finds truth link path p adopted olds done acted news → LetsGo acted done result new
+        → TellsFound result
+    let_go_tells number p adopted acted done result adopts d (inl g) = subst
+        (λ (r : Result Read CallNo). TellsFound r) (sym g.1)
+        (found_tells p old adopted acted new (record {
+          replica = replica;
+          number = number;
+          adopts = adopts;
+          lets_go = g.0;
+          more = more;
+          is = is;
+          opening = opening;
+          own = own;
+          seen_own = seen_own;
+          adds = adds;
+        }) done d)
+    let_go_tells number p adopted acted done result adopts d (inr n) = subst
+        (λ (r : Result Read CallNo). TellsFound r) (sym n.1) tt
 
-  early_tells : (replica : ℕ) (old new : Caller) (result : Result Read CallNo)
-      → IsRead truth link path replica old olds result new news → (more : List Entry)
-      → history ≡ new.seen ++ more → old.opening ≡ o → old.seat ≡ seat → TellsFound result
-  early_tells replica old new (Ok done) (inl e) more is opening own = absurd e
-  early_tells replica old new (Err (refusal.Refused why)) (inl e) more is opening own = absurd e.0
-  early_tells replica old new (Err (refusal.PluginFailed name)) (inl e) more is opening own = tt
-  early_tells replica old new (Err refusal.DiceFailed) (inl e) more is opening own = tt
-  early_tells replica old new (Err refusal.StoreFailed) (inl e) more is opening own = tt
-  early_tells replica old new (Err (refusal.StoreFull needed)) (inl e) more is opening own = tt
-  early_tells replica old new (Err (refusal.Unhealthy name field text)) (inl e) more is opening
-      own = tt
-  early_tells replica old new (Err refusal.Gone) (inl e) more is opening own = tt
-  early_tells replica old new (Err refusal.Spent) (inl e) more is opening own = tt
-  early_tells replica old new (Err refusal.NoMemory) (inl e) more is opening own = tt
-  early_tells replica old new result (inr h) more is opening own =
-      let_go_tells h.p h.adopted h.acted new h.done result h.does h.lets_go more is
-      (ap (λ (c : Caller). c.opening) h.adopts.new_is ∙ opening)
-      (ap (λ (c : Caller). c.seat) h.adopts.new_is ∙ own)
+    call_tells : (result : Result Read CallNo)
+        → IsRead truth link path replica old olds result new news → TellsFound result
+    call_tells (Ok done) (inl e) = absurd e
+    call_tells (Err (refusal.Refused why)) (inl e) = absurd e.0
+    call_tells (Err (refusal.PluginFailed name)) (inl e) = tt
+    call_tells (Err refusal.DiceFailed) (inl e) = tt
+    call_tells (Err refusal.StoreFailed) (inl e) = tt
+    call_tells (Err (refusal.StoreFull needed)) (inl e) = tt
+    call_tells (Err (refusal.Unhealthy name field text)) (inl e) = tt
+    call_tells (Err refusal.Gone) (inl e) = tt
+    call_tells (Err refusal.Spent) (inl e) = tt
+    call_tells (Err refusal.NoMemory) (inl e) = tt
+    call_tells result (inr h) = let_go_tells h.number h.p h.adopted h.acted h.done result h.adopts
+        h.does h.lets_go
 
   -- the reply tells what was found
   abbrev reply_in : Told → Reply → Told
@@ -241,49 +315,58 @@ module _ {L : Type 0} (truth : Truth) (link : L → Link) (path : List ℕ) (old
 
   refused_tells : (number : ℕ) (why : CallNo) (reply : Told)
       → Ok reply ≡ told_of_refusal number why → TellsFound (Err why)
-      → TellsContent truth o history seat path reply
+      → TellsContent truth o history seat path ahead part reply
   refused_tells number (refusal.Refused why) reply is t = subst
-      (λ r. TellsContent truth o history seat path r) (sym (ap (reply_in reply) is)) t
+      (λ r. TellsContent truth o history seat path ahead part r) (sym (ap (reply_in reply) is)) t
   refused_tells number (refusal.PluginFailed name) reply is t = subst
-      (λ r. TellsContent truth o history seat path r) (sym (ap (reply_in reply) is)) tt
+      (λ r. TellsContent truth o history seat path ahead part r) (sym (ap (reply_in reply) is)) tt
   refused_tells number refusal.DiceFailed reply is t = subst
-      (λ r. TellsContent truth o history seat path r) (sym (ap (reply_in reply) is)) tt
+      (λ r. TellsContent truth o history seat path ahead part r) (sym (ap (reply_in reply) is)) tt
   refused_tells number refusal.StoreFailed reply is t = subst
-      (λ r. TellsContent truth o history seat path r) (sym (ap (reply_in reply) is)) tt
+      (λ r. TellsContent truth o history seat path ahead part r) (sym (ap (reply_in reply) is)) tt
   refused_tells number (refusal.StoreFull needed) reply is t = subst
-      (λ r. TellsContent truth o history seat path r) (sym (ap (reply_in reply) is)) tt
+      (λ r. TellsContent truth o history seat path ahead part r) (sym (ap (reply_in reply) is)) tt
   refused_tells number (refusal.Unhealthy name field text) reply is t = subst
-      (λ r. TellsContent truth o history seat path r) (sym (ap (reply_in reply) is)) tt
+      (λ r. TellsContent truth o history seat path ahead part r) (sym (ap (reply_in reply) is)) tt
   refused_tells number refusal.Gone reply is t = subst
-      (λ r. TellsContent truth o history seat path r) (sym (ap (reply_in reply) is)) tt
-  refused_tells number refusal.Spent reply is t = absurd (ok_no_err (Ok reply) (Err (record {})) tt (sym is))
+      (λ r. TellsContent truth o history seat path ahead part r) (sym (ap (reply_in reply) is)) tt
+  refused_tells number refusal.Spent reply is t = absurd
+      (ok_no_err (Ok reply) (Err (record {})) tt (sym is))
   refused_tells number refusal.NoMemory reply is t = subst
-      (λ r. TellsContent truth o history seat path r) (sym (ap (reply_in reply) is)) tt
+      (λ r. TellsContent truth o history seat path ahead part r) (sym (ap (reply_in reply) is)) tt
 
   read_tells : (number : ℕ) (result : Result Read CallNo) (reply : Told)
       → Ok reply ≡ told_of_read number result → TellsFound result
-      → TellsContent truth o history seat path reply
+      → TellsContent truth o history seat path ahead part reply
   read_tells number (Ok found.Absent) reply is t = subst
-      (λ r. TellsContent truth o history seat path r) (sym (ap (reply_in reply) is)) t
+      (λ r. TellsContent truth o history seat path ahead part r) (sym (ap (reply_in reply) is)) t
   read_tells number (Ok (found.Value revision plain stale)) reply is t = subst
-      (λ r. TellsContent truth o history seat path r) (sym (ap (reply_in reply) is)) t
+      (λ r. TellsContent truth o history seat path ahead part r) (sym (ap (reply_in reply) is)) t
   read_tells number (Err why) reply is t = refused_tells number why reply is t
 
 pub gets_tell_content : {L D : Type 0} → (truth : Truth) (link : L → Link)
     (left : D → Option (List ℕ)) (count : D → ℕ) (files : List SettingsFile)
     → GetsTellContent truth link left count files
-gets_tell_content truth link left count files history part first replies after stands path done
-    there asked =
-    let w = done_within truth link left count files part.replica first stands.run stands.last done
-    stands.does there in
+gets_tell_content truth link left count files history part first replies after stands nothing ahead
+    done behind run_is path asked =
+    let w = done_behind truth link left count files part.replica first ahead done behind stands.last
+    (subst (λ run. DoesAll truth link left count files part.replica first run stands.last) run_is
+    stands.does) in
     let does = subst (λ l. Does truth link left count files part.replica l w.before (Ok done.reply)
     w.after) asked w.is_done.does in
     let rest = stands.front.0 in
     let is : history ≡ w.after.caller.seen ++ (w.ended.more ++ rest) =
     sym stands.front.1 ∙ ap (λ l. l ++ rest) w.ended.seen_is
     ∙ append_assoc w.after.caller.seen w.ended.more rest in
+    let own : w.before.caller.seat ≡ first.caller.seat =
+    ap (λ (c : Caller). c.seat) w.ran.new_is in
+    let seen_own : of_seat seat_of first.caller.seat w.before.caller.seen ≡ entries_in ahead =
+    ap (of_seat seat_of first.caller.seat) (ap (λ (c : Caller). c.seen) w.ran.new_is
+    ∙ ap (λ l. l ++ w.ran.more) nothing) ∙ w.ran.own in
     read_tells truth link path w.before.links w.after.links history first.caller.opening
-    first.caller.seat w.before.caller.seat does.0 done.reply does.1
-    (early_tells truth link path w.before.links w.after.links history first.caller.opening
-    first.caller.seat part.replica w.before.caller w.after.caller does.0 does.2
-    (w.ended.more ++ rest) is w.begun.opening w.begun.seat)
+    first.caller.seat (entries_in ahead) done.part w.before.caller.seat does.0 done.reply does.1
+    (call_tells truth link path w.before.links w.after.links history first.caller.opening
+    first.caller.seat (entries_in ahead) done.part part.replica w.before.caller w.after.caller
+    (w.ended.more ++ rest) is (ap (λ (c : Caller). c.opening) w.ran.new_is) own
+    (subst (λ n. of_seat seat_of n w.before.caller.seen ≡ entries_in ahead) (sym own) seen_own)
+    w.is_done.adds does.0 does.2)

@@ -8,7 +8,10 @@ pub mod Getting
 pub mod Causing
 pub mod CausingLoads
 pub mod CausingRewrites
+pub mod CausingCounts
 pub mod CausingRuns
+pub mod Ends
+pub mod Resting
 pub mod Sentencing
 pub mod Budgeting
 pub mod Assembling

@@ -256,7 +256,8 @@ module _ (path resource plain : List ℕ) where
       ends_put (Err spent) run middle does cut c =
           let mine : new.mine ≡ entries_in run ++ cut.part =
           ap (λ (d : Caller). d.mine) cut.adds.new_is
-          ∙ ap (λ l. l ++ cut.part) (parts_added truth link left count files replica (place_of old bench) run middle does
+          ∙ ap (λ l. l ++ cut.part)
+          (parts_added truth link left count files replica (place_of old bench) run middle does
           ∙ ap (λ l. l ++ entries_in run) none) in
           let puts : written_puts new.mine
           ≡ written_puts (entries_in run) ++ written_puts cut.part =

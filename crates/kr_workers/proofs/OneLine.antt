@@ -1,7 +1,7 @@
 -- One line: what its call does is what the line does.
 use Rattle.std.proofs.Common.{◌≡◌, ℕ, ◌≤◌, ◌+◌, ◌*◌, suc, length, List, [], ◌∷◌, Option, None, Some, Result, Ok, Err, Contains, inl, inr, refl, ap, sym, subst, ◌∙◌, arith}
 use Rattle.std.proofs.lemmas.Option.{same_Some}
-use Rattle.kr_config.specs.Kept.{Row}
+use Rattle.kr_config.specs.Kept.{Row, plugins_in}
 use Rattle.kr_kms.specs.Calls.{Link}
 use Rattle.kr_kms.specs.Truth.{Truth}
 use Rattle.kr_provider.specs.AskedLinks.{AskedOnly}
@@ -131,7 +131,8 @@ module _ {L D : Type 0} (truth : Truth) (link : L → Link) (left : D → Option
       adds = adds;
       spent = subst (λ r. EndsFor (line.Put resource path plain) old r) (sym is)
           (ends_write (line.Put resource path plain) old old.seat result
-          (write_spent left count resource path plain replica old b.dice new after.dice result does));
+          (write_spent left count resource path plain replica old b.dice new after.dice result
+          does));
       honest = told_honesty truth old new honest;
       idle = subst (λ r. IsIdleAt r new) (sym is) (idle_write old.seat result new idle);
       asked_only = asked_same link b.links after.links links;
@@ -206,20 +207,21 @@ module _ {L D : Type 0} (truth : Truth) (link : L → Link) (left : D → Option
       pages = pages;
     }
 
-    pub serves_reload : (named : ℕ) (file : List ℕ) (rows : List Row) (names : List (List ℕ))
+    pub serves_reload : (named : ℕ) (file : List ℕ) (rows : List Row)
         (result : Result Loaded CallNo) → rows_at files file ≡ Some rows
         → reply ≡ told_of_reload old.seat result
         → IsReload truth link left count rows named old b.links b.dice result new after.links
         after.dice → AddsWithin 1 1 [] old new → KeepsToldHonesty truth old new
-        → holding new.mine ≡ None → AskedOnly link names b.links after.links
+        → holding new.mine ≡ None → AskedOnly link (plugins_in rows) b.links after.links
         → count b.dice ≤ count after.dice
         → after ≡ record b { links = after.links; dice = after.dice }
         → Serves truth link left count files replica (line.Reload named file) old b reply new after
-    serves_reload named file rows names result read is does adds honest idle asked later kept =
+    serves_reload named file rows result read is does adds honest idle asked later kept =
         record {
           does = subst (λ (r : Option (List Row)). IfRead r (λ rows.
-              DoesReload truth link left count named rows (place_of old b) reply (place_of new after)))
-              (sym read) (inr (result, is, does));
+              DoesReload truth link left count named rows (place_of old b) reply
+              (place_of new after)))
+              (sym read) (inr (result, is, does, asked));
           adds = adds;
           spent = subst (λ r. EndsFor (line.Reload named file) old r) (sym is)
               (ends_reload (line.Reload named file) old old.seat result
@@ -227,25 +229,26 @@ module _ {L D : Type 0} (truth : Truth) (link : L → Link) (left : D → Option
               after.dice result does));
           honest = honest;
           idle = idle_always reply new idle;
-          asked_only = asked_all link names b.links after.links asked;
+          asked_only = asked_all link (plugins_in rows) b.links after.links asked;
           later = later;
           pages = ap (λ (s : BenchState L D). size_of s.pages) kept;
         }
 
-    pub serves_join : (named : ℕ) (file : List ℕ) (rows : List Row) (names : List (List ℕ))
+    pub serves_join : (named : ℕ) (file : List ℕ) (rows : List Row)
         (result : Result Joining CallNo) → rows_at files file ≡ Some rows
         → reply ≡ told_of_join old.seat result
         → IsJoin truth link left count rows named old b.links b.dice result new after.links
         after.dice → AddsWithin 1 1 [] old new → KeepsToldHonesty truth old new
-        → holding new.mine ≡ None → AskedOnly link names b.links after.links
+        → holding new.mine ≡ None → AskedOnly link (plugins_in rows) b.links after.links
         → count b.dice ≤ count after.dice
         → after ≡ record b { links = after.links; dice = after.dice }
         → Serves truth link left count files replica (line.Join named file) old b reply new after
-    serves_join named file rows names result read is does adds honest idle asked later kept =
+    serves_join named file rows result read is does adds honest idle asked later kept =
         record {
           does = subst (λ (r : Option (List Row)). IfRead r (λ rows.
-              DoesJoin truth link left count named rows (place_of old b) reply (place_of new after)))
-              (sym read) (inr (result, is, does));
+              DoesJoin truth link left count named rows (place_of old b) reply
+              (place_of new after)))
+              (sym read) (inr (result, is, does, asked));
           adds = adds;
           spent = subst (λ r. EndsFor (line.Join named file) old r) (sym is)
               (ends_join (line.Join named file) old old.seat result
@@ -253,7 +256,7 @@ module _ {L D : Type 0} (truth : Truth) (link : L → Link) (left : D → Option
               after.dice result does));
           honest = honest;
           idle = idle_always reply new idle;
-          asked_only = asked_all link names b.links after.links asked;
+          asked_only = asked_all link (plugins_in rows) b.links after.links asked;
           later = later;
           pages = ap (λ (s : BenchState L D). size_of s.pages) kept;
         }
@@ -306,7 +309,8 @@ module _ {L D : Type 0} (truth : Truth) (link : L → Link) (left : D → Option
   where
     pub unread_reload : (named : ℕ) (file : List ℕ) (rows : List Row)
         → rows_at files file ≡ Some rows → holding c.mine ≡ None
-        → Serves truth link left count files replica (line.Reload named file) c b (Ok told.Memory) c b
+        → Serves truth link left count files replica (line.Reload named file) c b (Ok told.Memory) c
+        b
     unread_reload named file rows read idle = serves_nothing truth link left count files replica
         (line.Reload named file) c b (subst (λ (r : Option (List Row)). IfRead r (λ rows.
         DoesReload truth link left count named rows (place_of c b) (Ok told.Memory) (place_of c b)))
@@ -331,11 +335,13 @@ module _ {L D : Type 0} (truth : Truth) (link : L → Link) (left : D → Option
     -- what was lent is what stands in the line
     pub put_as_lent : (new : Caller) (after : BenchState L D) (reply : Reply)
         (resource path plain own at it : List ℕ) → resource ≡ own → path ≡ at → plain ≡ it
-        → Serves truth link left count files replica (line.Put resource path plain) c b reply new after
+        → Serves truth link left count files replica (line.Put resource path plain) c b reply new
+        after
         → Serves truth link left count files replica (line.Put own at it) c b reply new after
     put_as_lent new after reply resource path plain own at it r p d s = subst
         (λ x. Serves truth link left count files replica (line.Put own at x) c b reply new after) d
         (subst (λ x. Serves truth link left count files replica (line.Put own x plain) c b reply new
         after) p
-        (subst (λ x. Serves truth link left count files replica (line.Put x path plain) c b reply new
+        (subst (λ x. Serves truth link left count files replica (line.Put x path plain) c b reply
+        new
         after) r s))

@@ -69,7 +69,8 @@ module _ {T L D : Type 0} (seats : List (Place (SharedCore T) Entry Opening))
 
 module _ {T L D : Type 0} (seats : List (Place (SharedCore T) Entry Opening))
     (workers : List (Worker T L D)) (none : All (λ (w : Worker T L D). w.seat ≡ None) workers)
-    (now rest : List (Place (SharedCore T) Entry Opening)) (seat : Place (SharedCore T) Entry Opening)
+    (now rest : List (Place (SharedCore T) Entry Opening))
+    (seat : Place (SharedCore T) Entry Opening)
     (workers_now : List (Worker T L D)) (s : IsSeating seats now workers workers_now)
     (last : now ≡ rest ++ seat ∷ []) where
   behind : HasLast s.front (length rest)
@@ -166,14 +167,17 @@ module _ {T L D : Type 0} (workers : List (Worker T L D)) where
         let one : suc k ≡ k + 1 = omega arith in
         record {
           seats_are = map-append Some seats (seat ∷ [])
-              ∙ (λ i. s.seats_are i ++ sym (sym (ap (λ (v : Worker T L D). v.seat) (still_is d)) ∙ is) i ∷ [])
+              ∙ (λ i. s.seats_are i ++ sym
+              (sym (ap (λ (v : Worker T L D). v.seat) (still_is d)) ∙ is) i ∷ [])
               ∙ sym (map-append (λ (v : Worker T L D). v.seat) (take k workers) (w ∷ []))
               ∙ ap (λ l. map (λ (v : Worker T L D). v.seat) l) (sym (take_more workers k d below));
           now_are = (λ i. set (here d i) (sym front_long i) (unseated (still_is d i)))
               ∙ set_between (map unseated (take k workers)) (drop (suc k) workers) w (unseated w)
-              ∙ sym (append_assoc (map unseated (take k workers)) (unseated w ∷ []) (drop (suc k) workers))
+              ∙ sym (append_assoc (map unseated (take k workers)) (unseated w ∷ [])
+              (drop (suc k) workers))
               ∙ (λ i. sym (map-append unseated (take k workers) (w ∷ [])) i ++ drop (one i) workers)
-              ∙ ap (λ l. map unseated l ++ drop (k + 1) workers) (sym (take_more workers k d below));
+              ∙ ap (λ l. map unseated l ++ drop (k + 1) workers)
+              (sym (take_more workers k d below));
         }
 
     -- the same of the worker there, as a loop has it

@@ -9,19 +9,20 @@ use Rattle.kr_kms.specs.Calls.{Link}
 use Rattle.kr_kms.specs.Truth.{Truth}
 use Rattle.kr_rollout.specs.declared.opening.Entry.{Entry}
 use Rattle.kr_rollout.specs.declared.opening.Opening.{Opening}
+use Rattle.kr_rollout.specs.Honesty.{IsHonest}
+use Rattle.kr_rollout.proofs.HonestSeats.{honest_by_entries}
 use Rattle.kr_script.specs.declared.script.Part.{Part}
 use Rattle.kr_script.specs.declared.script.ScriptLine.{ScriptLine}
-use Rattle.kr_script.specs.declared.script.ScriptLine.TheVariants as line
 use Rattle.kr_script.specs.declared.told.Told.{Told}
 use Rattle.kr_workers.specs.declared.files.SettingsFile.{SettingsFile}
 use Rattle.kr_workers.specs.declared.worker.Worker.{Worker}
 use Rattle.kr_workers.specs.Causes.{HasCause}
-use Rattle.kr_workers.specs.Gets.{TellsContent}
 use Rattle.kr_workers.specs.Histories.{IsOneHistory, StandsIn, first_place}
 use Rattle.kr_workers.specs.Runs.{LineDone, lines_in, replies_in}
 use Rattle.kr_workers.specs.Sentences.{HistoriesTell, Replies, RepliesAreTrue}
 use Rattle.kr_workers.proofs.CausingRuns.{replies_have_causes}
 use Rattle.kr_workers.proofs.Getting.{gets_tell_content}
+use Rattle.kr_workers.proofs.Resting.{ending_rests}
 
 -- ---- what stands at a place
 
@@ -119,33 +120,53 @@ module _ {L D : Type 0} (truth : Truth) (link : L → Link) (left : D → Option
         by (w ∷ ws) zero = refl
         by (w ∷ ws) (suc i) = by ws i
 
-    pub replies_are_true : RepliesAreTrue truth link count history o parts budgets old new
+    all_told : (number : ℕ) (part : Part) (worker : Worker T L D)
+        → slice_get parts number ≡ Some part → slice_get new number ≡ Some worker
+        → length worker.told.0 ≡ length part.lines.0
+    all_told number part worker part_is worker_is =
+        as_many part (was number worker) worker number
+        (stands_there number part (was number worker) worker part_is (still number worker)
+        worker_is)
+
+    all_caused : (number at : ℕ) (asked : ScriptLine) (reply : Told) (before : Worker T L D)
+        → slice_get old number ≡ Some before → (replies : Replies parts new number at asked reply)
+        → HasCause link count asked (first_place o number (slice_index budgets number) before.bench)
+        reply history replies.worker.bench.links replies.worker.bench.dice
+    all_caused number at asked reply before before_is r =
+        let s = stands_there number r.part before r.worker r.part_is
+        (there_of old number before before before_is) r.worker_is in
+        let d = done_there number at asked reply before r s in
+        subst (λ (a : ScriptLine). HasCause link count a
+        (first_place o number (slice_index budgets number) before.bench) reply history
+        r.worker.bench.links r.worker.bench.dice) d.line_is
+        (subst (λ (t : Told). HasCause link count d.done.line
+        (first_place o number (slice_index budgets number) before.bench) t history
+        r.worker.bench.links r.worker.bench.dice) d.reply_is
+        ((replies_have_causes truth link left count files).whole history r.part
+        (first_place o number (slice_index budgets number) before.bench) r.worker.told.0
+        r.worker.bench s d.done d.there))
+
+    pub replies_are_true : RepliesAreTrue truth link left count files history o parts budgets old new
     replies_are_true = record {
-      each = λ number part worker part_is worker_is. as_many part (was number worker) worker number
-          (stands_there number part (was number worker) worker part_is (still number worker)
-          worker_is);
-      gets = λ number at path reply r.
-          let before = was number r.worker in
-          let s = stands_there number r.part before r.worker r.part_is (still number r.worker)
-          r.worker_is in
-          let d = done_there number at (line.Get path) reply before r s in
-          subst (λ (t : Told). TellsContent truth o history number path t) d.reply_is
-          (gets_tell_content truth link left count files history r.part
-          (first_place o number (slice_index budgets number) before.bench) r.worker.told.0
-          r.worker.bench s path d.done d.there d.line_is);
-      causes = λ number at asked reply before before_is r.
-          let s = stands_there number r.part before r.worker r.part_is
-          (there_of old number before before before_is) r.worker_is in
-          let d = done_there number at asked reply before r s in
-          subst (λ (a : ScriptLine). HasCause link count a
-          (first_place o number (slice_index budgets number) before.bench) reply history
-          r.worker.bench.links r.worker.bench.dice) d.line_is
-          (subst (λ (t : Told). HasCause link count d.done.line
-          (first_place o number (slice_index budgets number) before.bench) t history
-          r.worker.bench.links r.worker.bench.dice) d.reply_is
-          ((replies_have_causes truth link left count files).whole history r.part
-          (first_place o number (slice_index budgets number) before.bench) r.worker.told.0
-          r.worker.bench s d.done d.there));
+      each = all_told;
+      gets = λ number part before after part_is before_is after_is.
+          let s = stands_there number part before after part_is
+          (there_of old number before before before_is) after_is in record {
+            stands = s;
+            tell = gets_tell_content truth link left count files history part
+                (first_place o number (slice_index budgets number) before.bench) after.told.0
+                after.bench s refl;
+          };
+      honest = λ told begun front rest is. honest_by_entries.front truth.opens o front rest
+          (subst (λ (l : List Entry). IsHonest truth.opens o l) is (one.honest told begun));
+      causes = all_caused;
+      often = λ number part before after part_is before_is after_is.
+          (replies_have_causes truth link left count files).often history part
+          (first_place o number (slice_index budgets number) before.bench) after.told.0 after.bench
+          (stands_there number part before after part_is
+          (there_of old number before before before_is) after_is);
+      rests = ending_rests link count history o parts budgets old new one.many one.whole all_told
+          all_caused;
     }
 
 pub histories_tell : (T : Type 0) → {L D : Type 0} → (truth : Truth) (link : L → Link)

@@ -1,9 +1,14 @@
 -- Budgets: of lines, one behind another, and of all parts.
-use Rattle.std.proofs.Common.{◌≡◌, ℕ, ◌<◌, ◌≤◌, ◌+◌, List, ◌∷◌, ◌++◌, [], length, take, get_or, sum, ap, sym, ◌∙◌, arith}
+use Rattle.std.proofs.Common.{◌≡◌, ℕ, ◌<◌, ◌≤◌, ◌+◌, List, ◌∷◌, ◌++◌, [], length, take, get_or, sum, Result, Ok, Err, ap, sym, ◌∙◌, arith}
+use Rattle.std.specs.Prelude.{IfOk}
 use Rattle.std.proofs.lemmas.List.{get_or-map, length-map, take_more}
-use Rattle.std.proofs.lemmas.List.Sums.{sum_by_more, sum_by-take-le}
+use Rattle.std.proofs.lemmas.List.Sums.{sum-map, sum_by_more, sum_by-le-sum_by, sum_by-take-le}
 use Rattle.kr_script.specs.declared.script.Part.{Part}
-use Rattle.kr_workers.specs.Budgets.{all_reloads, budget_of, budgets_of, reloads_of}
+use Rattle.kr_script.specs.declared.script.ScriptLine.{ScriptLine}
+use Rattle.kr_script.specs.declared.script.ScriptLine.TheVariants as line
+use Rattle.kr_workers.specs.declared.budget.BudgetNo.{BudgetNo}
+use Rattle.kr_workers.specs.declared.budget.Budgets.{Budgets}
+use Rattle.kr_workers.specs.Budgets.{all_reloads, brought_by, budget_of, budgets_of, entries_of, reloads_of}
 
 module _ (paths : ℕ) (parts : List Part) (part : Part) (k : ℕ) (below : k < length parts)
     (at : part ≡ get_or parts k part) where
@@ -43,3 +48,36 @@ module _ (paths : ℕ) (parts : List Part) (part : Part) (k : ℕ) (below : k < 
   sum_above = let few : sum (take (k + 1) (budgets_of paths parts)) ≤ sum (budgets_of paths parts) =
       sum_by-take-le (λ x. x) (budgets_of paths parts) (k + 1) in
       omega (arith, few, more_sum)
+
+-- ---- a line that brings a configuration adds a line to the journal
+
+line_fits : (paths : ℕ) (asked : ScriptLine) → brought_by asked ≤ entries_of paths asked
+line_fits paths (line.Put resource path plain) = omega arith
+line_fits paths (line.Get path) = omega arith
+line_fits paths (line.Delete path) = omega arith
+line_fits paths line.Rewrite = omega arith
+line_fits paths (line.Reload replica file) = omega arith
+line_fits paths line.Refresh = omega arith
+line_fits paths (line.Join replica file) = omega arith
+line_fits paths (line.Leave replica) = omega arith
+
+lines_fit : (paths : ℕ) (lines : List ScriptLine) → reloads_of lines ≤ budget_of paths lines
+lines_fit paths [] = omega arith
+lines_fit paths (asked ∷ lines) = omega (arith, line_fits paths asked, lines_fit paths lines)
+
+parts_fit : (paths : ℕ) (parts : List Part) → sum (all_reloads parts) ≤ sum (budgets_of paths parts)
+parts_fit paths parts = omega (
+  arith,
+  sum-map (λ (p : Part). reloads_of p.lines.0) parts,
+  sum-map (λ (p : Part). budget_of paths p.lines.0) parts,
+  sum_by-le-sum_by (λ (p : Part). reloads_of p.lines.0) (λ (p : Part). budget_of paths p.lines.0)
+      parts (λ p. lines_fit paths p.lines.0),
+)
+
+pub reloads_fit : (paths : ℕ) (parts : List Part) (result : Result Budgets BudgetNo)
+    → IfOk result (λ budgets. budgets.entries.items ≡ budgets_of paths parts)
+    → IfOk result (λ budgets. budgets.reloads.items ≡ all_reloads parts)
+    → IfOk result (λ budgets. sum budgets.reloads.items ≤ sum budgets.entries.items)
+reloads_fit paths parts (Ok budgets) entries reloads =
+    omega (arith, ap sum entries, ap sum reloads, parts_fit paths parts)
+reloads_fit paths parts (Err why) entries reloads = tt

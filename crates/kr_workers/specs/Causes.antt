@@ -1,16 +1,24 @@
--- Why a line has another reply than it asks for: each line has its defined replies, and a reply that
--- names an object as its fault is told only where the count of that very object rose meanwhile.
-use Rattle.std.specs.Prelude.{◌≡◌, ℕ, List, ◌∷◌, ◌++◌, Contains, Option, ⊤}
+-- Why a line has its reply: each line has its defined replies, each of which an own entry or a
+-- plugin's status bears out; and a reply that names an object as its fault is told only where the
+-- line may use that object, and the count of that very object rose.
+use Rattle.std.specs.Prelude.{◌≡◌, ◌<◌, ◌≤◌, ◌+◌, ◌-◌, ◌^◌, ℕ, Bool, true, false, List, ◌∷◌, ◌++◌, count_by, Contains, Option, Some, ⊤}
+use Rattle.std.specs.List.{slice_get}
+use Rattle.std.specs.Str.{bytes_eq}
 use Rattle.kr_base.specs.Faults.{Rose}
+use Rattle.kr_base.specs.Lines.{of_seat}
 use Rattle.kr_kms.specs.Calls.{Link}
+use Rattle.kr_kms.specs.Health.{HasBreach}
 use Rattle.kr_kms.specs.Truth.{Truth}
-use Rattle.kr_provider.specs.AskedLinks.{FaultRose}
+use Rattle.kr_provider.specs.AskedLinks.{FaultRose, HasLinkWith}
 use Rattle.kr_provider.specs.BenchState.{BenchState}
+use Rattle.kr_provider.specs.Names.{AreDistinct}
 use Rattle.kr_provider.specs.declared.refusal.ValueNo.{ValueNo}
 use Rattle.kr_provider.specs.declared.refusal.ValueNo.TheVariants.{LooksEncrypted, TooLarge}
+use Rattle.kr_rollout.specs.declared.line.Gave.{Gave}
 use Rattle.kr_rollout.specs.declared.line.Gave.TheVariants as gave
 use Rattle.kr_rollout.specs.declared.opening.Entry.{Entry}
 use Rattle.kr_rollout.specs.Acting.{Caller}
+use Rattle.kr_rollout.specs.Entries.{seat_of}
 use Rattle.kr_rollout.specs.Histories.{state_of}
 use Rattle.kr_fleet.specs.ReadCalls.{IsOfValue}
 use Rattle.kr_script.specs.declared.script.Part.{Part}
@@ -63,10 +71,68 @@ IsDefined (line.Leave replica) (told.Left generation) = ⊤
 IsDefined (line.Leave replica) told.Gone = ⊤
 IsDefined asked reply = ⊥
 
--- ---- faults
+-- ---- what was answered
 
--- an own entry says that the store failed, and the store's count rose there; it is one of those that
--- are seen now and weren't before
+-- the answer that a reply tells
+abbrev pub TellsAnswer : Told → Gave → Type 0
+TellsAnswer (told.Put revision) given = given ≡ gave.Written revision
+TellsAnswer (told.Got revision plain) given = given ≡ gave.Found revision
+TellsAnswer (told.Deleted revision) given = given ≡ gave.Written revision
+TellsAnswer told.Absent given = given ≡ gave.Absent
+TellsAnswer (told.Reloaded generation) given = given ≡ gave.Reloaded generation
+TellsAnswer (told.Joined generation) given = given ≡ gave.Joined generation
+TellsAnswer (told.Present generation) given = given ≡ gave.Present generation
+TellsAnswer (told.Left generation) given = given ≡ gave.Departed generation
+TellsAnswer told.Gone given = (replica : ℕ) × (given ≡ gave.Gone replica)
+TellsAnswer (told.Refused verdict) given = given ≡ gave.Refused verdict
+TellsAnswer (told.Refreshed generation) given = given ≡ gave.Reloaded generation
+TellsAnswer (told.Moved generation) given = given ≡ gave.Moved generation
+TellsAnswer told.Full given = (needed : ℕ) × (given ≡ gave.StoreFull needed)
+TellsAnswer reply given = ⊥
+
+-- an own entry has that answer; it is one of those that are seen now and weren't before
+pub record OwnGave (old : Caller) (seen : List Entry) (Is : Gave → Type 0) : Type 0 where
+  pub before : List Entry
+  pub entry : Entry
+  pub behind : List Entry
+  pub there : seen ≡ (old.seen ++ before) ++ entry ∷ behind
+  pub own : entry.line.seat ≡ old.seat
+  pub says : Is entry.line.gave
+
+-- ---- faults, and want of memory
+
+-- the line may ask plugins
+abbrev pub AsksPlugins : ScriptLine → Type 0
+AsksPlugins (line.Get path) = ⊤
+AsksPlugins line.Rewrite = ⊤
+AsksPlugins (line.Reload replica file) = ⊤
+AsksPlugins line.Refresh = ⊤
+AsksPlugins (line.Join replica file) = ⊤
+AsksPlugins asked = ⊥
+
+-- it may draw from the random source of its seat
+abbrev pub DrawsBytes : ScriptLine → Type 0
+DrawsBytes (line.Put resource path plain) = ⊤
+DrawsBytes line.Rewrite = ⊤
+DrawsBytes (line.Reload replica file) = ⊤
+DrawsBytes line.Refresh = ⊤
+DrawsBytes (line.Join replica file) = ⊤
+DrawsBytes asked = ⊥
+
+-- it may write to the store
+abbrev pub WritesRows : ScriptLine → Type 0
+WritesRows (line.Put resource path plain) = ⊤
+WritesRows (line.Delete path) = ⊤
+WritesRows line.Rewrite = ⊤
+WritesRows asked = ⊥
+
+-- it may want memory
+abbrev pub TakesMemory : ScriptLine → Type 0
+TakesMemory (line.Leave replica) = ⊥
+TakesMemory asked = ⊤
+
+-- an own entry says that the store failed, and the store's count rose there; it is one of those
+-- that are seen now and weren't before
 pub record StoreFails (old : Caller) (seen : List Entry) : Type 0 where
   pub before : List Entry
   pub entry : Entry
@@ -78,19 +144,73 @@ pub record StoreFails (old : Caller) (seen : List Entry) : Type 0 where
 
 module _ {L D : Type 0} (link : L → Link) (count : D → ℕ) (asked : ScriptLine)
     (old : Workplace L D) where
-  -- from a workplace on up to such a history, such links and such a random source: the reply is want
-  -- of memory, or names the plugin, the seat's own random source or the store, whose count rose
-  -- meanwhile; or it is one of the line's defined replies
+  -- from a workplace on up to such a history, such links and such a random source: the reply is
+  -- want of memory at a line that may want it; or names the plugin, the seat's own random source
+  -- or the store, which the line may use and whose count rose meanwhile; or it is one of the line's
+  -- defined replies. A plugin is unhealthy where its status may break that rule, and each other
+  -- reply that tells an answer tells that of an own entry
   abbrev pub HasCause : Told → (seen : List Entry) → List L → D → Type 0
-  HasCause told.Memory seen links dice = ⊤
-  HasCause (told.FaultPlugin name) seen links dice = FaultRose link name old.links links
+  HasCause told.Memory seen links dice = TakesMemory asked
+  HasCause (told.FaultPlugin name) seen links dice =
+      AsksPlugins asked × FaultRose link name old.links links
   HasCause (told.FaultDice seat) seen links dice =
-      (seat ≡ old.caller.seat) × Rose (count old.dice) (count dice)
-  HasCause told.FaultStore seen links dice = StoreFails old.caller seen
-  HasCause reply seen links dice = IsDefined asked reply
+      DrawsBytes asked × (seat ≡ old.caller.seat) × Rose (count old.dice) (count dice)
+  HasCause told.FaultStore seen links dice = WritesRows asked × StoreFails old.caller seen
+  HasCause (told.Unhealthy name field text) seen links dice =
+      IsDefined asked (told.Unhealthy name field text)
+      × HasLinkWith link name (λ it. HasBreach it (Some (field, text))) old.links
+  HasCause (told.Value why) seen links dice = IsDefined asked (told.Value why)
+  HasCause (told.Rewritten rewritten fresh changed left) seen links dice =
+      IsDefined asked (told.Rewritten rewritten fresh changed left)
+  HasCause told.Unchanged seen links dice = IsDefined asked told.Unchanged
+  HasCause reply seen links dice =
+      IsDefined asked reply × OwnGave old.caller seen (TellsAnswer reply)
 
--- so has each reply to a line that was done, while the line was done; and by the whole of its
--- worker's run too, up to the history and the bench at the end
+-- ---- how often
+
+-- the reply names this plugin as failed
+abbrev pub names_plugin : (name : List ℕ) → Told → Bool
+names_plugin name (told.FaultPlugin other) = bytes_eq other name
+names_plugin name reply = false
+
+-- it names a random source
+abbrev pub names_dice : Told → Bool
+names_dice (told.FaultDice seat) = true
+names_dice reply = false
+
+-- it names the store
+abbrev pub names_store : Told → Bool
+names_store told.FaultStore = true
+names_store reply = false
+
+abbrev pub is_failed : Gave → Bool
+is_failed gave.StoreFailed = true
+is_failed given = false
+
+-- the entry says that the store failed, so by its step the store's count rose there
+abbrev pub has_failed : Entry → Bool
+has_failed entry = is_failed entry.line.gave
+
+-- while a count is below its greatest value it rose at least as often as replies name its object
+abbrev pub CountsFaults : (named before now : ℕ) → Type 0
+CountsFaults named before now = now < 2 ^ 64 - 1 → before + named ≤ now
+
+-- so do the counts of a seat's random source and of its links, if these are to different plugins;
+-- and the seat's own entries say at least as often that the store failed
+pub record AreCounted {L D : Type 0} (link : L → Link) (count : D → ℕ) (replies : List Told)
+    (own : List Entry) (links : List L) (dice : D) (news : List L) (after : D) : Type 0 where
+  pub stored : count_by names_store replies ≤ count_by has_failed own
+  pub drawn : CountsFaults (count_by names_dice replies) (count dice) (count after)
+  pub asked : AreDistinct link links → (at : ℕ) (it now : L) → slice_get links at ≡ Some it
+      → slice_get news at ≡ Some now
+      → CountsFaults (count_by (names_plugin (link it).name) replies) (link it).count
+      (link now).count
+
+-- ---- the law
+
+-- each reply to a line that was done has its cause, while the line was done; and by the whole of
+-- its worker's run too, up to the history and the bench at the end. And the worker's replies name
+-- no object as failed more often than its count rose
 pub record RepliesHaveCauses {L D : Type 0} (truth : Truth) (link : L → Link)
     (left : D → Option (List ℕ)) (count : D → ℕ) (files : List SettingsFile) : Type 0 where
   pub each : (replica : ℕ) (old new : Workplace L D) (done : LineDone)
@@ -101,3 +221,8 @@ pub record RepliesHaveCauses {L D : Type 0} (truth : Truth) (link : L → Link)
       → (stands : StandsIn truth link left count files history part first replies after)
       → (done : LineDone) → Contains stands.run done
       → HasCause link count done.line first done.reply history after.links after.dice
+  pub often : (history : List Entry) (part : Part) (first : Workplace L D) (replies : List Told)
+      (after : BenchState L D)
+      → (stands : StandsIn truth link left count files history part first replies after)
+      → AreCounted link count replies (of_seat seat_of first.caller.seat history) first.links
+      first.dice after.links after.dice

@@ -1,6 +1,6 @@
 -- How a fleet ended, by its replies.
-use Rattle.std.specs.Prelude.{ℕ, ◌==◌, Bool, true, false, if◌then◌else◌, List, [], ◌∷◌}
-use Rattle.std.specs.List.{list_any}
+use Rattle.std.specs.Prelude.{◌≡◌, ◌≢◌, ℕ, ◌==◌, Bool, true, false, if◌then◌else◌, List, [], ◌∷◌, Some}
+use Rattle.std.specs.List.{list_any, slice_get}
 use Rattle.kr_script.specs.declared.told.Told.{Told}
 use Rattle.kr_script.specs.declared.told.Told.TheVariants as told
 use Rattle.kr_workers.specs.declared.ending.Ending.{Ending}
@@ -65,3 +65,23 @@ status_of ending.Unhealthy = 3
 status_of ending.Fault = 4
 status_of ending.Memory = 5
 status_of ending.Full = 6
+
+-- ---- what an ending tells
+
+-- a worker's reply of this kind
+pub record HasReplyOf (kind : Ending) (replies : List (List Told × ℕ)) : Type 0 where
+  pub number : ℕ
+  pub at : ℕ
+  pub told : List Told × ℕ
+  pub reply : Told
+  pub told_is : slice_get replies number ≡ Some told
+  pub reply_is : slice_get told.0 at ≡ Some reply
+  pub kind_is : kind_of reply ≡ kind
+
+-- where not all was done, some reply is of the kind that the ending tells; where all was, no reply
+-- is of another kind
+pub record EndingsAreTold : Type 0 where
+  pub some : (replies : List (List Told × ℕ)) → ending_of replies ≢ ending.Done
+      → HasReplyOf (ending_of replies) replies
+  pub none : (replies : List (List Told × ℕ)) → ending_of replies ≡ ending.Done
+      → (kind : Ending) → kind ≢ ending.Done → HasReplyOf kind replies → ⊥

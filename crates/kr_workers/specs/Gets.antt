@@ -1,5 +1,6 @@
--- What a reply to a `get` says: the content of the path before its Fetch.
-use Rattle.std.specs.Prelude.{◌≡◌, ℕ, List, ◌∷◌, ◌++◌, Contains, Option, None, Some, ⊤}
+-- What a reply to a `get` says: the content of the path before the line's own Fetch.
+use Rattle.std.specs.Prelude.{◌≡◌, ℕ, List, [], ◌∷◌, ◌++◌, Option, None, Some, ⊤}
+use Rattle.kr_base.specs.Lines.{of_seat}
 use Rattle.kr_kms.specs.Calls.{Link}
 use Rattle.kr_kms.specs.Truth.{Opens, Truth}
 use Rattle.kr_provider.specs.BenchState.{BenchState}
@@ -9,9 +10,11 @@ use Rattle.kr_provider.specs.Readers.{reader_in}
 use Rattle.kr_provider.specs.Reading.{Reading, data_of, refused, value_reading}
 use Rattle.kr_store.specs.declared.rows.Row.{Row}
 use Rattle.kr_rollout.specs.declared.line.Did.TheVariants as did
+use Rattle.kr_rollout.specs.declared.line.Gave.TheVariants as gave
 use Rattle.kr_rollout.specs.declared.opening.Entry.{Entry}
 use Rattle.kr_rollout.specs.declared.opening.Opening.{Opening}
 use Rattle.kr_rollout.specs.Contents.{IsContent}
+use Rattle.kr_rollout.specs.Entries.{seat_of}
 use Rattle.kr_fleet.specs.ReadCalls.{IsContentByAny, IsKnownContent}
 use Rattle.kr_script.specs.declared.script.Part.{Part}
 use Rattle.kr_script.specs.declared.script.ScriptLine.TheVariants as line
@@ -19,19 +22,25 @@ use Rattle.kr_script.specs.declared.told.Told.{Told}
 use Rattle.kr_script.specs.declared.told.Told.TheVariants as told
 use Rattle.kr_workers.specs.declared.files.SettingsFile.{SettingsFile}
 use Rattle.kr_workers.specs.Histories.{StandsIn}
-use Rattle.kr_workers.specs.Runs.{LineDone}
+use Rattle.kr_workers.specs.Runs.{LineDone, entries_in}
 use Rattle.kr_workers.specs.ScriptLines.{Workplace}
 
--- the seat fetched the path's row at a place of the history, and this holds of what stands before
--- it and of the fetch
+-- a line's own Fetch of the path: the line's part is an Adopt, this Fetch and a LetGo, and before
+-- the Fetch its seat has the entries of the lines ahead and this Adopt. This holds of what stands
+-- before the Fetch and of the Fetch
 pub record FetchesWhere (history : List Entry) (seat : ℕ) (path : List ℕ)
-    (Holds : (front : List Entry) → (fetch : Entry) → Type 0) : Type 0 where
+    (ahead part : List Entry) (Holds : (front : List Entry) → (fetch : Entry) → Type 0)
+    : Type 0 where
   pub front : List Entry
+  pub adopt : Entry
   pub fetch : Entry
+  pub let_go : Entry
   pub rest : List Entry
   pub there : history ≡ front ++ fetch ∷ rest
   pub own : fetch.line.seat ≡ seat
   pub fetches : fetch.line.did ≡ did.Fetch path
+  pub part_is : part ≡ adopt ∷ (fetch ∷ (let_go ∷ []))
+  pub its : of_seat seat_of seat front ≡ ahead ++ adopt ∷ []
   pub holds : Holds front fetch
 
 -- the row that was fetched reads so by the configuration that the seat held, and so does the
@@ -51,23 +60,33 @@ pub record ReadsContent (truth : Truth) (o : Opening) (path : List ℕ) (reading
   pub reads : value_reading envelope (list_at p row.resource) path row.stored ≡ reading
   pub by_any : IsContentByAny o front (list_at p row.resource) path row.stored envelope reading
 
--- `got` tells the content, `absent` that there is none, by any truth, and a refusal is that of the
--- content
+-- `got` tells the revision that was found and the content, `absent` that there is none, by any
+-- truth, and a refusal is that of the content
 abbrev pub TellsContent : Truth → Opening → (history : List Entry) → (seat : ℕ) → (path : List ℕ)
-    → Told → Type 0
-TellsContent truth o history seat path (told.Got revision plain) =
-    FetchesWhere history seat path (ReadsContent truth o path (data_of plain))
-TellsContent truth o history seat path told.Absent = FetchesWhere history seat path
-    (λ front fetch. (opens : Opens) → IsContent opens o front path None)
-TellsContent truth o history seat path (told.Value why) =
-    FetchesWhere history seat path (ReadsContent truth o path (refused why))
-TellsContent truth o history seat path reply = ⊤
+    → (ahead part : List Entry) → Told → Type 0
+TellsContent truth o history seat path ahead part (told.Got revision plain) =
+    FetchesWhere history seat path ahead part (λ front fetch.
+    (fetch.line.gave ≡ gave.Found revision) × ReadsContent truth o path (data_of plain) front fetch)
+TellsContent truth o history seat path ahead part told.Absent =
+    FetchesWhere history seat path ahead part (λ front fetch. (fetch.line.gave ≡ gave.Absent)
+    × ((opens : Opens) → IsContent opens o front path None))
+TellsContent truth o history seat path ahead part (told.Value why) =
+    FetchesWhere history seat path ahead part (ReadsContent truth o path (refused why))
+TellsContent truth o history seat path ahead part reply = ⊤
 
--- so each reply to a `get` of a worker whose lines stand in a history
+-- so does each reply to a `get` of a seat's run
+abbrev pub TellContents : Truth → Opening → (history : List Entry) → (seat : ℕ) → List LineDone
+    → Type 0
+TellContents truth o history seat run = (ahead : List LineDone) (done : LineDone)
+    (behind : List LineDone) → run ≡ ahead ++ done ∷ behind
+    → (path : List ℕ) → done.line ≡ line.Get path
+    → TellsContent truth o history seat path (entries_in ahead) done.part done.reply
+
+-- and of a worker that saw nothing before and whose lines stand in a history
 abbrev pub GetsTellContent : {L D : Type 0} → Truth → (L → Link) → (D → Option (List ℕ))
     → (D → ℕ) → List SettingsFile → Type 0
 GetsTellContent {L} {D} truth link left count files = (history : List Entry) (part : Part)
     (first : Workplace L D) (replies : List Told) (after : BenchState L D)
     → (stands : StandsIn truth link left count files history part first replies after)
-    → (path : List ℕ) (done : LineDone) → Contains stands.run done → done.line ≡ line.Get path
-    → TellsContent truth first.caller.opening history first.caller.seat path done.reply
+    → first.caller.seen ≡ []
+    → TellContents truth first.caller.opening history first.caller.seat stands.run

@@ -63,5 +63,6 @@ module _ {L D : Type 0} (truth : Truth) (link : L → Link) (left : D → Option
     pub legal : IsLegal o history
     pub honest : truth.told ≡ true → IsHonest truth.opens o [] → IsHonest truth.opens o history
     pub many : length new ≡ length old
+    pub whole : length old ≡ length parts
     pub each : AllStandIn o parts budgets old new
     pub no_other : All (λ e. seat_of e < length parts) history

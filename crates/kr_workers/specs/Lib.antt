@@ -9,6 +9,6 @@ pub mod Budgets
 pub mod Histories
 pub mod Gets
 pub mod Causes
-pub mod Sentences
 pub mod Endings
+pub mod Sentences
 pub mod inner

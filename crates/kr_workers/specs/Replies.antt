@@ -18,7 +18,8 @@ abbrev pub Reply : Type 0
 Reply = Result Told Spent
 
 module _ (seat : ℕ) where
-  -- why a call was cut short: a fault names the plugin, the random source of this seat, or the store
+  -- why a call was cut short: a fault names the plugin, the random source of this seat, or the
+  -- store
   abbrev pub told_of_refusal : CallNo → Reply
   told_of_refusal (refusal.Refused why) = Ok (told.Value why)
   told_of_refusal (refusal.PluginFailed name) = Ok (told.FaultPlugin name)

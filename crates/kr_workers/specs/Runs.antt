@@ -88,7 +88,8 @@ module _ {L D : Type 0} (truth : Truth) (link : L → Link) (left : D → Option
   -- ---- what the lines keep
 
   pub record Runs (lines : List ScriptLine) (old : Caller) (bench : BenchState L D)
-      (replies : List Told) (ended : Result (Unit {0}) Spent) (new : Caller) (after : BenchState L D)
+      (replies : List Told) (ended : Result (Unit {0}) Spent) (new : Caller)
+      (after : BenchState L D)
       : Type 0 where
     pub run : List LineDone
     pub replies_are : replies ≡ replies_in run

@@ -1,9 +1,10 @@
 -- What a worker's line does: its call's own relation, and the reply that tells the call's result.
 use Rattle.std.specs.Prelude.{◌≡◌, ◌⊎◌, ◌<◌, ℕ, List, [], length, Option, None, Some, Result, Ok, ⊤}
 use Rattle.kr_base.specs.Rules.{IsPath, IsResource}
-use Rattle.kr_config.specs.Kept.{Row}
+use Rattle.kr_config.specs.Kept.{Row, plugins_in}
 use Rattle.kr_kms.specs.Calls.{Link}
 use Rattle.kr_kms.specs.Truth.{Truth}
+use Rattle.kr_provider.specs.AskedLinks.{AskedOnly}
 use Rattle.kr_rollout.specs.declared.call.CallNo.{CallNo}
 use Rattle.kr_rollout.specs.declared.opening.Opening.{Opening}
 use Rattle.kr_rollout.specs.Acting.{Caller}
@@ -70,18 +71,19 @@ IfRead (Some rows) Brings = Brings rows
 
 module _ {L D : Type 0} (truth : Truth) (link : L → Link) (left : D → Option (List ℕ))
     (count : D → ℕ) where
-  -- the file's settings are published and brought, unless memory lacked for one more owner of them
+  -- the file's settings are published and brought, and their plugins alone are asked, unless memory
+  -- lacked for one more owner of them
   abbrev pub DoesReload : (replica : ℕ) → List Row → Workplace L D → Reply → Workplace L D → Type 0
   DoesReload replica rows old reply new = LacksMemory old reply new
       ⊎ ((result : Result Loaded CallNo) × (reply ≡ told_of_reload (seat_at old) result)
       × IsReload truth link left count rows replica old.caller old.links old.dice result new.caller
-      new.links new.dice)
+      new.links new.dice × AskedOnly link (plugins_in rows) old.links new.links)
 
   abbrev pub DoesJoin : (replica : ℕ) → List Row → Workplace L D → Reply → Workplace L D → Type 0
   DoesJoin replica rows old reply new = LacksMemory old reply new
       ⊎ ((result : Result Joining CallNo) × (reply ≡ told_of_join (seat_at old) result)
       × IsJoin truth link left count rows replica old.caller old.links old.dice result new.caller
-      new.links new.dice)
+      new.links new.dice × AskedOnly link (plugins_in rows) old.links new.links)
 
   -- a line of a worker at this replica: a line that isn't of a replica's own speaks of the worker's
   abbrev pub Does : List SettingsFile → (replica : ℕ) → ScriptLine → Workplace L D → Reply

@@ -18,8 +18,8 @@ use Rattle.kr_workers.specs.declared.files.SettingsFile.{SettingsFile}
 use Rattle.kr_workers.specs.declared.worker.Worker.{Worker}
 use Rattle.kr_workers.specs.Runs.{AreReady, Runs}
 
--- the worker has no seat yet, has told nothing and has room for a reply of each line; each plugin has
--- a link, and the bench pages enough
+-- the worker has no seat yet, has told nothing and has room for a reply of each line; each plugin
+-- has a link, and the bench pages enough
 pub record MayBegin {T L D : Type 0} (link : L → Link) (names : List (List ℕ)) (part : Part)
     (worker : Worker T L D) : Type 0 where
   pub no_seat : worker.seat ≡ None

@@ -41,6 +41,7 @@ pub fn budgets_of(alloc: Global, live: u64, parts: &[Part]) -> Result<Budgets, B
         ≡ budgets_of (live + put_lines parts.now) parts.now) }
     ensures reloads { IfOk result (λ budgets. budgets.reloads.items ≡ all_reloads parts.now) }
     ensures few { IfOk result (λ budgets. sum budgets.entries.items ≤ journal_limit) }
+    ensures fit { IfOk result (λ budgets. sum budgets.reloads.items ≤ sum budgets.entries.items) }
     ensures many { IsErrOf result BudgetNo.TooMany
         → journal_limit < sum (budgets_of (live + put_lines parts.now) parts.now) }
 {

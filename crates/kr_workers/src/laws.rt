@@ -2,28 +2,36 @@
 ghost use Rattle.std.specs.Prelude.{List};
 ghost use Rattle.kr_workers.specs.declared.files.SettingsFile.{SettingsFile};
 ghost use Rattle.kr_workers.specs.Causes.{RepliesHaveCauses};
+ghost use Rattle.kr_workers.specs.Endings.{EndingsAreTold};
 ghost use Rattle.kr_workers.specs.Gets.{GetsTellContent};
 ghost use Rattle.kr_workers.specs.Sentences.{HistoriesTell};
 
 use kr_base::{Dice, Tape};
 use kr_kms::Kms;
 
-/// Each reply to a `get` tells the content of the path before its Fetch, or that there is none.
+/// Each reply to a `get` tells the content of the path before the line's own Fetch, or that there
+/// is none.
 pub fn gets_tell_content<L: Kms, D: Dice>()
     ensures { (files : List SettingsFile)
         → GetsTellContent L.truth L.link D.left D.count files }
 {}
 
-/// No line is answered otherwise than by one of its defined replies, but with want of memory or
-/// where the count of the plugin, random source or store that its reply names rose.
+/// No line is answered otherwise than by one of its defined replies, which an own entry or a
+/// plugin's status bears out, but with want of memory, or where the line may use the plugin, random
+/// source or store that its reply names and the count of that rose.
 pub fn replies_have_causes<L: Kms, D: Dice>()
     ensures { (files : List SettingsFile)
         → RepliesHaveCauses L.truth L.link D.left D.count files }
 {}
 
 /// Where the workers' lines stand in one history, as `run_fleet` says, each reply tells true: to a
-/// `get` it tells the content before its Fetch, and otherwise than by a defined reply none is
-/// answered but with want of memory or where the count of what it names rose.
+/// `get` it tells the content before its line's own Fetch, and each has its cause.
 pub fn replies_are_true<T: Tape, L: Kms, D: Dice>()
     ensures { HistoriesTell T L.truth L.link D.left D.count }
+{}
+
+/// Where not all was done, some reply is of the kind that the ending tells; where all was, each
+/// reply says so.
+pub fn endings_are_told()
+    ensures { EndingsAreTold }
 {}

@@ -20,8 +20,8 @@ use kr_rollout::Acts;
 use kr_script::{ScriptLine, Told};
 use std::alloc::Global;
 
-/// Does the line at the worker's replica, and tells its reply. `Spent` comes only where the seat may
-/// add fewer lines to the journal than the line may need.
+/// Does the line at the worker's replica, and tells its reply. `Spent` comes only where the seat
+/// may add fewer lines to the journal than the line may need.
 pub fn serve_line<A: Acts, L: Kms, D: Dice>(
     alloc: Global,
     acts: &mut A,

@@ -11,8 +11,9 @@ use kr_rollout::Acts;
 use kr_script::{ScriptLine, Told};
 use std::alloc::Global;
 
-/// Does the lines at the worker's replica one after the other, and tells the reply of each, whatever
-/// it is. The first line in whose midst the seat may add no more lines to the journal ends it.
+/// Does the lines at the worker's replica one after the other, and tells the reply of each,
+/// whatever it is. The first line in whose midst the seat may add no more lines to the journal ends
+/// it.
 pub fn serve_lines<A: Acts, L: Kms, D: Dice>(
     alloc: Global,
     acts: &mut A,

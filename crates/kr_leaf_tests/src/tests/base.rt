@@ -23,67 +23,99 @@ fn one(alloc: Global, number: u64) -> Result<List<u64>, NoMemory> {
 }
 
 /// Whether bytes that were copied and bytes that were taken are the same in all ways.
-fn keeps_bytes(alloc: Global) -> Option<bool> {
-    let ab = Bytes::copy(alloc, b"ab").ok()?;
-    let taken = Bytes::from_vec(Vec::from_slice(alloc, b"ab").ok()?);
-    let high = Bytes::copy(alloc, b"a\x80").ok()?;
+fn are_same_bytes(ab: &Bytes, taken: &Bytes, high: &Bytes) -> bool {
     ab.known();
-    let same = ab == taken && hash_of(&ab) == hash_of(&taken);
-    let ordered = Bytes::new(alloc) < ab && ab < high && ab != high;
-    Some(same && ordered && taken.into_vec().as_slice() == b"ab".as_slice())
+    ab == taken && hash_of(ab) == hash_of(taken) && ab < high && ab != high
+}
+
+fn keeps_bytes(alloc: Global) -> bool {
+    match (
+        Bytes::copy(alloc, b"ab"),
+        Vec::from_slice(alloc, b"ab"),
+        Bytes::copy(alloc, b"a\x80"),
+    ) {
+        (Ok(ab), Ok(items), Ok(high)) => {
+            let taken = Bytes::from_vec(items);
+            are_same_bytes(&ab, &taken, &high)
+                && Bytes::new(alloc) < ab
+                && taken.into_vec().as_slice() == b"ab".as_slice()
+        }
+        _ => false,
+    }
 }
 
 /// The same of texts.
-fn keeps_texts(alloc: Global) -> Option<bool> {
-    let ab = Text::copy(alloc, "ab").ok()?;
-    let taken = Text::from_string(String::from_str(alloc, "ab").ok()?);
-    let high = Text::copy(alloc, "aé").ok()?;
-    let same = ab == taken && hash_of(&ab) == hash_of(&taken);
-    let ordered = Text::new(alloc) < ab && ab < high && ab != high;
-    Some(same && ordered && taken.into_string().as_str() == "ab")
+fn are_same_texts(ab: &Text, taken: &Text, high: &Text) -> bool {
+    ab == taken && hash_of(ab) == hash_of(taken) && ab < high && ab != high
 }
 
-/// Whether a list has what was pushed.
-fn keeps_items(alloc: Global) -> Option<bool> {
-    let mut list = one(alloc, 1).ok()?;
-    list.push(2).ok()?;
-    list.reserve(1).ok()?;
+fn keeps_texts(alloc: Global) -> bool {
+    match (
+        Text::copy(alloc, "ab"),
+        String::from_str(alloc, "ab"),
+        Text::copy(alloc, "aé"),
+    ) {
+        (Ok(ab), Ok(text), Ok(high)) => {
+            let taken = Text::from_string(text);
+            are_same_texts(&ab, &taken, &high)
+                && Text::new(alloc) < ab
+                && taken.into_string().as_str() == "ab"
+        }
+        _ => false,
+    }
+}
+
+/// Whether a list of 1 has what is pushed, up to what is taken again.
+fn pushes(list: &mut List<u64>) -> bool {
+    if list.push(2).is_err() || list.reserve(1).is_err() {
+        return false;
+    }
     list.push_in_room(3);
-    let whole = list.as_slice() == [1, 2, 3].as_slice();
-    let last = list.pop();
+    list.as_slice() == [1, 2, 3].as_slice() && list.pop() == Some(3)
+}
+
+fn keeps_items(alloc: Global) -> bool {
     let none: List<u64> = List::new(alloc);
     none.end();
-    Some(whole && last == Some(3) && list.into_vec().as_slice() == [1, 2].as_slice())
+    match one(alloc, 1) {
+        Ok(mut list) => { pushes(&mut list) && list.into_vec().as_slice() == [1, 2].as_slice() }
+        Err(_) => false,
+    }
 }
 
 #[test]
 fn keeps_bytes_texts_and_items(rt: HostRuntime) {
-    assert_eq!(rt; keeps_bytes(rt.alloc()), Some(true));
-    assert_eq!(rt; keeps_texts(rt.alloc()), Some(true));
-    assert_eq!(rt; keeps_items(rt.alloc()), Some(true));
+    assert!(rt; keeps_bytes(rt.alloc()));
+    assert!(rt; keeps_texts(rt.alloc()));
+    assert!(rt; keeps_items(rt.alloc()));
 }
 
-fn insert(alloc: Global, annotations: &mut Annotations, key: &str, value: &[u8]) -> Option<()> {
-    let key = Text::copy(alloc, key).ok()?;
-    let value = Bytes::copy(alloc, value).ok()?;
-    annotations.insert(key, value).ok()
+/// Whether a value was put.
+fn insert(alloc: Global, annotations: &mut Annotations, key: &str, value: &[u8]) -> bool {
+    match (Text::copy(alloc, key), Bytes::copy(alloc, value)) {
+        (Ok(key), Ok(value)) => annotations.insert(key, value).is_ok(),
+        _ => false,
+    }
 }
 
-/// The annotations `m` and `a`, put in this order.
-fn pair(alloc: Global) -> Option<Annotations> {
+/// Whether a copy is the same until a value changes.
+fn is_copied(alloc: Global, annotations: &mut Annotations) -> bool {
+    match annotations.copy(alloc) {
+        Ok(before) => {
+            let same = before == *annotations && hash_of(&before) == hash_of(annotations);
+            same && insert(alloc, annotations, "m", b"3") && before != *annotations
+        }
+        Err(_) => false,
+    }
+}
+
+/// Whether the values of `m` and `a`, put in this order, stand by their keys.
+fn keeps_annotations(alloc: Global) -> bool {
     let mut annotations = Annotations::new(alloc);
-    insert(alloc, &mut annotations, "m", b"1")?;
-    insert(alloc, &mut annotations, "a", b"2")?;
-    Some(annotations)
-}
-
-/// Whether a copy is the same until a value changes, and the values then stand by their keys.
-fn keeps_annotations(alloc: Global) -> Option<bool> {
-    let mut annotations = pair(alloc)?;
-    let before = annotations.copy(alloc).ok()?;
-    let same = before == annotations && hash_of(&before) == hash_of(&annotations);
-    insert(alloc, &mut annotations, "m", b"3")?;
-    Some(same && before != annotations && are_changed(&annotations))
+    insert(alloc, &mut annotations, "m", b"1")
+        && insert(alloc, &mut annotations, "a", b"2")
+        && is_copied(alloc, &mut annotations)
+        && are_changed(&annotations)
 }
 
 fn are_changed(annotations: &Annotations) -> bool {
@@ -117,7 +149,7 @@ fn counts(alloc: Global) -> Option<u64> {
 
 #[test]
 fn keeps_annotations_by_their_keys(rt: HostRuntime) {
-    assert_eq!(rt; keeps_annotations(rt.alloc()), Some(true));
+    assert!(rt; keeps_annotations(rt.alloc()));
     assert_eq!(rt; shares(rt.alloc()), Some(7));
     assert_eq!(rt; counts(rt.alloc()), Some(1));
 }
@@ -130,24 +162,32 @@ fn reads_whole(alloc: Global) -> Option<u64> {
     Some(source.faults())
 }
 
-/// Whether a write that failed left nothing, and the next one all.
-fn writes_whole(alloc: Global) -> Option<bool> {
-    let content = Bytes::copy(alloc, b"ab").ok()?;
-    let mut sink = MemSink::new(content, 4, one(alloc, 1).ok()?).ok()?;
-    let failed = write_all(&mut sink, b"cd").is_err();
-    write_all(&mut sink, b"cd").ok()?;
-    Some(failed && sink.bytes() == b"abcd".as_slice())
+/// Whether a write that fails leaves nothing, and the next one all.
+fn writes_whole(sink: &mut MemSink) -> bool {
+    write_all(sink, b"cd").is_err()
+        && write_all(sink, b"cd").is_ok()
+        && sink.bytes() == b"abcd".as_slice()
 }
 
-/// What a first call draws of four bytes, whether the second and the third failed, and what is
-/// left.
-fn draws(alloc: Global) -> Option<bool> {
-    let mut dice = MemDice::new(Bytes::copy(alloc, b"abcd").ok()?, one(alloc, 2).ok()?);
+fn sink(alloc: Global) -> Option<MemSink> {
+    let content = Bytes::copy(alloc, b"ab").ok()?;
+    MemSink::new(content, 4, one(alloc, 1).ok()?).ok()
+}
+
+/// Whether a first call draws three of four bytes, the second and the third fail, and one is left.
+fn draws(dice: &mut MemDice) -> bool {
     let mut drawn = *b"---";
-    dice.fill(&mut drawn).ok()?;
-    let first = drawn == *b"abc";
-    let failed = dice.fill(&mut drawn) == Err(Failed) && dice.fill(&mut drawn) == Err(Failed);
-    Some(first && failed && dice.bytes() == b"d".as_slice() && dice.faults() == 2)
+    dice.fill(&mut drawn) == Ok(())
+        && drawn == *b"abc"
+        && dice.fill(&mut drawn) == Err(Failed)
+        && dice.fill(&mut drawn) == Err(Failed)
+        && dice.bytes() == b"d".as_slice()
+        && dice.faults() == 2
+}
+
+fn dice(alloc: Global) -> Option<MemDice> {
+    let content = Bytes::copy(alloc, b"abcd").ok()?;
+    Some(MemDice::new(content, one(alloc, 2).ok()?))
 }
 
 // RFC 8439, appendix A.1, test vector 1.
@@ -159,24 +199,35 @@ fn generates() -> bool {
         && dice.faults() == 0
 }
 
-/// Whether a tape of six bytes is cut to four, and a write that failed wrote the first half.
-fn keeps_places(alloc: Global) -> Option<bool> {
-    let content = Bytes::copy(alloc, b"abcdef").ok()?;
-    let mut tape = MemTape::new(content, 8, List::new(alloc), one(alloc, 2).ok()?).ok()?;
-    tape.cut(4).ok()?;
-    let failed = tape.put_at(1, b"12").is_err();
+/// Whether a tape of six bytes is cut to four, and a write that fails writes the first half.
+fn keeps_places(tape: &mut MemTape) -> bool {
     let mut into = *b"--";
-    tape.read_at(0, &mut into).ok()?;
-    Some(failed && tape.bytes() == b"a1cd".as_slice())
+    tape.bytes().len() == 6
+        && tape.cut(4).is_ok()
+        && tape.bytes().len() == 4
+        && tape.put_at(1, b"12").is_err()
+        && tape.read_at(0, &mut into).is_ok()
+        && tape.bytes() == b"a1cd".as_slice()
+}
+
+fn tape(alloc: Global) -> Option<MemTape> {
+    let content = Bytes::copy(alloc, b"abcdef").ok()?;
+    MemTape::new(content, 8, List::new(alloc), one(alloc, 2).ok()?).ok()
+}
+
+fn serve(alloc: Global) -> bool {
+    match (sink(alloc), dice(alloc), tape(alloc)) {
+        (Some(mut sink), Some(mut dice), Some(mut tape)) => {
+            writes_whole(&mut sink) && draws(&mut dice) && keeps_places(&mut tape)
+        }
+        _ => false,
+    }
 }
 
 #[test]
 fn reads_writes_and_draws(rt: HostRuntime) {
     assert_eq!(rt; reads_whole(rt.alloc()), Some(0));
-    assert_eq!(rt; writes_whole(rt.alloc()), Some(true));
-    assert_eq!(rt; draws(rt.alloc()), Some(true));
-    assert!(rt; generates());
-    assert_eq!(rt; keeps_places(rt.alloc()), Some(true));
+    assert!(rt; generates() && serve(rt.alloc()));
 }
 
 #[test]

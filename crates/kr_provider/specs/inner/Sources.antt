@@ -78,6 +78,7 @@ module _ {L : Type 0} (truth : Truth) (link : L → Link) (row : SeedRow) (name 
   UnsealsObject path old (Err (PluginFailed failed)) new =
       FailsToOpen link row name found old failed new
   UnsealsObject path old (Err NoMemory) new = AskedOnly link (name ∷ []) old new
+      × ((new ≡ old) ⊎ (IsSeedOf row name found → ⊥))
 
 -- the provider reads the value by a list; whether it is the list's first
 pub record IsReadBy (list : List Who) (bytes : List ℕ) (who : Who) (body : List ℕ) (first : Bool)

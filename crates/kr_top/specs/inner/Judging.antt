@@ -35,7 +35,8 @@ AreIn count replicas = (length replicas ≡ count) × All (λ replica. IsSome re
 -- a verdict, or why there is none
 abbrev pub Judges : List LogRow → List (Option (List Row)) → ℕ → List Row → Result Verdict Stop
     → Type 0
-Judges stored replicas replica rows (Ok verdict) = IsJudged stored replicas replica rows (Ok verdict)
+Judges stored replicas replica rows (Ok verdict) =
+    IsJudged stored replicas replica rows (Ok verdict)
 Judges stored replicas replica rows (Err (Refused why)) =
     IsJudged stored replicas replica rows (Err why)
 Judges stored replicas replica rows (Err NoMemory) = ⊤

@@ -5,6 +5,7 @@ use Rattle.std.specs.Borrow.{Bor}
 use Rattle.std.specs.Io.KnownBytes.{Appends, Consumes, IsAtEnd}
 use Rattle.kr_base.specs.Faults.{Rose, IsCounted}
 use Rattle.kr_base.specs.Limits.{path_limit}
+use Rattle.kr_base.specs.Rules.{IsPath, IsResource}
 use Rattle.kr_base.specs.Told.{Agrees}
 use Rattle.kr_base.specs.Streams.{AppendsFront, TakesAtMost}
 use Rattle.kr_kms.specs.Calls.{Link}
@@ -24,7 +25,7 @@ use Rattle.kr_top.specs.Ran.{Receipt}
 use Rattle.kr_top.specs.inner.Judging.{HasReplicas}
 use Rattle.kr_top.specs.Steps.{Steps, Left}
 use Rattle.kr_top.specs.declared.command.Command.{Command}
-use Rattle.kr_top.specs.declared.command.Command.TheVariants.{Convert, Check, Inspect, Rows, Judge}
+use Rattle.kr_top.specs.declared.command.Command.TheVariants.{Convert, Check, Inspect, Put, Get, Rows, Judge}
 use Rattle.kr_top.specs.declared.refusal.Object.TheVariants.{Input, Files}
 use Rattle.kr_top.specs.declared.refusal.Outcome.{Outcome}
 use Rattle.kr_top.specs.declared.refusal.Refusal.{Refusal}
@@ -42,17 +43,20 @@ pub record Does {A : Type 0} (next : Steps A) (old new : Around)
 
 -- ---- the words
 
-abbrev pub HasShortPath : Option Command → Type 0
-HasShortPath None = ⊤
-HasShortPath (Some (Convert words)) = length words.path ≤ path_limit
-HasShortPath (Some (Check config resource)) = ⊤
-HasShortPath (Some Inspect) = ⊤
-HasShortPath (Some (Rows store)) = ⊤
-HasShortPath (Some (Judge words)) = HasReplicas words.options
+-- the rules of the words that the command's phases stand on
+abbrev pub KeepsRules : Option Command → Type 0
+KeepsRules None = ⊤
+KeepsRules (Some (Convert words)) = length words.path ≤ path_limit
+KeepsRules (Some (Check config resource)) = ⊤
+KeepsRules (Some Inspect) = ⊤
+KeepsRules (Some (Put words store)) = IsPath words.path × IsResource words.resource
+KeepsRules (Some (Get words)) = length words.path ≤ path_limit
+KeepsRules (Some (Rows store)) = ⊤
+KeepsRules (Some (Judge words)) = HasReplicas words.options
 
 -- the words ask for the command, or stop the call
 abbrev pub IsReadAs : List (List ℕ) → Result Command Stop → Type 0
-IsReadAs words (Ok command) = Asks words command × HasShortPath (Some command)
+IsReadAs words (Ok command) = Asks words command × KeepsRules (Some command)
 IsReadAs words (Err (Words why)) = AskBadly why words
 IsReadAs words (Err NoMemory) = ⊤
 IsReadAs words result = ⊥

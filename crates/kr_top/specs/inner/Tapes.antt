@@ -1,21 +1,25 @@
 -- What the phases over a lent tape give to a command.
-use Rattle.std.specs.Prelude.{◌≡◌, ℕ, Bool, false, List, [], Option, None, Some, ⊤}
+use Rattle.std.specs.Prelude.{◌≡◌, ℕ, Bool, false, List, [], Option, None, Some, Result, Ok, Err, ⊤}
 use Rattle.std.specs.Option.{option_map}
 use Rattle.kr_base.specs.Faults.{Rose}
 use Rattle.kr_base.specs.Told.{Agrees}
 use Rattle.kr_kms.specs.Outside.{Outside, with_call, file_faults, same_name, KeepsFiles, HandsOut, TakesBack, IsTape}
 use Rattle.kr_kms.specs.declared.world.WorldCall.TheVariants.{Tape}
 use Rattle.kr_store.specs.Stores.{Kept}
+use Rattle.kr_store.specs.Rows.{live}
+use Rattle.kr_store.specs.declared.rows.LogRow.{LogRow}
 use Rattle.kr_store.specs.declared.rows.Row.{Row}
 use Rattle.kr_store.specs.declared.answers.StoreNo.{StoreNo}
 use Rattle.kr_store.specs.declared.answers.StoreNo.TheVariants as no
-use Rattle.kr_top.specs.StoreFiles.{Stored}
+use Rattle.kr_top.specs.Commands.{silently}
+use Rattle.kr_top.specs.StoreFiles.{Stored, with_row}
 use Rattle.kr_top.specs.Texts.{visible}
 use Rattle.kr_top.specs.declared.refusal.Breach.TheVariants as breach
 use Rattle.kr_top.specs.declared.refusal.Limit.TheVariants as limit
 use Rattle.kr_top.specs.declared.refusal.Object.{Object}
 use Rattle.kr_top.specs.declared.refusal.Object.TheVariants.{Files}
-use Rattle.kr_top.specs.declared.refusal.Refusal.TheVariants.{Absent, Limit, Broken}
+use Rattle.kr_top.specs.declared.refusal.Refusal.TheVariants.{Absent, Limit, Broken, NoPath}
+use Rattle.kr_top.specs.declared.refusal.Outcome.{Outcome}
 use Rattle.kr_top.specs.declared.refusal.Stop.{Stop}
 use Rattle.kr_top.specs.declared.refusal.Stop.TheVariants.{Words, Refused, Fault, NoMemory}
 
@@ -61,6 +65,23 @@ load_stop object faults no.NoMemory = NoMemory
 
 abbrev pub stored_of : Kept → Stored
 stored_of store = record { format = store.format; rows = store.rows }
+
+-- the live row of the path was found, or there is none
+abbrev pub IsLookedUp : List LogRow → (path : List ℕ) → Result Row Stop → Type 0
+IsLookedUp rows path (Ok row) = live rows path ≡ Some row
+IsLookedUp rows path (Err (Refused why)) = (live rows path ≡ None) × (why ≡ NoPath path)
+IsLookedUp rows path (Err NoMemory) = ⊤
+IsLookedUp rows path result = ⊥
+
+-- the store with the row, where it was added
+abbrev pub grown_by : LogRow → Stored → Result (Unit {0}) Stop → Result Stored Stop
+grown_by row store (Ok done) = Ok (with_row row store)
+grown_by row store (Err stop) = Err stop
+
+-- the line of `put`, where its row was added
+abbrev pub answered : Result (Unit {0}) Stop → (line : List ℕ) → Result Outcome Stop
+answered (Ok done) line = Ok (silently line)
+answered (Err stop) line = Err stop
 
 -- the path of the row where a walk over the live rows is; the empty one at its begin
 abbrev pub path_of : Option Row → List ℕ

@@ -1,5 +1,6 @@
 -- `open_source`: what a fetch through the cache tells.
 use Rattle.std.proofs.Common.{Err, subst}
+use Rattle.kr_provider.proofs.Cached.{fetched_stays}
 use Rattle.kr_provider.proofs.ObjectSources.{IsFetched, fetched_asks, fetched_fails, fetched_opens}
 use Rattle.kr_provider.proofs.values.open_source.Goals as goal
 
@@ -37,3 +38,23 @@ returns-in-Ok-copy-clause-kept g c = c.fetch.ensures.asks.still_open c.requires.
 
 pub returns-in-Err-clause-kept : goal.returns-in-Err-clause-kept
 returns-in-Err-clause-kept g c = c.fetch.ensures.asks.still_open c.requires.kept
+
+pub returns-in-Ok-clause-cached : goal.returns-in-Ok-clause-cached
+returns-in-Ok-clause-cached g c = fetched_stays g.L.Kms.truth g.L.Kms.link c.args.name.now
+    c.args.object.now c.args.links.now c.fetch.new.self c.args.cache.now c.fetch.new.cache
+    c.fetch.result c.fetch.ensures
+
+pub returns-in-Err-NoMemory-clause-cached : goal.returns-in-Err-NoMemory-clause-cached
+returns-in-Err-NoMemory-clause-cached g c = fetched_stays g.L.Kms.truth g.L.Kms.link c.args.name.now
+    c.args.object.now c.args.links.now c.fetch.new.self c.args.cache.now c.fetch.new.cache
+    c.fetch.result c.fetch.ensures
+
+pub returns-in-Ok-copy-clause-cached : goal.returns-in-Ok-copy-clause-cached
+returns-in-Ok-copy-clause-cached g c = fetched_stays g.L.Kms.truth g.L.Kms.link c.args.name.now
+    c.args.object.now c.args.links.now c.fetch.new.self c.args.cache.now c.fetch.new.cache
+    c.fetch.result c.fetch.ensures
+
+pub returns-in-Err-clause-cached : goal.returns-in-Err-clause-cached
+returns-in-Err-clause-cached g c = fetched_stays g.L.Kms.truth g.L.Kms.link c.args.name.now
+    c.args.object.now c.args.links.now c.fetch.new.self c.args.cache.now c.fetch.new.cache
+    c.fetch.result c.fetch.ensures

@@ -1,7 +1,10 @@
--- `unseal_for`: the links serve the list.
-use Rattle.std.proofs.Common.{subst}
+-- `unseal_for`: the links serve the list, which is the adopted configuration's.
+use Rattle.std.proofs.Common.{sym, subst}
+use Rattle.std.specs.Prelude.{IfSome}
 use Rattle.kr_provider.specs.Names.{HasAdoptedLinks, names_of}
 use Rattle.kr_config.specs.Kept.{plugins_in}
+use Rattle.kr_provider.specs.Publication.{list_at}
+use Rattle.kr_provider.specs.Unsealing.{HeedsCache}
 use Rattle.kr_provider.proofs.PluginNames.{all_named_by}
 use Rattle.kr_provider.proofs.values.unseal_for.Goals as goal
 
@@ -10,3 +13,10 @@ unseal_in-requires-clause-links g c = all_named_by (plugins_in c.published-publi
     (names_of g.L.Kms.link c.args.links.now)
     (subst (HasAdoptedLinks (names_of g.L.Kms.link c.args.links.now)) c.published-published.ensures
     c.requires.links) c.listed-list.result.now c.listed-list.ensures.named
+
+pub returns-clause-cached : goal.returns-clause-cached
+returns-clause-cached g c = subst (λ o. IfSome o (λ p. HeedsCache c.args.cache.now.rows
+    (list_at p c.args.resource.now) c.args.bytes.now c.args.links.now c.unseal_in.new.links))
+    (sym c.published-published.ensures)
+    (subst (λ l. HeedsCache c.args.cache.now.rows l c.args.bytes.now c.args.links.now
+    c.unseal_in.new.links) c.listed-list.ensures.list c.unseal_in.ensures.cached)

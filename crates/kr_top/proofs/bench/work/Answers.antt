@@ -1,9 +1,12 @@
 -- `work`: what is sealed or unsealed, and the links and the random source that come back.
-use Rattle.std.proofs.Common.{ap, subst, sym, ◌∙◌}
+use Rattle.std.proofs.Common.{◌≡◌, ◌≤◌, ap, length, subst, sym, ◌∙◌}
+use Rattle.std.specs.Prelude.{IfOk}
+use Rattle.kr_base.specs.Limits.{value_limit}
 use Rattle.kr_provider.specs.Names.{names_of}
+use Rattle.kr_top.specs.declared.command.Direction.TheVariants.{Decrypt, Encrypt}
 use Rattle.kr_top.specs.inner.Plugins.{NamesAnUnread}
 use Rattle.kr_top.proofs.Unsealed.{names_stay_read, names_unread, unseal_made}
-use Rattle.kr_top.proofs.Works.{seal_made}
+use Rattle.kr_top.proofs.Works.{seal_made, sealed_size}
 use Rattle.kr_top.proofs.bench.work.Goals as goal
 
 pub returns-in-Encrypt-clause-made : goal.returns-in-Encrypt-clause-made
@@ -42,3 +45,12 @@ returns-in-Decrypt-clause-names g c = ap (names_of g.L.Kms.link)
     c.args.resource.now c.args.path.now c.args.bytes.now c.args.bench.published
     c.args.bench.links c.unseal-opened.new.self.links c.unseal-opened.result c.requires.adopted
     c.unseal-opened.ensures.opened
+
+pub returns-in-Encrypt-clause-size : goal.returns-in-Encrypt-clause-size
+returns-in-Encrypt-clause-size g c = λ e. subst (λ r. IfOk r (λ made. length made.bytes ≤ value_limit))
+    (sym c.seal_outcome.ensures) (sealed_size c.faults-faults.result c.seal-sealed.result
+    c.seal-sealed.ensures.size)
+
+pub returns-in-Decrypt-clause-size : goal.returns-in-Decrypt-clause-size
+returns-in-Decrypt-clause-size g c =
+    λ e. absurd (let x : Decrypt ≡ Encrypt = sym c.in-Decrypt.is ∙ e in cc)

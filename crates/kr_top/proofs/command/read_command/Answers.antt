@@ -1,5 +1,5 @@
 use Rattle.std.proofs.Common.{subst}
-use Rattle.kr_top.specs.inner.Phases.{HasShortPath}
+use Rattle.kr_top.specs.inner.Phases.{KeepsRules}
 use Rattle.kr_top.proofs.Asked.{means_nothing, asks, asks_nothing}
 use Rattle.kr_top.proofs.command.read_command.Goals as goal
 
@@ -10,7 +10,7 @@ pub returns-in-Some : goal.returns-in-Some
 returns-in-Some c = (
   asks _ c.in-Ok.ensures.0 c.in-Ok-command_of.ensures.command c.in-Ok.ensures.1 c.in-Ok.ensures.2
       c.in-Some.is,
-  subst HasShortPath c.in-Some.is c.in-Ok-command_of.ensures.path,
+  subst KeepsRules c.in-Some.is c.in-Ok-command_of.ensures.path,
 )
 
 pub returns-in-None : goal.returns-in-None

@@ -2,20 +2,19 @@ use Rattle.std.proofs.Common.{◌≡◌, ℕ, List, refl, sym, subst}
 use Rattle.kr_config.specs.Kept.{Row, rows_of}
 use Rattle.kr_provider.specs.PluginOrder.{plugin_order}
 use Rattle.kr_top.specs.Around.{around}
-use Rattle.kr_top.specs.Commands.{configuration, input_of, linking_programs, working}
-use Rattle.kr_top.specs.Plugins.{borrow_links}
-use Rattle.kr_top.specs.Steps.{Steps, borrow_dice, and_then}
+use Rattle.kr_top.specs.Commands.{configuration, bench_steps, input_of, linking_programs}
+use Rattle.kr_top.specs.Steps.{Steps, and_then}
 use Rattle.kr_top.specs.declared.command.Conversion.{Conversion}
 use Rattle.kr_top.specs.declared.programs.Program.{Program}
 use Rattle.kr_top.specs.declared.refusal.Outcome.{Outcome}
+use Rattle.kr_top.proofs.Apart.{bench_by, unlent}
 use Rattle.kr_top.proofs.Goes.{goes_on, stops, by_bytes}
-use Rattle.kr_top.specs.inner.Phases.{Does}
 use Rattle.kr_top.proofs.NamedPrograms.{names_in}
 use Rattle.kr_top.proofs.convert.convert.Goals as goal
 
 abbrev taken_up : Conversion → List Row → List Program → List ℕ → Steps Outcome
-taken_up words rows programs bytes = borrow_dice 0 (borrow_links programs
-    (working words.direction words.resource words.path rows bytes))
+taken_up words rows programs bytes =
+    bench_steps programs words.direction words.resource words.path rows bytes
 
 abbrev passed : Conversion → List Row → List Program → Steps Outcome
 passed words rows programs =
@@ -62,7 +61,7 @@ returns-in-Err-take_input g c =
 
 pub make-requires-clause-programs : goal.make-requires-clause-programs
 make-requires-clause-programs g c κs within = subst (λ p. names_in p
-    ≡ plugin_order (rows_of c.in-Ok.settings.entries.0)) (sym c.as_slice.ensures)
+    ≡ plugin_order (rows_of c.in-Ok.settings.entries.0)) (sym c.as_slice-2.ensures)
     c.in-Ok-programs_of.ensures.names
 
 pub returns : goal.returns
@@ -72,6 +71,8 @@ returns g c =
     let programs = c.in-Ok-programs_of.programs in
     let now = around g.W.Link.Kms.truth (g.W.World.told c.configure.new.world)
     (g.I.Source.left c.args.input.now) (g.I.Source.count c.args.input.now) in
+    let taken = around g.W.Link.Kms.truth (g.W.World.told c.configure.new.world)
+    (g.I.Source.left c.take_input.new.input) (g.I.Source.count c.take_input.new.input) in
     goes_on (configuration words.config) (loaded words) rows
     (by_bytes configuration c.as_str.ensures (c.in-Ok.ensures
     (around g.W.Link.Kms.truth (g.W.World.told c.args.world.now)
@@ -80,13 +81,7 @@ returns g c =
     (c.in-Ok-programs_of.ensures.does now)
     (goes_on (input_of words.direction) (taken_up words rows programs) c.in-Ok-take_input.bytes
     (c.in-Ok-take_input.ensures.does now)
-    (subst (λ p. Does (borrow_dice 0 (borrow_links p (working words.direction words.resource
-    words.path rows c.in-Ok-take_input.bytes)))
-    (around g.W.Link.Kms.truth (g.W.World.told c.configure.new.world)
-    (g.I.Source.left c.take_input.new.input) (g.I.Source.count c.take_input.new.input))
-    (around g.W.Link.Kms.truth (g.W.World.told c.make.new.world)
-    (g.I.Source.left c.take_input.new.input) (g.I.Source.count c.take_input.new.input))
-    c.make.result) c.as_slice.ensures
-    (by_bytes (taken_up words rows c.as_slice.result.now) c.as_slice-2.ensures
-    (c.make.ensures (around g.W.Link.Kms.truth (g.W.World.told c.configure.new.world)
-    (g.I.Source.left c.take_input.new.input) (g.I.Source.count c.take_input.new.input)) refl)))))
+    (unlent taken c.make.ensures.tapes
+    (bench_by words.direction rows c.as_slice-2.ensures c.as_str-2.ensures c.as_str-3.ensures
+    c.as_slice.ensures
+    (c.make.ensures.made (g.W.World.told c.configure.new.world).tapes taken refl)))))

@@ -11,6 +11,9 @@ returns-in-Ok-clause-ok g c name a = let loads = c.in-Ok.ensures.loads in
     gives_store name (g.T.Tape.told c.args.tape) (g.T.Tape.count c.args.tape) a c.args.object
     c.in-Ok.store loads.0 loads.1 loads.2 loads.3 c.in-Ok.ensures.kept.1 c.in-Ok.ensures.kept.3
 
+pub returns-in-Ok-clause-limit : goal.returns-in-Ok-clause-limit
+returns-in-Ok-clause-limit g c = (c.in-Ok.ensures.kept.0, c.in-Ok.ensures.kept.2)
+
 pub returns-in-Err-clause-err : goal.returns-in-Err-clause-err
 returns-in-Err-clause-err g c name a =
     let told = g.T.Tape.told c.args.tape in

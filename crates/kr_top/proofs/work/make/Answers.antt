@@ -2,14 +2,19 @@ use Rattle.std.proofs.Common.{◌≡◌, ◌++◌, ◌<◌, arith, ap, subst, sy
 use Rattle.kr_config.specs.Kept.{rows_of}
 use Rattle.kr_provider.specs.Names.{names_of}
 use Rattle.kr_provider.specs.PluginOrder.{plugin_order}
+use Rattle.kr_top.proofs.Apart.{files_apart, objects_apart, loan_apart, return_apart}
 use Rattle.kr_top.proofs.Goes.{not_opened, lends}
 use Rattle.kr_top.proofs.Linked.{none_named, without_links}
 use Rattle.kr_top.proofs.NamedPrograms.{names_in}
 use Rattle.kr_top.proofs.work.make.Goals as goal
 
-pub returns-in-Err : goal.returns-in-Err
-returns-in-Err g c a t = not_opened c.in-Err.ensures.files c.in-Err.ensures.objects a 0 c.in-Err.stop
-    c.in-Err.ensures.why c.in-Err.ensures.asked
+pub returns-in-Err-clause-made : goal.returns-in-Err-clause-made
+returns-in-Err-clause-made g c tapes a t = not_opened (files_apart tapes c.in-Err.ensures.files)
+    (objects_apart tapes c.in-Err.ensures.objects) a 0 c.in-Err.stop c.in-Err.ensures.why
+    c.in-Err.ensures.asked
+
+pub returns-in-Err-clause-tapes : goal.returns-in-Err-clause-tapes
+returns-in-Err-clause-tapes g c = c.in-Err.ensures.objects.tapes
 
 pub make_linked-made-requires-clause-programs : goal.make_linked-made-requires-clause-programs
 make_linked-made-requires-clause-programs g c κs within =
@@ -25,8 +30,13 @@ pub close_dice-requires-clause-out : goal.close_dice-requires-clause-out
 close_dice-requires-clause-out g c κs within = subst (λ d. 0 < d.out 0)
     (sym c.make_linked-made.ensures.dice) (omega (arith, c.in-Ok.ensures.lent.out.out 0))
 
-pub returns : goal.returns
-returns g c a t = lends 0 a c.in-Ok.ensures.lent c.close_dice.ensures
+pub returns-clause-made : goal.returns-clause-made
+returns-clause-made g c tapes a t = lends 0 a (loan_apart tapes c.in-Ok.ensures.lent)
+    (return_apart tapes c.close_dice.ensures)
     (without_links g.W.Link.Kms.link c.new-links.result c.make_linked-made.result.1
     c.new-links.ensures c.make_linked-made.ensures.names
-    (c.make_linked-made.ensures.made a t))
+    (c.make_linked-made.ensures.made tapes a t))
+
+pub returns-clause-tapes : goal.returns-clause-tapes
+returns-clause-tapes g c = c.close_dice.ensures.tapes ∙ c.make_linked-made.ensures.tapes
+    ∙ c.in-Ok.ensures.lent.tapes

@@ -6,8 +6,6 @@ use Rattle.kr_config.specs.declared.settings.Settings.{Settings}
 use Rattle.kr_kms.specs.Truth.{TellsOf, key_of}
 use Rattle.kr_provider.specs.Names.{AreDistinct, HasLinks, names_of}
 use Rattle.kr_provider.proofs.AskedLists.{links_stay, names_stay}
-use Rattle.kr_top.specs.Commands.{working}
-use Rattle.kr_top.proofs.Goes.{by_bytes}
 use Rattle.kr_top.proofs.Linked.{all_linked}
 use Rattle.kr_top.proofs.Made.{made_by, unadopted, unmade, unpublished}
 use Rattle.kr_top.proofs.work.make_by.Goals as goal
@@ -46,14 +44,14 @@ work-requires-clause-opens g c = subst (λ o. IfSome o
     (sym c.in-Ok-adopted.ensures.published) c.in-Ok-publish_by.ensures.opens
 
 pub returns-in-Err-clause-made : goal.returns-in-Err-clause-made
-returns-in-Err-clause-made g c a t = let words = c.args.words.now in
-    unmade words.direction words.resource words.path (rows_of c.args.settings.entries.0)
-    c.args.bytes.now _
+returns-in-Err-clause-made g c a t = let task = c.args.task.now in
+    unmade task.direction task.resource.now task.path.now (rows_of c.args.settings.entries.0)
+    task.bytes.now _
 
 pub returns-in-Err-publish_by-clause-made : goal.returns-in-Err-publish_by-clause-made
-returns-in-Err-publish_by-clause-made g c a t = let words = c.args.words.now in
-    unpublished words.direction words.resource words.path (rows_of c.args.settings.entries.0)
-    c.args.bytes.now (ap (λ (s : Settings). rows_of s.entries.0) c.in-Ok.ensures.ok)
+returns-in-Err-publish_by-clause-made g c a t = let task = c.args.task.now in
+    unpublished task.direction task.resource.now task.path.now (rows_of c.args.settings.entries.0)
+    task.bytes.now (ap (λ (s : Settings). rows_of s.entries.0) c.in-Ok.ensures.ok)
     c.in-Err-publish_by.stop (c.in-Err-publish_by.ensures.does a t)
 
 pub returns-in-Err-publish_by-clause-names : goal.returns-in-Err-publish_by-clause-names
@@ -62,9 +60,9 @@ returns-in-Err-publish_by-clause-names g c = names_stay g.L.Kms.link
     c.in-Err-publish_by.ensures.asked
 
 pub returns-in-Err-adopted-clause-made : goal.returns-in-Err-adopted-clause-made
-returns-in-Err-adopted-clause-made g c a t = let words = c.args.words.now in
-    unadopted g.L.Kms.link g.D.Dice.left g.D.Dice.count words.direction words.resource words.path
-    (rows_of c.args.settings.entries.0) (rows_of c.in-Ok.settings.entries.0) c.args.bytes.now
+returns-in-Err-adopted-clause-made g c a t = let task = c.args.task.now in
+    unadopted g.L.Kms.link g.D.Dice.left g.D.Dice.count task.direction task.resource.now task.path.now
+    (rows_of c.args.settings.entries.0) (rows_of c.in-Ok.settings.entries.0) task.bytes.now
     (ap (λ (s : Settings). rows_of s.entries.0) c.in-Ok.ensures.ok) c.args.links
     c.publish_by.new.links c.args.dice c.publish_by.new.dice a
     c.in-Ok-publish_by.published.seeds c.in-Err-adopted.links c.in-Err-adopted.dice
@@ -78,21 +76,16 @@ returns-in-Err-adopted-clause-names g c =
     c.publish_by.new.links c.in-Ok-publish_by.ensures.asked
 
 pub returns-clause-made : goal.returns-clause-made
-returns-clause-made g c a t = let words = c.args.words.now in
-    let rows = rows_of c.args.settings.entries.0 in
-    let bytes = c.args.bytes.now in
-    by_bytes (λ path. working words.direction words.resource path rows bytes) c.as_str-2.ensures
-    (by_bytes (λ resource. working words.direction resource c.as_str-2.result.now rows bytes)
-    c.as_str.ensures
-    (made_by g.L.Kms.link g.D.Dice.left g.D.Dice.count words.direction c.as_str.result.now
-    c.as_str-2.result.now rows (rows_of c.in-Ok.settings.entries.0) bytes
-    (ap (λ (s : Settings). rows_of s.entries.0) c.in-Ok.ensures.ok) c.args.links
+returns-clause-made g c a t = let task = c.args.task.now in
+    made_by g.L.Kms.link g.D.Dice.left g.D.Dice.count task.direction task.resource.now
+    task.path.now (rows_of c.args.settings.entries.0) (rows_of c.in-Ok.settings.entries.0)
+    task.bytes.now (ap (λ (s : Settings). rows_of s.entries.0) c.in-Ok.ensures.ok) c.args.links
     c.publish_by.new.links c.args.dice c.publish_by.new.dice a c.in-Ok-publish_by.published
     c.in-Ok-adopted.bench.published c.in-Ok-adopted.bench.links c.work.result.1
     c.in-Ok-adopted.bench.dice c.work.result.2 c.work.result.0
     c.in-Ok-adopted.ensures.published c.in-Ok-publish_by.ensures.rows
     c.in-Ok-adopted.ensures.links c.in-Ok-adopted.ensures.dice
-    (c.in-Ok-publish_by.ensures.does a t) (c.work.ensures.made a t)))
+    (c.in-Ok-publish_by.ensures.does a t) (c.work.ensures.made a t)
 
 pub returns-clause-names : goal.returns-clause-names
 returns-clause-names g c = c.work.ensures.names

@@ -2,6 +2,7 @@
 use Rattle.std.proofs.Common.{◌+◌}
 use Rattle.kr_workers.specs.Budgets.{put_lines}
 use Rattle.kr_workers.proofs.PutLines.{paths_up_to, real_budgets, really_many}
+use Rattle.kr_workers.proofs.Summing.{reloads_fit}
 use Rattle.kr_workers.proofs.budget.budgets_of.Goals as goal
 
 pub returns-clause-entries : goal.returns-clause-entries
@@ -17,3 +18,7 @@ returns-clause-many c =
     (paths_up_to c.args.live c.saturating_add.result (put_lines c.args.parts.now)
     c.put_lines.result c.put_lines.ensures c.saturating_add.ensures) c.args.parts.now
     c.budgets_for.result c.budgets_for.ensures.many
+
+pub returns-clause-fit : goal.returns-clause-fit
+returns-clause-fit c = reloads_fit c.saturating_add.result c.args.parts.now c.budgets_for.result
+    c.budgets_for.ensures.entries c.budgets_for.ensures.reloads

@@ -1,3 +1,4 @@
+-- Replies to a `get` tell the content.
 use Rattle.kr_workers.proofs.Getting as proved
 use Rattle.kr_workers.proofs.laws.gets_tell_content.Goals as goal
 

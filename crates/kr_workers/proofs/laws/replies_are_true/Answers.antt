@@ -1,3 +1,4 @@
+-- The replies of a fleet.
 use Rattle.kr_workers.proofs.Sentencing.{histories_tell}
 use Rattle.kr_workers.proofs.laws.replies_are_true.Goals as goal
 

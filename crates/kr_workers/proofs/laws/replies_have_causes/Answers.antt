@@ -1,3 +1,4 @@
+-- Each reply has its cause.
 use Rattle.kr_workers.proofs.CausingRuns as proved
 use Rattle.kr_workers.proofs.laws.replies_have_causes.Goals as goal
 

@@ -19,7 +19,8 @@ returns-clause-serves g c = subst
     c.args.replica (line.Delete p) (g.A.Acts.caller c.args.acts.now) c.args.bench.now
     c.told_of_delete.result (g.A.Acts.caller c.delete-done.new.acts) c.args.bench.now)
     c.as_str.ensures
-    (serves_delete g.L.Kms.truth g.L.Kms.link g.D.Dice.left g.D.Dice.count c.args.files.now c.args.replica
+    (serves_delete g.L.Kms.truth g.L.Kms.link g.D.Dice.left g.D.Dice.count c.args.files.now
+    c.args.replica
     (g.A.Acts.caller c.args.acts.now) (g.A.Acts.caller c.delete-done.new.acts) c.args.bench.now
     c.told_of_delete.result c.as_str.result.now c.delete-done.result
     (c.told_of_delete.ensures

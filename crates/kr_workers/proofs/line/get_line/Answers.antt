@@ -28,7 +28,8 @@ returns-clause-serves g c = subst
     c.args.replica (line.Get p) (g.A.Acts.caller c.args.acts.now) c.args.bench.now
     c.told_of_read.result (g.A.Acts.caller c.read-done.new.acts) c.read-done.new.bench)
     c.as_str.ensures
-    (serves_get g.L.Kms.truth g.L.Kms.link g.D.Dice.left g.D.Dice.count c.args.files.now c.args.replica
+    (serves_get g.L.Kms.truth g.L.Kms.link g.D.Dice.left g.D.Dice.count c.args.files.now
+    c.args.replica
     (g.A.Acts.caller c.args.acts.now) (g.A.Acts.caller c.read-done.new.acts) c.args.bench.now
     c.read-done.new.bench c.told_of_read.result c.as_str.result.now c.read-done.result
     (c.told_of_read.ensures

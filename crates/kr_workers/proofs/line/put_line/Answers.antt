@@ -15,7 +15,8 @@ pub write-done-requires-clause-path : goal.write-done-requires-clause-path
 write-done-requires-clause-path g c = subst IsPath (sym c.as_str-2.ensures) c.requires.ready.may.0
 
 pub write-done-requires-clause-resource : goal.write-done-requires-clause-resource
-write-done-requires-clause-resource g c = subst IsResource (sym c.as_str.ensures) c.requires.ready.may.1
+write-done-requires-clause-resource g c = subst IsResource (sym c.as_str.ensures)
+    c.requires.ready.may.1
 
 pub write-done-requires-clause-links : goal.write-done-requires-clause-links
 write-done-requires-clause-links g c = c.requires.ready.links
@@ -24,7 +25,8 @@ pub write-done-requires-clause-pages : goal.write-done-requires-clause-pages
 write-done-requires-clause-pages g c = c.requires.ready.pages
 
 pub returns-in_default-clause-serves : goal.returns-in_default-clause-serves
-returns-in_default-clause-serves g c = uncopied_put g.L.Kms.truth g.L.Kms.link g.D.Dice.left g.D.Dice.count
+returns-in_default-clause-serves g c = uncopied_put g.L.Kms.truth g.L.Kms.link g.D.Dice.left
+    g.D.Dice.count
     c.args.files.now c.args.replica (g.A.Acts.caller c.args.acts.now) c.args.bench.now
     c.args.resource.now c.args.path.now c.args.plain.now c.requires.ready.idle
 
@@ -32,9 +34,11 @@ pub returns-clause-serves : goal.returns-clause-serves
 returns-clause-serves g c = put_as_lent g.L.Kms.truth g.L.Kms.link g.D.Dice.left g.D.Dice.count
     c.args.files.now c.args.replica (g.A.Acts.caller c.args.acts.now) c.args.bench.now
     (g.A.Acts.caller c.write-done.new.acts) c.write-done.new.bench c.told_of_write.result
-    c.as_str.result.now c.as_str-2.result.now c.in-Ok.copy c.args.resource.now c.args.path.now c.args.plain.now
+    c.as_str.result.now c.as_str-2.result.now c.in-Ok.copy c.args.resource.now c.args.path.now
+    c.args.plain.now
     c.as_str.ensures c.as_str-2.ensures (c.in-Ok.ensures ∙ c.as_slice.ensures)
-    (serves_put g.L.Kms.truth g.L.Kms.link g.D.Dice.left g.D.Dice.count c.args.files.now c.args.replica
+    (serves_put g.L.Kms.truth g.L.Kms.link g.D.Dice.left g.D.Dice.count c.args.files.now
+    c.args.replica
     (g.A.Acts.caller c.args.acts.now) (g.A.Acts.caller c.write-done.new.acts) c.args.bench.now
     c.write-done.new.bench c.told_of_write.result c.as_str.result.now c.as_str-2.result.now
     c.in-Ok.copy c.write-done.result

@@ -1,7 +1,7 @@
 -- A `reload`: one more owner of the settings of its file.
 use Rattle.std.proofs.Common.{List, Option, ap, sym, ◌∙◌, arith}
 use Rattle.std.specs.Prelude.{is_some}
-use Rattle.kr_config.specs.Kept.{Row, plugins_in, rows_of}
+use Rattle.kr_config.specs.Kept.{Row, rows_of}
 use Rattle.kr_workers.specs.Files.{rows_at}
 use Rattle.kr_workers.specs.Replies.{told_of_reload}
 use Rattle.kr_workers.proofs.OneLine.{read_rows, serves_reload, unread_reload}
@@ -30,15 +30,17 @@ pub reload-done-requires-clause-links : goal.reload-done-requires-clause-links
 reload-done-requires-clause-links g c = c.requires.ready.links
 
 pub returns-in_default-clause-serves : goal.returns-in_default-clause-serves
-returns-in_default-clause-serves g c = unread_reload g.L.Kms.truth g.L.Kms.link g.D.Dice.left g.D.Dice.count
+returns-in_default-clause-serves g c = unread_reload g.L.Kms.truth g.L.Kms.link g.D.Dice.left
+    g.D.Dice.count
     c.args.files.now c.args.replica (g.A.Acts.caller c.args.acts.now) c.args.bench.now c.args.named
     c.args.file.now c.requires.ready.may.1 c.requires.ready.may.2 c.requires.ready.idle
 
 pub returns-clause-serves : goal.returns-clause-serves
 returns-clause-serves g c = serves_reload g.L.Kms.truth g.L.Kms.link g.D.Dice.left g.D.Dice.count
-    c.args.files.now c.args.replica (g.A.Acts.caller c.args.acts.now) (g.A.Acts.caller c.reload-done.new.acts)
+    c.args.files.now c.args.replica (g.A.Acts.caller c.args.acts.now)
+    (g.A.Acts.caller c.reload-done.new.acts)
     c.args.bench.now c.reload-done.new.bench c.told_of_reload.result c.args.named c.args.file.now
-    (rows_of c.in-Ok.settings.entries.0) (plugins_in (rows_of c.in-Ok.settings.entries.0))
+    (rows_of c.in-Ok.settings.entries.0)
     c.reload-done.result
     (ap (rows_at c.args.files.now) (sym c.as_str.ensures) ∙ c.in-Ok.ensures)
     (c.told_of_reload.ensures

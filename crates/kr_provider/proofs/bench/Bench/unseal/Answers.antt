@@ -1,4 +1,8 @@
 -- `Bench::unseal`: the links serve the configuration still, and what is kept is true.
+use Rattle.std.proofs.Common.{subst}
+use Rattle.std.specs.Prelude.{IfSome}
+use Rattle.kr_provider.specs.Publication.{list_at}
+use Rattle.kr_provider.specs.Unsealing.{HeedsCache}
 use Rattle.kr_provider.proofs.BenchLinks.{unsealed_stay}
 use Rattle.kr_provider.proofs.bench.Bench.unseal.Goals as goal
 
@@ -9,3 +13,8 @@ invariant_of-self g c = (
       c.unseal_for.result c.unseal_for.ensures.opened c.self.invariant.0,
   c.unseal_for.ensures.kept,
 )
+
+pub returns-clause-cached : goal.returns-clause-cached
+returns-clause-cached g c = subst (λ b. IfSome b.published (λ p. HeedsCache b.cache.rows
+    (list_at p c.args.resource.now) c.args.bytes.now b.links c.unseal_for.new.links))
+    c.self.view_is c.unseal_for.ensures.cached

@@ -1,0 +1,29 @@
+-- A tape that is out, and the counts that go back with it.
+use Rattle.std.proofs.Common.{◌≡◌, ℕ, ◌<◌, List, cond, refl, ap, arith}
+use Rattle.kr_kms.specs.Outside.{Objects, HandsOut, TakesBack, at_key, same_name}
+use Rattle.kr_kms.proofs.Lent.{names_decide}
+
+-- one of the name
+own : (name : List ℕ) → at_key same_name name 1 name ≡ 1
+own name = ap (λ q. cond q 1 0) ((names_decide name name).1 refl)
+
+-- what was handed out is out
+pub is_out : {V : Type 0} {old new : Objects (List ℕ) V} {name : List ℕ} {count : ℕ}
+    → HandsOut same_name old new name count → 0 < new.out name
+is_out {V} {old} {new} {name} given = omega (arith, given.out name, own name)
+
+-- also once another count was told
+pub is_still_out : {V : Type 0} {old new : Objects (List ℕ) V} {name : List ℕ} {count : ℕ}
+    (later : ℕ) → HandsOut same_name old new name count → later ≡ new.out name → 0 < later
+is_still_out {V} {old} {new} {name} later given same = omega (arith, given.out name, own name, same)
+
+-- one that goes back leaves as many as there were
+pub goes_back : {V : Type 0} {old mid new : Objects (List ℕ) V} {name : List ℕ} {count after : ℕ}
+    → HandsOut same_name old mid name count → TakesBack same_name mid new name after
+    → new.out name ≡ old.out name
+goes_back {V} {old} {mid} {new} {name} given back =
+    omega (arith, given.out name, back.out name, own name)
+
+pub stays : {V : Type 0} {old new : Objects (List ℕ) V} {name : List ℕ} → new ≡ old
+    → new.out name ≡ old.out name
+stays {V} {old} {new} {name} same = ap (λ (o : Objects (List ℕ) V). o.out name) same

@@ -1,0 +1,249 @@
+//! Stores as files, in the folder that the tests run in.
+ghost use Rattle.std.specs.Prelude.{◌≡◌};
+
+use kr_base::Tape;
+use kr_edge::{FileTape, NamedFiles, RealWorld, SystemFiles};
+use kr_kms::{FileNo, World};
+use std::alloc::Global;
+use std::cell::Cell;
+use std::fs::{File, Metadata, OpenFile};
+use std::io::{self, ErrorKind};
+use std::os::unix::fs::{FileExt, MetadataExt};
+use std::process::{Processes, SystemProcess};
+use std::rt::Files;
+
+/// Why a world has no tape of the name, if it has none. One that it has goes back at once.
+#[tactic(auto, using(crate::proofs::Tapes::is_out, crate::proofs::Tapes::goes_back, crate::proofs::Tapes::stays))]
+fn refusal<W: World>(world: &mut W, alloc: Global, name: &str, make: bool) -> Option<FileNo>
+    ensures { (W.told world.new).tapes.out name.now ≡ (W.told world.old).tapes.out name.now }
+{
+    match world.tape(alloc, name, make) {
+        Ok(tape) => {
+            world.back_tape(name, tape);
+            None
+        }
+        Err(why) => Some(why),
+    }
+}
+
+fn writes<T: Tape>(tape: &mut T) -> bool {
+    tape.put_at(0, b"hello!").is_ok() && tape.put_at(2, b"y").is_ok() && tape.cut(5).is_ok()
+}
+
+/// Whether what was written is there, read from its second byte on.
+fn reads<T: Tape>(tape: &mut T) -> bool {
+    let mut into = [0u8; 8];
+    tape.len() == Ok(5)
+        && tape.read_at(1, &mut into) == Ok(4)
+        && &into[..4] == b"eylo".as_slice()
+        && tape.faults() == 0
+}
+
+/// Whether a tape of the name takes bytes, and isn't given a second time while it is out.
+#[tactic(auto, using(crate::proofs::Tapes::is_out, crate::proofs::Tapes::is_still_out))]
+fn is_written_alone<W: World>(world: &mut W, alloc: Global, name: &str) -> bool {
+    match world.tape(alloc, name, true) {
+        Ok(mut tape) => {
+            let written = writes(&mut tape);
+            let alone = refusal(world, alloc, name, true) == Some(FileNo::Failed);
+            world.back_tape(name, tape);
+            written && alone
+        }
+        Err(_) => false,
+    }
+}
+
+/// Whether the tape of the name that is there has the bytes.
+#[tactic(auto, using(crate::proofs::Tapes::is_out, crate::proofs::Tapes::is_still_out))]
+fn is_read<W: World>(world: &mut W, alloc: Global, name: &str) -> bool {
+    match world.tape(alloc, name, false) {
+        Ok(mut tape) => {
+            let read = reads(&mut tape);
+            world.back_tape(name, tape);
+            read
+        }
+        Err(_) => false,
+    }
+}
+
+/// The mode of a file.
+fn mode<R: Files<File = File>>(rt: &R, name: &str) -> Option<u32> {
+    let found = rt.metadata(name).ok()?;
+    Some(found.mode() & 0o777)
+}
+
+/// Whether an absent store is made, its owner's alone, where that is asked for, and keeps what was
+/// put.
+fn keeps<R: Files<File = File> + Processes<Started = SystemProcess>>(
+    rt: &R,
+    alloc: Global,
+    name: &str,
+) -> bool {
+    let files = SystemFiles::new(rt);
+    let mut world = RealWorld::new(alloc, &files);
+    refusal(&mut world, alloc, name, false) == Some(FileNo::Absent)
+        && is_written_alone(&mut world, alloc, name)
+        && mode(rt, name) == Some(0o600)
+        && is_read(&mut world, alloc, name)
+        && world.faults() == 1
+}
+
+#[test]
+fn a_store_keeps_what_was_put(rt: HostRuntime) {
+    let kept = keeps(&rt, rt.alloc(), "kr_edge.store");
+    let _removed = rt.remove_file("kr_edge.store");
+    assert!(rt; kept);
+}
+
+/// Whether a store that another world has out is refused until it is back.
+fn is_locked<R: Files<File = File> + Processes<Started = SystemProcess>>(
+    rt: &R,
+    alloc: Global,
+    name: &str,
+) -> bool {
+    let files = SystemFiles::new(rt);
+    let mut first = RealWorld::new(alloc, &files);
+    let mut second = RealWorld::new(alloc, &files);
+    match first.tape(alloc, name, true) {
+        Ok(tape) => {
+            let locked = refusal(&mut second, alloc, name, true) == Some(FileNo::Failed);
+            first.back_tape(name, tape);
+            locked && refusal(&mut second, alloc, name, false).is_none()
+        }
+        Err(_) => false,
+    }
+}
+
+#[test]
+fn a_store_is_locked_while_it_is_out(rt: HostRuntime) {
+    let locked = is_locked(&rt, rt.alloc(), "kr_edge.locked");
+    let _removed = rt.remove_file("kr_edge.locked");
+    assert!(rt; locked);
+}
+
+/// Whether no store is made of the name, nor opened.
+fn is_no_store<R: Files<File = File> + Processes<Started = SystemProcess>>(
+    rt: &R,
+    alloc: Global,
+    name: &str,
+) -> bool {
+    let files = SystemFiles::new(rt);
+    let mut world = RealWorld::new(alloc, &files);
+    refusal(&mut world, alloc, name, true) == Some(FileNo::Failed) && world.faults() == 1
+}
+
+// A folder, a device, and a link that leads to nothing, which no store is made through.
+#[test]
+fn what_is_no_plain_file_is_no_store(rt: HostRuntime) {
+    let alloc = rt.alloc();
+    let linked = rt.symlink("kr_edge.nothing", "kr_edge.link").is_ok();
+    let refused = is_no_store(&rt, alloc, "kr_edge.link");
+    let made = rt.metadata("kr_edge.nothing").is_ok();
+    let _removed = rt.remove_file("kr_edge.link");
+    assert!(rt; linked && refused && !made);
+    assert!(rt; is_no_store(&rt, alloc, "/"));
+    assert!(rt; is_no_store(&rt, alloc, "/dev/null"));
+}
+
+/// What a disk does that has no room.
+#[derive(Clone, Copy, PartialEq, Eq)]
+enum Full {
+    Fails,
+    TakesNothing,
+}
+
+/// A file of a disk that has room for its first six bytes alone. It takes and gives two at a time,
+/// and interrupts every other call.
+#[derive(Drop)]
+struct SmallDisk {
+    file: File,
+    full: Full,
+    stops: Cell<bool>,
+}
+
+impl SmallDisk {
+    /// Whether this call is interrupted.
+    fn stops(&self) -> bool {
+        let stops = self.stops.get();
+        self.stops.set(!stops);
+        stops
+    }
+}
+
+impl FileExt for SmallDisk {
+    fn read_at(&self, buf: &mut [u8], offset: u64) -> io::Result<usize> {
+        if self.stops() {
+            return Err(ErrorKind::Interrupted.into());
+        }
+        let most = buf.len().min(2);
+        self.file.read_at(&mut buf[..most], offset)
+    }
+
+    fn write_at(&self, buf: &[u8], offset: u64) -> io::Result<usize> {
+        if self.stops() {
+            return Err(ErrorKind::Interrupted.into());
+        }
+        if offset < 6 {
+            let most = buf.len().min(2);
+            return self.file.write_at(&buf[..most], offset);
+        }
+        match self.full {
+            Full::Fails => Err(ErrorKind::StorageFull.into()),
+            Full::TakesNothing => Ok(0),
+        }
+    }
+}
+
+impl OpenFile for SmallDisk {
+    fn metadata(&self) -> io::Result<Metadata> {
+        self.file.metadata()
+    }
+
+    fn set_len(&self, size: u64) -> io::Result<()> {
+        self.file.set_len(size)
+    }
+
+    fn sync_all(&self) -> io::Result<()> {
+        self.file.sync_all()
+    }
+
+    fn sync_data(&self) -> io::Result<()> {
+        self.file.sync_data()
+    }
+}
+
+/// Whether a put that there is no room for fails, once, and what was there before is left.
+fn goes_back(tape: &mut FileTape<SmallDisk>) -> bool {
+    let mut into = [0u8; 8];
+    tape.put_at(0, b"abcde").is_ok()
+        && tape.put_at(5, b"hello").is_err()
+        && tape.faults() == 1
+        && tape.len() == Ok(5)
+        && tape.read_at(0, &mut into) == Ok(5)
+        && &into[..5] == b"abcde".as_slice()
+}
+
+/// The same of a file of this name on such a disk.
+fn survives<R: Files<File = File> + Processes<Started = SystemProcess>>(
+    rt: &R,
+    name: &str,
+    full: Full,
+) -> bool {
+    match SystemFiles::new(rt).open_store(name, true) {
+        Ok(file) => {
+            let stops = Cell::new(true);
+            let mut tape = FileTape::first(SmallDisk { file, full, stops });
+            goes_back(&mut tape) & (tape.close() == 1)
+        }
+        Err(_) => false,
+    }
+}
+
+#[test]
+fn a_full_disk_leaves_the_store_as_it_was(rt: HostRuntime) {
+    let failed = survives(&rt, "kr_edge.full", Full::Fails);
+    let _removed = rt.remove_file("kr_edge.full");
+    let took_nothing = survives(&rt, "kr_edge.small", Full::TakesNothing);
+    let _removed = rt.remove_file("kr_edge.small");
+    assert!(rt; failed && took_nothing);
+}

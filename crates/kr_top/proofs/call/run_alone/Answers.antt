@@ -1,0 +1,52 @@
+-- `run_alone`: another command than a fleet, or words that mean none.
+use Rattle.std.proofs.Common.{Err, Ok, refl, inl, arith, subst}
+use Rattle.kr_words.specs.Grammar.{texts}
+use Rattle.kr_top.specs.Around.{around}
+use Rattle.kr_top.specs.Ran.{receipt}
+use Rattle.kr_top.specs.FleetAsked.{IsFleetAsked}
+use Rattle.kr_top.proofs.FleetRuns.{alone_or_memory, at_once}
+use Rattle.kr_top.proofs.Leaving.{tapes_left}
+use Rattle.kr_top.proofs.Readings.{readings}
+use Rattle.kr_top.proofs.call.run_alone.Goals as goal
+
+pub returns-in-Ok-Some : goal.returns-in-Ok-Some
+returns-in-Ok-Some g c = (
+  (
+    c.in-Ok-Some._asked,
+    subst (λ o. IsFleetAsked (texts c.args.words.now) (Ok o)) c.in-Ok-Some.field-0-is
+        c.in-Ok-Some.ensures,
+  ),
+  (refl, (refl, refl)),
+  (refl, refl),
+)
+
+pub returns-in-Ok-None : goal.returns-in-Ok-None
+returns-in-Ok-None g c = (
+  c.alone.ensures.ran,
+  c.alone.ensures.readings,
+  c.alone.ensures.tapes,
+  inl (subst (λ o. IsFleetAsked (texts c.args.words.now) (Ok o)) c.in-Ok-None.field-0-is
+      c.in-Ok-None.ensures),
+)
+
+pub returns-in-Err : goal.returns-in-Err
+returns-in-Err g c =
+    let a = around g.W.Link.Kms.truth (g.W.World.told c.args.world.now)
+    (g.I.Source.left c.args.input.now) (g.I.Source.count c.args.input.now) in
+    let held = g.O.Sink.held c.args.output.now in
+    let count = g.O.Sink.count c.args.output.now in
+    let left_alone = tapes_left (texts c.args.words.now) a a (receipt held held count count) _ _
+    (Err c.in-Err.stop)
+    (inl (at_once _ c.in-Err.stop c.in-Err.ensures, (refl, (refl, refl)))) c.tell.ensures.told in (
+      record {
+        result = Err c.in-Err.stop;
+        answers = inl (at_once _ c.in-Err.stop c.in-Err.ensures, (refl, (refl, refl)));
+        tells = c.tell.ensures.told;
+        written = omega arith;
+        told = c.tell.ensures.later;
+      },
+      readings _ _ _ _ _ _ (Err c.in-Err.stop)
+          (inl (at_once _ c.in-Err.stop c.in-Err.ensures, (refl, (refl, refl)))) c.tell.ensures.told,
+      left_alone,
+      alone_or_memory _ c.in-Err.stop c.in-Err.ensures _ _ c.tell.ensures.told,
+    )

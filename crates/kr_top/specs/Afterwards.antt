@@ -1,0 +1,77 @@
+-- What a call leaves of the tapes, where they are told, by its status.
+use Rattle.std.specs.Prelude.{◌≡◌, ◌≢◌, ℕ, ◌⊎◌, false, List, Option, Some, Ok}
+use Rattle.std.specs.Option.{option_map}
+use Rattle.kr_base.specs.Faults.{Rose}
+use Rattle.kr_base.specs.Told.{Agrees}
+use Rattle.kr_kms.specs.Outside.{same_name}
+use Rattle.kr_store.specs.Rows.{put_of}
+use Rattle.kr_store.specs.declared.format.Check as kept
+use Rattle.kr_top.specs.Around.{Around, Tapes}
+use Rattle.kr_top.specs.Command.{Asks}
+use Rattle.kr_top.specs.Steps.{or_empty}
+use Rattle.kr_top.specs.StoreFiles.{Stored, IsStored, with_row, HoldsRows, BeginsWith}
+use Rattle.kr_top.specs.declared.command.Command.{Command}
+use Rattle.kr_top.specs.declared.command.Command.TheVariants.{Convert, Check, Inspect, Put, Get, Rows, Judge}
+use Rattle.kr_top.specs.declared.command.Conversion.{Conversion}
+
+-- what is told of a tape: whether it is there, and its bytes
+abbrev pub ToldTape : Type 0
+ToldTape = Option (Option (List ℕ))
+
+-- no row: the tape is as it was or, made where it was absent, empty
+abbrev pub IsUngrown : (was is : ToldTape) → Type 0
+IsUngrown was is = (is ≡ was) ⊎ (is ≡ or_empty was)
+
+-- a tape has one more row, a put of this object, behind those of the store that it was
+pub record OneMore (words : Conversion) (was is : ToldTape) : Type 0 where
+  pub bytes : List ℕ
+  pub store : Stored
+  pub value : List ℕ
+  pub check : Option kept.Check
+  pub told : Option (List ℕ)
+  pub held : Agrees (or_empty was) (Some bytes)
+  pub read : IsStored bytes (Ok store)
+  pub holds : HoldsRows (with_row (put_of words.path words.resource value check) store) told
+  pub is_told : is ≡ option_map Some told
+
+-- the tape begins with the file of the store that it was
+pub record StillBegins (was is : ToldTape) : Type 0 where
+  pub bytes : List ℕ
+  pub store : Stored
+  pub told : Option (List ℕ)
+  pub held : Agrees (or_empty was) (Some bytes)
+  pub read : IsStored bytes (Ok store)
+  pub begins : BeginsWith store told
+  pub is_told : is ≡ option_map Some told
+
+-- the tape of a store that `put` was asked to change: no row was added, and the status isn't 0; the
+-- write failed, so that the tape's count rose and the status is 4; or the row was added, and the
+-- status is 0, or 4 where then the output failed. Want of memory, 5, leaves nothing of a row
+abbrev pub MayGrow : Conversion → (status : ℕ) → (was is : ToldTape) → (before count : ℕ) → Type 0
+MayGrow words status was is before count =
+    ((status ≢ 0) × IsUngrown was is)
+    ⊎ ((status ≡ 4) × Rose before count × StillBegins was is)
+    ⊎ (((status ≡ 0) ⊎ (status ≡ 4)) × OneMore words was is)
+
+-- every tape but this one is the same
+abbrev pub OthersStay : (name : List ℕ) → (old new : List ℕ → ToldTape) → Type 0
+OthersStay name old new =
+    (other : List ℕ) → same_name name other ≡ false → new other ≡ old other
+
+-- the tapes before and after a command; but for `put` they are the same
+abbrev pub LeavesTapes : Command → (status : ℕ) → (old new : Tapes) → Type 0
+LeavesTapes (Convert words) status old new = new.told ≡ old.told
+LeavesTapes (Check config resource) status old new = new.told ≡ old.told
+LeavesTapes Inspect status old new = new.told ≡ old.told
+LeavesTapes (Put words store) status old new = OthersStay store old.told new.told
+    × MayGrow words status (old.told store) (new.told store) (old.faults store) (new.faults store)
+LeavesTapes (Get words) status old new = new.told ≡ old.told
+LeavesTapes (Rows store) status old new = new.told ≡ old.told
+LeavesTapes (Judge words) status old new = new.told ≡ old.told
+
+-- the words stopped the call, or they ask for a command that leaves the tapes so
+abbrev pub AreLeft : List (List ℕ) → Around → Around → (status : ℕ) → Type 0
+AreLeft words old new status =
+    ((status ≢ 0) × (new.world.tapes.told ≡ old.world.tapes.told))
+    ⊎ ((command : Command) × Asks words command
+    × LeavesTapes command status old.world.tapes new.world.tapes)

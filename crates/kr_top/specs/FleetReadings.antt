@@ -1,0 +1,51 @@
+-- What follows from a fleet's relation for readers: what its status comes from.
+use Rattle.std.specs.Prelude.{◌≡◌, ℕ, ◌⊎◌, List, Option, Ok}
+use Rattle.std.specs.Io.KnownBytes.{Appends}
+use Rattle.kr_base.specs.Faults.{Rose}
+use Rattle.kr_kms.specs.Calls.{Link}
+use Rattle.kr_kms.specs.Truth.{Truth}
+use Rattle.kr_workers.specs.Endings.{status_of}
+use Rattle.kr_workers.specs.declared.ending.Ending.{Ending}
+use Rattle.kr_workers.specs.declared.ending.Ending.TheVariants as ending
+use Rattle.kr_top.specs.Around.{Around, Reaches, count_at, faults_at, left_of}
+use Rattle.kr_top.specs.Fleets.{Starts, fleet_steps}
+use Rattle.kr_top.specs.Message.{refusal_line, status_of_refusal}
+use Rattle.kr_top.specs.Ran.{IsIdle, Receipt}
+use Rattle.kr_top.specs.Steps.{Call, awaits, refuses}
+use Rattle.kr_top.specs.declared.fleet_words.FleetWords.{FleetWords}
+use Rattle.kr_top.specs.declared.refusal.Refusal.{Refusal}
+
+module _ (T : Type 0) {L D : Type 0} (truth : Truth) (link : L → Link)
+    (left : D → Option (List ℕ)) (count : D → ℕ) (words : FleetWords) (old new : Around)
+    (output errors : Receipt) where
+  -- the workers did their lines, just the journal and the replies were written, and these end so
+  abbrev pub HasEnded : Ending → Type 0
+  HasEnded ending =
+      Starts T truth link left count words old new output (Ok ending) × IsIdle errors
+
+  -- a call of the steps up to the workers failed, so that its count and its object's rose
+  abbrev pub HasFailed : Call → Type 0
+  HasFailed call = Reaches (fleet_steps words) (left_of old) new (awaits call)
+      × Rose (faults_at call old) (faults_at call new)
+      × Rose (count_at call old) (count_at call new)
+
+  -- these steps refuse so; only its line was written
+  abbrev pub HasRefused : Refusal → Type 0
+  HasRefused why = Reaches (fleet_steps words) (left_of old) new (refuses why)
+      × IsIdle output × Appends errors.old errors.new (refusal_line why)
+
+  pub record FleetReadings (status : ℕ) : Type 0 where
+    -- 4 comes only where a call, the output or the line failed, or a reply tells a fault
+    pub caused : status ≡ 4
+        → ((call : Call) × HasFailed call)
+        ⊎ Rose output.old_faults output.new_faults
+        ⊎ Rose errors.old_faults errors.new_faults
+        ⊎ HasEnded ending.Fault
+    -- 1, 3 and 6 only where a step refuses so, or the replies do
+    pub refused : (status ≡ 1) ⊎ (status ≡ 3) ⊎ (status ≡ 6)
+        → ((why : Refusal) × HasRefused why × (status_of_refusal why ≡ status))
+        ⊎ ((ending : Ending) × HasEnded ending × (status_of ending ≡ status))
+    -- 0 only where each reply tells that its line was done
+    pub done : status ≡ 0 → HasEnded ending.Done
+    -- 2 never
+    pub usage : status ≡ 2 → ⊥

@@ -1,0 +1,290 @@
+#!/usr/bin/env python3
+"""Runs the built kmsrest's `put` under a full file system, killed at random moments, fifty at once, and at the limit of a store.
+
+    tools/check-stores.py [full] [killed] [crowd] [large] [--kmsrest PATH] [--seed N]
+
+No name of a check means all four. After each run the store is read by tools/reference, which is no part of kmsrest: every
+row that was answered by its revision is there, whole and at that revision. It answers 0 where that always held."""
+import argparse
+import os
+import random
+import re
+import resource
+import signal
+import subprocess
+import sys
+import tempfile
+import time
+from pathlib import Path
+
+TOP = Path(__file__).resolve().parent.parent
+sys.path.insert(0, str(TOP / "tools"))
+from reference import store  # noqa: E402  (its folder is known only now)
+
+CONFIG = TOP / "examples" / "identity.json"
+CROWD = 50
+KILLED = 200
+PIECE = 4096
+FAULT_STORE = "kmsrest: fault store 1\n"
+FAULT_FILES = "kmsrest: fault files 1\n"
+LIMIT = f"kmsrest: limit store {store.MOST_STORE}\n"
+MANY = 100_000
+
+
+def words(kmsrest, command, name, path=None):
+    found = [kmsrest, command, "--store", name]
+    if command != "list":
+        found += ["--config", CONFIG, "--path", path]
+    return found + (["--resource", "secrets"] if command == "put" else [])
+
+
+def limited(size):
+    """What a child does first, so that no file of its grows past so many bytes."""
+
+    def limit():
+        signal.signal(signal.SIGXFSZ, signal.SIG_IGN)
+        resource.setrlimit(resource.RLIMIT_FSIZE, (size, size))
+
+    return limit
+
+
+def run(command, data=b"", limit=None):
+    done = subprocess.run(command, input=data, capture_output=True, timeout=60, check=False, preexec_fn=limit)
+    return done.returncode, done.stdout, done.stderr.decode()
+
+
+def revision_in(output):
+    found = re.fullmatch(rb"revision ([0-9]+)\n", output)
+    return int(found[1]) if found else None
+
+
+class Checks:
+    """A store's file, the rows that were answered, and what was seen of them."""
+
+    def __init__(self, kmsrest, folder):
+        self.kmsrest, self.name, self.answered = kmsrest, Path(folder) / "store", {}
+        self.passed = self.failed = 0
+
+    def expect(self, what, wanted, found):
+        if wanted == found:
+            self.passed += 1
+        else:
+            self.failed += 1
+            print(f"not so: {what}: {found!r}, and not {wanted!r}", file=sys.stderr)
+
+    def put(self, path, data, limit=None):
+        found = run(words(self.kmsrest, "put", self.name, path), data, limit)
+        self.note(path, data, found)
+        return found
+
+    def note(self, path, data, found):
+        status, output, said = found
+        if status == 0:
+            self.expect(f"the output of put of {path}", (True, ""), (revision_in(output) is not None, said))
+            self.answered[revision_in(output)] = (path, data)
+
+    def held(self):
+        """The bytes of the store; a file that isn't there has none."""
+        return self.name.read_bytes() if self.name.exists() else b""
+
+    def compare(self, what):
+        """The store opens, and has every row that was answered."""
+        rows = store.read(self.held())[1]
+        for revision, (path, data) in self.answered.items():
+            row = rows[revision - 1] if revision <= len(rows) else None
+            found = row and (row.path.decode(), row.value)
+            self.expect(f"{what}: row {revision}", (path, data), found)
+        status, output, said = run(words(self.kmsrest, "list", self.name))
+        self.expect(f"{what}: list", (0, True, ""), (status, output == store.listing(rows), said))
+        return rows
+
+    def read_back(self):
+        """`get` gives what was last answered at each path, but where a row stands behind it that wasn't answered."""
+        live = store.live(store.read(self.held())[1])
+        for revision, (path, data) in self.answered.items():
+            if live[path.encode()][0] == revision:
+                found = run(words(self.kmsrest, "get", self.name, path))
+                self.expect(f"get {path}", (0, data, "fresh\n"), found)
+
+
+# ---- a full file system
+
+
+def fill_by_limit(checks):
+    """A row is cut at each of its bytes by a limit of the file's size."""
+    for turn in range(3):
+        before = checks.held()
+        path, data = f"/full/{turn}", bytes([65 + turn]) * 20
+        whole = store.row_bytes(2, turn + 1, store.Row(path.encode(), b"secrets", data, bytes(8)))
+        begin = len(before) if before else len(store.MAGICS[2])
+        for size in range(begin + len(whole)):
+            if size < len(before):
+                continue
+            status, output, said = checks.put(path, data, limited(size))
+            checks.expect(f"put within {size} bytes", (4, b"", FAULT_STORE), (status, output, said))
+            checks.expect(f"the store within {size} bytes", before, checks.held())
+            if size % 16 == 0:
+                checks.compare(f"a limit of {size} bytes")
+        found = checks.put(path, data, limited(begin + len(whole)))
+        checks.expect(f"put within {begin + len(whole)} bytes", (0, b"revision %d\n" % (turn + 1), ""), found)
+        checks.compare("a row that just fits")
+
+
+def fill_disk(checks, folder):
+    """Rows are put into a small file system until it is full, and then smaller ones."""
+    disk = Path(folder) / "disk"
+    disk.mkdir()
+    mounted = subprocess.run(["mount", "-t", "tmpfs", "-o", "size=64k", "tmpfs", disk], capture_output=True, check=False)
+    if mounted.returncode:
+        print(f"left out: a full file system, which can't be mounted here ({mounted.stderr.decode().strip()})")
+        return
+    try:
+        checks.name, checks.answered = disk / "store", {}
+        refused = 0
+        for turn in range(60):
+            before = checks.held()
+            status, output, said = checks.put(f"/disk/{turn}", os.urandom(PIECE - 50 + 3 * turn))
+            if status:
+                refused += 1
+                checks.expect("put on a full disk", (4, b"", FAULT_STORE), (status, output, said))
+                checks.expect("the store on a full disk", before, checks.held())
+            checks.compare("a full disk")
+        checks.expect("a full disk refuses some", True, refused > 0)
+        checks.read_back()
+    finally:
+        subprocess.run(["umount", disk], check=True)
+
+
+def full(checks, folder, _random):
+    fill_by_limit(checks)
+    checks.read_back()
+    fill_disk(checks, folder)
+
+
+# ---- killed
+
+
+def killed(checks, _folder, dice):
+    """`put` is killed at a random moment. A tail that it leaves is refused where it begins, and cut off for what follows."""
+    began = time.monotonic()
+    checks.put("/killed/first", b"first")
+    usual = time.monotonic() - began
+    ends = {"answered": 0, "killed": 0, "torn": 0}
+    for turn in range(KILLED):
+        path, data = f"/killed/{turn % 7}", dice.randbytes(dice.choice([0, 10, 5_000, 400_000]))
+        child = subprocess.Popen(
+            words(checks.kmsrest, "put", checks.name, path),
+            stdin=subprocess.PIPE, stdout=subprocess.PIPE, stderr=subprocess.PIPE,
+        )
+        killer = dice.random() * 1.5 * usual
+        try:
+            output, said = child.communicate(data, timeout=killer)
+        except subprocess.TimeoutExpired:
+            child.kill()
+            output, said = child.communicate()
+        # (an answer that was written whole counts, also where the process was killed behind it)
+        if revision_in(output) is not None:
+            checks.note(path, data, (0, output, said.decode()))
+            ends["answered"] += 1
+        else:
+            ends["killed"] += 1
+        try:
+            store.read(checks.held())
+        except store.Broken as broken:
+            ends["torn"] += 1
+            checks.expect("a tail that isn't whole", 42, broken.code)
+            found = run(words(checks.kmsrest, "list", checks.name))
+            checks.expect("list of a torn store", (3, b"", f"kmsrest: text 42 {broken.place}\n"), found)
+            os.truncate(checks.name, broken.place)
+        if turn % 10 == 0:
+            checks.compare(f"killed {turn} times")
+    checks.compare("killed")
+    checks.read_back()
+    print(f"killed: {ends['answered']} answered, {ends['killed']} not, {ends['torn']} left a tail")
+
+
+# ---- fifty at once
+
+
+def crowd(checks, _folder, _dice):
+    """Fifty at once on one store, which is absent at first: each is answered, or told that another has it."""
+    for turn in range(3):
+        children = []
+        for number in range(CROWD):
+            child = subprocess.Popen(
+                words(checks.kmsrest, "put", checks.name, f"/crowd/{turn}/{number}"),
+                stdin=subprocess.PIPE, stdout=subprocess.PIPE, stderr=subprocess.PIPE,
+            )
+            children.append((number, child))
+        for number, child in children:
+            child.stdin.write(b"value %d" % number)
+            child.stdin.close()
+            child.stdin = None
+        answered = len(checks.answered)
+        for number, child in children:
+            output, said = child.communicate(timeout=60)
+            if child.returncode:
+                checks.expect("put beside others", (4, b"", FAULT_FILES), (child.returncode, output, said.decode()))
+            else:
+                checks.note(f"/crowd/{turn}/{number}", b"value %d" % number, (0, output, said.decode()))
+        rows = checks.compare("a crowd")
+        checks.expect("one row for each answer", len(rows), len(checks.answered))
+        checks.expect("some are answered", True, len(checks.answered) > answered)
+    checks.read_back()
+    print(f"crowd: {len(checks.answered)} of {3 * CROWD} answered")
+
+
+# ---- at the limit
+
+
+def many_rows(size):
+    """Rows of which the file has so many bytes."""
+    bare = [store.Row(b"/large/%d" % number, b"secrets", b"", bytes(8)) for number in range(MANY)]
+    values, more = divmod(size - len(store.written(2, bare)), MANY)
+    for number, row in enumerate(bare):
+        row.value = b"a" * (values + (number < more))
+    return bare
+
+
+def large(checks, _folder, _dice):
+    """A store of 64 MiB in many rows is read; no row goes behind it, and one that just fits goes behind a shorter one."""
+    row = store.Row(b"/large/last", b"secrets", b"last", bytes(8))
+    length = len(store.row_bytes(2, MANY + 1, row))
+    checks.name.write_bytes(store.written(2, many_rows(store.MOST_STORE)))
+    began = time.monotonic()
+    run(words(checks.kmsrest, "list", checks.name))
+    print(f"large: kmsrest lists {MANY} rows of 64 MiB in {time.monotonic() - began:.1f} s")
+    checks.compare("a store of 64 MiB")
+    for room in (0, length - 1):
+        checks.name.write_bytes(store.written(2, many_rows(store.MOST_STORE - room)))
+        before = checks.held()
+        checks.expect(f"put within {room} bytes of the limit", (6, b"", LIMIT), checks.put(row.path.decode(), row.value))
+        checks.expect("the store at its limit", True, before == checks.held())
+    checks.name.write_bytes(store.written(2, many_rows(store.MOST_STORE - length)))
+    found = checks.put(row.path.decode(), row.value)
+    checks.expect("a row that just fits", (0, b"revision %d\n" % (MANY + 1), ""), found)
+    checks.expect("its store's length", store.MOST_STORE, checks.name.stat().st_size)
+    checks.read_back()
+
+
+CHECKS = {"full": full, "killed": killed, "crowd": crowd, "large": large}
+
+
+def main():
+    parser = argparse.ArgumentParser()
+    parser.add_argument("names", nargs="*", choices=[*CHECKS, []])
+    parser.add_argument("--kmsrest", type=os.path.abspath, default=TOP / "kmsrest")
+    parser.add_argument("--seed", type=int, default=1)
+    options = parser.parse_args()
+    passed = failed = 0
+    for name in options.names or CHECKS:
+        with tempfile.TemporaryDirectory() as folder:
+            checks = Checks(options.kmsrest, folder)
+            CHECKS[name](checks, folder, random.Random(options.seed))
+        passed, failed = passed + checks.passed, failed + checks.failed
+    print(f"{passed} passed, {failed} failed")
+    return 1 if failed else 0
+
+
+if __name__ == "__main__":
+    sys.exit(main())
