@@ -106,6 +106,29 @@ def list_rows(options, world, output):
     return b"", 0
 
 
+def migrated(entries, row):
+    """A row as the second format has it: a put has the check of the provider that reads it."""
+    if row.value is None:
+        return row
+    provider = reader_of(configuration.list_for(entries, row.resource.decode()), row.value)
+    return store.Row(row.path, row.resource, row.value, bytes(8) if provider is None else check_of(provider))
+
+
+def migrate(options, world, output):
+    entries = load_settings(world, options["config"])
+    source = world.tape(options["store"])
+    _form, rows = source.load()
+    if source.content.startswith(store.MAGICS[2]):
+        raise Stop(3, "text 53 2")
+    target = world.tape(options["to"], make=True)
+    copied = target.load_new()
+    for row in rows:
+        target.add(2, copied, migrated(entries, row))
+        copied.append(row)
+    output.write_all(b"migrated %d\n" % len(rows))
+    return b"", 0
+
+
 def board_of(rows, replicas):
     """The board of the stored rows and of the replicas' configurations, of which each is judged beside those before it."""
     board = Board(len(replicas))
@@ -196,6 +219,8 @@ def answer(words, world, source, output):
             return fleet.run(options, world, output)
         if command == "rewrite":
             return rewrite(options, world, output)
+        if command == "migrate":
+            return migrate(options, world, output)
         if command == "inspect":
             return inspect(source, output)
         return (encrypt if command == "encrypt" else decrypt)(options, world, source, output)

@@ -1,5 +1,5 @@
 -- The steps of each command, and the phases that they are made of.
-use Rattle.std.specs.Prelude.{◌≡◌, ◌+◌, ◌*◌, ℕ, zero, suc, Bool, false, List, [], ◌∷◌, ◌++◌, Option, Some, None, Result, Ok, Err, ⊤, if◌then◌else◌, true, length, codes, decimal, nat_lt}
+use Rattle.std.specs.Prelude.{◌≡◌, ◌+◌, ◌*◌, ℕ, zero, suc, Bool, false, List, [], ◌∷◌, ◌++◌, map, Option, Some, None, Result, Ok, Err, ⊤, if◌then◌else◌, true, length, codes, decimal, nat_lt}
 use Rattle.kr_base.specs.Limits.{data_limit, value_limit, store_limit}
 use Rattle.kr_config.specs.Kept.{Row}
 use Rattle.kr_config.specs.Lists.{list_of}
@@ -27,7 +27,10 @@ use Rattle.kr_rollout.specs.Starts.{MayStart, IsNoStart}
 use Rattle.kr_rollout.specs.declared.opening_board.StartNo.{StartNo}
 use Rattle.kr_store.specs.Rows.{check_in, live, put_of}
 use Rattle.kr_store.specs.Stores.{IsListing}
+use Rattle.kr_store.specs.declared.format.Check as kept
 use Rattle.kr_store.specs.declared.format.Format.{Format}
+use Rattle.kr_store.specs.declared.rows.Change.{Change}
+use Rattle.kr_store.specs.declared.rows.Change.TheVariants as change
 use Rattle.kr_store.specs.declared.rows.LogRow.{LogRow}
 use Rattle.kr_store.specs.declared.rows.Row as stored
 use Rattle.kr_judge.specs.declared.verdict.Verdict.{Verdict}
@@ -39,20 +42,21 @@ use Rattle.kr_top.specs.Judgements.{IsJudged, start_refusal, verdict_outcome}
 use Rattle.kr_top.specs.Limits.{journal_limit}
 use Rattle.kr_top.specs.Reports.{report_text, report_outcome}
 use Rattle.kr_top.specs.RowLines.{ShowsRows}
-use Rattle.kr_top.specs.StoreFiles.{Stored, IsStored, with_row}
+use Rattle.kr_top.specs.StoreFiles.{Stored, IsSource, IsStored, IsTarget, none_there, with_row}
 use Rattle.kr_top.specs.Steps.{Steps, load, take_input, borrow_dice, borrow_tape, read_tape, write_row, keep_rows, draw, find, refuse, give, and_then, unwrap, note}
 use Rattle.kr_top.specs.Plugins.{borrow_links, make_seeds, programs_of}
 use Rattle.kr_top.specs.declared.command.Command.{Command}
-use Rattle.kr_top.specs.declared.command.Command.TheVariants.{Convert, Check, Inspect, Put, Get, Rows, Judge, Rewrite}
+use Rattle.kr_top.specs.declared.command.Command.TheVariants.{Convert, Check, Inspect, Put, Get, Migrate, Rows, Judge, Rewrite}
 use Rattle.kr_top.specs.declared.command.Conversion.{Conversion}
 use Rattle.kr_top.specs.declared.command.Lookup.{Lookup}
 use Rattle.kr_top.specs.declared.command.Judgement.{Judgement}
+use Rattle.kr_top.specs.declared.command.Migration.{Migration}
 use Rattle.kr_top.specs.declared.command.Rewriting.{Rewriting}
 use Rattle.kr_top.specs.declared.command.Direction.{Direction}
 use Rattle.kr_top.specs.declared.command.Direction.TheVariants.{Encrypt, Decrypt}
 use Rattle.kr_top.specs.Texts.{visible}
 use Rattle.kr_top.specs.declared.refusal.Object.{Object}
-use Rattle.kr_top.specs.declared.refusal.Object.TheVariants.{Store}
+use Rattle.kr_top.specs.declared.refusal.Object.TheVariants.{Store, Target}
 use Rattle.kr_top.specs.declared.programs.Program.{Program}
 use Rattle.kr_top.specs.declared.refusal.Refusal.{Refusal}
 use Rattle.kr_top.specs.declared.refusal.Refusal.TheVariants.{Absent, Limit, NoPath, Value}
@@ -261,6 +265,63 @@ getting words =
     and_then (tape_for words.store false (row_on words.store words.path)) (λ row.
     bench_steps programs Decrypt row.resource words.path rows row.stored)))
 
+-- ---- migrate
+
+-- the check of the provider that reads a value; zeros where none does
+abbrev pub reader_check : Option Who → kept.Check
+reader_check None = record { value = 0 }
+reader_check (Some who) = store_check who
+
+-- a row as the second format has it: a put has the check of its value's reader
+abbrev pub migrated_change : List Row → Change → Change
+migrated_change rows (change.Put resource value check) = change.Put resource value
+    (Some (reader_check (reader_in (list_of rows resource) value)))
+migrated_change rows change.Delete = change.Delete
+
+abbrev pub migrated_row : List Row → LogRow → LogRow
+migrated_row rows row = record { path = row.path; change = migrated_change rows row.change }
+
+-- the store that is migrated, on a tape that is lent
+abbrev pub source_on : (name : List ℕ) → Steps Stored
+source_on name =
+    read_tape Store name (λ bytes. find (Result Stored Refusal) (IsSource bytes) by_result)
+
+-- the store that is written, on a tape that is lent: its length is asked, then it is read
+abbrev pub target_read : (name : List ℕ) → Steps Stored
+target_read name =
+    read_tape Target name (λ bytes. find (Result Stored Refusal) (IsTarget bytes) by_result)
+
+abbrev pub target_on : (name : List ℕ) → Steps Stored
+target_on name = read_tape Target name
+    (λ bytes. and_then (by_result (none_there bytes)) (λ u. target_read name))
+
+-- these rows behind those of the store, one by one
+abbrev pub copying : (name : List ℕ) → Stored → List LogRow → Steps Stored
+copying name store [] = give store
+copying name store (row ∷ rows) =
+    and_then (adding Target name store row) (λ grown. copying name grown rows)
+
+abbrev pub migrated_line : List LogRow → List ℕ
+migrated_line rows = codes "migrated " ++ (decimal (length rows) ++ codes "\n")
+
+-- the rows of the source are copied; what is then written is made before
+abbrev pub copied_into : (to : List ℕ) → List Row → (source target : Stored) → Steps Outcome
+copied_into to rows source target =
+    with_memory (and_then (copying to target (map (migrated_row rows) source.rows))
+    (λ copied. give (silently (migrated_line source.rows))))
+
+-- the target's tape, which is made where it is absent, once the source was read
+abbrev pub migrating_into : (to : List ℕ) → List Row → (source : Stored) → Steps Outcome
+migrating_into to rows source =
+    tape_for to true (and_then (target_on to) (copied_into to rows source))
+
+-- the source's tape is out until the target's is back
+abbrev pub migrating : Migration → Steps Outcome
+migrating words =
+    and_then (configuration words.config) (λ rows.
+    tape_for words.store false
+    (and_then (source_on words.store) (migrating_into words.to rows)))
+
 -- ---- list
 
 abbrev pub listing_on : List ℕ → Steps Outcome
@@ -453,6 +514,7 @@ steps (Check config resource) =
     and_then (configuration config) (λ rows. show (λ shown. shown ≡ Ok (listing rows resource)))
 steps (Put words store) = putting words store
 steps (Get words) = getting words
+steps (Migrate words) = migrating words
 steps (Rows store) = tape_for store false (listing_on store)
 steps (Judge words) = judging words
 steps (Rewrite words) = rewriting words

@@ -14,7 +14,7 @@ use Rattle.kr_top.specs.Configuration.{IsConfiguration}
 use Rattle.kr_top.specs.Message.{status_of, status_of_done, status_of_refusal, line_of, refusal_line, fault_line, done_line}
 use Rattle.kr_top.specs.Steps.{Call, object_of, Point, awaits, refuses, gives, Left, Goes}
 use Rattle.kr_top.specs.declared.command.Command.{Command}
-use Rattle.kr_top.specs.declared.command.Command.TheVariants.{Convert, Check, Inspect, Put, Get, Rows, Judge, Rewrite}
+use Rattle.kr_top.specs.declared.command.Command.TheVariants.{Convert, Check, Inspect, Put, Get, Migrate, Rows, Judge, Rewrite}
 use Rattle.kr_top.specs.declared.command.Direction.{Direction}
 use Rattle.kr_top.specs.declared.command.Direction.TheVariants.{Encrypt, Decrypt}
 use Rattle.kr_top.specs.declared.refusal.Object.TheVariants.{Output}
@@ -224,6 +224,8 @@ IsTelling (Get words) old = IsSome (old.world.file words.config)
     × IsSome (old.world.tapes.told words.store)
     × ((file : Option (List ℕ)) (rows : List Row) → IsConfiguration words.config file (Ok rows)
     → Agrees (old.world.file words.config) file → ArePluginsTold Decrypt old rows)
+IsTelling (Migrate words) old = IsSome (old.world.file words.config)
+    × IsSome (old.world.tapes.told words.store) × IsSome (old.world.tapes.told words.to)
 IsTelling (Rows store) old = IsSome (old.world.tapes.told store)
 IsTelling (Judge words) old =
     IsSome (old.world.tapes.told words.store)

@@ -5,6 +5,7 @@ pub mod Reporting
 pub mod Rewriting
 pub mod Tapes
 pub mod Judging
+pub mod Migrating
 pub mod Outfits
 pub mod Crews
 pub mod FleetFiles

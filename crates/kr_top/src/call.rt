@@ -21,6 +21,7 @@ use crate::inspect::inspect;
 use crate::judge::judge;
 use crate::lookup::get;
 use crate::message::tell;
+use crate::migration::migrate;
 use crate::phases::write_output;
 use crate::refusal::{Done, Ended, Outcome, Stop};
 use crate::rewriting::rewrite;
@@ -228,6 +229,7 @@ fn perform<W: World, I: Source>(
         Command::Inspect => silent(inspect(alloc, input)),
         Command::Put { object, store } => silent(put(alloc, object, store, world, input)),
         Command::Get(words) => silent(get(alloc, words, world)),
+        Command::Migrate(words) => silent(migrate(alloc, words, world)),
         Command::Rows { store } => silent(list(alloc, store.as_str(), world)),
         Command::Judge(words) => silent(judge(alloc, words, world)),
         Command::Rewrite(words) => rewrite(alloc, words, world),

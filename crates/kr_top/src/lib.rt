@@ -15,6 +15,7 @@ mod judge;
 mod listing;
 mod lookup;
 mod message;
+mod migration;
 mod options;
 mod outfit;
 mod phases;

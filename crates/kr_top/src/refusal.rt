@@ -18,6 +18,8 @@ pub enum Object {
     Files,
     /// The tape of the store.
     Store,
+    /// The tape of the store that a migration writes.
+    Target,
     /// The random source of a seat.
     Dice(u32),
     /// The plugin of a name.
@@ -90,6 +92,10 @@ pub enum Refusal {
     Broken(Breach),
     /// The store has no value at this path.
     NoPath(Text),
+    /// The store that a migration writes has bytes already, so many.
+    NotEmpty(u64),
+    /// The store that is to be migrated has the second format.
+    NotOld,
     /// No provider of the first replica reads what is stored at this path.
     Stray(Text),
     /// What is stored at this path was sealed with another secret of the same name.
