@@ -4,6 +4,12 @@ pub mod AddedRows
 pub mod Adding
 pub mod Apart
 pub mod Asked
+pub mod Copied
+pub mod Copying
+pub mod MigratedRows
+pub mod Migrating
+pub mod Points
+pub mod TwoTapes
 pub mod Beginnings
 pub mod Crews
 pub mod Decided

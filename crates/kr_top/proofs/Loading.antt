@@ -31,7 +31,7 @@ pub no_less : (q : Bool) (a b n : ℕ) → a ≤ b → (if q then a else n) ≤ 
 no_less true a b n h = h
 no_less false a b n h = omega arith
 
-agrees_there : (told : Option (List ℕ)) (bytes : List ℕ) → Agrees told bytes
+pub agrees_there : (told : Option (List ℕ)) (bytes : List ℕ) → Agrees told bytes
     → Agrees (option_map Some told) (Some bytes)
 agrees_there None bytes e = tt
 agrees_there (Some held) bytes e = ap Some e

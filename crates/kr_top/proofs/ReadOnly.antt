@@ -28,7 +28,7 @@ use Rattle.kr_top.specs.RowLines.{ShowsRows}
 use Rattle.kr_top.specs.Plugins.{borrow_links, make_seed, make_seeds, programs_of, unless_breach, wrap_seed}
 use Rattle.kr_top.specs.Steps.{Steps, load, take_input, borrow_dice, borrow_tape, read_tape, write_row, keep_rows, draw, borrow_link, ask_status, wrap, unwrap, note, find, refuse, give, and_then, Point, Left, Goes}
 use Rattle.kr_top.specs.declared.command.Command.{Command}
-use Rattle.kr_top.specs.declared.command.Command.TheVariants.{Convert, Check, Inspect, Put, Get, Rows, Judge, Rewrite}
+use Rattle.kr_top.specs.declared.command.Command.TheVariants.{Convert, Check, Inspect, Put, Get, Migrate, Rows, Judge, Rewrite}
 use Rattle.kr_top.specs.declared.command.Direction.{Direction}
 use Rattle.kr_top.specs.declared.command.Direction.TheVariants.{Encrypt, Decrypt}
 use Rattle.kr_top.specs.declared.programs.Program.{Program}
@@ -213,9 +213,10 @@ work_reads programs direction resource path rows bytes =
 
 -- ---- commands
 
--- each command but `put`
+-- each command but `put`, `migrate` and `rewrite`
 abbrev pub IsReader : Command → Type 0
 IsReader (Put words store) = ⊥
+IsReader (Migrate words) = ⊥
 IsReader (Rewrite words) = ⊥
 IsReader command = Unit {0}
 
@@ -269,6 +270,7 @@ command_reads (Check config resource) r = both_read
     (configuration_reads config)
 command_reads Inspect r = λ bytes. shows_read (Inspects bytes)
 command_reads (Put words store) r = absurd r
+command_reads (Migrate words) r = absurd r
 command_reads (Rewrite words) r = absurd r
 command_reads (Get words) r = both_read
     (λ rows. and_then (linking_programs words.options rows) (λ programs.

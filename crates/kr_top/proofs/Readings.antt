@@ -18,7 +18,7 @@ use Rattle.kr_top.specs.declared.refusal.BadWords.TheVariants.{Usage, Replicas, 
 use Rattle.kr_top.specs.declared.refusal.Object.{Object}
 use Rattle.kr_top.specs.declared.refusal.Object.TheVariants.{Output}
 use Rattle.kr_top.specs.declared.refusal.Refusal.{Refusal}
-use Rattle.kr_top.specs.declared.refusal.Refusal.TheVariants.{Absent, Configuration, Limit, Value, Placed, Broken, NoPath, NoPlugin, Unhealthy, Stray, OtherSecret, Unfit, Script}
+use Rattle.kr_top.specs.declared.refusal.Refusal.TheVariants.{Absent, Configuration, Limit, Value, Placed, Broken, NoPath, NotEmpty, NotOld, NoPlugin, Unhealthy, Stray, OtherSecret, Unfit, Script}
 use Rattle.kr_top.specs.declared.refusal.Stop.{Stop}
 use Rattle.kr_top.specs.declared.refusal.Stop.TheVariants.{Words, Refused, Fault, NoMemory}
 use Rattle.kr_top.specs.declared.refusal.Done.{Done}
@@ -47,6 +47,8 @@ status_in (Value number) = inl refl
 status_in (Placed number at) = inl refl
 status_in (Broken why) = inr (inl refl)
 status_in (NoPath path) = inl refl
+status_in (NotEmpty length) = inr (inl refl)
+status_in NotOld = inr (inl refl)
 status_in (Stray path) = inr (inl refl)
 status_in (OtherSecret path) = inr (inl refl)
 status_in (Unfit replica verdict) = inr (inl refl)

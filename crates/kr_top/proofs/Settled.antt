@@ -36,7 +36,7 @@ use Rattle.kr_provider.proofs.OneReading.{IsNoPlugin, any_envelope, no_plugin}
 use Rattle.kr_provider.proofs.WithoutPlugins.{none_listed}
 use Rattle.kr_provider.specs.Sealing.{draw_size, sealed_by}
 use Rattle.kr_rollout.specs.Checks.{store_check}
-use Rattle.kr_top.specs.Commands.{by_result, value_steps, draw_some, input_of, linking_programs, opening, read_with, reading_steps, unsealing, working, working_by, converting, steps, bench_steps, configuration, getting, row_found, row_on, tape_for, with_memory, configurations, judging_at, judging_by, telling, adding, new_row, putting, revision_line, sealed_into, silently, stored_into}
+use Rattle.kr_top.specs.Commands.{by_result, value_steps, draw_some, input_of, linking_programs, opening, read_with, reading_steps, unsealing, working, working_by, converting, steps, bench_steps, configuration, getting, row_found, row_on, tape_for, with_memory, configurations, judging_at, judging_by, telling, adding, new_row, putting, revision_line, sealed_into, silently, stored_into, copied_into, migrated_line, migrated_row, migrating, migrating_into, source_on, target_read}
 use Rattle.kr_store.specs.Rows.{live, check_in}
 use Rattle.kr_store.specs.File.{file_bytes}
 use Rattle.kr_store.specs.declared.rows.LogRow.{LogRow}
@@ -45,12 +45,13 @@ use Rattle.kr_top.specs.Configuration.{IsConfiguration}
 use Rattle.kr_top.specs.Inspect.{Inspects, ShowsBody, ShowsObject}
 use Rattle.kr_top.specs.Plugins.{borrow_links, make_seeds, programs_of, seed_row, unless_breach, wrap_seed}
 use Rattle.kr_top.specs.Steps.{Steps, load, take_input, borrow_dice, borrow_tape, read_tape, write_row, keep_rows, draw, borrow_link, ask_status, wrap, unwrap, note, find, refuse, give, and_then, Left, with_asked, with_dice, or_empty, tapes_with}
-use Rattle.kr_top.specs.StoreFiles.{Stored, with_row}
+use Rattle.kr_top.specs.StoreFiles.{Stored, none_there, with_row}
 use Rattle.kr_top.specs.Texts.{line, word_and_number}
 use Rattle.kr_top.specs.declared.command.Command.{Command}
-use Rattle.kr_top.specs.declared.command.Command.TheVariants.{Convert, Check, Inspect, Put, Get, Rows, Judge, Rewrite}
+use Rattle.kr_top.specs.declared.command.Command.TheVariants.{Convert, Check, Inspect, Put, Get, Migrate, Rows, Judge, Rewrite}
 use Rattle.kr_top.specs.declared.command.Conversion.{Conversion}
 use Rattle.kr_top.specs.declared.command.Lookup.{Lookup}
+use Rattle.kr_top.specs.declared.command.Migration.{Migration}
 use Rattle.kr_top.specs.declared.command.Direction.{Direction}
 use Rattle.kr_top.specs.declared.command.Direction.TheVariants.{Encrypt, Decrypt}
 use Rattle.kr_top.specs.declared.programs.Program.{Program}
@@ -62,6 +63,7 @@ use Rattle.kr_top.specs.declared.refusal.Outcome.{Outcome}
 use Rattle.kr_top.specs.Around.{Around, left_of}
 use Rattle.kr_top.specs.Command.{replica_names, reload_in, reload_number, reload_file}
 use Rattle.kr_top.specs.Ran.{IsTelling, ArePluginsTold, AreTold}
+use Rattle.kr_top.proofs.Copied.{one_source, one_target, settled_copying}
 use Rattle.kr_top.proofs.EquallyLong.{AreAsLong, as_long, no_kms_writer, same_file}
 use Rattle.kr_top.proofs.Listed.{one_stored, one_shown}
 use Rattle.kr_top.proofs.Judging.{one_judged, read_then}
@@ -684,6 +686,48 @@ settled_putting old words store (file, tape, input, plugins) = settled_configura
         else old.world.tapes.told store)) (sym (own_name store))
         (told_or_empty (old.world.tapes.told store) tape)
 
+-- ---- migrate
+
+settled_migrating : (old : Around) (words : Migration) → IsTelling (Migrate words) old
+    → IsSettled (migrating words) (migrating words) (left_of old) (left_of old)
+settled_migrating old words (file, tape, target) = settled_configuration old words.config
+    (λ rows. tape_for words.store false
+    (and_then (source_on words.store) (migrating_into words.to rows))) file
+    (λ file rows is agrees. (
+      tape,
+      refl,
+      refl,
+      refl,
+      (
+        tape,
+        refl,
+        λ bytes a b x y. settled_by _ _ a b (migrating_into words.to rows)
+            (one_source bytes a b x y) (λ source. (
+              target,
+              refl,
+              refl,
+              refl,
+              (
+                there,
+                refl,
+                λ held. settled_pair _ _ (none_there held) (none_there held)
+                    (λ u. target_read words.to) (copied_into words.to rows source) refl (λ u. (
+                      there,
+                      refl,
+                      λ again c d h k. settled_by _ _ c d (copied_into words.to rows source)
+                          (one_target again c d h k) (λ store. λ s t p q. settled_copying words.to
+                          (migrated_line source.rows) (map (migrated_row rows) source.rows) store _ _),
+                    )),
+              ),
+            )),
+      ),
+    ))
+  where
+    there : IsSome (tapes_with true words.to old.world.tapes.told words.to)
+    there = subst (λ q. IsSome (if q then or_empty (old.world.tapes.told words.to)
+        else old.world.tapes.told words.to)) (sym (own_name words.to))
+        (told_or_empty (old.world.tapes.told words.to) target)
+
 pub settled : (command : Command) (old : Around) → IsTelling command old
     → IsSettled (steps command) (steps command) (left_of old) (left_of old)
 settled (Convert words) old tells = settled_converting old words tells
@@ -695,6 +739,7 @@ settled (Check config resource) old told = (
 )
 settled (Put words store) old tells = settled_putting old words store tells
 settled (Get words) old tells = settled_getting old words tells
+settled (Migrate words) old tells = settled_migrating old words tells
 settled (Rows store) old told = (
   told,
   refl,
