@@ -1,5 +1,5 @@
 -- The rows of a migration, copied one behind another onto a tape that is out.
-use Rattle.std.proofs.Common.{◌≡◌, ℕ, suc, ◌+◌, ◌<◌, ◌≤◌, ◌-◌, List, [], ◌∷◌, ◌++◌, length, map, take, drop, Option, Some, Result, Ok, Err, refl, sym, ◌∙◌, ap, subst, add-one, arith}
+use Rattle.std.proofs.Common.{◌≡◌, ℕ, suc, ◌+◌, ◌<◌, ◌≤◌, ◌-◌, List, [], ◌∷◌, ◌++◌, length, map, take, drop, Option, None, Some, Result, Ok, Err, refl, sym, ◌∙◌, ap, subst, add-one, arith}
 use Rattle.std.specs.Prelude.{IfOk, IsSome, slice_get}
 use Rattle.std.proofs.lemmas.List.{drop_all, length-map, take_all}
 use Rattle.kr_base.specs.Limits.{store_limit}
@@ -18,8 +18,31 @@ use Rattle.kr_top.specs.inner.Phases.{Does}
 use Rattle.kr_top.specs.inner.Tapes.{HasOneMore, grown_by, stored_of}
 use Rattle.kr_top.specs.declared.refusal.Object.TheVariants.{Target}
 use Rattle.kr_top.specs.declared.refusal.Stop.{Stop}
+use Rattle.kr_top.specs.declared.refusal.Stop.TheVariants.{NoMemory}
 use Rattle.kr_top.proofs.Goes.{given, goes_on, stops}
-use Rattle.kr_top.proofs.MigratedRows.{all_of, follows_at, live_of, next_of, one_more_of, row_there}
+use Rattle.kr_top.proofs.MigratedRows.{follows_at, live_of, next_of, one_more_of, row_there}
+use Rattle.kr_top.proofs.Works.{lacks}
+
+-- as another line that is the same
+pub as_line : {name : List ℕ} {store : Stored} {line other : LogRow} {old new : Around}
+    {result : Result (Unit {0}) Stop} → other ≡ line
+    → Does (adding Target name store line) old new (grown_by line store result)
+    → Does (adding Target name store other) old new (grown_by other store result)
+as_line {name} {store} {old = old} {new} {result} same d =
+    subst (λ l. Does (adding Target name store l) old new (grown_by l store result)) (sym same) d
+
+-- there is no memory for a row
+pub lacks_row : (store : Stored) (line : LogRow) (name : List ℕ) (a : Around)
+    → Does (adding Target name store line) a a (Err NoMemory)
+lacks_row store line name a = lacks _ a
+
+-- each revision up to the number of rows has one
+pub no_row : (rows : List LogRow) (revision : ℕ) → 1 ≤ revision → revision ≤ length rows
+    → log_row_at rows revision ≡ None → ⊥
+no_row rows revision first last none =
+    let found = row_there rows (revision - 1) (omega (arith, first, last)) in
+    let e : revision ≡ suc (revision - 1) = omega (arith, first) in
+    let both : None ≡ Some found.0 = sym none ∙ ap (log_row_at rows) e ∙ found.1 in absurd cc
 
 module _ (config : List Row) (source : List LogRow) where
   -- ---- one row
@@ -58,6 +81,15 @@ module _ (config : List Row) (source : List LogRow) where
             ∙ ap (λ n. map (migrated_row config) (take n source)) e;
         within = more.within ∙ copied.within;
       }
+
+  pub more_copied : (revision : ℕ) (row line : LogRow) (old new : Kept) → 1 ≤ revision
+      → log_row_at source revision ≡ Some row → migrated_row config row ≡ line
+      → HasCopied config source (revision - 1) old → (result : Result (Unit {0}) Stop)
+      → IfOk result (λ done. HasOneMore line old new)
+      → IfOk result (λ done. HasCopied config source revision new)
+  more_copied revision row line old new first is same copied (Ok done) more =
+      copied_more revision row line old new first is same copied more
+  more_copied revision row line old new first is same copied (Err stop) more = tt
 
   -- ---- all of them
 

@@ -83,6 +83,11 @@ module _ (config : List Row) where
   put_among k (Some line) row is =
       (line, refl, put_by k line.path line.change row is)
 
+  pub put_found : (rows : List LogRow) (k : ℕ) (row : stored.Row) → put_at rows k ≡ Some row
+      → (found : LogRow) × (log_row_at rows k ≡ Some found)
+      × (migrated_row config found ≡ migrated_put config row)
+  put_found rows k row is = put_among k (log_row_at rows k) row is
+
   -- the line of a put that is lent
   pub put_lent : (rows : List LogRow) (k : ℕ) (row : stored.Row) (line : LogRow)
       → put_at rows k ≡ Some row → log_row_at rows k ≡ Some line

@@ -1,6 +1,6 @@
 -- The source and the target of a migration, whose tapes are out.
 use Rattle.std.proofs.Common.{◌≡◌, ℕ, zero, suc, ◌+◌, ◌<◌, ◌≤◌, List, [], ◌∷◌, ◌++◌, length, take, Bool, true, false, Option, None, Some, Result, Ok, Err, refl, sym, ◌∙◌, ap, subst, inl, inr, length-append, arith}
-use Rattle.std.specs.Prelude.{IfSome, codes, decimal, map, nat_lt, if◌then◌else◌}
+use Rattle.std.specs.Prelude.{IfErr, IfOk, IfSome, codes, decimal, map, nat_lt, if◌then◌else◌}
 use Rattle.std.specs.Option.{option_map}
 use Rattle.std.proofs.lemmas.Bool.{lt-ltb}
 use Rattle.kr_base.specs.Faults.{Rose}
@@ -326,6 +326,33 @@ module _ (name : List ℕ) (told : Option (List ℕ)) (before : ℕ) (a : Around
           ),
         );
       }))
+
+-- what was read behind the length, as the whole
+module _ (told : Option (List ℕ)) (before : ℕ) (now : Option (List ℕ)) (count size : ℕ)
+    (later : before ≤ count) (same : now ≡ told) (none : size ≡ 0)
+    (told_size : IfSome told (λ bytes. size ≡ length bytes)) where
+  pub sized_ok : {T : Type 0} (result : Result Kept (Stop × T))
+      → IfOk result (λ store. (name : List ℕ) (a : Around) → Does (target_read name)
+      (with_lent_tape name now count a) (with_lent_tape name store.told store.count a)
+      (Ok (stored_of store)))
+      → IfOk result (λ store. (name : List ℕ) (a : Around) → Does (target_on name)
+      (with_lent_tape name told before a) (with_lent_tape name store.told store.count a)
+      (Ok (stored_of store)))
+  sized_ok (Ok store) d = λ name a.
+      sized_then name told before a now count size later same none told_size (d name a)
+  sized_ok (Err refused) d = tt
+
+  pub sized_err : {T : Type 0} (told_of : T → Option (List ℕ)) (count_of : T → ℕ)
+      (result : Result Kept (Stop × T))
+      → IfErr result (λ refused. (name : List ℕ) (a : Around) → Does (target_read name)
+      (with_lent_tape name now count a)
+      (with_lent_tape name (told_of refused.1) (count_of refused.1) a) (Err refused.0))
+      → IfErr result (λ refused. (name : List ℕ) (a : Around) → Does (target_on name)
+      (with_lent_tape name told before a)
+      (with_lent_tape name (told_of refused.1) (count_of refused.1) a) (Err refused.0))
+  sized_err told_of count_of (Ok store) d = tt
+  sized_err told_of count_of (Err refused) d = λ name a.
+      sized_then name told before a now count size later same none told_size (d name a)
 
 -- ---- what `migrate` answers
 

@@ -1,11 +1,11 @@
 //! `migrate`: configuration, store, target, the rows.
-ghost use Rattle.std.specs.Prelude.{◌≡◌, ◌≤◌, ◌-◌, ◌++◌, ℕ, List, Option, Some, Ok, Err, IfOk, IfErr, codes, decimal, false, length, map};
+ghost use Rattle.std.specs.Prelude.{◌≡◌, ◌≤◌, ◌-◌, ◌++◌, ℕ, List, Option, Some, Ok, Err, IfOk, IfErr, IsSome, codes, decimal, false, length, map};
 ghost use Rattle.kr_base.specs.Limits.{store_limit, value_limit};
 ghost use Rattle.kr_base.specs.Rules.{IsPath, IsResource};
 ghost use Rattle.kr_config.specs.Kept.{rows_of};
 ghost use Rattle.kr_kms.specs.Outside.{same_name};
 ghost use Rattle.kr_provider.specs.Readers.{reader_in};
-ghost use Rattle.kr_store.specs.Rows.{log_row_at};
+ghost use Rattle.kr_store.specs.Rows.{delete_of, live, log_row_at};
 ghost use Rattle.kr_store.specs.declared.format.Format as formats;
 ghost use Rattle.kr_store.specs.declared.rows.LogRow.{LogRow};
 ghost use Rattle.kr_top.specs.Around.{Around, with_world, with_lent_tape};
@@ -247,7 +247,7 @@ fn copy_row<S: Tape, T: Tape>(
     source.known();
     match source.row_at(revision) {
         Some(RowRef::Put(row)) => copy_put(alloc, settings, row, target),
-        Some(RowRef::Delete(path)) => add_delete(target, Object::Target, path),
+        Some(RowRef::Delete(path)) => copy_delete(target, path),
         None => unreachable!(),
     }
 }
@@ -287,6 +287,22 @@ fn copy_put<T: Tape>(
         stored,
         check,
     )
+}
+
+/// Writes a delete.
+fn copy_delete<T: Tape>(target: &mut Store<T>, path: &str) -> Result<(), Stop>
+    requires path { IsPath path.now }
+    requires live { IsSome (live target.old.rows path.now) }
+    requires within { target.old.limit ≡ store_limit }
+    ensures does { (name : List ℕ) (a : Around) →
+        let line = delete_of path.now in
+        Does (adding objects.Object.Target name (stored_of target.old) line)
+        (with_lent_tape name target.old.told target.old.count a)
+        (with_lent_tape name target.new.told target.new.count a)
+        (grown_by line (stored_of target.old) result) }
+    ensures grown { IfOk result (λ done. HasOneMore (delete_of path.now) target.old target.new) }
+{
+    add_delete(target, Object::Target, path)
 }
 
 /// The check of the provider that reads a value; zeros where none does.

@@ -133,7 +133,7 @@ pub fn add_delete<T: Tape>(store: &mut Store<T>, object: Object, path: &str) -> 
         Ok(Some(_revision)) => Ok(()),
         Ok(None) => unreachable!(),
         Err(PutNo::Failed) => Err(Stop::Fault(object, store.faults())),
-        Err(PutNo::Full { needed: _needed }) => Err(Stop::Refused(Refusal::Limit(Limit::Store))),
+        Err(PutNo::Full { needed: _length }) => Err(Stop::Refused(Refusal::Limit(Limit::Store))),
         Err(
             PutNo::Changed {
                 revision: _revision,

@@ -36,7 +36,7 @@ returns-in-Err-Full-clause-does g c name a =
     let new = c.delete-written.new.self in
     let why = rw c.in-Err-Full.is at c.in-Err-Full.field-0-is in
     let full = undeleted_so c.args.store.now new c.args.path.now
-    (refused.Full c.in-Err-Full._needed) c.delete-written.ensures c.in-Err-Full.is why in
+    (refused.Full c.in-Err-Full._length) c.delete-written.ensures c.in-Err-Full.is why in
     row_above c.args.object name (delete_of c.args.path.now) c.args.store.now new
     c.requires.within a full.0 (omega (arith, full.1, full.2))
 
