@@ -9,8 +9,8 @@ pub returns-in-Err-clause-err : goal.returns-in-Err-clause-err
 returns-in-Err-clause-err g c name a =
     target_stops name c.in-Err.refused.0 (c.in-Err.ensures.err name a)
 
-pub returns-if-length-gt0-clause-err : goal.returns-if-length-gt0-clause-err
-returns-if-length-gt0-clause-err g c name a =
+pub returns-then-length-gt0-clause-err : goal.returns-then-length-gt0-clause-err
+returns-then-length-gt0-clause-err g c name a =
     as_closed (target_read name) name a _ c.close.ensures.told c.close.ensures.count
     (target_filled name (g.T.Tape.told c.args.tape) (g.T.Tape.count c.args.tape) a c.in-Ok.target
     c.in-Ok.ensures.loaded c.length-length.result c.length-length.ensures c.if-length-gt0.true)

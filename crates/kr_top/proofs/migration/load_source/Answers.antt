@@ -9,8 +9,8 @@ pub returns-in-Err-clause-err : goal.returns-in-Err-clause-err
 returns-in-Err-clause-err g c name a =
     source_stops name c.in-Err.refused.0 (c.in-Err.ensures.err name a)
 
-pub returns-if-is_new-clause-err : goal.returns-if-is_new-clause-err
-returns-if-is_new-clause-err g c name a =
+pub returns-then-is_new-clause-err : goal.returns-then-is_new-clause-err
+returns-then-is_new-clause-err g c name a =
     as_closed (source_on name) name a _ c.close.ensures.told c.close.ensures.count
     (source_new name (g.T.Tape.told c.args.tape) (g.T.Tape.count c.args.tape) a c.in-Ok.source
     c.in-Ok.ensures.loaded (sym c.is_new.ensures ∙ c.if-is_new.true))

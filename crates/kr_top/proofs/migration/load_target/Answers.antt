@@ -10,8 +10,8 @@ returns-in-Err-clause-err g c name a =
     c.in-Err.ensures.cause.later c.in-Err.ensures.same c.in-Err.ensures.cause.failed
     c.faults-faults.ensures
 
-pub returns-if-length-gt0-clause-err : goal.returns-if-length-gt0-clause-err
-returns-if-length-gt0-clause-err g c name a =
+pub returns-then-length-gt0-clause-err : goal.returns-then-length-gt0-clause-err
+returns-then-length-gt0-clause-err g c name a =
     size_refused name (g.T.Tape.told c.args.tape) (g.T.Tape.count c.args.tape) a
     (g.T.Tape.told c.len.new.self) (g.T.Tape.count c.len.new.self) c.in-Ok.length
     c.in-Ok.ensures.cause.later c.in-Ok.ensures.same c.in-Ok.ensures.length c.if-length-gt0.true
