@@ -1,4 +1,4 @@
--- What a migration leaves of the tapes, and that its steps are settled, by the rows that it copies.
+-- What a migration leaves of the tapes, by the rows that it copies.
 use Rattle.std.proofs.Common.{◌≡◌, ◌≢◌, ℕ, List, [], ◌∷◌, ◌++◌, length, map, Bool, true, false, Option, None, Some, Result, Ok, Err, refl, sym, ◌∙◌, ap, subst, inl, inr, append-nil}
 use Rattle.std.specs.Prelude.{◌⊎◌, nat_lt, if◌then◌else◌}
 use Rattle.std.specs.Option.{option_map}
@@ -15,16 +15,14 @@ use Rattle.kr_top.specs.Afterwards.{IsUngrown, OthersStay, ToldTape, new_store}
 use Rattle.kr_top.specs.Commands.{adding, by_result, copied_into, copying, migrated_line, migrated_row, migrating, migrating_into, silently, target_on}
 use Rattle.kr_top.specs.Configuration.{IsConfiguration}
 use Rattle.kr_top.specs.Steps.{Steps, write_row, give, and_then, or_empty, tapes_with, with_asked, with_tape, with_told, Point, Left, IsAt, Goes}
-use Rattle.kr_top.specs.StoreFiles.{BeginsWith, HoldsRows, IsSource, IsStored, IsTarget, Stored, begins_new, unless_new, unless_there, with_row}
+use Rattle.kr_top.specs.StoreFiles.{BeginsWith, HoldsRows, IsStored, Stored, begins_new, unless_new, unless_there, with_row}
 use Rattle.kr_top.specs.declared.command.Migration.{Migration}
 use Rattle.kr_top.specs.declared.refusal.Limit.TheVariants as limit
 use Rattle.kr_top.specs.declared.refusal.Object.TheVariants.{Target}
 use Rattle.kr_top.specs.declared.refusal.Outcome.{Outcome}
 use Rattle.kr_top.specs.declared.refusal.Refusal.{Refusal}
 use Rattle.kr_top.specs.declared.refusal.Refusal.TheVariants.{Limit, NotOld}
-use Rattle.kr_top.proofs.Listed.{one_stored}
 use Rattle.kr_top.proofs.Migrating.{empty_file}
-use Rattle.kr_top.proofs.OnePoint.{IsSettled}
 use Rattle.kr_top.proofs.Points.{IsShort, IsSilent, IsTorn}
 use Rattle.kr_top.proofs.Tapes.{own_name}
 
@@ -317,40 +315,3 @@ module _ (words : Migration) (p : Point Outcome) (end left : Left) where
       (old_of bytes source read.0 read.1 read.2)
       (with_tape false words.store (with_asked (Tape words.store false)
       (with_asked (File words.config) left))) refl goes
-
--- ---- one way
-
-pub one_source : (bytes : List ℕ) (a b : Result Stored Refusal) → IsSource bytes a
-    → IsSource bytes b → a ≡ b
-one_source bytes a b h k =
-    h.2 ∙ ap (unless_new bytes) (one_stored bytes h.0 k.0 h.1 k.1) ∙ sym k.2
-
-pub one_target : (bytes : List ℕ) (a b : Result Stored Refusal) → IsTarget bytes a
-    → IsTarget bytes b → a ≡ b
-one_target bytes a b h k =
-    h.2 ∙ ap (unless_there bytes) (one_stored bytes h.0 k.0 h.1 k.1) ∙ sym k.2
-
-pub settled_copying : (name : List ℕ) (line : List ℕ) (rows : List LogRow) (store : Stored)
-    (left right : Left) → IsSettled
-    (and_then (copying name store rows) (λ copied. give (silently line)))
-    (and_then (copying name store rows) (λ copied. give (silently line))) left right
-settled_copying name line [] store left right = refl
-settled_copying name line (row ∷ rows) store left right = λ s t u v. by_limit
-    (nat_lt store_limit (length (file_bytes store.format (store.rows ++ row ∷ []))))
-    (λ l r. settled_copying name line rows (with_row row store) l r)
-  where
-    further : Stored → Steps Outcome
-    further grown = and_then (copying name grown rows) (λ copied. give (silently line))
-
-    begun : Bool → Steps Outcome
-    begun large = and_then (and_then (and_then
-        (by_result (if large then Err (Limit limit.Store) else Ok (with_row row store)))
-        (λ grown. write_row Target name store row (give grown)))
-        (λ grown. copying name grown rows)) (λ copied. give (silently line))
-
-    by_limit : (large : Bool)
-        → ((l r : Left) → IsSettled (further (with_row row store)) (further (with_row row store))
-        l r)
-        → IsSettled (begun large) (begun large) left right
-    by_limit true s = refl
-    by_limit false s = λ a b. s (with_told name a left) (with_told name b right)

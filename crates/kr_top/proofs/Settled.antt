@@ -36,7 +36,7 @@ use Rattle.kr_provider.proofs.OneReading.{IsNoPlugin, any_envelope, no_plugin}
 use Rattle.kr_provider.proofs.WithoutPlugins.{none_listed}
 use Rattle.kr_provider.specs.Sealing.{draw_size, sealed_by}
 use Rattle.kr_rollout.specs.Checks.{store_check}
-use Rattle.kr_top.specs.Commands.{by_result, value_steps, draw_some, input_of, linking_programs, opening, read_with, reading_steps, unsealing, working, working_by, converting, steps, bench_steps, configuration, getting, row_found, row_on, tape_for, with_memory, configurations, judging_at, judging_by, telling, adding, new_row, putting, revision_line, sealed_into, silently, stored_into, copied_into, migrated_line, migrated_row, migrating, migrating_into, source_on, target_read}
+use Rattle.kr_top.specs.Commands.{by_result, value_steps, draw_some, input_of, linking_programs, opening, read_with, reading_steps, unsealing, working, working_by, converting, steps, bench_steps, configuration, getting, row_found, row_on, tape_for, with_memory, configurations, judging_at, judging_by, telling, adding, new_row, putting, revision_line, sealed_into, silently, stored_into}
 use Rattle.kr_store.specs.Rows.{live, check_in}
 use Rattle.kr_store.specs.File.{file_bytes}
 use Rattle.kr_store.specs.declared.rows.LogRow.{LogRow}
@@ -45,13 +45,12 @@ use Rattle.kr_top.specs.Configuration.{IsConfiguration}
 use Rattle.kr_top.specs.Inspect.{Inspects, ShowsBody, ShowsObject}
 use Rattle.kr_top.specs.Plugins.{borrow_links, make_seeds, programs_of, seed_row, unless_breach, wrap_seed}
 use Rattle.kr_top.specs.Steps.{Steps, load, take_input, borrow_dice, borrow_tape, read_tape, write_row, keep_rows, draw, borrow_link, ask_status, wrap, unwrap, note, find, refuse, give, and_then, Left, with_asked, with_dice, or_empty, tapes_with}
-use Rattle.kr_top.specs.StoreFiles.{Stored, none_there, with_row}
+use Rattle.kr_top.specs.StoreFiles.{Stored, with_row}
 use Rattle.kr_top.specs.Texts.{line, word_and_number}
 use Rattle.kr_top.specs.declared.command.Command.{Command}
-use Rattle.kr_top.specs.declared.command.Command.TheVariants.{Convert, Check, Inspect, Put, Get, Migrate, Rows, Judge, Rewrite}
+use Rattle.kr_top.specs.declared.command.Command.TheVariants.{Convert, Check, Inspect, Put, Get, Rows, Judge, Rewrite}
 use Rattle.kr_top.specs.declared.command.Conversion.{Conversion}
 use Rattle.kr_top.specs.declared.command.Lookup.{Lookup}
-use Rattle.kr_top.specs.declared.command.Migration.{Migration}
 use Rattle.kr_top.specs.declared.command.Direction.{Direction}
 use Rattle.kr_top.specs.declared.command.Direction.TheVariants.{Encrypt, Decrypt}
 use Rattle.kr_top.specs.declared.programs.Program.{Program}
@@ -63,28 +62,27 @@ use Rattle.kr_top.specs.declared.refusal.Outcome.{Outcome}
 use Rattle.kr_top.specs.Around.{Around, left_of}
 use Rattle.kr_top.specs.Command.{replica_names, reload_in, reload_number, reload_file}
 use Rattle.kr_top.specs.Ran.{IsTelling, ArePluginsTold, AreTold}
-use Rattle.kr_top.proofs.Copied.{one_source, one_target, settled_copying}
 use Rattle.kr_top.proofs.EquallyLong.{AreAsLong, as_long, no_kms_writer, same_file}
 use Rattle.kr_top.proofs.Listed.{one_stored, one_shown}
 use Rattle.kr_top.proofs.Judging.{one_judged, read_then}
 use Rattle.kr_top.proofs.Tapes.{own_name}
 use Rattle.kr_top.proofs.OnePoint.{IsSettled}
 
-settled_result : {A : Type 0} (left right : Left) (r : Result A Refusal) (next : A → Steps Outcome)
+pub settled_result : {A : Type 0} (left right : Left) (r : Result A Refusal) (next : A → Steps Outcome)
     → ((x : A) → IsSettled (next x) (next x) left right)
     → IsSettled (and_then (by_result r) next) (and_then (by_result r) next) left right
 settled_result left right (Ok x) next s = s x
 settled_result left right (Err why) next s = refl
 
 -- what was read is one thing
-settled_by : {A : Type 0} (left right : Left) (a b : Result A Refusal) (next : A → Steps Outcome)
+pub settled_by : {A : Type 0} (left right : Left) (a b : Result A Refusal) (next : A → Steps Outcome)
     → a ≡ b → ((x : A) → IsSettled (next x) (next x) left right)
     → IsSettled (and_then (by_result a) next) (and_then (by_result b) next) left right
 settled_by left right a b next e s =
     subst (λ r. IsSettled (and_then (by_result a) next) (and_then (by_result r) next) left right) e
     (settled_result left right a next s)
 
-one_configuration : (name : List ℕ) (file : Option (List ℕ)) (a b : Result (List Row) Refusal)
+pub one_configuration : (name : List ℕ) (file : Option (List ℕ)) (a b : Result (List Row) Refusal)
     → IsConfiguration name file a → IsConfiguration name file b → a ≡ b
 one_configuration name None a b h k = h ∙ sym k
 one_configuration name (Some bytes) a b (inl h) (inl k) = h.1 ∙ sym k.1
@@ -148,7 +146,7 @@ settled_judgement options stored replicas left told = (
       (λ verdict. λ u v t w. refl)),
 )
 
-settled_judging : (options : List (List ℕ × List ℕ)) (stored : List LogRow) (left : Left)
+pub settled_judging : (options : List (List ℕ × List ℕ)) (stored : List LogRow) (left : Left)
     → AreTold left.file (replica_names options)
     → IsSome (left.file (reload_file (reload_in options)))
     → IsSettled (judging_by options stored) (judging_by options stored) left left
@@ -186,7 +184,7 @@ one_body Kms name body a b (r, x, h) (s, y, k) = elim (one_reading body r s x y)
   ]
 ]
 
-one_inspection : (bytes : List ℕ) (a b : Result (List ℕ) Refusal) → Inspects bytes a
+pub one_inspection : (bytes : List ℕ) (a b : Result (List ℕ) Refusal) → Inspects bytes a
     → Inspects bytes b → a ≡ b
 one_inspection bytes a b (Plain c, s, h) (Plain d, t, k) =
     h ∙ ap (λ x. Ok (line (word_and_number (codes "plain") (length x)))) (s.1 ∙ sym t.1) ∙ sym k
@@ -288,7 +286,7 @@ no_opening seeds (Some (who.Aesgcm name secret)) object next n = refl
 no_opening seeds (Some (who.Kms name)) object next n = absurd (cc)
 
 -- without seeds a plugin's value is rotated, whatever it is
-rotated_alike : (a b : Envelope) (writer : Who) → is_rotated a [] writer ≡ is_rotated b [] writer
+pub rotated_alike : (a b : Envelope) (writer : Who) → is_rotated a [] writer ≡ is_rotated b [] writer
 rotated_alike a b who.Identity = refl
 rotated_alike a b (who.Aescbc name secret) = refl
 rotated_alike a b (who.Aesgcm name secret) = refl
@@ -317,7 +315,7 @@ settled_unsealing left right list path bytes none = λ a b h k.
 
 -- ---- links and seeds
 
-settled_links : (programs : List Program) (next : Steps Outcome) (left right : Left)
+pub settled_links : (programs : List Program) (next : Steps Outcome) (left right : Left)
     → right.links ≡ left.links
     → ((l r : Left) → l.links ≡ left.links → r.links ≡ left.links → IsSettled next next l r)
     → IsSettled (borrow_links programs next) (borrow_links programs next) left right
@@ -454,7 +452,7 @@ module _ (old : Around) (words : Conversion) (input : IsSome old.input) where
   by_rows (Ok rows) told = settled_rows rows (told rows refl)
   by_rows (Err why) told = refl
 
-settled_converting : (old : Around) (words : Conversion) → IsTelling (Convert words) old
+pub settled_converting : (old : Around) (words : Conversion) → IsTelling (Convert words) old
     → IsSettled (converting words) (converting words) (left_of old) (left_of old)
 settled_converting old words (told, input, plugins) = (
   told,
@@ -469,7 +467,7 @@ settled_converting old words (told, input, plugins) = (
 -- ---- get
 
 -- what was read is one thing, from which the first steps go on, and then the others
-settled_pair : {A B : Type 0} (left right : Left) (a b : Result A Refusal) (f : A → Steps B)
+pub settled_pair : {A B : Type 0} (left right : Left) (a b : Result A Refusal) (f : A → Steps B)
     (g : B → Steps Outcome) → a ≡ b
     → ((x : A) → IsSettled (and_then (f x) g) (and_then (f x) g) left right)
     → IsSettled (and_then (and_then (by_result a) f) g) (and_then (and_then (by_result b) f) g)
@@ -484,7 +482,7 @@ settled_pair {A} left right a b f g e s =
     by_cases (Err why) = refl
 
 -- the entries of a told configuration are one thing
-settled_configuration : (old : Around) (name : List ℕ) (next : List Row → Steps Outcome)
+pub settled_configuration : (old : Around) (name : List ℕ) (next : List Row → Steps Outcome)
     → IsSome (old.world.file name)
     → ((file : Option (List ℕ)) (rows : List Row) → IsConfiguration name file (Ok rows)
     → Agrees (old.world.file name) file
@@ -526,7 +524,7 @@ settled_row old words rows programs left right at same none row =
     (λ l r x y. settled_working l r old Decrypt row.resource words.path row.stored rows (x ∙ at)
     (y ∙ at) none)
 
-settled_getting : (old : Around) (words : Lookup) → IsTelling (Get words) old
+pub settled_getting : (old : Around) (words : Lookup) → IsTelling (Get words) old
     → IsSettled (getting words) (getting words) (left_of old) (left_of old)
 settled_getting old words (file, tape, plugins) = settled_configuration old words.config
     (λ rows. and_then (linking_programs words.options rows) (looked_up words rows)) file
@@ -647,12 +645,12 @@ module _ (words : Conversion) (name : List ℕ) (rows : List Row) (read : Stored
       _ _ same (λ l r x y. settled_sealing l r bytes none)))
 
 -- a tape that is told is told when it may be made
-told_or_empty : (told : Option (Option (List ℕ))) → IsSome told → IsSome (or_empty told)
+pub told_or_empty : (told : Option (Option (List ℕ))) → IsSome told → IsSome (or_empty told)
 told_or_empty None t = absurd cc
 told_or_empty (Some None) t = refl
 told_or_empty (Some (Some bytes)) t = refl
 
-settled_putting : (old : Around) (words : Conversion) (store : List ℕ)
+pub settled_putting : (old : Around) (words : Conversion) (store : List ℕ)
     → IsTelling (Put words store) old
     → IsSettled (putting words store) (putting words store) (left_of old) (left_of old)
 settled_putting old words store (file, tape, input, plugins) = settled_configuration old words.config
@@ -685,90 +683,3 @@ settled_putting old words store (file, tape, input, plugins) = settled_configura
     there = subst (λ q. IsSome (if q then or_empty (old.world.tapes.told store)
         else old.world.tapes.told store)) (sym (own_name store))
         (told_or_empty (old.world.tapes.told store) tape)
-
--- ---- migrate
-
-settled_migrating : (old : Around) (words : Migration) → IsTelling (Migrate words) old
-    → IsSettled (migrating words) (migrating words) (left_of old) (left_of old)
-settled_migrating old words (file, tape, target) = settled_configuration old words.config
-    (λ rows. tape_for words.store false
-    (and_then (source_on words.store) (migrating_into words.to rows))) file
-    (λ file rows is agrees. (
-      tape,
-      refl,
-      refl,
-      refl,
-      (
-        tape,
-        refl,
-        λ bytes a b x y. settled_by _ _ a b (migrating_into words.to rows)
-            (one_source bytes a b x y) (λ source. (
-              target,
-              refl,
-              refl,
-              refl,
-              (
-                there,
-                refl,
-                λ held. settled_pair _ _ (none_there held) (none_there held)
-                    (λ u. target_read words.to) (copied_into words.to rows source) refl (λ u. (
-                      there,
-                      refl,
-                      λ again c d h k. settled_by _ _ c d (copied_into words.to rows source)
-                          (one_target again c d h k) (λ store. λ s t p q. settled_copying words.to
-                          (migrated_line source.rows) (map (migrated_row rows) source.rows) store _ _),
-                    )),
-              ),
-            )),
-      ),
-    ))
-  where
-    there : IsSome (tapes_with true words.to old.world.tapes.told words.to)
-    there = subst (λ q. IsSome (if q then or_empty (old.world.tapes.told words.to)
-        else old.world.tapes.told words.to)) (sym (own_name words.to))
-        (told_or_empty (old.world.tapes.told words.to) target)
-
-pub settled : (command : Command) (old : Around) → IsTelling command old
-    → IsSettled (steps command) (steps command) (left_of old) (left_of old)
-settled (Convert words) old tells = settled_converting old words tells
-settled (Check config resource) old told = (
-  told,
-  refl,
-  λ file agrees a b x y. settled_by _ _ a b _ (one_configuration config file a b x y) (λ rows.
-      λ c d h k. settled_by _ _ c d _ (h ∙ sym k) (λ text. refl)),
-)
-settled (Put words store) old tells = settled_putting old words store tells
-settled (Get words) old tells = settled_getting old words tells
-settled (Migrate words) old tells = settled_migrating old words tells
-settled (Rows store) old told = (
-  told,
-  refl,
-  refl,
-  refl,
-  (
-    told,
-    refl,
-    λ bytes a b x y. settled_by _ _ a b _ (one_stored bytes a b x y) (λ stored.
-        λ c d h k. settled_by _ _ c d _ (one_shown stored.rows c d h k) (λ text. refl)),
-  ),
-)
-settled (Judge words) old (tape, names, file) = (
-  tape,
-  refl,
-  refl,
-  refl,
-  (
-    tape,
-    refl,
-    λ bytes a b x y. settled_by _ _ a b _ (one_stored bytes a b x y)
-        (λ stored. settled_judging words.options stored.rows _ names file),
-  ),
-)
-settled (Rewrite words) old told = absurd told
-settled Inspect old input = (
-  refl,
-  refl,
-  input,
-  refl,
-  λ bytes rest c d h k. settled_by _ _ c d _ (one_inspection bytes c d h k) (λ text. refl),
-)
