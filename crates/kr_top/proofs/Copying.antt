@@ -4,16 +4,21 @@ use Rattle.std.specs.Prelude.{IfOk, IsSome, slice_get}
 use Rattle.std.proofs.lemmas.List.{drop_all, length-map, take_all}
 use Rattle.kr_base.specs.Limits.{store_limit}
 use Rattle.kr_config.specs.Kept.{Row}
-use Rattle.kr_store.specs.Rows.{AreRows, delete_of, live, log_row_at}
+use Rattle.kr_config.specs.Lists.{list_of}
+use Rattle.kr_config.specs.declared.who.Who.{Who}
+use Rattle.kr_provider.specs.Readers.{reader_in}
+use Rattle.kr_store.specs.Rows.{AreRows, check_in, delete_of, live, log_row_at, put_of}
 use Rattle.kr_store.specs.Stores.{Kept}
+use Rattle.kr_store.specs.declared.format.Check as kept
 use Rattle.kr_store.specs.declared.format.Format.{Format}
 use Rattle.kr_store.specs.declared.format.Format.TheVariants.{Two}
 use Rattle.kr_store.specs.declared.rows.LogRow.{LogRow}
+use Rattle.kr_store.specs.declared.rows.Row as stored
 use Rattle.kr_top.specs.Around.{Around, with_lent_tape}
-use Rattle.kr_top.specs.Commands.{adding, copying, migrated_row}
+use Rattle.kr_top.specs.Commands.{adding, copying, migrated_row, reader_check}
 use Rattle.kr_top.specs.Steps.{Steps}
 use Rattle.kr_top.specs.StoreFiles.{Stored, with_row}
-use Rattle.kr_top.specs.inner.Migrating.{HasCopied, IsNew, all_grown}
+use Rattle.kr_top.specs.inner.Migrating.{HasCopied, IsNew, all_grown, migrated_put}
 use Rattle.kr_top.specs.inner.Phases.{Does}
 use Rattle.kr_top.specs.inner.Tapes.{HasOneMore, grown_by, stored_of}
 use Rattle.kr_top.specs.declared.refusal.Object.TheVariants.{Target}
@@ -30,6 +35,22 @@ pub as_line : {name : List ℕ} {store : Stored} {line other : LogRow} {old new 
     → Does (adding Target name store other) old new (grown_by other store result)
 as_line {name} {store} {old = old} {new} {result} same d =
     subst (λ l. Does (adding Target name store l) old new (grown_by l store result)) (sym same) d
+
+-- what is put of a row is its line
+pub line_is : (config : List Row) (row : stored.Row) {path resource value name bytes : List ℕ}
+    {list : List Who} {check : kept.Check} (format : Format) → format ≡ Two → path ≡ row.path
+    → resource ≡ row.resource → value ≡ row.stored → name ≡ row.resource
+    → list ≡ list_of config name → bytes ≡ row.stored
+    → check ≡ reader_check (reader_in list bytes)
+    → migrated_put config row ≡ put_of path resource value (check_in format check)
+line_is config row {list = list} {check} format two path resource value name found bytes is =
+    let check_is : Some (reader_check (reader_in (list_of config row.resource) row.stored))
+    ≡ check_in format check =
+    ap (λ n. Some (reader_check (reader_in (list_of config n) row.stored))) (sym name)
+    ∙ ap (λ l. Some (reader_check (reader_in l row.stored))) (sym found)
+    ∙ ap (λ b. Some (reader_check (reader_in list b))) (sym bytes) ∙ ap (λ k. Some k) (sym is)
+    ∙ ap (λ f. check_in f check) (sym two) in
+    λ i. put_of (sym path i) (sym resource i) (sym value i) (check_is i)
 
 -- there is no memory for a row
 pub lacks_row : (store : Stored) (line : LogRow) (name : List ℕ) (a : Around)

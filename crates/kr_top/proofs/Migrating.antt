@@ -75,19 +75,22 @@ some_there (byte ∷ bytes) some = refl
 module _ {A : Type 0} (first second : Steps A)
     (short : (p : Point A) (end left : Left) → IsShort p → Goes p end first left
     → Goes p end second left) where
-  stopped_at : {left : Left} {old new : Around} (stop : Stop) → Ends first left old new (Err stop)
+  stopped_at : (left : Left) (old new : Around) (stop : Stop) → Ends first left old new (Err stop)
       → Ends second left old new (Err stop)
-  stopped_at (Words why) r = r
-  stopped_at (Refused why) r = reach r.end (short _ _ _ tt r.goes) r.stays
-  stopped_at (Fault object count) (call, r, f) =
+  stopped_at left old new (Words why) r = r
+  stopped_at left old new (Refused why) r = reach r.end (short _ _ _ tt r.goes) r.stays
+  stopped_at left old new (Fault object count) (call, r, f) =
       (call, reach r.end (short _ _ _ tt r.goes) r.stays, f)
-  stopped_at NoMemory (inl (call, may, r)) =
+  stopped_at left old new NoMemory (inl (call, may, r)) =
       inl (call, may, reach r.end (short _ _ _ tt r.goes) r.stays)
-  stopped_at NoMemory (inr r) = inr (reach r.end (short _ _ _ tt r.goes) r.stays)
+  stopped_at left old new NoMemory (inr r) = inr (reach r.end (short _ _ _ tt r.goes) r.stays)
 
   stopped_as : {old new : Around} (stop : Stop) → Does first old new (Err stop)
       → Does second old new (Err stop)
-  stopped_as stop d = record { home = d.home; ends = λ left s. stopped_at stop (d.ends left s) }
+  stopped_as {old} {new} stop d = record {
+    home = d.home;
+    ends = λ left s. stopped_at left old new stop (d.ends left s);
+  }
 
 source_short : (name : List ℕ) (p : Point Stored) (end left : Left) → IsShort p
     → Goes p end (stored_on Store name) left → Goes p end (source_on name) left
@@ -127,7 +130,7 @@ target_stops name stop d =
 
 -- ---- a tape that was read
 
-bytes_of : ℕ → List ℕ
+abbrev bytes_of : ℕ → List ℕ
 bytes_of zero = []
 bytes_of (suc n) = 0 ∷ bytes_of n
 
@@ -157,11 +160,11 @@ module _ (name : List ℕ) (told : Option (List ℕ)) (before : ℕ) (a : Around
     reads : {left : Left} (bytes : List ℕ) (count : ℕ) (read : Result Stored Refusal)
         → before ≤ count → Agrees told bytes → Is bytes read → Stays left (Lent before)
         → Reaches reading left (Lent count) (by_point read)
-    reads {left} bytes count read later is reads s = reach left (inr (
+    reads {left} bytes count read later is so s = reach left (inr (
       bytes,
       subst (λ t. Agrees t (Some bytes)) (sym (tape_here name told before a s))
           (agrees_there told bytes is),
-      inr (read, reads, by_goes read left),
+      inr (read, so, by_goes read left),
     ))
         (counted_tape name told before a count later s)
 

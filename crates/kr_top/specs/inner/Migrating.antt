@@ -26,10 +26,10 @@ pub record IsNew (store : Kept) : Type 0 where
   pub within : store.limit ≡ store_limit
 
 -- the first rows of the source, so many, are in the target
-pub record HasCopied (rows : List Row) (source : List LogRow) (number : ℕ) (target : Kept)
+pub record HasCopied (config : List Row) (source : List LogRow) (number : ℕ) (target : Kept)
     : Type 0 where
   pub format : target.format ≡ Two
-  pub rows : target.rows ≡ map (migrated_row rows) (take number source)
+  pub rows : target.rows ≡ map (migrated_row config) (take number source)
   pub within : target.limit ≡ store_limit
 
 -- a put with the check of its value's reader

@@ -1,5 +1,5 @@
 -- `load_empty`: a store that was read, and has no bytes.
-use Rattle.std.proofs.Common.{◌∙◌, sym, arith}
+use Rattle.std.proofs.Common.{[], arith}
 use Rattle.kr_top.specs.Commands.{target_read}
 use Rattle.kr_top.proofs.Loading.{as_closed}
 use Rattle.kr_top.proofs.Migrating.{target_filled, target_given, target_new, target_stops}

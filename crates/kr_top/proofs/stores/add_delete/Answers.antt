@@ -8,19 +8,22 @@ use Rattle.kr_top.proofs.stores.add_delete.Goals as goal
 pub returns-in-Ok-Some-clause-does : goal.returns-in-Ok-Some-clause-does
 returns-in-Ok-Some-clause-does g c name a =
     let new = c.delete-written.new.self in
+    let found = rw c.in-Ok-Some.is at c.in-Ok-Some.field-0-is in
     row_added c.args.object name (delete_of c.args.path.now) c.args.store.now new
     c.requires.within a
     (deleted_so c.args.store.now new c.args.path.now c.in-Ok-Some._revision
-    c.delete-written.ensures c.in-Ok-Some.is c.in-Ok-Some.field-0-is) c.known.ensures
+    c.delete-written.ensures c.in-Ok-Some.is found) c.known.ensures
 
 pub returns-in-Ok-Some-clause-grown : goal.returns-in-Ok-Some-clause-grown
-returns-in-Ok-Some-clause-grown g c = one_more
+returns-in-Ok-Some-clause-grown g c =
+    let found = rw c.in-Ok-Some.is at c.in-Ok-Some.field-0-is in one_more
     (deleted_so c.args.store.now c.delete-written.new.self c.args.path.now
-    c.in-Ok-Some._revision c.delete-written.ensures c.in-Ok-Some.is c.in-Ok-Some.field-0-is)
+    c.in-Ok-Some._revision c.delete-written.ensures c.in-Ok-Some.is found)
 
 pub unreachable-requires : goal.unreachable-requires
-unreachable-requires g c = gone c.args.store.now c.delete-written.new.self c.args.path.now
-    c.requires.live c.delete-written.ensures c.in-Ok-None.is c.in-Ok-None.field-0-is
+unreachable-requires g c =
+    let found = rw c.in-Ok-None.is at c.in-Ok-None.field-0-is in gone c.args.store.now c.delete-written.new.self c.args.path.now
+    c.requires.live c.delete-written.ensures c.in-Ok-None.is found
 
 pub returns-in-Err-Failed-clause-does : goal.returns-in-Err-Failed-clause-does
 returns-in-Err-Failed-clause-does g c name a =
