@@ -29,11 +29,11 @@ use Rattle.kr_top.proofs.MigratedRows.{follows_at, live_of, next_of, one_more_of
 use Rattle.kr_top.proofs.Works.{lacks}
 
 -- as another line that is the same
-pub as_line : {name : List ℕ} {store : Stored} {line other : LogRow} {old new : Around}
-    {result : Result (Unit {0}) Stop} → other ≡ line
+pub as_line : (name : List ℕ) (store : Stored) {line other : LogRow} {old new : Around}
+    (result : Result (Unit {0}) Stop) → other ≡ line
     → Does (adding Target name store line) old new (grown_by line store result)
     → Does (adding Target name store other) old new (grown_by other store result)
-as_line {name} {store} {old = old} {new} {result} same d =
+as_line name store {old = old} {new} result same d =
     subst (λ l. Does (adding Target name store l) old new (grown_by l store result)) (sym same) d
 
 -- what is put of a row is its line

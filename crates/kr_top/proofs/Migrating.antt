@@ -231,11 +231,6 @@ module _ (name : List ℕ) (told : Option (List ℕ)) (before : ℕ) (a : Around
         (no_bytes l.bytes (sym l.length_is ∙ none))),
   )
 
-  pub target_new : (store : Kept) → IsLoaded told before store → store.length ≡ 0
-      → (store.format ≡ Two) × (store.rows ≡ [])
-  target_new store l none =
-      empty_file store.format store.rows l.bytes l.file (sym l.length_is ∙ none)
-
   pub target_filled : (store : Kept) → IsLoaded told before store → (size : ℕ)
       → size ≡ store.length → 0 < size
       → Does (target_read name) (Lent before) (with_lent_tape name store.told store.count a)
@@ -329,6 +324,11 @@ module _ (name : List ℕ) (told : Option (List ℕ)) (before : ℕ) (a : Around
           ),
         );
       }))
+
+pub target_new : {told : Option (List ℕ)} {before : ℕ} (store : Kept)
+    → IsLoaded told before store → store.length ≡ 0 → (store.format ≡ Two) × (store.rows ≡ [])
+target_new store l none =
+    empty_file store.format store.rows l.bytes l.file (sym l.length_is ∙ none)
 
 -- what was read behind the length, as the whole
 module _ (told : Option (List ℕ)) (before : ℕ) (now : Option (List ℕ)) (count size : ℕ)

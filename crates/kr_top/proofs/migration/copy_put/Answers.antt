@@ -32,9 +32,10 @@ add_put-requires-clause-stored g c = subst (λ s. length s ≤ value_limit)
 
 pub returns-clause-does : goal.returns-clause-does
 returns-clause-does g c name a =
-    as_line (line_is (rows_of c.args.settings.now.entries.0) c.args.row.now
+    as_line name (stored_of c.args.target.now) c.add_put.result
+    (line_is (rows_of c.args.settings.now.entries.0) c.args.row.now
     c.args.target.now.format c.requires.format c.as_str-2.ensures c.as_str-3.ensures
-    (c.in-Ok.ensures ∙ c.as_slice.ensures) c.as_str.ensures c.list_for.ensures
+    (c.in-Ok.ensures ∙ c.as_slice.ensures) c.as_str.ensures c.list_for-list.ensures
     c.as_slice-2.ensures c.reader_check-check.ensures) (c.add_put.ensures.does name a)
 
 pub returns-clause-grown : goal.returns-clause-grown
@@ -43,5 +44,5 @@ returns-clause-grown g c =
     (λ done. HasOneMore l c.args.target.now c.add_put.new.store))
     (sym (line_is (rows_of c.args.settings.now.entries.0) c.args.row.now
     c.args.target.now.format c.requires.format c.as_str-2.ensures c.as_str-3.ensures
-    (c.in-Ok.ensures ∙ c.as_slice.ensures) c.as_str.ensures c.list_for.ensures
+    (c.in-Ok.ensures ∙ c.as_slice.ensures) c.as_str.ensures c.list_for-list.ensures
     c.as_slice-2.ensures c.reader_check-check.ensures)) c.add_put.ensures.grown

@@ -7,7 +7,7 @@ use Rattle.kr_top.proofs.migration.copy_rows.Goals as goal
 
 pub loop-copied-init : goal.loop-copied-init
 loop-copied-init g c = copies_none (rows_of c.args.settings.now.entries.0)
-    c.args.source.now.rows c.args.target.now c.requires
+    c.args.source.now.rows c.args.target.now c.requires.empty
 
 pub copy_row-requires-clause-copied : goal.copy_row-requires-clause-copied
 copy_row-requires-clause-copied g c =
@@ -30,4 +30,4 @@ loop-copied-preserved g c = copies_more (rows_of c.args.settings.now.entries.0)
 pub returns : goal.returns
 returns g c name a = copies_all (rows_of c.args.settings.now.entries.0)
     c.args.source.now.rows c.loop-copied.invariant tt
-    (omega (arith, c.loop-copied-test.false, c.revision-copied-end.ensures)) c.requires name a
+    (omega (arith, c.loop-copied-test.false, c.revision-copied-end.ensures)) c.requires.empty name a

@@ -1,5 +1,5 @@
 -- `load_empty`: a store that was read, and has no bytes.
-use Rattle.std.proofs.Common.{[], arith}
+use Rattle.std.proofs.Common.{arith}
 use Rattle.kr_top.specs.Commands.{target_read}
 use Rattle.kr_top.proofs.Loading.{as_closed}
 use Rattle.kr_top.proofs.Migrating.{target_filled, target_given, target_new, target_stops}
@@ -22,8 +22,7 @@ returns-clause-ok g c name a =
 
 pub returns-clause-empty : goal.returns-clause-empty
 returns-clause-empty g c =
-    let new = target_new [] (g.T.Tape.told c.args.tape) (g.T.Tape.count c.args.tape)
-    c.in-Ok.target c.in-Ok.ensures.loaded
+    let new = target_new c.in-Ok.target c.in-Ok.ensures.loaded
     (omega (arith, c.length-length.ensures, c.if-length-gt0.false)) in record {
       format = new.0;
       rows = new.1;
