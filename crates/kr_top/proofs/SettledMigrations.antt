@@ -2,12 +2,14 @@
 use Rattle.std.proofs.Common.{◌≡◌, ℕ, List, [], ◌∷◌, ◌++◌, length, map, Bool, true, false, Result, Ok, Err, refl, sym, ◌∙◌, ap, subst}
 use Rattle.std.specs.Prelude.{IsSome, nat_lt, if◌then◌else◌}
 use Rattle.kr_base.specs.Limits.{store_limit}
+use Rattle.kr_config.specs.Kept.{Row}
+use Rattle.kr_kms.specs.declared.world.WorldCall.TheVariants.{File, Tape}
 use Rattle.kr_store.specs.File.{file_bytes}
 use Rattle.kr_store.specs.declared.rows.LogRow.{LogRow}
 use Rattle.kr_top.specs.Around.{Around, left_of}
 use Rattle.kr_top.specs.Commands.{by_result, copied_into, copying, migrated_line, migrated_row, migrating, migrating_into, silently, source_on, tape_for, target_read}
 use Rattle.kr_top.specs.Ran.{IsTelling}
-use Rattle.kr_top.specs.Steps.{Steps, write_row, give, and_then, or_empty, tapes_with, with_told, Left}
+use Rattle.kr_top.specs.Steps.{Steps, write_row, give, and_then, or_empty, tapes_with, with_asked, with_tape, with_told, Left}
 use Rattle.kr_top.specs.StoreFiles.{IsSource, IsTarget, Stored, none_there, unless_new, unless_there, with_row}
 use Rattle.kr_top.specs.declared.command.Command.TheVariants.{Migrate}
 use Rattle.kr_top.specs.declared.command.Migration.{Migration}
@@ -69,29 +71,42 @@ settled_migrating old words (file, tape, target) = settled_configuration old wor
       (
         tape,
         refl,
-        λ bytes a b x y. settled_by _ _ a b (migrating_into words.to rows)
-            (one_source bytes a b x y) (λ source. (
-              target,
-              refl,
-              refl,
-              refl,
-              (
-                there,
-                refl,
-                λ held. settled_pair _ _ (none_there held) (none_there held)
-                    (λ u. target_read words.to) (copied_into words.to rows source) refl (λ u. (
-                      there,
-                      refl,
-                      λ again c d h k. settled_by _ _ c d (copied_into words.to rows source)
-                          (one_target again c d h k) (λ store. λ s t p q. settled_copying words.to
-                          (migrated_line source.rows) (map (migrated_row rows) source.rows) store _ _),
-                    )),
-              ),
-            )),
+        λ bytes a b x y. settled_by source_out source_out a b (migrating_into words.to rows)
+            (one_source bytes a b x y) (settled_into rows),
       ),
     ))
   where
+    source_out : Left
+    source_out = with_tape false words.store (with_asked (Tape words.store false)
+        (with_asked (File words.config) (left_of old)))
+
+    both_out : Left
+    both_out = with_tape true words.to (with_asked (Tape words.to true) source_out)
+
     there : IsSome (tapes_with true words.to old.world.tapes.told words.to)
     there = subst (λ q. IsSome (if q then or_empty (old.world.tapes.told words.to)
         else old.world.tapes.told words.to)) (sym (own_name words.to))
         (told_or_empty (old.world.tapes.told words.to) target)
+
+    settled_into : (rows : List Row) (source : Stored)
+        → IsSettled (migrating_into words.to rows source) (migrating_into words.to rows source)
+        source_out source_out
+    settled_into rows source = (
+      target,
+      refl,
+      refl,
+      refl,
+      (
+        there,
+        refl,
+        λ held. settled_pair both_out both_out (none_there held) (none_there held)
+            (λ u. target_read words.to) (copied_into words.to rows source) refl (λ u. (
+              there,
+              refl,
+              λ again c d h k. settled_by both_out both_out c d
+                  (copied_into words.to rows source) (one_target again c d h k)
+                  (λ store. λ s t p q. settled_copying words.to (migrated_line source.rows)
+                  (map (migrated_row rows) source.rows) store both_out both_out),
+            )),
+      ),
+    )

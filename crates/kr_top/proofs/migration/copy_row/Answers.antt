@@ -16,12 +16,12 @@ copy_put-requires-clause-path g c =
 pub copy_put-requires-clause-resource : goal.copy_put-requires-clause-resource
 copy_put-requires-clause-resource g c =
     (subst (IsLent c.args.source.now.format) c.in-Some-Put.field-0-is
-    c.in-Some-Put.ensures.rules).1
+    c.in-Some-Put.ensures.rules).1.0
 
 pub copy_put-requires-clause-stored : goal.copy_put-requires-clause-stored
 copy_put-requires-clause-stored g c =
     (subst (IsLent c.args.source.now.format) c.in-Some-Put.field-0-is
-    c.in-Some-Put.ensures.rules).2
+    c.in-Some-Put.ensures.rules).1.1
 
 pub returns-in-Some-Put-clause-does : goal.returns-in-Some-Put-clause-does
 returns-in-Some-Put-clause-does g c row is name a =

@@ -1,5 +1,6 @@
 -- `load_empty`: a store that was read, and has no bytes.
 use Rattle.std.proofs.Common.{arith}
+use Rattle.kr_top.specs.Around.{with_lent_tape}
 use Rattle.kr_top.specs.Commands.{target_read}
 use Rattle.kr_top.proofs.Loading.{as_closed}
 use Rattle.kr_top.proofs.Migrating.{target_filled, target_given, target_new, target_stops}
@@ -11,7 +12,8 @@ returns-in-Err-clause-err g c name a =
 
 pub returns-then-length-gt0-clause-err : goal.returns-then-length-gt0-clause-err
 returns-then-length-gt0-clause-err g c name a =
-    as_closed (target_read name) name a _ c.close.ensures.told c.close.ensures.count
+    let now = with_lent_tape name (g.T.Tape.told c.args.tape) (g.T.Tape.count c.args.tape) a in
+    as_closed (target_read name) name a now c.close.ensures.told c.close.ensures.count
     (target_filled name (g.T.Tape.told c.args.tape) (g.T.Tape.count c.args.tape) a c.in-Ok.target
     c.in-Ok.ensures.loaded c.length-length.result c.length-length.ensures c.if-length-gt0.true)
 

@@ -1,5 +1,6 @@
 -- `load_source`: a store that was read, and has no bytes of the second format.
 use Rattle.std.proofs.Common.{sym, ◌∙◌}
+use Rattle.kr_top.specs.Around.{with_lent_tape}
 use Rattle.kr_top.specs.Commands.{source_on}
 use Rattle.kr_top.proofs.Loading.{as_closed}
 use Rattle.kr_top.proofs.Migrating.{source_given, source_new, source_stops}
@@ -11,7 +12,8 @@ returns-in-Err-clause-err g c name a =
 
 pub returns-then-is_new-clause-err : goal.returns-then-is_new-clause-err
 returns-then-is_new-clause-err g c name a =
-    as_closed (source_on name) name a _ c.close.ensures.told c.close.ensures.count
+    let now = with_lent_tape name (g.T.Tape.told c.args.tape) (g.T.Tape.count c.args.tape) a in
+    as_closed (source_on name) name a now c.close.ensures.told c.close.ensures.count
     (source_new name (g.T.Tape.told c.args.tape) (g.T.Tape.count c.args.tape) a c.in-Ok.source
     c.in-Ok.ensures.loaded (sym c.is_new.ensures ∙ c.if-is_new.true))
 
