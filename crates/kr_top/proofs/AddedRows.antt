@@ -130,5 +130,6 @@ module _ (object : Object) (name : List ℕ) (store : Stored) (row : LogRow)
       (Err NoMemory)
   row_is_lacking = record {
     home = tape_home name told before a count later;
-    ends = λ left s. inr (reach left (inl (refl, refl)) (counted_tape name told before a count later s));
+    ends = λ left s. inr (reach left (inl (refl, refl))
+        (counted_tape name told before a count later s));
   }

@@ -79,7 +79,8 @@ module _ {L D : Type 0} (truth : Truth) (link : L → Link) (left : D → Option
   data_so plain true (inr r) = inl r.1
 
   opened_so : (opened : Result Opened UnsealNo)
-      → RewritesBy left count p row opened found dice done acted after → Acts_so row found done acted
+      → RewritesBy left count p row opened found dice done acted after → Acts_so row found done
+      acted
   opened_so (Ok opened) r = data_so opened.plain opened.stale r
   opened_so (Err why) r = inl r.1
 
@@ -274,7 +275,8 @@ module _ {L D : Type 0} (truth : Truth) (link : L → Link) (left : D → Option
       let done = row_done truth link left count o p one limit_is opens name a truth_is drawn row
       at found number lone holds same_rows next_is.1 driven.format_is olds news dice after acted
       driven.distinct m taken f.rewrites in
-      let acted_is = acted_lone o p one row found acted (Ok taken) lone (acts_so truth link left count p row
+      let acted_is = acted_lone o p one row found acted (Ok taken) lone
+      (acts_so truth link left count p row
       found acted olds news dice after (Ok taken) f.rewrites) in record {
         row = row;
         rest = first.0;

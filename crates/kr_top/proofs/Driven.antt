@@ -206,7 +206,8 @@ module _ {L D : Type 0} (truth : Truth) (link : L → Link) (left : D → Option
         subst (λ l. Does (driving name p rows at) (At said l dice drawn told m) final made) w.1
         (subst (λ d. Does (driving name p rows at) (At said mids d drawn told m) final made) w.2
         (behind rows at last (omega arith) refl said told))
-    walks_on (taken ∷ steps) above rows at old mid olds mids dice between driven w behind said told =
+    walks_on (taken ∷ steps) above rows at old mid olds mids dice between driven w behind said told
+        =
         let text = report_text at.counts in
         let s = passes truth link left count o p one limit_is opens name
         (with_what_is_said text a) truth_is drawn m above rows at old w.middle olds w.mids dice
@@ -391,7 +392,8 @@ module _ {L D : Type 0} (truth : Truth) (link : L → Link) (left : D → Option
             let so = acts_so truth link left count p r.row r.found r.acted mids news between after
             (Err why) r.rewrites in
             let acted = acted_lone o p one r.row r.found r.acted (Err why) r.lone so in
-            let further = count_later o p one r.acted new event.LetGo answer.Released acted r.lets in
+            let further = count_later o p one r.acted new event.LetGo answer.Released acted r.lets
+            in
             let h = held_by then.store store.told o.count store.count why later holds in
             let cut = row_cut truth link left count o p one limit_is opens name
             (with_what_is_said text a) truth_is r.row then r.found r.number r.lone r.holds

@@ -1,4 +1,5 @@
--- A caller that is alone in a core of one replica and one seat: what its events add to what it sees.
+-- A caller that is alone in a core of one replica and one seat: what its events add to what it
+-- sees.
 use Rattle.std.proofs.Common.{◌≡◌, ℕ, ◌+◌, ◌<◌, ◌≤◌, List, [], ◌∷◌, ◌++◌, length, cond, Option, None, Some, refl, sym, ◌∙◌, ap, subst, append-nil, arith}
 use Rattle.std.specs.Option.{option_map}
 use Rattle.std.specs.Prelude.{slice_get, get_or, ⊤}

@@ -152,10 +152,12 @@ module _ {L D : Type 0} (truth : Truth) (link : L → Link) (left : D → Option
         behind : (stop : Stop) (told : Option (List ℕ)) (m : ℕ)
             → Does (adding Store name at.store New_row) (Around_at news after drawn told m)
             (Around_at news after drawn store.told store.count) (Err stop)
-            → Does Anew (Around_at news dice drawn told m) (Around_at news after drawn store.told store.count)
+            → Does Anew (Around_at news dice drawn told m)
+            (Around_at news after drawn store.told store.count)
             (Err stop)
         behind stop told m d = remembers (subst (λ b. Does (resealing b name p row plain at)
-            (Around_at news dice drawn told m) (Around_at news after drawn store.told store.count) (Err stop))
+            (Around_at news dice drawn told m) (Around_at news after drawn store.told store.count)
+            (Err stop))
             (sym short)
             (goes_on (value_sealed p.seeds writer row.path plain) (replacing name p row at)
             (Some stored)
@@ -183,7 +185,8 @@ module _ {L D : Type 0} (truth : Truth) (link : L → Link) (left : D → Option
             sealing r) further bounded) in
             subst (λ w. Cut Anew news dice w stop) is
             (behind stop None before (subst (λ x. Does (adding Store name at.store New_row)
-            (Around_at news after drawn None before) (Around_at news after drawn store.told store.count)
+            (Around_at news after drawn None before)
+            (Around_at news after drawn store.told store.count)
             (Err x)) (sym at_stop)
             (row_is_torn Store name at.store New_row None store.told before store.count
             (risen before store.count rose)
@@ -292,7 +295,8 @@ module _ {L D : Type 0} (truth : Truth) (link : L → Link) (left : D → Option
         let is = same_why why (no.PluginFailed n) e in
         let at_stop = subst (λ w. Stops w stop) (sym is) h in
         subst (λ w. Cut (row_steps name p row at) olds dice w stop) is
-        (subst (λ d. Does (row_steps name p row at) (Around_at olds dice drawn store.told store.count)
+        (subst (λ d. Does (row_steps name p row at)
+        (Around_at olds dice drawn store.told store.count)
         (Around_at news d drawn store.told store.count) (Err stop)) (sym kept)
         (stops Value (row_by name p row at) stop
         (value_does truth link p.seeds opens (list_at p row.resource) row.path row.stored olds news
@@ -307,7 +311,8 @@ module _ {L D : Type 0} (truth : Truth) (link : L → Link) (left : D → Option
         let is = same_why why no.NoMemory e in
         let at_stop = subst (λ w. Stops w stop) (sym is) h in
         subst (λ w. Cut (row_steps name p row at) olds dice w stop) is
-        (subst (λ d. Does (row_steps name p row at) (Around_at olds dice drawn store.told store.count)
+        (subst (λ d. Does (row_steps name p row at)
+        (Around_at olds dice drawn store.told store.count)
         (Around_at news d drawn store.told store.count) (Err stop)) (sym kept)
         (stops Value (row_by name p row at) stop
         (value_does truth link p.seeds opens (list_at p row.resource) row.path row.stored olds news
@@ -336,9 +341,11 @@ module _ {L D : Type 0} (truth : Truth) (link : L → Link) (left : D → Option
         let at_stop = subst (λ w. Stops w stop) (sym is) h in
         let now = Around_at olds dice drawn store.told store.count in
         subst (λ w. Cut (row_steps name p row at) olds dice w stop) is
-        (subst (λ l. Does (row_steps name p row at) now (Around_at l after drawn store.told store.count)
+        (subst (λ l. Does (row_steps name p row at) now
+        (Around_at l after drawn store.told store.count)
         (Err stop)) (sym n.1)
-        (subst (λ d. Does (row_steps name p row at) now (Around_at olds d drawn store.told store.count)
+        (subst (λ d. Does (row_steps name p row at) now
+        (Around_at olds d drawn store.told store.count)
         (Err stop)) (sym n.0.2)
         (subst (λ x. Does (row_steps name p row at) now now (Err x)) (sym at_stop)
         (record { home = home_refl now; ends = λ l s. inr (reach l (inl (refl, refl)) s) }))))
