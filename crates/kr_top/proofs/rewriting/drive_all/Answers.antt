@@ -90,7 +90,7 @@ returns-in-Ok-clause-ended g c name a live told p truth_is is replicas =
     let after = c.close-links.result.1 in
     let store = c.close-store.result.0 in
     let known = subst IsCaller c.new-solo.ensures c.known.ensures in
-    let bounded = subst (λ n. n < 2 ^ 64) c.faults-_faults.ensures (omega arith) in
+    let bounded = subst (λ n. n < 2 ^ 64) c.faults-faults.ensures (omega arith) in
     let drawn = subst (λ d. count dice ≤ count d) (sym c.close-links.ensures.1)
     c.drive-driven.ensures.later in
     let driven = over_core truth link left count c.new-solo.result (only_caller core) new olds
@@ -112,8 +112,8 @@ returns-in-Ok-clause-names g c =
     ∙ names_stay link (names_of link olds) olds c.drive-driven.new.bench.links
     c.drive-driven.ensures.asked
 
-pub returns-in-Err-clause-ended : goal.returns-in-Err-clause-ended
-returns-in-Err-clause-ended g c name a live told p truth_is is replicas =
+pub returns-clause-ended : goal.returns-clause-ended
+returns-clause-ended g c name a live told p truth_is is replicas =
     let link = g.L.Kms.link in
     let truth = g.L.Kms.truth in
     let left = g.D.Dice.left in
@@ -126,7 +126,7 @@ returns-in-Err-clause-ended g c name a live told p truth_is is replicas =
     let after = c.close-links.result.1 in
     let store = c.close-store.result.0 in
     let known = subst IsCaller c.new-solo.ensures c.known.ensures in
-    let bounded = subst (λ n. n < 2 ^ 64) c.faults-_faults.ensures (omega arith) in
+    let bounded = subst (λ n. n < 2 ^ 64) c.faults-faults.ensures (omega arith) in
     let drawn = subst (λ d. count dice ≤ count d) (sym c.close-links.ensures.1)
     c.drive-driven.ensures.later in
     let report = c.in-Err.report in
@@ -145,8 +145,8 @@ returns-in-Err-clause-ended g c name a live told p truth_is is replicas =
     (cut_with c.cut_short.result stop c.counts_of-in-Err.result (counts_of report)
     c.cut_short.ensures c.counts_of-in-Err.ensures)
 
-pub returns-in-Err-clause-names : goal.returns-in-Err-clause-names
-returns-in-Err-clause-names g c =
+pub returns-clause-names : goal.returns-clause-names
+returns-clause-names g c =
     let link = g.L.Kms.link in
     let olds = c.args.bench.links in
     ap (names_of link) c.close-links.ensures.0
