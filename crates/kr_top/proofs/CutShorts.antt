@@ -1,5 +1,5 @@
 -- Why a drive over a caller that is alone may be cut short.
-use Rattle.std.proofs.Common.{◌≡◌, ℕ, ◌+◌, ◌*◌, ◌<◌, ◌≤◌, List, [], ◌∷◌, length, Option, None, Some, Result, Ok, Err, refl, sym, ◌∙◌, ap, subst, inl, inr, arith}
+use Rattle.std.proofs.Common.{◌≡◌, ℕ, ◌+◌, ◌*◌, ◌≤◌, List, [], ◌∷◌, length, Option, None, refl, sym, ap, subst, inl, inr, arith}
 use Rattle.std.specs.Prelude.{All, ◌⊎◌}
 use Rattle.kr_base.specs.Limits.{store_limit}
 use Rattle.kr_kms.specs.Calls.{Link}

@@ -1,11 +1,11 @@
 -- A core of one replica that was driven by its only caller, and closed.
-use Rattle.std.proofs.Common.{◌≡◌, ℕ, ◌+◌, ◌*◌, ◌-◌, ◌^◌, ◌<◌, ◌≤◌, List, [], ◌∷◌, length, Bool, true, false, Option, None, Some, Result, Ok, Err, refl, sym, ◌∙◌, ap, subst, inl, inr, arith}
+use Rattle.std.proofs.Common.{◌≡◌, ℕ, ◌+◌, ◌*◌, ◌^◌, ◌<◌, ◌≤◌, List, [], ◌∷◌, length, Bool, true, false, Option, Some, Result, Err, refl, sym, ◌∙◌, ap, subst, inl, inr, arith}
 use Rattle.std.specs.Prelude.{All, IfSome, ◌⊎◌}
 use Rattle.std.proofs.lemmas.List.Elements.{All-head}
 use Rattle.kr_base.specs.Faults.{Rose}
 use Rattle.kr_kms.specs.Calls.{Link}
 use Rattle.kr_kms.specs.Truth.{Truth, TellsOf, key_of}
-use Rattle.kr_provider.specs.Names.{AreDistinct, names_of}
+use Rattle.kr_provider.specs.Names.{AreDistinct}
 use Rattle.kr_provider.specs.Publication.{Publication}
 use Rattle.kr_store.specs.Stores.{Holds, IsListing, Kept}
 use Rattle.kr_store.specs.declared.rows.Row.{Row}
@@ -16,7 +16,6 @@ use Rattle.kr_rollout.specs.Acting.{Caller, IsCaller, only_caller}
 use Rattle.kr_rollout.specs.Cores.{CoreState}
 use Rattle.kr_rollout.specs.Histories.{IsRun, state_of}
 use Rattle.kr_rollout.specs.Openings.{current_from, generations_from, start_of}
-use Rattle.kr_rollout.specs.Parts.{AddsWithin}
 use Rattle.kr_rewrite.specs.Drives.{CopiesNoPath, Drives, IsCut, IsDrive}
 use Rattle.kr_rewrite.specs.declared.outcome.Report.{Report}
 use Rattle.kr_top.specs.Around.{Around}
@@ -26,9 +25,8 @@ use Rattle.kr_top.specs.declared.refusal.Stop.{Stop}
 use Rattle.kr_top.specs.declared.report.Counts.{Counts}
 use Rattle.kr_top.specs.inner.Phases.{Does}
 use Rattle.kr_top.specs.inner.Reporting.{saying}
-use Rattle.kr_top.specs.inner.Rewriting.{IsAlone, IsDriveStop, IsReported, MayCutShort, counts_of, opened_store}
+use Rattle.kr_top.specs.inner.Rewriting.{IsAlone, IsDriveStop, IsReported, counts_of, opened_store}
 use Rattle.kr_top.proofs.Crews.{counted as counted_on}
-use Rattle.kr_top.proofs.DriveEnds.{cuts, may_cut}
 use Rattle.kr_top.proofs.DriveSteps.{IsDriven}
 use Rattle.kr_top.proofs.Driven.{copied_none, cut_short, drives_all}
 use Rattle.kr_top.proofs.LiveRows.{listing_follows}

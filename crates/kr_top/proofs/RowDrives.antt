@@ -1,20 +1,16 @@
 -- How the steps of a row end, by what a rewrite of it did over a caller that is alone.
-use Rattle.std.proofs.Common.{◌≡◌, ◌≢◌, ℕ, ◌+◌, ◌<◌, ◌≤◌, List, [], ◌∷◌, ◌++◌, length, Bool, true, false, Option, None, Some, Result, Ok, Err, refl, sym, ◌∙◌, ap, subst, inl, inr, arith}
+use Rattle.std.proofs.Common.{◌≡◌, ℕ, ◌≤◌, List, [], ◌∷◌, ◌++◌, length, Bool, true, false, Option, None, Some, Result, Ok, Err, refl, sym, ◌∙◌, ap, subst, inl, inr, arith}
 use Rattle.std.specs.Prelude.{All, nat_lt, if◌then◌else◌}
 use Rattle.std.proofs.lemmas.Bool.{le-ltb, lt-ltb}
-use Rattle.kr_base.specs.Faults.{Rose}
 use Rattle.kr_base.specs.Limits.{data_limit, store_limit}
-use Rattle.kr_base.proofs.Counting.{Rose-later}
 use Rattle.kr_config.specs.Lists.{list_of}
 use Rattle.kr_config.specs.declared.who.Who.{Who}
 use Rattle.kr_kms.specs.Calls.{Link}
 use Rattle.kr_kms.specs.Truth.{Truth, TellsOf, key_of}
-use Rattle.kr_kms.specs.declared.seeds.SeedRow.{SeedRow}
-use Rattle.kr_provider.specs.AskedLinks.{HasLinkWith}
 use Rattle.kr_provider.specs.Names.{AreDistinct}
 use Rattle.kr_provider.specs.Publication.{Publication, list_at, writer_at}
 use Rattle.kr_provider.specs.Reading.{HasSomeReading, data_of}
-use Rattle.kr_provider.specs.Sealing.{IsSealing, Seals, sealed_by, value_by}
+use Rattle.kr_provider.specs.Sealing.{IsSealing, Seals, value_by}
 use Rattle.kr_provider.specs.Unsealing.{UnsealsBy}
 use Rattle.kr_provider.specs.declared.refusal.Opened.{Opened}
 use Rattle.kr_provider.specs.declared.refusal.SealNo.{SealNo}
@@ -23,7 +19,6 @@ use Rattle.kr_provider.specs.declared.refusal.UnsealNo.{UnsealNo}
 use Rattle.kr_provider.specs.declared.refusal.UnsealNo.TheVariants as unseal
 use Rattle.kr_store.specs.File.{file_bytes}
 use Rattle.kr_store.specs.Rows.{live}
-use Rattle.kr_store.specs.Stores.{Kept}
 use Rattle.kr_store.specs.declared.rows.Row.{Row}
 use Rattle.kr_rollout.specs.declared.answer.Answer.{Answer}
 use Rattle.kr_rollout.specs.declared.answer.Answer.TheVariants as answer
@@ -35,27 +30,21 @@ use Rattle.kr_rollout.specs.Acting.{Caller, AddsEntry}
 use Rattle.kr_rollout.specs.Callers.{holding}
 use Rattle.kr_rollout.specs.Histories.{state_of}
 use Rattle.kr_rollout.specs.Writes.{file_size}
-use Rattle.kr_rewrite.specs.Rewrites.{Replaces, ReplacesBy, Reseals, ResealsBy, Rewrites, RewritesBy, RewritesData, unread_step, unsealed_step}
+use Rattle.kr_rewrite.specs.Rewrites.{ReplacesBy, ResealsBy, Rewrites, RewritesBy, RewritesData, unread_step, unsealed_step}
 use Rattle.kr_rewrite.specs.declared.outcome.Step.{Step}
 use Rattle.kr_rewrite.specs.declared.outcome.Step.TheVariants as step
 use Rattle.kr_top.specs.Around.{Around, with_lent_dice, with_lent_links, with_lent_tape}
 use Rattle.kr_top.specs.Commands.{Progress, adding, one_fresh, one_left, one_rewritten, replacing, resealing, row_anew, row_by, row_data, row_steps, value_read, value_sealed, with_memory}
-use Rattle.kr_top.specs.Steps.{Steps, and_then, give}
-use Rattle.kr_top.specs.StoreFiles.{Stored, with_row, BeginsWith}
-use Rattle.kr_top.specs.declared.refusal.Limit.TheVariants as limit
-use Rattle.kr_top.specs.declared.refusal.Object.TheVariants.{Dice, Plugin, Store}
-use Rattle.kr_top.specs.declared.refusal.Refusal.TheVariants.{Limit}
-use Rattle.kr_top.specs.declared.refusal.Stop.{Stop}
-use Rattle.kr_top.specs.declared.refusal.Stop.TheVariants.{Refused, Fault, NoMemory}
+use Rattle.kr_top.specs.Steps.{Steps, give}
+use Rattle.kr_top.specs.StoreFiles.{Stored, with_row}
+use Rattle.kr_top.specs.declared.refusal.Object.TheVariants.{Store}
 use Rattle.kr_top.specs.inner.Phases.{Does}
-use Rattle.kr_top.specs.inner.Rewriting.{IsDriveStop}
-use Rattle.kr_top.proofs.AddedRows.{row_is_above, row_is_added, row_is_lacking, row_is_torn}
-use Rattle.kr_top.proofs.Goes.{given, goes_on, home_refl, reach, stops}
-use Rattle.kr_top.proofs.LoneCallers.{IsLone, not_changed, replace_failed, replaces, replaces_none, tells}
+use Rattle.kr_top.proofs.AddedRows.{row_is_added}
+use Rattle.kr_top.proofs.Goes.{given, goes_on}
+use Rattle.kr_top.proofs.LoneCallers.{IsLone, not_changed, replaces, tells}
 use Rattle.kr_top.proofs.Made.{remembers}
 use Rattle.kr_top.proofs.Said.{All_lent}
 use Rattle.kr_top.proofs.ValueRead.{sealed_does, value_does}
-use Rattle.kr_top.proofs.Works.{lacks}
 
 -- what a step at the row makes of the store and the counts
 abbrev pub Becomes : Publication → Row → Progress → Progress → Step → Type 0

@@ -1,5 +1,5 @@
 -- `drive_all`: a core of one replica is driven by its only caller, and closed.
-use Rattle.std.proofs.Common.{◌≡◌, ℕ, ◌<◌, ◌≤◌, ◌^◌, List, [], length, Option, None, Some, Result, Ok, Err, refl, sym, ◌∙◌, ap, subst, inl, arith}
+use Rattle.std.proofs.Common.{◌≡◌, ◌<◌, ◌≤◌, ◌^◌, List, [], length, None, Ok, Err, refl, sym, ◌∙◌, ap, subst, inl, arith}
 use Rattle.std.proofs.lemmas.List.Elements.{All-contains_itself}
 use Rattle.kr_base.specs.Lines.{of_seat}
 use Rattle.kr_provider.specs.Names.{names_of}
@@ -10,7 +10,7 @@ use Rattle.kr_rollout.specs.Calls.{AreServed}
 use Rattle.kr_rollout.specs.Entries.{seat_of}
 use Rattle.kr_rollout.specs.declared.opening.Entry.{Entry}
 use Rattle.kr_top.specs.Commands.{begun}
-use Rattle.kr_top.specs.inner.Rewriting.{IsReported, MayCutShort, counts_of, opened_store}
+use Rattle.kr_top.specs.inner.Rewriting.{IsReported, counts_of, opened_store}
 use Rattle.kr_top.proofs.CutShorts.{may_stop}
 use Rattle.kr_top.proofs.DroveAll.{begins, cut_with, drove_all, drove_some, has_room, opens_all, over_core}
 use Rattle.kr_top.proofs.rewriting.drive_all.Goals as goal
