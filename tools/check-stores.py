@@ -276,9 +276,13 @@ def large(checks, _folder, _dice):
 REPORT = b"rewritten %d\nfresh %d\nchanged 0\nleft %d\n"
 BY_KEY = """
 resources:
-- resources: [secrets]
+- resources:
+  - secrets
   providers:
-  - aescbc: {keys: [{name: key1, secret: AAAAAAAAAAAAAAAAAAAAAA==}]}
+  - aescbc:
+      keys:
+      - name: key1
+        secret: AAAAAAAAAAAAAAAAAAAAAA==
   - identity: {}
 """
 
