@@ -1,10 +1,10 @@
 #!/usr/bin/env python3
 """Runs the built kmsrest's `put` under a full file system, killed at random moments, fifty at once, and at the limit of a store,
-and its `rewrite` at the limits of a journal and of a store.
+its `migrate` at the limits of its target, and its `rewrite` at the limits of a journal and of a store.
 
-    tools/check-stores.py [full] [killed] [crowd] [large] [rewrites] [--kmsrest PATH] [--seed N]
+    tools/check-stores.py [full] [killed] [crowd] [large] [migrates] [rewrites] [--kmsrest PATH] [--seed N]
 
-No name of a check means all five. After each run the store is read by tools/reference, which is no part of kmsrest: every
+No name of a check means all six. After each run the store is read by tools/reference, which is no part of kmsrest: every
 row that was answered by its revision is there, whole and at that revision. It answers 0 where that always held."""
 import argparse
 import os
@@ -312,7 +312,56 @@ def rewrites(checks, folder, _dice):
     checks.expect("its length", len(before) + 2 * large, len(checks.held()))
 
 
-CHECKS = {"full": full, "killed": killed, "crowd": crowd, "large": large, "rewrites": rewrites}
+# ---- migrations
+
+FAULT_TARGET = "kmsrest: fault target 1\n"
+
+
+def fitting(rows, size):
+    """The file of the first rows in the second format, as many as fit into so many bytes; each is written by itself."""
+    length, count = len(store.MAGICS[2]), 0
+    for revision, row in enumerate(rows, 1):
+        length += len(store.row_bytes(2, revision, row))
+        if length > size:
+            break
+        count = revision
+    return store.written(2, rows[:count]) if count else b""
+
+
+def migrates(checks, folder, _dice):
+    """A store is copied row by row, by each limit of its target's file: the target has the rows that fit, and the source stays."""
+    source = Path(folder) / "old"
+
+    def migrate(limit=None):
+        return run([checks.kmsrest, "migrate", "--config", CONFIG, "--store", source, "--to", checks.name], limit=limit)
+
+    puts = [store.Row(b"/%d" % number, b"secrets", b"data" * number, bytes(8)) for number in range(3)]
+    rows = [*puts, store.Row(b"/1"), puts[1], store.Row(b"/0")]
+    source.write_bytes(store.written(1, rows))
+    whole = len(store.written(2, rows))
+    for size in range(whole + 1):
+        wanted = (0, b"migrated %d\n" % len(rows), "") if size == whole else (4, b"", FAULT_TARGET)
+        checks.expect(f"migrate within {size} bytes", wanted, migrate(limited(size)))
+        checks.expect(f"its target within {size} bytes", fitting(rows, size), checks.held())
+        checks.expect("its source", store.written(1, rows), source.read_bytes())
+        if size < whole:
+            checks.name.unlink()
+    checks.expect("migrate again", (3, b"", f"kmsrest: text 52 {whole}\n"), migrate())
+    # each row has eight bytes more in the second format
+    rows = many_rows(store.MOST_STORE + 8 * MANY)
+    source.write_bytes(store.written(1, rows))
+    checks.name.unlink()
+    began = time.monotonic()
+    found = migrate()
+    print(f"migrates: kmsrest copies {MANY} rows up to 64 MiB in {time.monotonic() - began:.1f} s")
+    checks.expect("migrate of a store at its limit", (6, b"", LIMIT), found)
+    checks.expect("its target", True, checks.held() == fitting(rows, store.MOST_STORE))
+    checks.expect("its source", True, source.read_bytes() == store.written(1, rows))
+    checks.name.write_bytes(b"x" * (store.MOST_STORE + 1))
+    checks.expect("migrate into it", (3, b"", f"kmsrest: text 52 {store.MOST_STORE + 1}\n"), migrate())
+
+
+CHECKS = {"full": full, "killed": killed, "crowd": crowd, "large": large, "migrates": migrates, "rewrites": rewrites}
 
 
 def main():

@@ -80,7 +80,7 @@ module _ (name : List ℕ) (all : List LogRow) (line : List ℕ) (p : Point Outc
     others = ended at others;
     parts = parts;
     is_told = ap (λ (l : Left). l.tapes name) at.1 ∙ is_told;
-    holds = inr (inl (subst IsSilent (sym at.0) refl, (refl, holds)));
+    holds = inr (inl (subst IsSilent (sym at.0) refl, refl, holds));
   }
   copies_left copied (row ∷ rest) told old left parts others is_told holds (inl at) = record {
     copied = copied;

@@ -375,10 +375,10 @@ module _ (words : Migration) (old new : Around) (status : ℕ) where
     }),
   )
 
-  none_copied : {p : Point Outcome} → status ≢ 0 → IsShort p
+  none_copied : (p : Point Outcome) → status ≢ 0 → IsShort p
       × OthersStay words.to old.world.tapes.told new.world.tapes.told
       × IsUngrown (old.world.tapes.told words.to) (new.world.tapes.told words.to) → After
-  none_copied some (short, others, none) = (others, inl (some, none))
+  none_copied p some (short, others, none) = (others, inl (some, none))
 
   given_so : (x : Outcome) → Comes (gives x)
       → (status ≡ status_of_done x.done) ⊎ (status ≡ 4) → After
@@ -404,7 +404,7 @@ module _ (words : Migration) (old new : Around) (status : ℕ) where
       → (IsTorn Target words.to p → (status ≡ 4)
       × Rose (old.world.tapes.faults words.to) (new.world.tapes.faults words.to))
       → status ≢ 0 → After
-  short_so p (inl none) loud torn some = none_copied some none
+  short_so p (inl none) loud torn some = none_copied p some none
   short_so p (inr m) loud torn some = by_holds m.is_left.holds
     where
       by_holds : (IsTorn Target words.to p
