@@ -43,7 +43,8 @@ pub record IsLeft (name : List ℕ) (all : List LogRow) (p : Point Outcome)
 
 -- where a tape tells this
 abbrev telling : (name : List ℕ) → Option (List ℕ) → (List ℕ → ToldTape) → List ℕ → ToldTape
-telling name told tapes = λ other. if same_name name other then option_map Some told else tapes other
+telling name told tapes = λ other. if same_name name other then option_map Some told
+    else tapes other
 
 module _ (name : List ℕ) (all : List LogRow) (line : List ℕ) (p : Point Outcome) (end : Left) where
   told_here : (told : Option (List ℕ)) (tapes : List ℕ → ToldTape)

@@ -66,8 +66,9 @@ migrate-requires-clause-apart g c = λ κs lives.
 
 pub returns-in-Migrate : goal.returns-in-Migrate
 returns-in-Migrate g c = silently_by c.silent-in-Migrate.result (sym c.in-Migrate.is)
-    c.silent-in-Migrate.ensures (c.migrate.ensures (around g.W.Link.Kms.truth (g.W.World.told c.args.world.now) (g.I.Source.left c.args.input.now)
-    (g.I.Source.count c.args.input.now)))
+    c.silent-in-Migrate.ensures
+    (c.migrate.ensures (around g.W.Link.Kms.truth (g.W.World.told c.args.world.now)
+    (g.I.Source.left c.args.input.now) (g.I.Source.count c.args.input.now)))
 
 pub returns-in-Rows : goal.returns-in-Rows
 returns-in-Rows g c = silently_by c.silent-in-Rows.result (ap (λ name. Rows name) c.as_str-in-Rows.ensures ∙ sym c.in-Rows.is) c.silent-in-Rows.ensures

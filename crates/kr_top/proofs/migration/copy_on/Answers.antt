@@ -28,7 +28,8 @@ returns-in-Err-migrated_line g c name a =
     (goes_on (target_on name) next (stored_of target) (c.in-Ok.ensures.ok name a)
     (lacks (and_then (copying name (stored_of target)
     (map (migrated_row (rows_of c.args.settings.now.entries.0)) c.args.source.now.rows))
-    (λ copied. give (silently (migrated_line c.args.source.now.rows)))) (with_lent_tape name target.told target.count a)))
+    (λ copied. give (silently (migrated_line c.args.source.now.rows))))
+    (with_lent_tape name target.told target.count a)))
 
 pub copy_rows-copied-requires : goal.copy_rows-copied-requires
 copy_rows-copied-requires g c = record { empty = c.in-Ok.ensures.empty }

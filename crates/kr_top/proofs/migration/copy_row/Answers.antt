@@ -27,7 +27,8 @@ pub returns-in-Some-Put-clause-does : goal.returns-in-Some-Put-clause-does
 returns-in-Some-Put-clause-does g c row is name a =
     as_line name (stored_of c.args.target.now) c.copy_put.result
     (put_lent (rows_of c.args.settings.now.entries.0) c.args.source.now.rows
-    c.args.revision c.in-Some-Put.row.now row (subst (λ r. LendsRow c.args.source.now.rows c.args.revision (Some r))
+    c.args.revision c.in-Some-Put.row.now row
+    (subst (λ r. LendsRow c.args.source.now.rows c.args.revision (Some r))
     c.in-Some-Put.field-0-is c.in-Some-Put.ensures.row) is)
     (c.copy_put.ensures.does name a)
 
@@ -44,7 +45,8 @@ returns-in-Some-Put-clause-copied g c =
 pub copy_delete-requires-clause-live : goal.copy_delete-requires-clause-live
 copy_delete-requires-clause-live g c = live_before (rows_of c.args.settings.now.entries.0)
     c.args.source.now.rows c.args.source.now.format c.args.revision c.in-Some-Delete.path.now
-    c.args.target.now c.known.ensures.1.0 c.requires.first (subst (λ r. LendsRow c.args.source.now.rows c.args.revision (Some r))
+    c.args.target.now c.known.ensures.1.0 c.requires.first
+    (subst (λ r. LendsRow c.args.source.now.rows c.args.revision (Some r))
     c.in-Some-Delete.field-0-is c.in-Some-Delete.ensures.row)
     c.requires.copied
 
@@ -52,7 +54,8 @@ pub returns-in-Some-Delete-clause-does : goal.returns-in-Some-Delete-clause-does
 returns-in-Some-Delete-clause-does g c row is name a =
     as_line name (stored_of c.args.target.now) c.copy_delete.result
     (delete_lent (rows_of c.args.settings.now.entries.0) c.args.source.now.rows
-    c.args.revision c.in-Some-Delete.path.now row (subst (λ r. LendsRow c.args.source.now.rows c.args.revision (Some r))
+    c.args.revision c.in-Some-Delete.path.now row
+    (subst (λ r. LendsRow c.args.source.now.rows c.args.revision (Some r))
     c.in-Some-Delete.field-0-is c.in-Some-Delete.ensures.row) is)
     (c.copy_delete.ensures.does name a)
 
@@ -61,7 +64,8 @@ returns-in-Some-Delete-clause-copied g c =
     let config = rows_of c.args.settings.now.entries.0 in
     let row = delete_of c.in-Some-Delete.path.now in
     more_copied config c.args.source.now.rows c.args.revision row row c.args.target.now
-    c.copy_delete.new.target c.requires.first (subst (λ r. LendsRow c.args.source.now.rows c.args.revision (Some r))
+    c.copy_delete.new.target c.requires.first
+    (subst (λ r. LendsRow c.args.source.now.rows c.args.revision (Some r))
     c.in-Some-Delete.field-0-is c.in-Some-Delete.ensures.row) refl
     c.requires.copied c.copy_delete.result c.copy_delete.ensures.grown
 

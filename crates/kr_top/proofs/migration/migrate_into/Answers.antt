@@ -24,7 +24,8 @@ pub returns-in-Err-clause-out : goal.returns-in-Err-clause-out
 returns-in-Err-clause-out g c = λ key. ap (λ o. o.out key) c.in-Err.ensures.objects.tapes
 
 pub close_tape-requires-clause-out : goal.close_tape-requires-clause-out
-close_tape-requires-clause-out g c = λ κs lives. is_out c.as_str-name.result.now c.in-Ok.ensures.lent
+close_tape-requires-clause-out g c = λ κs lives.
+    is_out c.as_str-name.result.now c.in-Ok.ensures.lent
 
 pub returns-clause-made : goal.returns-clause-made
 returns-clause-made g c name told count a apart =

@@ -22,7 +22,8 @@ returns-in-Ok-Some-clause-grown g c =
 
 pub unreachable-requires : goal.unreachable-requires
 unreachable-requires g c =
-    let found = rw c.in-Ok-None.is at c.in-Ok-None.field-0-is in gone c.args.store.now c.delete-written.new.self c.args.path.now
+    let found = rw c.in-Ok-None.is at c.in-Ok-None.field-0-is in
+    gone c.args.store.now c.delete-written.new.self c.args.path.now
     c.requires.live c.delete-written.ensures c.in-Ok-None.is found
 
 pub returns-in-Err-Failed-clause-does : goal.returns-in-Err-Failed-clause-does

@@ -6,8 +6,8 @@ use Rattle.kr_top.proofs.Adding.{one_more, refused_so, row_added, row_torn, row_
 use Rattle.kr_top.proofs.stores.add_put.Goals as goal
 
 pub returns-in-Ok-clause-does : goal.returns-in-Ok-clause-does
-returns-in-Ok-clause-does g c name a = row_added c.args.object name (put_of c.args.path.now c.args.resource.now
-    c.args.stored (check_in c.args.store.now.format c.args.check)) c.args.store.now
+returns-in-Ok-clause-does g c name a = row_added c.args.object name
+    (put_of c.args.path.now c.args.resource.now c.args.stored (check_in c.args.store.now.format c.args.check)) c.args.store.now
     c.put-written.new.self c.requires.within a c.in-Ok.ensures c.known.ensures
 
 pub returns-in-Ok-clause-grown : goal.returns-in-Ok-clause-grown
@@ -20,7 +20,8 @@ returns-in-Err-Failed-clause-does g c name a =
     let new = c.put-written.new.self in
     let why = rw c.in-Err-Failed.is at c.in-Err-Failed.field-0-is in
     row_torn c.args.object name row c.args.store.now new c.requires.within a
-    (refused_so c.args.store.now new row refused.Failed c.put-written.ensures c.in-Err-Failed.is why)
+    (refused_so c.args.store.now new row refused.Failed c.put-written.ensures
+    c.in-Err-Failed.is why)
     c.known.ensures c.faults.ensures
 
 pub returns-in-Err-Full-clause-does : goal.returns-in-Err-Full-clause-does
