@@ -221,7 +221,10 @@ module _ (words : List (List ℕ)) (old new : Around) (output errors : Receipt) 
       → Front → Told (Err (Fault object count)) → AreRead
   at_fault object count command asks why front t = record {
     usage = (λ two. absurd (omega (arith, t.0, two)), λ none. absurd (asks_something asks none));
-    caused = λ four. elim why [ inl c ↦ inl c | inr c ↦ elim c [ inl m ↦ inr (inl m) | inr r ↦ inr (inr (inl r)) ] ];
+    caused = λ four. elim why [
+      | inl c ↦ inl c
+      | inr c ↦ elim c [ inl m ↦ inr (inl m) | inr r ↦ inr (inr (inl r)) ]
+    ];
     refused = λ which. absurd (omega (arith, t.0, which));
     decided = λ command point end asks tells would at. inr (inl t.0);
     done = λ zero_is. absurd (omega (arith, t.0, zero_is));

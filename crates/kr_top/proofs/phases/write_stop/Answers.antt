@@ -17,5 +17,6 @@ pub returns-in-Ok-clause-written : goal.returns-in-Ok-clause-written
 returns-in-Ok-clause-written g c = inl (refl, c.in-Ok.ensures.said)
 
 pub returns-in-Err-clause-written : goal.returns-in-Err-clause-written
-returns-in-Err-clause-written g c = inr (fails_to_say _ _ _ (said_text c.args.said) _ c.faults.result
+returns-in-Err-clause-written g c = inr
+    (fails_to_say _ _ _ (said_text c.args.said) _ c.faults.result
     c.in-Err.ensures.said c.faults.ensures)
