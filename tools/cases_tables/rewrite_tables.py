@@ -82,7 +82,7 @@ def add_rewrites(book):
     rewrite(book, "longest_path", [sealed("/" * 1024, BY_1, resource="r" * 253)], text="*.*: identity, aescbc:key1=S1")
     rewrite(book, "hundred", [sealed(f"/r/{number * 37 % 100}", BY_1 if number % 3 else IDENTITY, b"%d" % number) for number in range(100)],
             text="secrets: identity, aescbc:key1=S1")
-    rewrite(book, "tenth_isnt_read", [broken(f"/r/{number:04}", number % 10 == 7) for number in range(300)], text="secrets: identity, aescbc:key1=S1")
+    rewrite(book, "tenth_isnt_read", [broken(f"/r/{number:04}", number % 10 == 7) for number in range(1000)], text="secrets: identity, aescbc:key1=S1")
 
 
 def broken(path, really):

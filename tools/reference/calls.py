@@ -1,6 +1,7 @@
 """Whole calls: the steps of the commands."""
 
 import functools
+from contextlib import suppress
 
 from . import configuration, fleet, plugins, store
 from .board import Board
@@ -190,7 +191,9 @@ def rewrite(options, world, output):
         for row in live:
             counts[rewritten(bench, configuration.list_for(entries, row.resource.decode()), form, rows, tape, row)] += 1
     except Stop:
-        output.write_all(report())
+        # why it was cut short stands, whatever becomes of the report
+        with suppress(Stop):
+            output.write_all(report())
         raise
     output.write_all(report())
     return b"", 1 if counts["left"] else 0

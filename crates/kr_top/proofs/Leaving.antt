@@ -20,7 +20,7 @@ use Rattle.kr_top.specs.Around.{Around, with_what_is_said, Ends, MayLack, Reache
 use Rattle.kr_top.specs.Commands.{adding, bench_steps, by_result, configuration, input_of, linking_programs, migrating, new_row, putting, revision_line, rewriting, silently, steps, stored_into}
 use Rattle.kr_top.specs.Plugins.{programs_of}
 use Rattle.kr_top.specs.Message.{line_of, status_of, status_of_done}
-use Rattle.kr_top.specs.Ran.{Answers, FailsToSay, Receipt, StopsAtOnce, Tells, Writes}
+use Rattle.kr_top.specs.Ran.{Answers, Receipt, StopsAtOnce, Tells, Writes}
 use Rattle.kr_top.specs.Steps.{Steps, load, take_input, borrow_dice, borrow_tape, read_tape, write_row, keep_rows, draw, borrow_link, ask_status, wrap, unwrap, note, find, refuse, give, and_then, or_empty, tapes_with, with_asked, with_tape, Call, writing, Point, awaits, amid, refuses, gives, Left, IsAt, Goes}
 use Rattle.kr_top.specs.StoreFiles.{BeginsWith, HoldsRows, Stored, IsStored, with_row}
 use Rattle.kr_top.specs.declared.command.Command.{Command}
@@ -515,21 +515,6 @@ fits_stop status (Fault object count) (inl e) = e
 fits_stop status (Fault object count) (inr e) = e
 fits_stop status NoMemory s = stop_not_zero status NoMemory s
 
--- where the output fails at what is said the status is 4
-failed_to_say : (said : List ℕ) (output : Receipt) (status : ℕ) (result : Result Done Stop)
-    → FailsToSay said output result → IsStatus status result → status ≡ 4
-failed_to_say [] output status (Ok done) f s = absurd f
-failed_to_say [] output status (Err (Words why)) f s = absurd f
-failed_to_say [] output status (Err (Refused why)) f s = absurd f
-failed_to_say [] output status (Err (Fault object count)) f s = absurd f
-failed_to_say [] output status (Err NoMemory) f s = absurd f
-failed_to_say (byte ∷ bytes) output status (Ok done) f s = absurd f
-failed_to_say (byte ∷ bytes) output status (Err (Words why)) f s = absurd f
-failed_to_say (byte ∷ bytes) output status (Err (Refused why)) f s = absurd f
-failed_to_say (byte ∷ bytes) output status (Err (Fault object count)) f (inl e) = e
-failed_to_say (byte ∷ bytes) output status (Err (Fault object count)) f (inr e) = e
-failed_to_say (byte ∷ bytes) output status (Err NoMemory) f s = absurd f
-
 fits_made : (said : List ℕ) (output : Receipt) (status : ℕ) (made : Result Outcome Stop)
     (result : Result Done Stop) → Writes said output made result → IsStatus status result
     → Fits made status
@@ -540,10 +525,8 @@ fits_made said output status (Ok x) (Err (Refused why)) w s = absurd w
 fits_made said output status (Ok x) (Err (Fault object count)) w (inl e) = inr e
 fits_made said output status (Ok x) (Err (Fault object count)) w (inr e) = inr e
 fits_made said output status (Ok x) (Err NoMemory) w s = absurd w
-fits_made said output status (Err stop) result (inl w) s =
+fits_made said output status (Err stop) result w s =
     fits_stop status stop (subst (IsStatus status) w.0 s)
-fits_made said output status (Err stop) result (inr f) s =
-    fits_stop status stop (inr (failed_to_say said output status result f s))
 
 stopped : (words : List (List ℕ)) (status : ℕ) (result : Result Done Stop)
     → StopsAtOnce words result → IsStatus status result → status ≢ 0

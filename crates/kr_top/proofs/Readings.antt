@@ -11,7 +11,7 @@ use Rattle.kr_top.specs.Command.{Asks, AskBadly}
 use Rattle.kr_top.specs.Commands.{steps}
 use Rattle.kr_top.specs.Message.{status_of, status_of_done, status_of_configuration, status_of_refusal, line_of, fault_line}
 use Rattle.kr_top.specs.Steps.{Call, loading, reading, opening, lending, scanning, writing, drawing, object_of, Point, awaits, amid, refuses, gives, linking, asking}
-use Rattle.kr_top.specs.Ran.{Receipt, IsIdle, Reports, IsUntouched, StopsAtOnce, Did, Comes, ComesSaying, ComesReporting, IsStopped, Writes, Answers, Tells, FailsAt, FailsToSay, FailsToWrite, FailsToReport, Readings}
+use Rattle.kr_top.specs.Ran.{Receipt, IsIdle, Reports, IsUntouched, StopsAtOnce, Did, Comes, ComesSaying, ComesReporting, Writes, Answers, Tells, FailsAt, FailsToWrite, Readings}
 use Rattle.kr_top.specs.declared.command.Command.{Command}
 use Rattle.kr_top.specs.declared.refusal.BadWords.{BadWords}
 use Rattle.kr_top.specs.declared.refusal.BadWords.TheVariants.{Usage, Replicas, Size}
@@ -142,8 +142,6 @@ module _ (words : List (List ℕ)) (old new : Around) (output errors : Receipt) 
   abbrev Front : Type 0
   Front = IsIdle output
       ⊎ ((point : Point Outcome) × ComesReporting words old new output point)
-      ⊎ ((point : Point Outcome) × (said : List ℕ) × ComesSaying words old new said point
-      × AppendsFront output.old output.new said)
       ⊎ ((made : Outcome) × Comes words old new (gives made)
       × AppendsFront output.old output.new made.bytes)
 
@@ -194,7 +192,7 @@ module _ (words : List (List ℕ)) (old new : Around) (output errors : Receipt) 
         inl (subst Told (sym (same_end point end (Ok made.done) asks tells would comes at refl)) t);
     done = λ zero_is. (made, comes, sym t.0 ∙ zero_is, whole, t.1);
     written = record {
-      front = inr (inr (inr (made, comes, whole_front output.old output.new made.bytes whole)));
+      front = inr (inr (made, comes, whole_front output.old output.new made.bytes whole));
       usage = λ two. absurd (omega (arith, t.0, two, z));
     };
   }
@@ -218,12 +216,11 @@ module _ (words : List (List ℕ)) (old new : Around) (output errors : Receipt) 
   -- an object failed
   at_fault : (object : Object) (count : ℕ) (command : Command) → Asks words command
       → (((call : Call) × FailsAt words old new output errors call)
-      ⊎ ((made : Outcome) × FailsToWrite words old new output errors made)
-      ⊎ FailsToReport words old new output errors)
+      ⊎ ((made : Outcome) × FailsToWrite words old new output errors made))
       → Front → Told (Err (Fault object count)) → AreRead
   at_fault object count command asks why front t = record {
     usage = (λ two. absurd (omega (arith, t.0, two)), λ none. absurd (asks_something asks none));
-    caused = λ four. elim why [ inl c ↦ inl c | inr c ↦ elim c [ inl m ↦ inr (inl m) | inr r ↦ inr (inr (inl r)) ] ];
+    caused = λ four. elim why [ inl c ↦ inl c | inr c ↦ inr (inl c) ];
     refused = λ which. absurd (omega (arith, t.0, which));
     decided = λ command point end asks tells would at. inr (inl t.0);
     done = λ zero_is. absurd (omega (arith, t.0, zero_is));
@@ -268,22 +265,22 @@ module _ (words : List (List ℕ)) (old new : Around) (output errors : Receipt) 
   module _ (said : List ℕ) where
     -- where a step ended the command
     stopped : (stop : Stop) (did : Did words old (Now said) (Err stop))
-        → (point : Point Outcome) × IsStopped point × ComesSaying words old new said point
+        → (point : Point Outcome) × ComesSaying words old new said point
     stopped (Words why) did = absurd did.ends
-    stopped (Refused why) did = (refuses why, tt, comes said did did.ends)
-    stopped (Fault object count) did = (awaits did.ends.0, tt, comes said did did.ends.1)
+    stopped (Refused why) did = (refuses why, comes said did did.ends)
+    stopped (Fault object count) did = (awaits did.ends.0, comes said did did.ends.1)
     stopped NoMemory did = ended did.ends
       where
         ended : ((call : Call) × MayLack call
             × Reaches (steps did.command) (left_of old) (Now said) (awaits call))
             ⊎ Reaches (steps did.command) (left_of old) (Now said) amid
-            → (point : Point Outcome) × IsStopped point × ComesSaying words old new said point
-        ended (inl (call, may, r)) = (awaits call, tt, comes said did r)
-        ended (inr r) = (amid, tt, comes said did r)
+            → (point : Point Outcome) × ComesSaying words old new said point
+        ended (inl (call, may, r)) = (awaits call, comes said did r)
+        ended (inr r) = (amid, comes said did r)
 
     reported : (stop : Stop) (did : Did words old (Now said) (Err stop)) → Reports said output
         → Front
-    reported stop did says = let at = stopped stop did in inr (inl (at.0, (said, at.2, says)))
+    reported stop did says = let at = stopped stop did in inr (inl (at.0, (said, at.1, says)))
 
     at_step : (stop : Stop) → Did words old (Now said) (Err stop) → Reports said output
         → Told (Err stop) → AreRead
@@ -313,7 +310,7 @@ module _ (words : List (List ℕ)) (old new : Around) (output errors : Receipt) 
     at_output made (Err (Refused why)) did w t = absurd w
     at_output made (Err (Fault object count)) did w t =
         at_fault object count did.command did.asks
-        (inr (inl (
+        (inr (
           made,
           (
             (said, comes said did did.ends),
@@ -321,74 +318,28 @@ module _ (words : List (List ℕ)) (old new : Around) (output errors : Receipt) 
             w.2,
             line_at Output output.new_faults w.1 w.3 t,
           ),
-        )))
-        (inr (inr (inr (made, (said, comes said did did.ends), w.0)))) t
+        ))
+        (inr (inr (made, (said, comes said did did.ends), w.0))) t
     at_output made (Err NoMemory) did w t = absurd w
-
-    cut_front : (stop : Stop) (did : Did words old (Now said) (Err stop))
-        → AppendsFront output.old output.new said → Front
-    cut_front stop did some =
-        let at = stopped stop did in inr (inr (inl (at.0, said, at.2, some)))
-
-    at_report : (stop : Stop) (object : Object) (count : ℕ)
-        → Did words old (Now said) (Err stop)
-        → AppendsFront output.old output.new said × (object ≡ Output)
-        × Rose output.old_faults output.new_faults × (count ≡ output.new_faults)
-        → Told (Err (Fault object count)) → AreRead
-    at_report stop object count did f t =
-        let at = stopped stop did in
-        at_fault object count did.command did.asks
-        (inr (inr (
-          at.0,
-          said,
-          at.1,
-          at.2,
-          f.0,
-          f.2,
-          line_at Output output.new_faults f.1 f.3 t,
-        )))
-        (cut_front stop did f.0) t
-
-  by_said : (said : List ℕ) (stop : Stop) (r : Result Done Stop)
-      → Did words old (Now said) (Err stop) → FailsToSay said output r → Told r → AreRead
-  by_said [] stop r did f t = absurd f
-  by_said (byte ∷ bytes) stop (Ok done) did f t = absurd f
-  by_said (byte ∷ bytes) stop (Err (Words why)) did f t = absurd f
-  by_said (byte ∷ bytes) stop (Err (Refused why)) did f t = absurd f
-  by_said (byte ∷ bytes) stop (Err (Fault object count)) did f t =
-      at_report (byte ∷ bytes) stop object count did f t
-  by_said (byte ∷ bytes) stop (Err NoMemory) did f t = absurd f
 
   by_end : (r : Result Done Stop) → Answers words old new output r → Told r → AreRead
   by_end r (inl (stops, same)) t = at_once r stops same t
   by_end r (inr (said, Ok made, did, w)) t = at_output said made r did w t
-  by_end r (inr (said, Err stop, did, inl w)) t = at_step said stop did w.1 (subst Told w.0 t)
-  by_end r (inr (said, Err stop, did, inr w)) t = by_said said stop r did w t
-
-  front_cut : (said : List ℕ) (stop : Stop) (r : Result Done Stop)
-      → Did words old (Now said) (Err stop) → FailsToSay said output r → Front
-  front_cut [] stop r did f = absurd f
-  front_cut (byte ∷ bytes) stop (Ok done) did f = absurd f
-  front_cut (byte ∷ bytes) stop (Err (Words why)) did f = absurd f
-  front_cut (byte ∷ bytes) stop (Err (Refused why)) did f = absurd f
-  front_cut (byte ∷ bytes) stop (Err (Fault object count)) did f =
-      cut_front (byte ∷ bytes) stop did f.0
-  front_cut (byte ∷ bytes) stop (Err NoMemory) did f = absurd f
+  by_end r (inr (said, Err stop, did, w)) t = at_step said stop did w.1 (subst Told w.0 t)
 
   front_of : (r : Result Done Stop) → Answers words old new output r → Front
   front_of r (inl (stops, same)) = inl same.1
-  front_of (Ok done) (inr (said, Ok made, did, w)) = inr (inr (inr (
+  front_of (Ok done) (inr (said, Ok made, did, w)) = inr (inr (
     made,
     (said, comes said did did.ends),
     whole_front output.old output.new made.bytes w.1,
-  )))
+  ))
   front_of (Err (Words why)) (inr (said, Ok made, did, w)) = absurd w
   front_of (Err (Refused why)) (inr (said, Ok made, did, w)) = absurd w
   front_of (Err (Fault object count)) (inr (said, Ok made, did, w)) =
-      inr (inr (inr (made, (said, comes said did did.ends), w.0)))
+      inr (inr (made, (said, comes said did did.ends), w.0))
   front_of (Err NoMemory) (inr (said, Ok made, did, w)) = absurd w
-  front_of r (inr (said, Err stop, did, inl w)) = reported said stop did w.1
-  front_of r (inr (said, Err stop, did, inr w)) = front_cut said stop r did w
+  front_of r (inr (said, Err stop, did, w)) = reported said stop did w.1
 
 pub readings : (words : List (List ℕ)) (old new : Around) (output errors : Receipt) (status : ℕ)
     (r : Result Done Stop) → Answers words old new output r
@@ -398,7 +349,7 @@ readings words old new output errors status r a (inl t) =
     by_end words old new output errors status r a t
 readings words old new output errors status r a (inr t) = record {
   usage = (λ two. absurd (omega (arith, t.0, two)), λ none. inr (inr (inr (t.0, t.1))));
-  caused = λ four. inr (inr (inr t.1));
+  caused = λ four. inr (inr t.1);
   refused = λ which. absurd (omega (arith, t.0, which));
   decided = λ command point end asks tells would at. inr (inl t.0);
   done = λ zero_is. absurd (omega (arith, t.0, zero_is));

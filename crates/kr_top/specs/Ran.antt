@@ -39,10 +39,12 @@ receipt old new old_faults new_faults =
 abbrev pub IsIdle : Receipt → Type 0
 IsIdle sink = (sink.new ≡ sink.old) × (sink.new_faults ≡ sink.old_faults)
 
--- just what was said was written
+-- just what was said was written, or a prefix of it before the output failed
 abbrev pub Reports : List ℕ → Receipt → Type 0
 Reports [] output = IsIdle output
 Reports (byte ∷ bytes) output = Appends output.old output.new (byte ∷ bytes)
+    ⊎ (AppendsFront output.old output.new (byte ∷ bytes)
+    × Rose output.old_faults output.new_faults)
 
 -- nothing around was touched
 abbrev pub IsUntouched : Around → Around → Receipt → Type 0
@@ -58,15 +60,8 @@ pub record Did (words : List (List ℕ)) (old new : Around) (made : Result Outco
   pub home : IsHome old new
   pub ends : Ends (steps command) (left_of old) old new made
 
--- the output failed at what was said, of which it has a prefix
-abbrev pub FailsToSay : List ℕ → Receipt → Result Done Stop → Type 0
-FailsToSay (byte ∷ bytes) output (Err (Fault object count)) =
-    AppendsFront output.old output.new (byte ∷ bytes) × (object ≡ Output)
-    × Rose output.old_faults output.new_faults × (count ≡ output.new_faults)
-FailsToSay said output result = ⊥
-
--- the value of a command was written; where the output fails, a prefix of it; and where a step
--- ended the command, what was said
+-- the value of a command was written; where the output fails, a prefix of it; where a step ended
+-- the command, that stands, and what was said was written
 abbrev pub Writes : List ℕ → Receipt → Result Outcome Stop → Result Done Stop → Type 0
 Writes said output (Ok made) (Ok done) =
     (done ≡ made.done) × Appends output.old output.new made.bytes
@@ -74,8 +69,7 @@ Writes said output (Ok made) (Err (Fault object count)) =
     AppendsFront output.old output.new made.bytes × (object ≡ Output)
     × Rose output.old_faults output.new_faults × (count ≡ output.new_faults)
 Writes said output (Ok made) (Err stop) = ⊥
-Writes said output (Err stop) result =
-    ((result ≡ Err stop) × Reports said output) ⊎ FailsToSay said output result
+Writes said output (Err stop) result = (result ≡ Err stop) × Reports said output
 
 -- the words stop the call before anything is done, or there is no memory to read them
 abbrev pub StopsAtOnce : List (List ℕ) → Result Done Stop → Type 0
@@ -135,11 +129,6 @@ IsUsage words errors status =
     ⊎ ((status ≡ 6) × (AskReplicas words ⊎ AskSize words))
     ⊎ ((status ≡ 4) × Rose errors.old_faults errors.new_faults))
 
--- a point at which steps give nothing
-abbrev pub IsStopped : Point Outcome → Type 0
-IsStopped (gives made) = ⊥
-IsStopped point = ⊤
-
 -- the steps come to a call that failed, so that its count and its object's rose; nothing was
 -- written but what was said, and the line, which has the object and its count
 abbrev pub FailsAt : List (List ℕ) → Around → Around → Receipt → Receipt → Call → Type 0
@@ -157,21 +146,12 @@ FailsToWrite words old new output errors made =
     × Rose output.old_faults output.new_faults
     × Appends errors.old errors.new (fault_line Output output.new_faults)
 
--- the steps are ended at a point, and of what was said a prefix was written before the output
--- failed; the line has the output's count
-abbrev pub FailsToReport : List (List ℕ) → Around → Around → Receipt → Receipt → Type 0
-FailsToReport words old new output errors = (point : Point Outcome) × (said : List ℕ)
-    × IsStopped point × ComesSaying words old new said point
-    × AppendsFront output.old output.new said × Rose output.old_faults output.new_faults
-    × Appends errors.old errors.new (fault_line Output output.new_faults)
-
 -- status 4 comes only where a call, the output or the line failed
 abbrev pub IsCaused : List (List ℕ) → Around → Around → Receipt → Receipt → ℕ → Type 0
 IsCaused words old new output errors status =
     status ≡ 4
     → ((call : Call) × FailsAt words old new output errors call)
     ⊎ ((made : Outcome) × FailsToWrite words old new output errors made)
-    ⊎ FailsToReport words old new output errors
     ⊎ Rose errors.old_faults errors.new_faults
 
 -- the steps refuse so, with this status, and nothing was written but what was said, and the line
@@ -262,8 +242,6 @@ pub record IsWritten (words : List (List ℕ)) (old new : Around) (output : Rece
     (status : ℕ) : Type 0 where
   pub front : IsIdle output
       ⊎ ((point : Point Outcome) × ComesReporting words old new output point)
-      ⊎ ((point : Point Outcome) × (said : List ℕ) × ComesSaying words old new said point
-      × AppendsFront output.old output.new said)
       ⊎ ((made : Outcome) × Comes words old new (gives made)
       × AppendsFront output.old output.new made.bytes)
   pub usage : status ≡ 2 → IsUntouched old new output

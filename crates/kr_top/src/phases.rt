@@ -4,10 +4,9 @@ ghost use Rattle.kr_kms.specs.Outside.{KeepsFiles, KeepsObjects, file_faults};
 ghost use Rattle.kr_kms.specs.declared.world.WorldCall.{WorldCall};
 ghost use Rattle.kr_top.specs.Around.{Around, with_told_input, with_world};
 ghost use Rattle.kr_top.specs.Commands.{configuration, input_of, limit_of};
-ghost use Rattle.kr_top.specs.Ran.{receipt, Writes};
+ghost use Rattle.kr_top.specs.Ran.{receipt, Reports, Writes};
 ghost use Rattle.kr_top.specs.Reports.{said_text};
 ghost use Rattle.kr_top.specs.inner.Phases.{Does, DiceLoan, DiceReturn, LinkLoan, LinkReturn, AskedFor, Configures, ReadsRows, TakesInput, LendsNothing, rows_in, shown_as};
-ghost use Rattle.kr_top.specs.inner.Reporting.{WritesSaid};
 
 use crate::command::Direction;
 use crate::refusal::{Done, Ended, Limit, Object, Outcome, Refusal, Stop};
@@ -179,7 +178,10 @@ pub fn write_output<O: Sink>(output: &mut O, ended: Ended) -> Result<Done, Stop>
     let Ended { made, said } = ended;
     match made {
         Ok(made) => write_value(output, made),
-        Err(stop) => write_stop(output, stop, said),
+        Err(stop) => {
+            write_said(output, said);
+            Err(stop)
+        }
     }
 }
 
@@ -196,26 +198,15 @@ fn write_value<O: Sink>(output: &mut O, made: Outcome) -> Result<Done, Stop>
     }
 }
 
-/// Writes what a command reports where it stopped.
-fn write_stop<O: Sink>(output: &mut O, stop: Stop, said: Option<Counts>) -> Result<Done, Stop>
-    ensures written { Writes (said_text said) (receipt (O.held output.old) (O.held output.new)
-        (O.count output.old) (O.count output.new)) (Err stop) result }
+/// Writes the report of a command that stopped, where there is one. Where it can't be written the
+/// stop is told all the same.
+fn write_said<O: Sink>(output: &mut O, said: Option<Counts>)
+    ensures said { Reports (said_text said) (receipt (O.held output.old) (O.held output.new)
+        (O.count output.old) (O.count output.new)) }
     ensures later { O.count output.old ≤ O.count output.new }
 {
-    match write_said(output, said) {
-        Ok(()) => Err(stop),
-        Err(Failed) => Err(Stop::Fault(Object::Output, output.faults())),
-    }
-}
-
-/// Writes the report, where there is one.
-fn write_said<O: Sink>(output: &mut O, said: Option<Counts>) -> Result<(), Failed>
-    ensures said { WritesSaid (said_text said) (receipt (O.held output.old) (O.held output.new)
-        (O.count output.old) (O.count output.new)) result }
-    ensures later { O.count output.old ≤ O.count output.new }
-{
-    match said {
-        Some(counts) => write_report(output, counts),
-        None => Ok(()),
-    }
+    let Some(counts) = said else {
+        return;
+    };
+    let _told = write_report(output, counts);
 }

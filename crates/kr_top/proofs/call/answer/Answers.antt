@@ -61,7 +61,8 @@ returns-in-Err-clause-answers g c =
 pub returns-clause-answers : goal.returns-clause-answers
 returns-clause-answers g c = let old = around g.W.Link.Kms.truth (g.W.World.told c.args.world.now)
     (g.I.Source.left c.args.input.now) (g.I.Source.count c.args.input.now) in
-    answers_by (texts c.args.words.now) old g.W.Link.Kms.truth (g.W.World.told c.perform-ended.new.world)
+    answers_by (texts c.args.words.now) old g.W.Link.Kms.truth
+    (g.W.World.told c.perform-ended.new.world)
     (g.I.Source.left c.perform-ended.new.input) (g.I.Source.count c.perform-ended.new.input)
     c.in-Ok.command c.perform-ended.result.said
     c.perform-ended.result.made _ _ c.in-Ok.ensures.0 c.perform-ended.ensures

@@ -15,8 +15,8 @@ does_by : {a b : Command} {old new : Around} {result : Result Outcome Stop} → 
 does_by {old = old} {new} {result} e d = subst (λ c. Does (steps c) old new result) e d
 
 -- a command that reports nothing
-silently_by : {a b : Command} {old new : Around} {made : Result Outcome Stop} (ended : Ended) → a ≡ b
-    → ended ≡ record { made = made; said = None } → Does (steps a) old new made
+silently_by : {a b : Command} {old new : Around} {made : Result Outcome Stop} (ended : Ended)
+    → a ≡ b → ended ≡ record { made = made; said = None } → Does (steps a) old new made
     → Does (steps b) old (saying ended.said new) ended.made
 silently_by {b = b} {old} {new} ended e is d =
     subst (λ (n : Ended). Does (steps b) old (saying n.said new) n.made) (sym is) (does_by e d)
@@ -30,13 +30,17 @@ returns-in-Convert g c = silently_by c.silent.result (sym c.in-Convert.is)
     c.silent.ensures c.convert.ensures
 
 pub returns-in-Check : goal.returns-in-Check
-returns-in-Check g c = silently_by c.silent-in-Check.result (ap (λ name. Check name c.in-Check.resource) c.as_str.ensures ∙ sym c.in-Check.is) c.silent-in-Check.ensures
-    (c.check.ensures (around g.W.Link.Kms.truth (g.W.World.told c.args.world.now) (g.I.Source.left c.args.input.now)
+returns-in-Check g c = silently_by c.silent-in-Check.result
+    (ap (λ name. Check name c.in-Check.resource) c.as_str.ensures ∙ sym c.in-Check.is)
+    c.silent-in-Check.ensures
+    (c.check.ensures (around g.W.Link.Kms.truth (g.W.World.told c.args.world.now)
+    (g.I.Source.left c.args.input.now)
     (g.I.Source.count c.args.input.now)))
 
 pub returns-in-Inspect : goal.returns-in-Inspect
 returns-in-Inspect g c = silently_by c.silent-in-Inspect.result (sym c.in-Inspect.is)
-    c.silent-in-Inspect.ensures (c.inspect.ensures (around g.W.Link.Kms.truth (g.W.World.told c.args.world.now)
+    c.silent-in-Inspect.ensures
+    (c.inspect.ensures (around g.W.Link.Kms.truth (g.W.World.told c.args.world.now)
     (g.I.Source.left c.args.input.now) (g.I.Source.count c.args.input.now)))
 
 pub put-requires-clause-path : goal.put-requires-clause-path
@@ -57,7 +61,9 @@ get-requires-clause-path g c = λ κs lives.
 
 pub returns-in-Get : goal.returns-in-Get
 returns-in-Get g c = silently_by c.silent-in-Get.result (sym c.in-Get.is)
-    c.silent-in-Get.ensures (c.get.ensures (around g.W.Link.Kms.truth (g.W.World.told c.args.world.now) (g.I.Source.left c.args.input.now)
+    c.silent-in-Get.ensures
+    (c.get.ensures (around g.W.Link.Kms.truth (g.W.World.told c.args.world.now)
+    (g.I.Source.left c.args.input.now)
     (g.I.Source.count c.args.input.now)) refl)
 
 pub migrate-requires-clause-apart : goal.migrate-requires-clause-apart
@@ -71,7 +77,8 @@ returns-in-Migrate g c = silently_by c.silent-in-Migrate.result (sym c.in-Migrat
     (g.I.Source.left c.args.input.now) (g.I.Source.count c.args.input.now)))
 
 pub returns-in-Rows : goal.returns-in-Rows
-returns-in-Rows g c = silently_by c.silent-in-Rows.result (ap (λ name. Rows name) c.as_str-in-Rows.ensures ∙ sym c.in-Rows.is) c.silent-in-Rows.ensures
+returns-in-Rows g c = silently_by c.silent-in-Rows.result
+    (ap (λ name. Rows name) c.as_str-in-Rows.ensures ∙ sym c.in-Rows.is) c.silent-in-Rows.ensures
     (c.list.ensures (around g.W.Link.Kms.truth (g.W.World.told c.args.world.now)
     (g.I.Source.left c.args.input.now) (g.I.Source.count c.args.input.now)))
 
@@ -81,7 +88,8 @@ judge-requires-clause-replicas g c = λ κs lives.
 
 pub returns-in-Judge : goal.returns-in-Judge
 returns-in-Judge g c = silently_by c.silent-in-Judge.result (sym c.in-Judge.is)
-    c.silent-in-Judge.ensures (c.judge.ensures (around g.W.Link.Kms.truth (g.W.World.told c.args.world.now)
+    c.silent-in-Judge.ensures
+    (c.judge.ensures (around g.W.Link.Kms.truth (g.W.World.told c.args.world.now)
     (g.I.Source.left c.args.input.now) (g.I.Source.count c.args.input.now)))
 
 pub returns-in-Rewrite : goal.returns-in-Rewrite

@@ -35,7 +35,8 @@ pub returns-in-Err-programs_of : goal.returns-in-Err-programs_of
 returns-in-Err-programs_of g c a t =
     let words = c.args.words.now in
     let rows = rows_of c.in-Ok.settings.entries.0 in
-    stopped_by c.in-Err-programs_of.stop c.stopped-in-Err-programs_of.result c.stopped-in-Err-programs_of.ensures
+    stopped_by c.in-Err-programs_of.stop c.stopped-in-Err-programs_of.result
+    c.stopped-in-Err-programs_of.ensures
     (goes_on (configuration words.config) (loaded words) rows
     (by_bytes configuration c.as_str.ensures (c.in-Ok.ensures a))
     (stops (linking_programs words.options rows) (passed words rows) c.in-Err-programs_of.stop
@@ -46,7 +47,8 @@ returns-in-Err-open_tape g c a t =
     let words = c.args.words.now in
     let rows = rows_of c.in-Ok.settings.entries.0 in
     let programs = c.in-Ok-programs_of.programs in
-    stopped_by c.in-Err-open_tape.stop c.stopped-in-Err-open_tape.result c.stopped-in-Err-open_tape.ensures
+    stopped_by c.in-Err-open_tape.stop c.stopped-in-Err-open_tape.result
+    c.stopped-in-Err-open_tape.ensures
     (goes_on (configuration words.config) (loaded words) rows
     (by_bytes configuration c.as_str.ensures (c.in-Ok.ensures a))
     (goes_on (linking_programs words.options rows) (passed words rows) programs

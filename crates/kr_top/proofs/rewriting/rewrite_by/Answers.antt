@@ -23,7 +23,8 @@ use Rattle.kr_top.proofs.rewriting.rewrite_by.Goals as goal
 
 pub publish_by-requires : goal.publish_by-requires
 publish_by-requires g c = record {
-  links = subst (λ (s : Settings). HasLinks (names_of g.L.Kms.link c.args.links) (rows_of s.entries.0))
+  links = subst (λ (s : Settings). HasLinks (names_of g.L.Kms.link c.args.links)
+      (rows_of s.entries.0))
       (sym c.in-Ok.ensures.ok)
       (all_linked g.L.Kms.link (rows_of c.args.settings.entries.0) c.args.links c.requires.links);
 }
@@ -40,9 +41,11 @@ returns-in-Err-clause-ended g c name a live truth is =
 pub returns-in-Err-publish_by-clause-ended : goal.returns-in-Err-publish_by-clause-ended
 returns-in-Err-publish_by-clause-ended g c name a live truth is =
     let store = c.args.rollout.store in
-    stopped_by c.in-Err-publish_by.stop c.stopped-in-Err-publish_by.result c.stopped-in-Err-publish_by.ensures
+    stopped_by c.in-Err-publish_by.stop c.stopped-in-Err-publish_by.result
+    c.stopped-in-Err-publish_by.ensures
     (back_by g.L.Kms.link g.D.Dice.left g.D.Dice.count name a c.publish_by.new.links
-    c.publish_by.new.links c.publish_by.new.dice c.publish_by.new.dice c.into_store-in-Err-publish_by.result store
+    c.publish_by.new.links c.publish_by.new.dice c.publish_by.new.dice
+    c.into_store-in-Err-publish_by.result store
     refl refl c.into_store-in-Err-publish_by.ensures
     (by_unpublished name (rows_of c.args.settings.entries.0) (stored_of store) live
     (ap (λ (s : Settings). rows_of s.entries.0) c.in-Ok.ensures.ok) c.in-Err-publish_by.stop
@@ -60,7 +63,8 @@ returns-in-Err-new-clause-ended g c name a live truth is =
     let seeds = c.in-Ok-publish_by.published.seeds in
     stopped_by NoMemory c.stopped-in-Err-new.result c.stopped-in-Err-new.ensures
     (back_by g.L.Kms.link g.D.Dice.left g.D.Dice.count name a c.in-Err-new.links
-    c.publish_by.new.links c.in-Err-new.dice c.publish_by.new.dice c.into_store-in-Err-new.result store
+    c.publish_by.new.links c.in-Err-new.dice c.publish_by.new.dice c.into_store-in-Err-new.result
+    store
     c.in-Err-new.ensures.returned.0 c.in-Err-new.ensures.returned.1 c.into_store-in-Err-new.ensures
     (by_seeds name rows (stored_of store) live
     (ap (λ (s : Settings). rows_of s.entries.0) c.in-Ok.ensures.ok) seeds

@@ -38,7 +38,8 @@ returns-in_default-clause-ended g c name a t =
     let programs = c.args.programs.now in
     let store = c.in-Ok.store in
     let now = with_world (g.W.World.told c.args.world.now) a in
-    stopped_by (Refused (Limit limit.Journal)) c.stopped-in_default.result c.stopped-in_default.ensures
+    stopped_by (Refused (Limit limit.Journal)) c.stopped-in_default.result
+    c.stopped-in_default.ensures
     (as_closed (rewriting_on name rows programs) name now _ c.close.ensures.told
     c.close.ensures.count
     (goes_on (stored_on Store name) (Finding name rows programs) (stored_of store)
@@ -70,7 +71,8 @@ returns-in-Err-open_dice-clause-ended g c name a t =
     let then = with_world (g.W.World.told c.open_dice.new.world) a in
     let room = c.in-Some.ensures in
     let tapes = tapes_lent name store.told store.count world.tapes in
-    stopped_by c.in-Err-open_dice.stop c.stopped-in-Err-open_dice.result c.stopped-in-Err-open_dice.ensures
+    stopped_by c.in-Err-open_dice.stop c.stopped-in-Err-open_dice.result
+    c.stopped-in-Err-open_dice.ensures
     (as_closed (rewriting_on name rows programs) name then _ c.close-in-Err-open_dice.ensures.told
     c.close-in-Err-open_dice.ensures.count
     (goes_on (stored_on Store name) (Finding name rows programs) (stored_of store)
@@ -85,7 +87,8 @@ returns-in-Err-open_dice-clause-ended g c name a t =
 pub returns-in-Err-open_dice-clause-tapes : goal.returns-in-Err-open_dice-clause-tapes
 returns-in-Err-open_dice-clause-tapes g c = c.in-Err-open_dice.ensures.objects.tapes
 
-pub rewrite_linked-ended-requires-clause-programs : goal.rewrite_linked-ended-requires-clause-programs
+pub rewrite_linked-ended-requires-clause-programs :
+    goal.rewrite_linked-ended-requires-clause-programs
 rewrite_linked-ended-requires-clause-programs g c κs within =
     subst (λ l. names_of g.W.Link.Kms.link l ++ names_in c.args.programs.now
     ≡ plugin_order (rows_of c.args.settings.entries.0)) (sym c.new-links.ensures)
