@@ -82,7 +82,7 @@ settled_by left right a b next e s =
     subst (λ r. IsSettled (and_then (by_result a) next) (and_then (by_result r) next) left right) e
     (settled_result left right a next s)
 
-one_configuration : (name : List ℕ) (file : Option (List ℕ)) (a b : Result (List Row) Refusal)
+pub one_configuration : (name : List ℕ) (file : Option (List ℕ)) (a b : Result (List Row) Refusal)
     → IsConfiguration name file a → IsConfiguration name file b → a ≡ b
 one_configuration name None a b h k = h ∙ sym k
 one_configuration name (Some bytes) a b (inl h) (inl k) = h.1 ∙ sym k.1

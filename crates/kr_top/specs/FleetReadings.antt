@@ -8,6 +8,7 @@ use Rattle.kr_workers.specs.Endings.{status_of}
 use Rattle.kr_workers.specs.declared.ending.Ending.{Ending}
 use Rattle.kr_workers.specs.declared.ending.Ending.TheVariants as ending
 use Rattle.kr_top.specs.Around.{Around, Reaches, count_at, faults_at, left_of}
+use Rattle.kr_top.specs.FleetReady.{IsReady}
 use Rattle.kr_top.specs.Fleets.{Starts, fleet_steps}
 use Rattle.kr_top.specs.Message.{refusal_line, status_of_refusal}
 use Rattle.kr_top.specs.Ran.{IsIdle, Receipt}
@@ -34,6 +35,20 @@ module _ (T : Type 0) {L D : Type 0} (truth : Truth) (link : L → Link)
   HasRefused why = Reaches (fleet_steps words) (left_of old) new (refuses why)
       × IsIdle output × Appends errors.old errors.new (refusal_line why)
 
+  -- no count of the files, tapes, random sources and links rose, nor one of the sinks
+  pub record NoneRose : Type 0 where
+    pub calls : (call : Call) → Rose (faults_at call old) (faults_at call new) → ⊥
+    pub output : Rose output.old_faults output.new_faults → ⊥
+    pub errors : Rose errors.old_faults errors.new_faults → ⊥
+
+  -- all lines were done and have replies, which decide the status: 0, or 1 where one of them isn't
+  -- that its line was done; or 6 where a write would have passed the store's limit; or memory lacked
+  abbrev pub IsCompleted : ℕ → Type 0
+  IsCompleted status = ((status ≡ 0) × HasEnded ending.Done)
+      ⊎ ((status ≡ 1) × HasEnded ending.Refused)
+      ⊎ ((status ≡ 6) × HasEnded ending.Full)
+      ⊎ (status ≡ 5)
+
   pub record FleetReadings (status : ℕ) : Type 0 where
     -- 4 comes only where a call, the output or the line failed, or a reply tells a fault
     pub caused : status ≡ 4
@@ -49,3 +64,5 @@ module _ (T : Type 0) {L D : Type 0} (truth : Truth) (link : L → Link)
     pub done : status ≡ 0 → HasEnded ending.Done
     -- 2 never
     pub usage : status ≡ 2 → ⊥
+    -- where all is told to be ready and no count rose, nothing else stands in the way of the lines
+    pub complete : IsReady words old → NoneRose → IsCompleted status
