@@ -85,7 +85,7 @@ name_there : {L : Type 0} (link : L → Link) (links : List L) (it : L) → Cont
 name_there link links it (k, below, is) = (
   k,
   omega (arith, below, length-map links (λ l. (link l).name)),
-  ap (λ l. (link l).name) is,
+  get_or-map (λ l. (link l).name) links k it (link it).name below ∙ ap (λ l. (link l).name) is,
 )
 
 module _ {T L D : Type 0} {truth : Truth} {link : L → Link} {left : D → Option (List ℕ)}
@@ -244,7 +244,7 @@ module _ {T L D : Type 0} {truth : Truth} {link : L → Link} {left : D → Opti
   stopped_so status (Fault object n) is (inl (inl (call, (reaches, fault)), idle)) =
       absurd (none.calls call fault.1)
   stopped_so status (Fault object n) is (inl (inr (e, lacking), idle)) = absurd cc
-  stopped_so status (Fault object n) is (inr s) = absurd (none.output s.writes.2)
+  stopped_so status (Fault object n) is (inr s) = absurd (none.written s.writes.2)
   stopped_so status NoMemory is did = inr (inr (inr is))
 
   pub completed : (status : ℕ)
@@ -257,5 +257,5 @@ module _ {T L D : Type 0} {truth : Truth} {link : L → Link} {left : D → Opti
           → TellsFleet result errors status → Completed status
       by (Ok e) (inl never) tells = absurd never
       by (Ok e) (inr s) tells = ended_so status e s tells.1 tells.0
-      by (Err stop) did (inr told) = absurd (none.errors told.1)
+      by (Err stop) did (inr told) = absurd (none.told told.1)
       by (Err stop) did (inl told) = stopped_so status stop told.0 did

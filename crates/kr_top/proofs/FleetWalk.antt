@@ -1,5 +1,5 @@
 -- Where all is ready, the steps of a fleet refuse nothing up to its workers.
-use Rattle.std.proofs.Common.{◌≡◌, ◌≢◌, ℕ, zero, suc, ◌+◌, ◌<◌, ◌≤◌, Bool, true, false, List, [], ◌∷◌, ◌++◌, length, map, get_or, append-nil, All, Contains, Option, None, Some, Result, Ok, Err, refl, sym, ◌∙◌, ap, subst, inl, inr, arith}
+use Rattle.std.proofs.Common.{◌≡◌, ◌≢◌, ℕ, zero, suc, ◌+◌, ◌<◌, ◌≤◌, ◌⊎◌, Bool, true, false, List, [], ◌∷◌, ◌++◌, length, map, get_or, append-nil, All, Contains, Option, None, Some, Result, Ok, Err, refl, sym, ◌∙◌, ap, subst, inl, inr, arith}
 use Rattle.std.specs.Prelude.{IsSome, find, if◌then◌else◌, sum}
 use Rattle.std.specs.List.{flat_map}
 use Rattle.std.specs.Option.{option_map}
@@ -127,22 +127,20 @@ module _ (words : FleetWords) (old : Around) (ready : IsReady words old) where
     tapes = tapes;
   }
   loads_files done (name ∷ names) read left each there all sees tapes =
-      by (rows_at read name) refl
+      by (rows_at read name) refl (λ files l is reads s same.
+      subst (λ ns. GivesOnly (Loaded ns) (files_in files names) l)
+      (append_assoc done (name ∷ []) names)
+      (loads_files (done ++ name ∷ []) names files l (All-tail Ready name names each) is reads s
+      same))
     where
       own : Ready name
       own = All-head Ready name names each
 
-      whole : done ++ (name ∷ names) ≡ (done ++ name ∷ []) ++ names
-      whole = sym (append_assoc done (name ∷ []) names)
-
-      goes : (files : List NamedRows) (l : Left) → All IsThere files
+      Behind : Type 0
+      Behind = (files : List NamedRows) (l : Left) → All IsThere files
           → All (IsRead files) (done ++ name ∷ []) → Sees old l
           → l.tapes ≡ old.world.tapes.told
           → GivesOnly (Loaded (done ++ (name ∷ names))) (files_in files names) l
-      goes files l is reads s same =
-          subst (λ ns. GivesOnly (Loaded ns) (files_in files names) l) (sym whole)
-          (loads_files (done ++ name ∷ []) names files l (All-tail Ready name names each) is
-          reads s same)
 
       added : (rows : List Row) → TellsRows old name rows
           → All IsThere (read ++ (name, rows) ∷ [])
@@ -161,15 +159,15 @@ module _ (words : FleetWords) (old : Around) (ready : IsReady words old) where
           (All-weaker (IsRead read) (IsRead now) (still rows) done all)
           (All-cons (IsRead now) name [] (last_read read name rows) (All-nil (IsRead now)))
 
-      by : (o : Option (List Row)) → rows_at read name ≡ o
+      by : (o : Option (List Row)) → rows_at read name ≡ o → Behind
           → GivesOnly (Loaded (done ++ (name ∷ names))) (unless_read o (files_in read names)
           (and_then (configuration name)
           (λ rows. with_memory (files_in (read ++ (name, rows) ∷ []) names)))) left
-      by (Some rows) e = goes read left there
+      by (Some rows) e goes = goes read left there
           (All-append (IsRead read) done (name ∷ []) all
           (All-cons (IsRead read) name [] (subst IsSome (sym e) refl) (All-nil (IsRead read))))
           sees tapes
-      by None e = λ bytes agrees r is.
+      by None e goes = λ bytes agrees r is.
           let file : own.told.0 ≡ bytes = is_told (left.file name) own.told.0 bytes
           (ap (λ f. f name) sees.file ∙ own.told.1) agrees in
           by_known_then (Loaded (done ++ (name ∷ names)))
@@ -374,19 +372,21 @@ module _ (words : FleetWords) (old : Around) (ready : IsReady words old) where
   there_at [] name rows there e = absurd cc
   there_at (file ∷ files) name rows there e =
       by (bytes_eq file.0 name) refl (sym (first_found file files name) ∙ e)
+      (there_at files name rows (All-tail IsThere file files there))
     where
       first : IsThere file
       first = All-head IsThere file files there
 
       by : (b : Bool) → bytes_eq file.0 name ≡ b
           → found_by b file (rows_at files name) ≡ Some rows
+          → (rows_at files name ≡ Some rows → TellsRows old name rows × Ready name)
           → TellsRows old name rows × Ready name
-      by true same is =
+      by true same is behind =
           let e : file.0 ≡ name = (bytes_eq-Decides file.0 name).0 same in
           let r : file.1 ≡ rows = some_same is in
           subst (λ n. TellsRows old n rows × Ready n) e
           (subst (λ rs. TellsRows old file.0 rs × Ready file.0) r first)
-      by false other is = there_at files name rows (All-tail IsThere file files there) is
+      by false other is behind = behind is
 
   module _ (files : List NamedRows) (there : All IsThere files) where
     -- the settings come to this
@@ -430,24 +430,30 @@ module _ (words : FleetWords) (old : Around) (ready : IsReady words old) where
         λ u t. (sym (append-nil (settings_of made)) ∙ e, sees)
     publishes_all settings (replica ∷ replicas) made left e sees =
         by (rows_of_replica files replica) refl
+        (λ p l all s. publishes_all settings replicas (made ++ p ∷ []) l all s)
       where
         More : Replicas → Steps Replicas
         More more = publishing files more replicas
 
-        next : (p : Option Publication) (l : Left)
-            → option_map (λ (q : Publication). q.rows) p ≡ rows_of_replica files replica
+        Behind : Type 0
+        Behind = (p : Option Publication) (l : Left)
+            → settings_of (made ++ p ∷ []) ++ map (rows_of_replica files) replicas ≡ settings
             → Sees old l → GivesOnly (Publishes settings) (More (made ++ p ∷ [])) l
-        next p l is s = publishes_all settings replicas (made ++ p ∷ []) l
-            (one_more settings made p (rows_of_replica files replica)
-            (map (rows_of_replica files) replicas) is e) s
 
-        by : (o : Option (List Row)) → rows_of_replica files replica ≡ o
+        all_so : (p : Option Publication)
+            → option_map (λ (q : Publication). q.rows) p ≡ rows_of_replica files replica
+            → settings_of (made ++ p ∷ []) ++ map (rows_of_replica files) replicas ≡ settings
+        all_so p is = one_more settings made p (rows_of_replica files replica)
+            (map (rows_of_replica files) replicas) is e
+
+        by : (o : Option (List Row)) → rows_of_replica files replica ≡ o → Behind
             → GivesOnly (Publishes settings) (publishes o made More) left
-        by None is = next None left (sym is) sees
-        by (Some rows) is = λ u t.
+        by None is next = next None left (all_so None (sym is)) sees
+        by (Some rows) is next = λ u t.
             gives_then Seen (Publishes settings)
             (λ seeds. More (made ++ Some (record { rows = rows; seeds = seeds }) ∷ []))
-            (λ seeds l s. next (Some (record { rows = rows; seeds = seeds })) l (sym is) s)
+            (λ seeds l s. next (Some (record { rows = rows; seeds = seeds })) l
+            (all_so (Some (record { rows = rows; seeds = seeds })) (sym is)) s)
             (make_seeds (plugin_order rows)) left
             (makes (plugin_order rows) left
             (healthy_rows replica.1 rows (replica_rows replica rows is)) sees)

@@ -1,5 +1,5 @@
 -- Steps that refuse nothing over what is told, and what they give.
-use Rattle.std.proofs.Common.{◌≡◌, ℕ, List, Option, None, Some, refl, subst, sym, inl, inr, ⊤}
+use Rattle.std.proofs.Common.{◌≡◌, ℕ, List, Option, None, Some, refl, subst, sym, ◌∙◌, inl, inr}
 use Rattle.std.specs.Prelude.{true}
 use Rattle.kr_base.specs.Told.{Agrees}
 use Rattle.kr_kms.specs.declared.plugin.Status.{Status}

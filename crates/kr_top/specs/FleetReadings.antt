@@ -38,8 +38,8 @@ module _ (T : Type 0) {L D : Type 0} (truth : Truth) (link : L → Link)
   -- no count of the files, tapes, random sources and links rose, nor one of the sinks
   pub record NoneRose : Type 0 where
     pub calls : (call : Call) → Rose (faults_at call old) (faults_at call new) → ⊥
-    pub output : Rose output.old_faults output.new_faults → ⊥
-    pub errors : Rose errors.old_faults errors.new_faults → ⊥
+    pub written : Rose output.old_faults output.new_faults → ⊥
+    pub told : Rose errors.old_faults errors.new_faults → ⊥
 
   -- all lines were done and have replies, which decide the status: 0, or 1 where one of them isn't
   -- that its line was done; or 6 where a write would have passed the store's limit; or memory lacked
