@@ -1,9 +1,10 @@
 #!/usr/bin/env python3
-"""Runs the built kmsrest's `put` under a full file system, killed at random moments, fifty at once, and at the limit of a store.
+"""Runs the built kmsrest's `put` under a full file system, killed at random moments, fifty at once, and at the limit of a store,
+and its `rewrite` at the limits of a journal and of a store.
 
-    tools/check-stores.py [full] [killed] [crowd] [large] [--kmsrest PATH] [--seed N]
+    tools/check-stores.py [full] [killed] [crowd] [large] [rewrites] [--kmsrest PATH] [--seed N]
 
-No name of a check means all four. After each run the store is read by tools/reference, which is no part of kmsrest: every
+No name of a check means all five. After each run the store is read by tools/reference, which is no part of kmsrest: every
 row that was answered by its revision is there, whole and at that revision. It answers 0 where that always held."""
 import argparse
 import os
@@ -29,6 +30,9 @@ FAULT_STORE = "kmsrest: fault store 1\n"
 FAULT_FILES = "kmsrest: fault files 1\n"
 LIMIT = f"kmsrest: limit store {store.MOST_STORE}\n"
 MANY = 100_000
+JOURNAL = 4_000_000
+# as many live rows as a journal has no room for: each takes four of its entries, and the end three
+JOURNALED = JOURNAL // 4
 
 
 def words(kmsrest, command, name, path=None):
@@ -267,7 +271,44 @@ def large(checks, _folder, _dice):
     checks.read_back()
 
 
-CHECKS = {"full": full, "killed": killed, "crowd": crowd, "large": large}
+# ---- rewrites
+
+REPORT = b"rewritten %d\nfresh %d\nchanged 0\nleft %d\n"
+BY_KEY = """
+resources:
+- resources: [secrets]
+  providers:
+  - aescbc: {keys: [{name: key1, secret: AAAAAAAAAAAAAAAAAAAAAA==}]}
+  - identity: {}
+"""
+
+
+def rewrites(checks, folder, _dice):
+    """More live rows than a journal has room for are refused; where a store is full the rows before are rewritten and reported."""
+    config = Path(folder) / "config.yaml"
+    config.write_text("kind: EncryptionConfiguration\napiVersion: apiserver.config.k8s.io/v1" + BY_KEY)
+
+    def rewrite(config):
+        return run([checks.kmsrest, "rewrite", "--config", config, "--store", checks.name])
+
+    rows = [store.Row(b"/%d" % number, b"s", b"", bytes(8)) for number in range(JOURNALED)]
+    checks.name.write_bytes(store.written(2, rows))
+    before = checks.held()
+    checks.expect("rewrite of too many rows", (6, b"", f"kmsrest: limit journal {JOURNAL}\n"), rewrite(CONFIG))
+    checks.expect("the store of too many rows", True, before == checks.held())
+    plain = [store.Row(b"/%d" % number, b"secrets", b"data", bytes(8)) for number in range(3)]
+    sealed = store.Row(b"/0", b"secrets", b"k8s:enc:aescbc:v1:key1:" + bytes(32), bytes(8))
+    small, large = (len(store.row_bytes(2, 1, row)) for row in (plain[0], sealed))
+    # there is room for two rows that are sealed anew, and not for the third
+    rows = many_rows(store.MOST_STORE - 3 * large + 1 - 3 * small) + plain
+    checks.name.write_bytes(store.written(2, rows))
+    before = checks.held()
+    checks.expect("rewrite at the limit of a store", (6, REPORT % (2, 0, 0), LIMIT), rewrite(config))
+    checks.expect("its rows before", True, checks.held().startswith(before))
+    checks.expect("its length", len(before) + 2 * large, len(checks.held()))
+
+
+CHECKS = {"full": full, "killed": killed, "crowd": crowd, "large": large, "rewrites": rewrites}
 
 
 def main():

@@ -17,7 +17,7 @@ use Rattle.kr_top.specs.declared.refusal.Stop.{Stop}
 use Rattle.kr_top.specs.declared.refusal.Done.{Done}
 use Rattle.kr_top.specs.declared.refusal.Outcome.{Outcome}
 use Rattle.kr_top.proofs.OnePoint.{one_point}
-use Rattle.kr_top.proofs.Settled.{settled}
+use Rattle.kr_top.proofs.SettledCommands.{settled}
 
 -- words that ask for a command ask for something
 pub asks_something : {words : List (List ℕ)} {command : Command} → Asks words command

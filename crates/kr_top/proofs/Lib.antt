@@ -56,6 +56,8 @@ pub mod RowDrives
 pub mod Said
 pub mod SeedSteps
 pub mod Settled
+pub mod SettledCommands
+pub mod SettledRewrites
 pub mod Started
 pub mod Tapes
 pub mod Unsealed

@@ -68,14 +68,14 @@ use Rattle.kr_top.proofs.Judging.{one_judged, read_then}
 use Rattle.kr_top.proofs.Tapes.{own_name}
 use Rattle.kr_top.proofs.OnePoint.{IsSettled}
 
-settled_result : {A : Type 0} (left right : Left) (r : Result A Refusal) (next : A → Steps Outcome)
+pub settled_result : {A : Type 0} (left right : Left) (r : Result A Refusal) (next : A → Steps Outcome)
     → ((x : A) → IsSettled (next x) (next x) left right)
     → IsSettled (and_then (by_result r) next) (and_then (by_result r) next) left right
 settled_result left right (Ok x) next s = s x
 settled_result left right (Err why) next s = refl
 
 -- what was read is one thing
-settled_by : {A : Type 0} (left right : Left) (a b : Result A Refusal) (next : A → Steps Outcome)
+pub settled_by : {A : Type 0} (left right : Left) (a b : Result A Refusal) (next : A → Steps Outcome)
     → a ≡ b → ((x : A) → IsSettled (next x) (next x) left right)
     → IsSettled (and_then (by_result a) next) (and_then (by_result b) next) left right
 settled_by left right a b next e s =
@@ -146,7 +146,7 @@ settled_judgement options stored replicas left told = (
       (λ verdict. λ u v t w. refl)),
 )
 
-settled_judging : (options : List (List ℕ × List ℕ)) (stored : List LogRow) (left : Left)
+pub settled_judging : (options : List (List ℕ × List ℕ)) (stored : List LogRow) (left : Left)
     → AreTold left.file (replica_names options)
     → IsSome (left.file (reload_file (reload_in options)))
     → IsSettled (judging_by options stored) (judging_by options stored) left left
@@ -184,7 +184,7 @@ one_body Kms name body a b (r, x, h) (s, y, k) = elim (one_reading body r s x y)
   ]
 ]
 
-one_inspection : (bytes : List ℕ) (a b : Result (List ℕ) Refusal) → Inspects bytes a
+pub one_inspection : (bytes : List ℕ) (a b : Result (List ℕ) Refusal) → Inspects bytes a
     → Inspects bytes b → a ≡ b
 one_inspection bytes a b (Plain c, s, h) (Plain d, t, k) =
     h ∙ ap (λ x. Ok (line (word_and_number (codes "plain") (length x)))) (s.1 ∙ sym t.1) ∙ sym k
@@ -286,7 +286,7 @@ no_opening seeds (Some (who.Aesgcm name secret)) object next n = refl
 no_opening seeds (Some (who.Kms name)) object next n = absurd (cc)
 
 -- without seeds a plugin's value is rotated, whatever it is
-rotated_alike : (a b : Envelope) (writer : Who) → is_rotated a [] writer ≡ is_rotated b [] writer
+pub rotated_alike : (a b : Envelope) (writer : Who) → is_rotated a [] writer ≡ is_rotated b [] writer
 rotated_alike a b who.Identity = refl
 rotated_alike a b (who.Aescbc name secret) = refl
 rotated_alike a b (who.Aesgcm name secret) = refl
@@ -315,7 +315,7 @@ settled_unsealing left right list path bytes none = λ a b h k.
 
 -- ---- links and seeds
 
-settled_links : (programs : List Program) (next : Steps Outcome) (left right : Left)
+pub settled_links : (programs : List Program) (next : Steps Outcome) (left right : Left)
     → right.links ≡ left.links
     → ((l r : Left) → l.links ≡ left.links → r.links ≡ left.links → IsSettled next next l r)
     → IsSettled (borrow_links programs next) (borrow_links programs next) left right
@@ -452,7 +452,7 @@ module _ (old : Around) (words : Conversion) (input : IsSome old.input) where
   by_rows (Ok rows) told = settled_rows rows (told rows refl)
   by_rows (Err why) told = refl
 
-settled_converting : (old : Around) (words : Conversion) → IsTelling (Convert words) old
+pub settled_converting : (old : Around) (words : Conversion) → IsTelling (Convert words) old
     → IsSettled (converting words) (converting words) (left_of old) (left_of old)
 settled_converting old words (told, input, plugins) = (
   told,
@@ -482,7 +482,7 @@ settled_pair {A} left right a b f g e s =
     by_cases (Err why) = refl
 
 -- the entries of a told configuration are one thing
-settled_configuration : (old : Around) (name : List ℕ) (next : List Row → Steps Outcome)
+pub settled_configuration : (old : Around) (name : List ℕ) (next : List Row → Steps Outcome)
     → IsSome (old.world.file name)
     → ((file : Option (List ℕ)) (rows : List Row) → IsConfiguration name file (Ok rows)
     → Agrees (old.world.file name) file
@@ -524,7 +524,7 @@ settled_row old words rows programs left right at same none row =
     (λ l r x y. settled_working l r old Decrypt row.resource words.path row.stored rows (x ∙ at)
     (y ∙ at) none)
 
-settled_getting : (old : Around) (words : Lookup) → IsTelling (Get words) old
+pub settled_getting : (old : Around) (words : Lookup) → IsTelling (Get words) old
     → IsSettled (getting words) (getting words) (left_of old) (left_of old)
 settled_getting old words (file, tape, plugins) = settled_configuration old words.config
     (λ rows. and_then (linking_programs words.options rows) (looked_up words rows)) file
@@ -650,7 +650,7 @@ told_or_empty None t = absurd cc
 told_or_empty (Some None) t = refl
 told_or_empty (Some (Some bytes)) t = refl
 
-settled_putting : (old : Around) (words : Conversion) (store : List ℕ)
+pub settled_putting : (old : Around) (words : Conversion) (store : List ℕ)
     → IsTelling (Put words store) old
     → IsSettled (putting words store) (putting words store) (left_of old) (left_of old)
 settled_putting old words store (file, tape, input, plugins) = settled_configuration old words.config
@@ -683,47 +683,3 @@ settled_putting old words store (file, tape, input, plugins) = settled_configura
     there = subst (λ q. IsSome (if q then or_empty (old.world.tapes.told store)
         else old.world.tapes.told store)) (sym (own_name store))
         (told_or_empty (old.world.tapes.told store) tape)
-
-pub settled : (command : Command) (old : Around) → IsTelling command old
-    → IsSettled (steps command) (steps command) (left_of old) (left_of old)
-settled (Convert words) old tells = settled_converting old words tells
-settled (Check config resource) old told = (
-  told,
-  refl,
-  λ file agrees a b x y. settled_by _ _ a b _ (one_configuration config file a b x y) (λ rows.
-      λ c d h k. settled_by _ _ c d _ (h ∙ sym k) (λ text. refl)),
-)
-settled (Put words store) old tells = settled_putting old words store tells
-settled (Get words) old tells = settled_getting old words tells
-settled (Rows store) old told = (
-  told,
-  refl,
-  refl,
-  refl,
-  (
-    told,
-    refl,
-    λ bytes a b x y. settled_by _ _ a b _ (one_stored bytes a b x y) (λ stored.
-        λ c d h k. settled_by _ _ c d _ (one_shown stored.rows c d h k) (λ text. refl)),
-  ),
-)
-settled (Judge words) old (tape, names, file) = (
-  tape,
-  refl,
-  refl,
-  refl,
-  (
-    tape,
-    refl,
-    λ bytes a b x y. settled_by _ _ a b _ (one_stored bytes a b x y)
-        (λ stored. settled_judging words.options stored.rows _ names file),
-  ),
-)
-settled (Rewrite words) old told = absurd told
-settled Inspect old input = (
-  refl,
-  refl,
-  input,
-  refl,
-  λ bytes rest c d h k. settled_by _ _ c d _ (one_inspection bytes c d h k) (λ text. refl),
-)

@@ -208,8 +208,7 @@ abbrev pub AreTold : (List ℕ → Option (Option (List ℕ))) → (names : List
 AreTold file [] = ⊤
 AreTold file (name ∷ names) = IsSome (file name) × AreTold file names
 
--- what the command touches of the files, the tapes, the input and the plugins is told; of `rewrite`
--- nothing is said so
+-- what the command touches of the files, the tapes, the input and the plugins is told
 abbrev pub IsTelling : Command → Around → Type 0
 IsTelling (Convert words) old = IsSome (old.world.file words.config) × IsSome old.input
     × ((file : Option (List ℕ)) (rows : List Row) → IsConfiguration words.config file (Ok rows)
@@ -229,7 +228,10 @@ IsTelling (Judge words) old =
     IsSome (old.world.tapes.told words.store)
     × AreTold old.world.file (replica_names words.options)
     × IsSome (old.world.file (reload_file (reload_in words.options)))
-IsTelling (Rewrite words) old = ⊥
+IsTelling (Rewrite words) old = IsSome (old.world.file words.config)
+    × IsSome (old.world.tapes.told words.store)
+    × ((file : Option (List ℕ)) (rows : List Row) → IsConfiguration words.config file (Ok rows)
+    → Agrees (old.world.file words.config) file → names_plugin rows ≡ false)
 
 -- the steps of a command over the told files, tapes and input, and some drawn bytes, come to this
 -- point
