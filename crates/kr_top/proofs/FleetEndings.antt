@@ -196,7 +196,7 @@ module _ {T L D : Type 0} {truth : Truth} {link : L → Link} {left : D → Opti
             )
 
         by : MayBeUnhealthy link count history s.before s.after → ⊥
-        by (name, (field, (text, has))) =
+        by (name, field, text, has) =
             let t = told has.it has.there in
             let same : t.0 ≡ has.has.0 =
             is_told (link has.it).status t.0 has.has.0 t.1 has.has.1 in
@@ -241,7 +241,7 @@ module _ {T L D : Type 0} {truth : Truth} {link : L → Link} {left : D → Opti
       (left_of old) (walks words old ready) ends.goes)
   stopped_so status (Refused why) is (inl (inr (e, lacking), idle)) = absurd cc
   stopped_so status (Refused why) is (inr s) = absurd s.writes
-  stopped_so status (Fault object n) is (inl (inl (call, (reaches, fault)), idle)) =
+  stopped_so status (Fault object n) is (inl (inl (call, reaches, fault), idle)) =
       absurd (none.calls call fault.1)
   stopped_so status (Fault object n) is (inl (inr (e, lacking), idle)) = absurd cc
   stopped_so status (Fault object n) is (inr s) = absurd (none.written s.writes.2)

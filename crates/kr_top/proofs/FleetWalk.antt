@@ -93,6 +93,15 @@ one_fleet_file name (Some bytes) fleet (Ok other) (inr h) (inr k) =
 one_fleet_file name (Some bytes) fleet (Err why) (inr h) (inr k) =
     absurd (let e = one_meaning bytes (Ok fleet) (Err k.1.0) h.1 k.1.1 in cc)
 
+-- ---- the budgets are one thing
+
+pub one_budgets : (rows : List LogRow) (parts : List Part) (a b : List ℕ)
+    → AreBudgets rows parts a → AreBudgets rows parts b → a ≡ b
+one_budgets rows parts a b (m, (first, lists, long), is) (n, (second, also, far), so) =
+    let same : m ≡ n =
+    long ∙ ap length (listing_once rows first second lists also) ∙ sym far in
+    is ∙ ap (λ live. budgets_of (live + put_lines parts) parts) same ∙ sym so
+
 module _ (words : FleetWords) (old : Around) (ready : IsReady words old) where
   abbrev Ready : List ℕ → Type 0
   Ready name = IsConfigured words old (length ready.fleet.workers) name
@@ -290,13 +299,6 @@ module _ (words : FleetWords) (old : Around) (ready : IsReady words old) where
       (All-nil (IsRead [])) (record { file = refl; links = refl }) refl))
 
   -- ---- the budgets
-
-  one_budgets : (rows : List LogRow) (parts : List Part) (a b : List ℕ)
-      → AreBudgets rows parts a → AreBudgets rows parts b → a ≡ b
-  one_budgets rows parts a b (m, (first, lists, long), is) (n, (second, also, far), so) =
-      let same : m ≡ n =
-      long ∙ ap length (listing_once rows first second lists also) ∙ sym far in
-      is ∙ ap (λ live. budgets_of (live + put_lines parts) parts) same ∙ sym so
 
   -- the budgets are within the limit
   budgets_pass : {B : Type 0} (Q : B → Left → Type 0) (others : List ℕ → Steps B)

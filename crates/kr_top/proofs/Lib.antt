@@ -8,6 +8,7 @@ pub mod Beginnings
 pub mod Crews
 pub mod Decided
 pub mod FleetCrews
+pub mod FleetDecided
 pub mod FleetEndings
 pub mod FleetAsked
 pub mod FleetLoads
@@ -15,6 +16,7 @@ pub mod FleetOutfits
 pub mod FleetPrograms
 pub mod FleetReadings
 pub mod FleetRuns
+pub mod FleetSettled
 pub mod FleetWalk
 pub mod EquallyLong
 pub mod Found

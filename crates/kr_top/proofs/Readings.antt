@@ -270,15 +270,14 @@ module _ (words : List (List ℕ)) (old new : Around) (output errors : Receipt) 
     stopped (Words why) did = absurd did.ends
     stopped (Refused why) did = (refuses why, tt, comes said did did.ends)
     stopped (Fault object count) did = (awaits did.ends.0, tt, comes said did did.ends.1)
-    stopped NoMemory did = ended did did.ends
+    stopped NoMemory did = ended did.ends
       where
-        ended : Did words old (Now said) (Err NoMemory)
-            → ((call : Call) × MayLack call
+        ended : ((call : Call) × MayLack call
             × Reaches (steps did.command) (left_of old) (Now said) (awaits call))
             ⊎ Reaches (steps did.command) (left_of old) (Now said) amid
             → (point : Point Outcome) × IsStopped point × ComesSaying words old new said point
-        ended did (inl (call, may, r)) = (awaits call, tt, comes said did r)
-        ended did (inr r) = (amid, tt, comes said did r)
+        ended (inl (call, may, r)) = (awaits call, tt, comes said did r)
+        ended (inr r) = (amid, tt, comes said did r)
 
     reported : (stop : Stop) (did : Did words old (Now said) (Err stop)) → Reports said output
         → Front

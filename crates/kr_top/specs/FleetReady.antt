@@ -1,6 +1,7 @@
--- Where a fleet finds all that it needs: what the world tells is there and in form, healthy, goes
--- together, and passes no limit. All this is of what is told before the call.
+-- What a fleet needs: that it is told, and that it is there and in form, healthy, goes together and
+-- passes no limit. All this is of what is told before the call.
 use Rattle.std.specs.Prelude.{◌≡◌, ◌≢◌, ℕ, ◌<◌, ◌≤◌, List, [], ◌∷◌, length, Contains, All, Option, None, Some, IsSome, Ok, ⊤}
+use Rattle.kr_base.specs.Told.{Agrees}
 use Rattle.kr_config.specs.Kept.{Row, plugins_in}
 use Rattle.kr_kms.specs.Health.{breach_in}
 use Rattle.kr_kms.specs.declared.plugin.Status.{Status}
@@ -12,6 +13,7 @@ use Rattle.kr_top.specs.Around.{Around}
 use Rattle.kr_top.specs.Configuration.{IsConfiguration}
 use Rattle.kr_top.specs.FleetFiles.{IsFleetFile, mentioned, no_file}
 use Rattle.kr_top.specs.Fleets.{AreWithin, parts_of}
+use Rattle.kr_top.specs.Ran.{AreTold}
 use Rattle.kr_top.specs.Steps.{or_empty}
 use Rattle.kr_top.specs.StoreFiles.{IsStored, Stored}
 use Rattle.kr_top.specs.declared.fleet_words.FleetWords.{FleetWords}
@@ -72,3 +74,13 @@ pub record IsReady (words : FleetWords) (old : Around) : Type 0 where
   pub settings : List (Option (List Row))
   pub settings_are : HaveSettings old fleet.replicas settings
   pub fits : MayStart stored.rows settings
+
+-- What the steps up to the workers go by is told, whatever it is: the fleet file, the configurations
+-- that it names, the store, and at the first seat the status of each plugin that has a program.
+pub record IsFleetTold (words : FleetWords) (old : Around) : Type 0 where
+  pub fleet : IsSome (old.world.file words.file)
+  pub files : (file : Option (List ℕ)) (fleet : Fleet) → Agrees (old.world.file words.file) file
+      → IsFleetFile words.file file (Ok fleet) → AreTold old.world.file (mentioned fleet)
+  pub store : IsSome (old.world.tapes.told words.store)
+  pub statuses : (plugin : List ℕ) → IsSome (program_of words.options plugin)
+      → IsSome (old.world.links.told (0, plugin))
