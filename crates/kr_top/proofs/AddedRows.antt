@@ -1,5 +1,5 @@
 -- A row that is added to the rows on a tape that is out, by what the tape tells afterwards.
-use Rattle.std.proofs.Common.{◌≡◌, ℕ, ◌<◌, ◌≤◌, List, [], ◌∷◌, ◌++◌, length, Bool, Option, Some, Result, Ok, Err, refl, sym, ◌∙◌, ap, subst, inl, inr, arith}
+use Rattle.std.proofs.Common.{◌≡◌, ℕ, ◌<◌, ◌≤◌, List, [], ◌∷◌, ◌++◌, length, Bool, Option, Some, Ok, Err, refl, sym, ◌∙◌, ap, subst, inl, inr, arith}
 use Rattle.std.specs.Prelude.{if◌then◌else◌}
 use Rattle.std.specs.Option.{option_map}
 use Rattle.std.proofs.lemmas.Bool.{le-ltb, lt-ltb}
@@ -14,7 +14,6 @@ use Rattle.kr_top.specs.Steps.{Steps, write_row, give, and_then, writing, refuse
 use Rattle.kr_top.specs.StoreFiles.{Stored, with_row, HoldsRows, BeginsWith}
 use Rattle.kr_top.specs.declared.refusal.Limit.TheVariants as limit
 use Rattle.kr_top.specs.declared.refusal.Object.{Object}
-use Rattle.kr_top.specs.declared.refusal.Refusal.{Refusal}
 use Rattle.kr_top.specs.declared.refusal.Refusal.TheVariants.{Limit}
 use Rattle.kr_top.specs.declared.refusal.Stop.TheVariants.{Refused, Fault, NoMemory}
 use Rattle.kr_top.specs.inner.Phases.{Does}
@@ -130,5 +129,6 @@ module _ (object : Object) (name : List ℕ) (store : Stored) (row : LogRow)
       (Err NoMemory)
   row_is_lacking = record {
     home = tape_home name told before a count later;
-    ends = λ left s. inr (reach left (inl (refl, refl)) (counted_tape name told before a count later s));
+    ends = λ left s. inr (reach left (inl (refl, refl))
+        (counted_tape name told before a count later s));
   }

@@ -1,5 +1,5 @@
 -- Why a drive over a caller that is alone may be cut short.
-use Rattle.std.proofs.Common.{◌≡◌, ℕ, ◌+◌, ◌*◌, ◌<◌, ◌≤◌, List, [], ◌∷◌, length, Option, None, Some, Result, Ok, Err, refl, sym, ◌∙◌, ap, subst, inl, inr, arith}
+use Rattle.std.proofs.Common.{◌≡◌, ℕ, ◌+◌, ◌*◌, ◌≤◌, List, [], ◌∷◌, length, Option, None, refl, sym, ap, subst, inl, inr, arith}
 use Rattle.std.specs.Prelude.{All, ◌⊎◌}
 use Rattle.kr_base.specs.Limits.{store_limit}
 use Rattle.kr_kms.specs.Calls.{Link}
@@ -88,7 +88,8 @@ module _ {L D : Type 0} (truth : Truth) (link : L → Link) (left : D → Option
         let first = e.walks_few.1.left_is in
         let few = e.walks_few.2.few in
         let many = w.many in
-        let enough : 4 * length w.rest + 3 ≤ e.middle.left = omega (arith, first, few, many, room) in
+        let enough : 4 * length w.rest + 3 ≤ e.middle.left = omega (arith, first, few, many, room)
+        in
         may_cut truth link left count o p one (last_of [] d.steps) w.rest w.at e.middle new e.mids
         news e.between after w.driven enough why
         (cuts truth link left count o p one (last_of [] d.steps) w.rest w.at e.middle new e.mids

@@ -1,21 +1,19 @@
 -- One step of a drive over a caller that is alone: the row that it found, and how it ended.
-use Rattle.std.proofs.Common.{◌≡◌, ℕ, ◌+◌, ◌*◌, ◌^◌, ◌<◌, ◌≤◌, List, [], ◌∷◌, ◌++◌, length, Bool, true, false, Option, None, Some, Result, Ok, Err, refl, sym, ◌∙◌, ap, subst, inl, inr, arith}
+use Rattle.std.proofs.Common.{◌≡◌, ℕ, ◌+◌, ◌≤◌, List, [], ◌∷◌, Bool, true, false, Option, None, Some, Result, Ok, Err, refl, sym, ◌∙◌, ap, subst, inl, inr, arith}
 use Rattle.std.specs.Prelude.{All, ◌⊎◌}
 use Rattle.kr_base.specs.Limits.{store_limit}
 use Rattle.kr_kms.specs.Calls.{Link}
 use Rattle.kr_kms.specs.Truth.{Truth, TellsOf, key_of}
-use Rattle.kr_provider.specs.Names.{AreDistinct, names_of}
+use Rattle.kr_provider.specs.Names.{AreDistinct}
 use Rattle.kr_provider.specs.Publication.{Publication, list_at}
-use Rattle.kr_provider.specs.Unsealing.{UnsealsBy, plugin_reading}
+use Rattle.kr_provider.specs.Unsealing.{plugin_reading}
 use Rattle.kr_provider.specs.Readers.{reader_in}
 use Rattle.kr_provider.specs.declared.refusal.Opened.{Opened}
 use Rattle.kr_provider.specs.declared.refusal.SealNo.{SealNo}
 use Rattle.kr_provider.specs.declared.refusal.UnsealNo.{UnsealNo}
 use Rattle.kr_provider.proofs.AskedLists.{distinct_stay}
 use Rattle.kr_store.specs.Laws.{FollowEachOther}
-use Rattle.kr_store.specs.Rows.{live}
 use Rattle.kr_store.specs.Stores.{IsNext}
-use Rattle.kr_store.specs.declared.rows.LogRow.{LogRow}
 use Rattle.kr_store.specs.declared.rows.Row.{Row}
 use Rattle.kr_rollout.specs.declared.answer.Answer.{Answer}
 use Rattle.kr_rollout.specs.declared.answer.Answer.TheVariants as answer
@@ -23,7 +21,6 @@ use Rattle.kr_rollout.specs.declared.call.CallNo.{CallNo}
 use Rattle.kr_rollout.specs.declared.call.CallNo.TheVariants as no
 use Rattle.kr_rollout.specs.declared.event.Event.{Event}
 use Rattle.kr_rollout.specs.declared.event.Event.TheVariants as event
-use Rattle.kr_rollout.specs.declared.line.Did.TheVariants as did
 use Rattle.kr_rollout.specs.declared.opening.Opening.{Opening}
 use Rattle.kr_rollout.specs.Acting.{Caller, AddsEntry}
 use Rattle.kr_rollout.specs.Callers.{did_of, gave_of, holding}
@@ -36,12 +33,11 @@ use Rattle.kr_rewrite.specs.Drives.{FindsRow, path_of}
 use Rattle.kr_rewrite.specs.Rewrites.{FindsNext, FindsNone, IsStep, ReplacesBy, ResealsBy, Rewrites, RewritesBy, RewritesData, Steps}
 use Rattle.kr_rewrite.specs.declared.outcome.Step.{Step}
 use Rattle.kr_rewrite.specs.declared.outcome.Step.TheVariants as step
-use Rattle.kr_top.specs.Around.{Around, with_what_is_said}
-use Rattle.kr_top.specs.Commands.{Progress, one_fresh, one_left, one_rewritten, row_anew, row_steps}
-use Rattle.kr_top.specs.StoreFiles.{Stored}
+use Rattle.kr_top.specs.Around.{Around}
+use Rattle.kr_top.specs.Commands.{Progress, row_anew, row_steps}
 use Rattle.kr_top.specs.inner.Phases.{Does}
 use Rattle.kr_top.proofs.LiveRows.{none_next, one_next, still_follows}
-use Rattle.kr_top.proofs.LoneCallers.{IsLone, IsQuiet, adopts_it, count_later, finds_next, finds_none, lone_next, rows_stay}
+use Rattle.kr_top.proofs.LoneCallers.{IsLone, adopts_it, count_later, finds_next, finds_none, lone_next, rows_stay}
 use Rattle.kr_top.proofs.RowDrives.{Becomes, not_err, row_done}
 use Rattle.kr_top.proofs.Said.{All_lent}
 use Rattle.kr_top.proofs.Unsealed.{asks_reader}
@@ -79,7 +75,8 @@ module _ {L D : Type 0} (truth : Truth) (link : L → Link) (left : D → Option
   data_so plain true (inr r) = inl r.1
 
   opened_so : (opened : Result Opened UnsealNo)
-      → RewritesBy left count p row opened found dice done acted after → Acts_so row found done acted
+      → RewritesBy left count p row opened found dice done acted after → Acts_so row found done
+      acted
   opened_so (Ok opened) r = data_so opened.plain opened.stale r
   opened_so (Err why) r = inl r.1
 
@@ -274,7 +271,8 @@ module _ {L D : Type 0} (truth : Truth) (link : L → Link) (left : D → Option
       let done = row_done truth link left count o p one limit_is opens name a truth_is drawn row
       at found number lone holds same_rows next_is.1 driven.format_is olds news dice after acted
       driven.distinct m taken f.rewrites in
-      let acted_is = acted_lone o p one row found acted (Ok taken) lone (acts_so truth link left count p row
+      let acted_is = acted_lone o p one row found acted (Ok taken) lone
+      (acts_so truth link left count p row
       found acted olds news dice after (Ok taken) f.rewrites) in record {
         row = row;
         rest = first.0;

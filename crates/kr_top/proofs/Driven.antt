@@ -1,6 +1,6 @@
 -- A whole drive over a caller that is alone: its steps one behind another, beside the live rows.
-use Rattle.std.proofs.Common.{◌≡◌, ℕ, ◌+◌, ◌*◌, ◌-◌, ◌^◌, ◌<◌, ◌≤◌, List, [], ◌∷◌, ◌++◌, length, count_by, Bool, true, false, cond, Option, None, Some, Result, Ok, Err, refl, sym, ◌∙◌, ap, subst, inl, inr, arith}
-use Rattle.std.specs.Prelude.{All, IfSome, min, ◌⊎◌}
+use Rattle.std.proofs.Common.{◌≡◌, ℕ, ◌+◌, ◌*◌, ◌^◌, ◌<◌, ◌≤◌, List, [], ◌∷◌, ◌++◌, length, count_by, Bool, true, false, cond, Option, None, Some, Result, Ok, Err, refl, sym, ◌∙◌, ap, subst, inl, inr, arith}
+use Rattle.std.specs.Prelude.{All, IfSome, ◌⊎◌}
 use Rattle.std.proofs.Math.Nat.{min-eq_left}
 use Rattle.std.proofs.lemmas.List.Recursion.{is_count_by}
 use Rattle.std.proofs.lemmas.List.Sums.{count_by-le-length}
@@ -9,7 +9,6 @@ use Rattle.kr_base.specs.Faults.{Rose}
 use Rattle.kr_base.specs.Limits.{store_limit}
 use Rattle.kr_kms.specs.Calls.{Link}
 use Rattle.kr_kms.specs.Truth.{Truth, TellsOf, key_of}
-use Rattle.kr_provider.specs.Names.{AreDistinct, names_of}
 use Rattle.kr_provider.specs.Publication.{Publication}
 use Rattle.kr_provider.proofs.AskedLists.{asked_none}
 use Rattle.kr_store.specs.File.{IsFile}
@@ -26,7 +25,6 @@ use Rattle.kr_rollout.specs.Openings.{start_of}
 use Rattle.kr_rollout.specs.Parts.{AddsWithin}
 use Rattle.kr_rewrite.specs.Drives as drives
 use Rattle.kr_rewrite.specs.Drives.{CopiesNoPath, Drives, EndsBy, IsCut, Walks, counted, is_changed, is_fresh, is_left, is_rewritten, last_of, path_of, report_at}
-use Rattle.kr_rewrite.specs.Rewrites.{IsStep}
 use Rattle.kr_rewrite.specs.declared.outcome.Report.{Report}
 use Rattle.kr_rewrite.specs.declared.outcome.Step.{Step}
 use Rattle.kr_rewrite.specs.declared.outcome.Step.TheVariants as step
@@ -42,7 +40,7 @@ use Rattle.kr_top.specs.declared.report.Counts.{Counts}
 use Rattle.kr_top.specs.inner.Phases.{Does}
 use Rattle.kr_top.specs.inner.Rewriting.{IsDriveStop, counts_of}
 use Rattle.kr_top.proofs.Crews.{counted as counted_on}
-use Rattle.kr_top.proofs.DriveEnds.{Closes, Cuts, CutsRow, LacksAmid, closes, cut_keeps, cuts}
+use Rattle.kr_top.proofs.DriveEnds.{Cuts, CutsRow, closes, cut_keeps, cuts}
 use Rattle.kr_top.proofs.DriveSteps.{IsDriven, acted_lone, acts_so, passes}
 use Rattle.kr_top.proofs.Frames.{home, kept}
 use Rattle.kr_top.proofs.Goes.{given, goes_on, home_refl, nothing, reach, stops}
@@ -206,7 +204,8 @@ module _ {L D : Type 0} (truth : Truth) (link : L → Link) (left : D → Option
         subst (λ l. Does (driving name p rows at) (At said l dice drawn told m) final made) w.1
         (subst (λ d. Does (driving name p rows at) (At said mids d drawn told m) final made) w.2
         (behind rows at last (omega arith) refl said told))
-    walks_on (taken ∷ steps) above rows at old mid olds mids dice between driven w behind said told =
+    walks_on (taken ∷ steps) above rows at old mid olds mids dice between driven w behind said told
+        =
         let text = report_text at.counts in
         let s = passes truth link left count o p one limit_is opens name
         (with_what_is_said text a) truth_is drawn m above rows at old w.middle olds w.mids dice
@@ -391,7 +390,8 @@ module _ {L D : Type 0} (truth : Truth) (link : L → Link) (left : D → Option
             let so = acts_so truth link left count p r.row r.found r.acted mids news between after
             (Err why) r.rewrites in
             let acted = acted_lone o p one r.row r.found r.acted (Err why) r.lone so in
-            let further = count_later o p one r.acted new event.LetGo answer.Released acted r.lets in
+            let further = count_later o p one r.acted new event.LetGo answer.Released acted r.lets
+            in
             let h = held_by then.store store.told o.count store.count why later holds in
             let cut = row_cut truth link left count o p one limit_is opens name
             (with_what_is_said text a) truth_is r.row then r.found r.number r.lone r.holds

@@ -1,11 +1,11 @@
 -- A core of one replica that was driven by its only caller, and closed.
-use Rattle.std.proofs.Common.{◌≡◌, ℕ, ◌+◌, ◌*◌, ◌-◌, ◌^◌, ◌<◌, ◌≤◌, List, [], ◌∷◌, length, Bool, true, false, Option, None, Some, Result, Ok, Err, refl, sym, ◌∙◌, ap, subst, inl, inr, arith}
+use Rattle.std.proofs.Common.{◌≡◌, ℕ, ◌+◌, ◌*◌, ◌^◌, ◌<◌, ◌≤◌, List, [], ◌∷◌, length, Bool, true, false, Option, Some, Result, Err, refl, sym, ◌∙◌, ap, subst, inl, inr, arith}
 use Rattle.std.specs.Prelude.{All, IfSome, ◌⊎◌}
 use Rattle.std.proofs.lemmas.List.Elements.{All-head}
 use Rattle.kr_base.specs.Faults.{Rose}
 use Rattle.kr_kms.specs.Calls.{Link}
 use Rattle.kr_kms.specs.Truth.{Truth, TellsOf, key_of}
-use Rattle.kr_provider.specs.Names.{AreDistinct, names_of}
+use Rattle.kr_provider.specs.Names.{AreDistinct}
 use Rattle.kr_provider.specs.Publication.{Publication}
 use Rattle.kr_store.specs.Stores.{Holds, IsListing, Kept}
 use Rattle.kr_store.specs.declared.rows.Row.{Row}
@@ -16,22 +16,43 @@ use Rattle.kr_rollout.specs.Acting.{Caller, IsCaller, only_caller}
 use Rattle.kr_rollout.specs.Cores.{CoreState}
 use Rattle.kr_rollout.specs.Histories.{IsRun, state_of}
 use Rattle.kr_rollout.specs.Openings.{current_from, generations_from, start_of}
-use Rattle.kr_rollout.specs.Parts.{AddsWithin}
-use Rattle.kr_rewrite.specs.Drives.{CopiesNoPath, Drives, IsCut}
+use Rattle.kr_rewrite.specs.Drives.{CopiesNoPath, Drives, IsCut, IsDrive}
 use Rattle.kr_rewrite.specs.declared.outcome.Report.{Report}
 use Rattle.kr_top.specs.Around.{Around}
 use Rattle.kr_top.specs.Commands.{begun, driving}
 use Rattle.kr_top.specs.declared.refusal.Ended.{Ended}
 use Rattle.kr_top.specs.declared.refusal.Stop.{Stop}
+use Rattle.kr_top.specs.declared.report.Counts.{Counts}
 use Rattle.kr_top.specs.inner.Phases.{Does}
 use Rattle.kr_top.specs.inner.Reporting.{saying}
-use Rattle.kr_top.specs.inner.Rewriting.{IsAlone, IsDriveStop, IsReported, MayCutShort, counts_of, opened_store}
+use Rattle.kr_top.specs.inner.Rewriting.{IsAlone, IsDriveStop, IsReported, counts_of, opened_store}
 use Rattle.kr_top.proofs.Crews.{counted as counted_on}
-use Rattle.kr_top.proofs.DriveEnds.{cuts, may_cut}
 use Rattle.kr_top.proofs.DriveSteps.{IsDriven}
 use Rattle.kr_top.proofs.Driven.{copied_none, cut_short, drives_all}
 use Rattle.kr_top.proofs.LiveRows.{listing_follows}
 use Rattle.kr_top.proofs.Said.{All_lent}
+
+-- the report says the counts of this drive
+pub cut_with : (ended : Ended) (stop : Stop) (said counts : Counts)
+    → ended ≡ record { made = Err stop; said = Some said } → said ≡ counts
+    → ended ≡ record { made = Err stop; said = Some counts }
+cut_with ended stop said counts is same =
+    subst (λ n. ended ≡ record { made = Err stop; said = Some n }) same is
+
+-- a drive over the core, with the links and the random source as they come back
+module _ {L D : Type 0} (truth : Truth) (link : L → Link) (left : D → Option (List ℕ))
+    (count : D → ℕ) (solo old new : Caller) (olds mids news : List L) (dice between after : D)
+    (same : solo ≡ old) (links_are : news ≡ mids) (dice_is : after ≡ between) where
+  pub over_core : (result ended : Result Report (Report × CallNo)) → result ≡ ended
+      → IsDrive truth link left count 0 [] solo olds dice result new mids between
+      → IsDrive truth link left count 0 [] old olds dice ended new news after
+  over_core result ended is d =
+      subst (λ r. IsDrive truth link left count 0 [] old olds dice r new news after) is
+      (subst (λ c. IsDrive truth link left count 0 [] c olds dice result new news after) same
+      (subst (λ l. IsDrive truth link left count 0 [] solo olds dice result new l after)
+      (sym links_are)
+      (subst (λ x. IsDrive truth link left count 0 [] solo olds dice result new mids x)
+      (sym dice_is) d)))
 
 whole_then : (torn : Bool) {P : Type 0} → torn ≡ false → (torn ≡ true) ⊎ P → P
 whole_then torn whole (inl t) = absurd (let e : true ≡ false = sym t ∙ whole in cc)

@@ -96,7 +96,8 @@ module _ (rows : List LogRow) where
       let below : (other : Row) → Contains more other → path_cmp row.path other.path ≡ Less =
       λ other c. first_below row more other sorted c in (
         (up, is, λ q some less lesser. least q less lesser (some_row q (live rows q) refl some)),
-        follows row.path more (sorted_tail path_cmp row.path (map (λ (r : Row). r.path) more) sorted)
+        follows row.path more (sorted_tail path_cmp row.path (map (λ (r : Row). r.path) more)
+            sorted)
             (All-tail (λ (r : Row). live rows r.path ≡ Some r) row more lives)
             (λ k d within. below (get_or more k d) (Contains-get_or more k d within))
             (λ q other live less. rest q other live less up),
@@ -175,7 +176,8 @@ still_follows rows row above (next ∷ listing) higher f = (
     f.0.0,
     live_other rows row next.path (apart row.path next.path (higher next.path f.0.0)) ∙ f.0.1,
     λ q some less. f.0.2 q
-        (subst (λ l. IsSome l) (live_other rows row q (apart row.path q (higher q less))) some) less,
+        (subst (λ l. IsSome l) (live_other rows row q (apart row.path q (higher q less))) some)
+        less,
   ),
   still_follows rows row next.path listing
       (λ q less. higher q (nat_list_cmp_total.trans above next.path q f.0.0 less)) f.1,

@@ -1,5 +1,6 @@
--- A caller that is alone in a core of one replica and one seat: what its events add to what it sees.
-use Rattle.std.proofs.Common.{◌≡◌, ℕ, ◌+◌, ◌<◌, ◌≤◌, List, [], ◌∷◌, ◌++◌, length, cond, Option, None, Some, refl, sym, ◌∙◌, ap, subst, append-nil, arith}
+-- A caller that is alone in a core of one replica and one seat: what its events add to what it
+-- sees.
+use Rattle.std.proofs.Common.{◌≡◌, ℕ, ◌<◌, ◌≤◌, List, [], ◌∷◌, ◌++◌, length, cond, Option, None, Some, refl, sym, ◌∙◌, ap, subst, append-nil, arith}
 use Rattle.std.specs.Option.{option_map}
 use Rattle.std.specs.Prelude.{slice_get, get_or, ⊤}
 use Rattle.std.proofs.lemmas.Bool.{eq-eqb}
@@ -26,16 +27,16 @@ use Rattle.kr_rollout.specs.declared.line.Gave.TheVariants as gave
 use Rattle.kr_rollout.specs.declared.opening.Entry.{Entry}
 use Rattle.kr_rollout.specs.declared.opening.Opening.{Opening}
 use Rattle.kr_rollout.specs.Acting.{Caller, IsCaller, AddsEntry}
-use Rattle.kr_rollout.specs.Answers.{IsAnswer, IsStill}
-use Rattle.kr_rollout.specs.Callers.{did_of, gave_of, holding, stored_in}
+use Rattle.kr_rollout.specs.Answers.{IsAnswer}
+use Rattle.kr_rollout.specs.Callers.{did_of, gave_of, holding}
 use Rattle.kr_rollout.specs.CallLaws.{NamesHeld}
 use Rattle.kr_rollout.specs.Checks.{written_check}
 use Rattle.kr_rollout.specs.ContentLaws.{IsRowFor}
-use Rattle.kr_rollout.specs.Entries.{entry_of, generation_named_by, published_at, seat_of}
+use Rattle.kr_rollout.specs.Entries.{generation_named_by, published_at, seat_of}
 use Rattle.kr_rollout.specs.Histories.{IsLegal, IsRun, state_from, state_of}
 use Rattle.kr_rollout.specs.Openings.{start_of}
 use Rattle.kr_rollout.specs.SizeLaws.{TellsSize}
-use Rattle.kr_rollout.specs.States.{State, current_of}
+use Rattle.kr_rollout.specs.States.{State}
 use Rattle.kr_rollout.specs.Steps.{IsStep, after, current_after, new_generation, new_generations, new_rows, put_row, with_current}
 use Rattle.kr_rollout.specs.Writes.{IsSealedAnew, WouldWrite, Writes, file_size}
 use Rattle.kr_rollout.proofs.Appending.{state_more}
@@ -270,9 +271,9 @@ module _ (o : Opening) (p : Publication) (one : o.reloads ≡ 0 ∷ []) (old new
       let answered : IsAnswer (did.Adopt 0) (gave.Gone 0) st e.line.held =
       subst (λ d. IsAnswer d (gave.Gone 0) st e.line.held) s.did_is
       (subst (λ g. IsAnswer e.line.did g st e.line.held) s.gave_is s.step.answer) in
-      let gone : get_or (Some 0 ∷ []) 0 None ≡ None =
-      subst (λ c. get_or c 0 None ≡ None) lone.current answered.2 in
-      absurd (let clash : Some 0 ≡ None = gone in cc)
+      let clash : ◌≡◌ {A = Option ℕ} (Some 0) None =
+      subst (λ (c : List (Option ℕ)). get_or c 0 None ≡ None) lone.current answered.2 in
+      absurd cc
 
   -- ---- the next row
 

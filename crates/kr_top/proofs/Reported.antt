@@ -1,18 +1,16 @@
 -- What stands in front of each row of a drive: the rows so far are kept, and the report is said.
-use Rattle.std.proofs.Common.{◌≡◌, ℕ, ◌≤◌, List, Bool, true, false, Option, None, Some, Result, Ok, Err, refl, sym, ◌∙◌, ap, subst, inl, inr, arith}
-use Rattle.std.specs.Prelude.{IfSome, if◌then◌else◌, [], ◌++◌, ◌⊎◌}
+use Rattle.std.proofs.Common.{ℕ, ◌≤◌, List, Bool, true, false, Option, None, Some, Result, Ok, refl, sym, ◌∙◌, ap, subst, inl, inr, arith}
+use Rattle.std.specs.Prelude.{if◌then◌else◌}
 use Rattle.std.specs.Option.{option_map}
-use Rattle.kr_base.specs.Faults.{Rose}
 use Rattle.kr_base.proofs.Counting.{Rose-later}
 use Rattle.kr_kms.specs.Calls.{Link}
 use Rattle.kr_kms.specs.Outside.{same_name}
-use Rattle.kr_store.specs.File.{IsFile}
 use Rattle.kr_rollout.specs.declared.call.CallNo.{CallNo}
 use Rattle.kr_rollout.specs.declared.call.CallNo.TheVariants as no
-use Rattle.kr_top.specs.Around.{Around, Stays, IsHome, with_lent_tape, with_what_is_said}
+use Rattle.kr_top.specs.Around.{Around, Stays, IsHome, with_what_is_said}
 use Rattle.kr_top.specs.Commands.{Progress, reporting}
 use Rattle.kr_top.specs.Reports.{report_text}
-use Rattle.kr_top.specs.Steps.{Steps, Goes, Left, gives, with_count, with_said, with_told}
+use Rattle.kr_top.specs.Steps.{Steps, Left, with_count, with_said, with_told}
 use Rattle.kr_top.specs.StoreFiles.{Stored, BeginsWith, StillHolds}
 use Rattle.kr_top.specs.declared.refusal.Stop.{Stop}
 use Rattle.kr_top.specs.inner.Phases.{Does}

@@ -1,7 +1,7 @@
 -- How the steps of a row end where a rewrite of it was cut short.
-use Rattle.std.proofs.Common.{◌≡◌, ◌≢◌, ℕ, ◌+◌, ◌^◌, ◌<◌, ◌≤◌, List, [], ◌∷◌, ◌++◌, length, Bool, true, false, Option, None, Some, Result, Ok, Err, refl, sym, ◌∙◌, ap, subst, inl, inr, arith}
-use Rattle.std.specs.Prelude.{All, nat_lt, if◌then◌else◌}
-use Rattle.std.proofs.lemmas.Bool.{le-ltb, lt-ltb}
+use Rattle.std.proofs.Common.{◌≡◌, ℕ, ◌^◌, ◌<◌, ◌≤◌, List, [], ◌∷◌, ◌++◌, length, Bool, true, false, Option, None, Some, Result, Ok, Err, refl, sym, ◌∙◌, ap, subst, inl, inr, arith}
+use Rattle.std.specs.Prelude.{All, nat_lt}
+use Rattle.std.proofs.lemmas.Bool.{le-ltb}
 use Rattle.kr_base.specs.Faults.{Rose}
 use Rattle.kr_base.specs.Limits.{data_limit, store_limit}
 use Rattle.kr_base.proofs.Counting.{Rose-kept, Rose-later}
@@ -9,12 +9,10 @@ use Rattle.kr_config.specs.Lists.{list_of}
 use Rattle.kr_config.specs.declared.who.Who.{Who}
 use Rattle.kr_kms.specs.Calls.{Link}
 use Rattle.kr_kms.specs.Truth.{Truth, TellsOf, key_of}
-use Rattle.kr_kms.specs.declared.seeds.SeedRow.{SeedRow}
-use Rattle.kr_provider.specs.AskedLinks.{HasLinkWith}
 use Rattle.kr_provider.specs.Names.{AreDistinct}
 use Rattle.kr_provider.specs.Publication.{Publication, list_at, writer_at}
 use Rattle.kr_provider.specs.Reading.{HasSomeReading, data_of}
-use Rattle.kr_provider.specs.Sealing.{IsSealing, Seals, sealed_by, value_by}
+use Rattle.kr_provider.specs.Sealing.{IsSealing, Seals, value_by}
 use Rattle.kr_provider.specs.Unsealing.{UnsealsBy}
 use Rattle.kr_provider.specs.declared.refusal.Opened.{Opened}
 use Rattle.kr_provider.specs.declared.refusal.SealNo.{SealNo}
@@ -35,23 +33,20 @@ use Rattle.kr_rollout.specs.Acting.{Caller, AddsEntry}
 use Rattle.kr_rollout.specs.Callers.{holding}
 use Rattle.kr_rollout.specs.Histories.{state_of}
 use Rattle.kr_rollout.specs.Writes.{file_size}
-use Rattle.kr_rewrite.specs.Rewrites.{Replaces, ReplacesBy, Reseals, ResealsBy, Rewrites, RewritesBy, RewritesData, unread_step, unsealed_step}
+use Rattle.kr_rewrite.specs.Rewrites.{ReplacesBy, ResealsBy, Rewrites, RewritesBy, RewritesData, unread_step, unsealed_step}
 use Rattle.kr_rewrite.specs.declared.outcome.Step.{Step}
-use Rattle.kr_rewrite.specs.declared.outcome.Step.TheVariants as step
 use Rattle.kr_top.specs.Around.{Around, with_lent_dice, with_lent_links, with_lent_tape}
-use Rattle.kr_top.specs.Commands.{Progress, adding, one_fresh, one_left, one_rewritten, replacing, resealing, row_anew, row_by, row_data, row_steps, value_read, value_sealed, with_memory}
-use Rattle.kr_top.specs.Steps.{Steps, and_then, give}
-use Rattle.kr_top.specs.StoreFiles.{Stored, with_row, BeginsWith}
-use Rattle.kr_top.specs.declared.refusal.Limit.TheVariants as limit
-use Rattle.kr_top.specs.declared.refusal.Object.TheVariants.{Dice, Plugin, Store}
-use Rattle.kr_top.specs.declared.refusal.Refusal.TheVariants.{Limit}
+use Rattle.kr_top.specs.Commands.{Progress, adding, one_rewritten, replacing, resealing, row_anew, row_by, row_data, row_steps, value_read, value_sealed, with_memory}
+use Rattle.kr_top.specs.Steps.{Steps, give}
+use Rattle.kr_top.specs.StoreFiles.{BeginsWith}
+use Rattle.kr_top.specs.declared.refusal.Object.TheVariants.{Dice, Store}
 use Rattle.kr_top.specs.declared.refusal.Stop.{Stop}
-use Rattle.kr_top.specs.declared.refusal.Stop.TheVariants.{Refused, Fault, NoMemory}
+use Rattle.kr_top.specs.declared.refusal.Stop.TheVariants.{Fault}
 use Rattle.kr_top.specs.inner.Phases.{Does}
 use Rattle.kr_top.specs.inner.Rewriting.{IsDriveStop}
-use Rattle.kr_top.proofs.AddedRows.{row_is_above, row_is_added, row_is_lacking, row_is_torn}
-use Rattle.kr_top.proofs.Goes.{given, goes_on, home_refl, reach, stops}
-use Rattle.kr_top.proofs.LoneCallers.{IsLone, not_changed, replace_failed, replaces, replaces_none, tells}
+use Rattle.kr_top.proofs.AddedRows.{row_is_above, row_is_lacking, row_is_torn}
+use Rattle.kr_top.proofs.Goes.{goes_on, home_refl, reach, stops}
+use Rattle.kr_top.proofs.LoneCallers.{IsLone, replace_failed, tells}
 use Rattle.kr_top.proofs.Made.{remembers}
 use Rattle.kr_top.proofs.Said.{All_lent}
 use Rattle.kr_top.proofs.ValueRead.{sealed_does, value_does}
@@ -152,10 +147,12 @@ module _ {L D : Type 0} (truth : Truth) (link : L → Link) (left : D → Option
         behind : (stop : Stop) (told : Option (List ℕ)) (m : ℕ)
             → Does (adding Store name at.store New_row) (Around_at news after drawn told m)
             (Around_at news after drawn store.told store.count) (Err stop)
-            → Does Anew (Around_at news dice drawn told m) (Around_at news after drawn store.told store.count)
+            → Does Anew (Around_at news dice drawn told m)
+            (Around_at news after drawn store.told store.count)
             (Err stop)
         behind stop told m d = remembers (subst (λ b. Does (resealing b name p row plain at)
-            (Around_at news dice drawn told m) (Around_at news after drawn store.told store.count) (Err stop))
+            (Around_at news dice drawn told m) (Around_at news after drawn store.told store.count)
+            (Err stop))
             (sym short)
             (goes_on (value_sealed p.seeds writer row.path plain) (replacing name p row at)
             (Some stored)
@@ -183,7 +180,8 @@ module _ {L D : Type 0} (truth : Truth) (link : L → Link) (left : D → Option
             sealing r) further bounded) in
             subst (λ w. Cut Anew news dice w stop) is
             (behind stop None before (subst (λ x. Does (adding Store name at.store New_row)
-            (Around_at news after drawn None before) (Around_at news after drawn store.told store.count)
+            (Around_at news after drawn None before)
+            (Around_at news after drawn store.told store.count)
             (Err x)) (sym at_stop)
             (row_is_torn Store name at.store New_row None store.told before store.count
             (risen before store.count rose)
@@ -292,7 +290,8 @@ module _ {L D : Type 0} (truth : Truth) (link : L → Link) (left : D → Option
         let is = same_why why (no.PluginFailed n) e in
         let at_stop = subst (λ w. Stops w stop) (sym is) h in
         subst (λ w. Cut (row_steps name p row at) olds dice w stop) is
-        (subst (λ d. Does (row_steps name p row at) (Around_at olds dice drawn store.told store.count)
+        (subst (λ d. Does (row_steps name p row at)
+        (Around_at olds dice drawn store.told store.count)
         (Around_at news d drawn store.told store.count) (Err stop)) (sym kept)
         (stops Value (row_by name p row at) stop
         (value_does truth link p.seeds opens (list_at p row.resource) row.path row.stored olds news
@@ -307,7 +306,8 @@ module _ {L D : Type 0} (truth : Truth) (link : L → Link) (left : D → Option
         let is = same_why why no.NoMemory e in
         let at_stop = subst (λ w. Stops w stop) (sym is) h in
         subst (λ w. Cut (row_steps name p row at) olds dice w stop) is
-        (subst (λ d. Does (row_steps name p row at) (Around_at olds dice drawn store.told store.count)
+        (subst (λ d. Does (row_steps name p row at)
+        (Around_at olds dice drawn store.told store.count)
         (Around_at news d drawn store.told store.count) (Err stop)) (sym kept)
         (stops Value (row_by name p row at) stop
         (value_does truth link p.seeds opens (list_at p row.resource) row.path row.stored olds news
@@ -336,9 +336,11 @@ module _ {L D : Type 0} (truth : Truth) (link : L → Link) (left : D → Option
         let at_stop = subst (λ w. Stops w stop) (sym is) h in
         let now = Around_at olds dice drawn store.told store.count in
         subst (λ w. Cut (row_steps name p row at) olds dice w stop) is
-        (subst (λ l. Does (row_steps name p row at) now (Around_at l after drawn store.told store.count)
+        (subst (λ l. Does (row_steps name p row at) now
+        (Around_at l after drawn store.told store.count)
         (Err stop)) (sym n.1)
-        (subst (λ d. Does (row_steps name p row at) now (Around_at olds d drawn store.told store.count)
+        (subst (λ d. Does (row_steps name p row at) now
+        (Around_at olds d drawn store.told store.count)
         (Err stop)) (sym n.0.2)
         (subst (λ x. Does (row_steps name p row at) now now (Err x)) (sym at_stop)
         (record { home = home_refl now; ends = λ l s. inr (reach l (inl (refl, refl)) s) }))))

@@ -1,20 +1,16 @@
 -- How the steps of a row end, by what a rewrite of it did over a caller that is alone.
-use Rattle.std.proofs.Common.{◌≡◌, ◌≢◌, ℕ, ◌+◌, ◌<◌, ◌≤◌, List, [], ◌∷◌, ◌++◌, length, Bool, true, false, Option, None, Some, Result, Ok, Err, refl, sym, ◌∙◌, ap, subst, inl, inr, arith}
+use Rattle.std.proofs.Common.{◌≡◌, ℕ, ◌≤◌, List, [], ◌∷◌, ◌++◌, length, Bool, true, false, Option, None, Some, Result, Ok, Err, refl, sym, ◌∙◌, ap, subst, inl, inr, arith}
 use Rattle.std.specs.Prelude.{All, nat_lt, if◌then◌else◌}
 use Rattle.std.proofs.lemmas.Bool.{le-ltb, lt-ltb}
-use Rattle.kr_base.specs.Faults.{Rose}
 use Rattle.kr_base.specs.Limits.{data_limit, store_limit}
-use Rattle.kr_base.proofs.Counting.{Rose-later}
 use Rattle.kr_config.specs.Lists.{list_of}
 use Rattle.kr_config.specs.declared.who.Who.{Who}
 use Rattle.kr_kms.specs.Calls.{Link}
 use Rattle.kr_kms.specs.Truth.{Truth, TellsOf, key_of}
-use Rattle.kr_kms.specs.declared.seeds.SeedRow.{SeedRow}
-use Rattle.kr_provider.specs.AskedLinks.{HasLinkWith}
 use Rattle.kr_provider.specs.Names.{AreDistinct}
 use Rattle.kr_provider.specs.Publication.{Publication, list_at, writer_at}
 use Rattle.kr_provider.specs.Reading.{HasSomeReading, data_of}
-use Rattle.kr_provider.specs.Sealing.{IsSealing, Seals, sealed_by, value_by}
+use Rattle.kr_provider.specs.Sealing.{IsSealing, Seals, value_by}
 use Rattle.kr_provider.specs.Unsealing.{UnsealsBy}
 use Rattle.kr_provider.specs.declared.refusal.Opened.{Opened}
 use Rattle.kr_provider.specs.declared.refusal.SealNo.{SealNo}
@@ -23,7 +19,6 @@ use Rattle.kr_provider.specs.declared.refusal.UnsealNo.{UnsealNo}
 use Rattle.kr_provider.specs.declared.refusal.UnsealNo.TheVariants as unseal
 use Rattle.kr_store.specs.File.{file_bytes}
 use Rattle.kr_store.specs.Rows.{live}
-use Rattle.kr_store.specs.Stores.{Kept}
 use Rattle.kr_store.specs.declared.rows.Row.{Row}
 use Rattle.kr_rollout.specs.declared.answer.Answer.{Answer}
 use Rattle.kr_rollout.specs.declared.answer.Answer.TheVariants as answer
@@ -35,27 +30,21 @@ use Rattle.kr_rollout.specs.Acting.{Caller, AddsEntry}
 use Rattle.kr_rollout.specs.Callers.{holding}
 use Rattle.kr_rollout.specs.Histories.{state_of}
 use Rattle.kr_rollout.specs.Writes.{file_size}
-use Rattle.kr_rewrite.specs.Rewrites.{Replaces, ReplacesBy, Reseals, ResealsBy, Rewrites, RewritesBy, RewritesData, unread_step, unsealed_step}
+use Rattle.kr_rewrite.specs.Rewrites.{ReplacesBy, ResealsBy, Rewrites, RewritesBy, RewritesData, unread_step, unsealed_step}
 use Rattle.kr_rewrite.specs.declared.outcome.Step.{Step}
 use Rattle.kr_rewrite.specs.declared.outcome.Step.TheVariants as step
 use Rattle.kr_top.specs.Around.{Around, with_lent_dice, with_lent_links, with_lent_tape}
 use Rattle.kr_top.specs.Commands.{Progress, adding, one_fresh, one_left, one_rewritten, replacing, resealing, row_anew, row_by, row_data, row_steps, value_read, value_sealed, with_memory}
-use Rattle.kr_top.specs.Steps.{Steps, and_then, give}
-use Rattle.kr_top.specs.StoreFiles.{Stored, with_row, BeginsWith}
-use Rattle.kr_top.specs.declared.refusal.Limit.TheVariants as limit
-use Rattle.kr_top.specs.declared.refusal.Object.TheVariants.{Dice, Plugin, Store}
-use Rattle.kr_top.specs.declared.refusal.Refusal.TheVariants.{Limit}
-use Rattle.kr_top.specs.declared.refusal.Stop.{Stop}
-use Rattle.kr_top.specs.declared.refusal.Stop.TheVariants.{Refused, Fault, NoMemory}
+use Rattle.kr_top.specs.Steps.{Steps, give}
+use Rattle.kr_top.specs.StoreFiles.{Stored, with_row}
+use Rattle.kr_top.specs.declared.refusal.Object.TheVariants.{Store}
 use Rattle.kr_top.specs.inner.Phases.{Does}
-use Rattle.kr_top.specs.inner.Rewriting.{IsDriveStop}
-use Rattle.kr_top.proofs.AddedRows.{row_is_above, row_is_added, row_is_lacking, row_is_torn}
-use Rattle.kr_top.proofs.Goes.{given, goes_on, home_refl, reach, stops}
-use Rattle.kr_top.proofs.LoneCallers.{IsLone, not_changed, replace_failed, replaces, replaces_none, tells}
+use Rattle.kr_top.proofs.AddedRows.{row_is_added}
+use Rattle.kr_top.proofs.Goes.{given, goes_on}
+use Rattle.kr_top.proofs.LoneCallers.{IsLone, not_changed, replaces, tells}
 use Rattle.kr_top.proofs.Made.{remembers}
 use Rattle.kr_top.proofs.Said.{All_lent}
 use Rattle.kr_top.proofs.ValueRead.{sealed_does, value_does}
-use Rattle.kr_top.proofs.Works.{lacks}
 
 -- what a step at the row makes of the store and the counts
 abbrev pub Becomes : Publication → Row → Progress → Progress → Step → Type 0
@@ -148,7 +137,8 @@ module _ {L D : Type 0} (truth : Truth) (link : L → Link) (left : D → Option
         stays_so next taken store same kept becomes = (
           next,
           becomes,
-          subst (λ d. Does (give next) (Out news dice None m) (Out news d None m) (Ok next)) (sym kept)
+          subst (λ d. Does (give next) (Out news dice None m) (Out news d None m) (Ok next))
+              (sym kept)
               (given next (Out news dice None m)),
           ap (λ (c : Caller). (state_of o c.seen).rows) same ∙ rows_are
               ∙ sym (ap (λ (s : Stored). s.rows) store),
@@ -156,14 +146,16 @@ module _ {L D : Type 0} (truth : Truth) (link : L → Link) (left : D → Option
 
         in_memory : (steps : Steps Progress) (links : List L) (from : D) (taken : Step)
             → Done steps links from taken → Done (with_memory steps) links from taken
-        in_memory steps links from taken (next, becomes, does, rows) = (next, becomes, remembers does, rows)
+        in_memory steps links from taken (next, becomes, does, rows) =
+            (next, becomes, remembers does, rows)
 
         module _ (plain : List ℕ)
             (reads : HasSomeReading (list_at p row.resource) row.path row.stored (data_of plain))
           where
             written : (stored : List ℕ) (n : ℕ) → IsSealing p row.resource row.path plain stored
                 → Seals left count p.seeds who row.path plain dice after (Ok stored)
-                → AddsEntry found (event.Replace row.path row.revision stored) (answer.Written n) acted
+                → AddsEntry found (event.Replace row.path row.revision stored) (answer.Written n)
+                acted
                 → Done (resealing (nat_lt data_limit (length plain)) name p row plain at) news dice
                 (step.Rewritten row.path)
             written stored n sealing s replace =
@@ -175,9 +167,11 @@ module _ {L D : Type 0} (truth : Truth) (link : L → Link) (left : D → Option
                 let fits = subst (λ n. n ≤ store_limit) (size_is stored)
                 (subst (λ l. file_size o.format (state_of o found.seen).rows
                 (row_anew o.format p row stored) ≤ l) limit_is
-                (tells o p one found acted row plain stored number lone holds lived reads sealing given_to
+                (tells o p one found acted row plain stored number lone holds lived reads sealing
+                given_to
                 replace)) in
-                let rows = replaces o p one found acted row plain stored number lone holds lived reads
+                let rows = replaces o p one found acted row plain stored number lone holds lived
+                reads
                 sealing n replace in (
                   one_rewritten new at,
                   (refl, stored, refl),
@@ -185,10 +179,12 @@ module _ {L D : Type 0} (truth : Truth) (link : L → Link) (left : D → Option
                       (Out news after None m) (Ok (one_rewritten new at))) (sym long)
                       (goes_on (value_sealed p.seeds who row.path plain) (replacing name p row at)
                       (Some stored)
-                      (sealed_does link left count news dice after drawn drawn (with_lent_tape name None m a) who
+                      (sealed_does link left count news dice after drawn drawn
+                      (with_lent_tape name None m a) who
                       p.seeds row.path plain (Ok stored) (omega arith)
                       (short_by (nat_lt data_limit (length plain)) (length plain) refl long) tt s)
-                      (goes_on (adding Store name at.store new) (λ grown. give (one_rewritten new at))
+                      (goes_on (adding Store name at.store new)
+                      (λ grown. give (one_rewritten new at))
                       (with_row new at.store)
                       (row_is_added Store name at.store new None None m m (omega arith)
                       (Beside news after) tt fits)
@@ -201,12 +197,15 @@ module _ {L D : Type 0} (truth : Truth) (link : L → Link) (left : D → Option
                 → Seals left count p.seeds who row.path plain dice after (Ok stored)
                 → AddsEntry found (event.Replace row.path row.revision stored) given_to acted
                 → ReplacesBy row.path given_to (Ok taken)
-                → Done (resealing (nat_lt data_limit (length plain)) name p row plain at) news dice taken
+                → Done (resealing (nat_lt data_limit (length plain)) name p row plain at) news dice
+                taken
             replaced stored (answer.Written n) taken sealing s r d =
-                subst (λ t. Done (resealing (nat_lt data_limit (length plain)) name p row plain at) news
+                subst (λ t. Done (resealing (nat_lt data_limit (length plain)) name p row plain at)
+                news
                 dice t) (same_step taken (step.Rewritten row.path) d) (written stored n sealing s r)
             replaced stored (answer.Changed last) taken sealing s r d =
-                absurd (not_changed o p one found acted row plain stored number lone holds lived reads
+                absurd (not_changed o p one found acted row plain stored number lone holds lived
+                reads
                 sealing last r)
             replaced stored answer.StoreFailed taken sealing s r d = not_err taken no.StoreFailed d
             replaced stored (answer.StoreFull needed) taken sealing s r d =
@@ -228,18 +227,22 @@ module _ {L D : Type 0} (truth : Truth) (link : L → Link) (left : D → Option
             unsealed : (why : SealNo) (taken : Step) → acted ≡ found
                 → Seals left count p.seeds who row.path plain dice after (Err why)
                 → ◌≡◌ {A = Result Step CallNo} (Ok taken) (unsealed_step row.path why)
-                → Done (resealing (nat_lt data_limit (length plain)) name p row plain at) news dice taken
+                → Done (resealing (nat_lt data_limit (length plain)) name p row plain at) news dice
+                taken
             unsealed seal.LooksEncrypted taken same s e =
                 let long = le-ltb data_limit (length plain) s.0 in
                 let rest = stays_so (one_left at) (step.Left row.path) refl same s.3 (refl, refl) in
-                subst (λ t. Done (resealing (nat_lt data_limit (length plain)) name p row plain at) news
+                subst (λ t. Done (resealing (nat_lt data_limit (length plain)) name p row plain at)
+                news
                 dice t) (same_step taken (step.Left row.path) e) (
                   rest.0,
                   rest.1,
                   subst (λ b. Does (resealing b name p row plain at) (Out news dice None m)
                       (Out news after None m) (Ok (one_left at))) (sym long)
-                      (goes_on (value_sealed p.seeds who row.path plain) (replacing name p row at) None
-                      (sealed_does link left count news dice after drawn drawn (with_lent_tape name None m a) who
+                      (goes_on (value_sealed p.seeds who row.path plain) (replacing name p row at)
+                      None
+                      (sealed_does link left count news dice after drawn drawn
+                      (with_lent_tape name None m a) who
                       p.seeds row.path plain (Err seal.LooksEncrypted) (omega arith) s.0 tt s)
                       (given (one_left at) (Out news after None m))),
                   rest.3,
@@ -247,7 +250,8 @@ module _ {L D : Type 0} (truth : Truth) (link : L → Link) (left : D → Option
             unsealed (seal.TooLarge size) taken same s e =
                 let long = lt-ltb data_limit (length plain) s.1 in
                 let rest = stays_so (one_left at) (step.Left row.path) refl same s.2 (refl, refl) in
-                subst (λ t. Done (resealing (nat_lt data_limit (length plain)) name p row plain at) news
+                subst (λ t. Done (resealing (nat_lt data_limit (length plain)) name p row plain at)
+                news
                 dice t) (same_step taken (step.Left row.path) e) (
                   rest.0,
                   rest.1,
@@ -261,7 +265,8 @@ module _ {L D : Type 0} (truth : Truth) (link : L → Link) (left : D → Option
             resealed : (sealed : Result (List ℕ) SealNo) (taken : Step)
                 → Seals left count p.seeds who row.path plain dice after sealed
                 → ResealsBy p row plain sealed found (Ok taken) acted
-                → Done (resealing (nat_lt data_limit (length plain)) name p row plain at) news dice taken
+                → Done (resealing (nat_lt data_limit (length plain)) name p row plain at) news dice
+                taken
             resealed (Ok stored) taken s (inl r) =
                 replaced stored r.given taken r.sealing s r.replaces r.answers
             resealed (Ok stored) taken s (inr n) = not_err taken no.Spent n.1
@@ -281,7 +286,8 @@ module _ {L D : Type 0} (truth : Truth) (link : L → Link) (left : D → Option
 
         -- a value that isn't read leaves the row
         unread : (why : UnsealNo) (taken : Step)
-            → UnsealsBy truth link p.seeds (list_at p row.resource) row.path row.stored olds (Err why)
+            → UnsealsBy truth link p.seeds (list_at p row.resource) row.path row.stored olds
+            (Err why)
             news
             → acted ≡ found → after ≡ dice
             → ◌≡◌ {A = Result Step CallNo} (Ok taken) (unread_step row.path why)
@@ -294,7 +300,8 @@ module _ {L D : Type 0} (truth : Truth) (link : L → Link) (left : D → Option
               rest.1,
               goes_on (value_read p.seeds (list_of p.rows row.resource) row.path row.stored)
                   (row_by name p row at) (Err why)
-                  (value_does truth link p.seeds opens (list_at p row.resource) row.path row.stored olds
+                  (value_does truth link p.seeds opens (list_at p row.resource) row.path row.stored
+                  olds
                   news distinct (left dice) drawn (with_lent_tape name None m a) truth_is
                   (Err (unseal.Refused why)) (Ok (Err why)) u refl)
                   rest.2,
@@ -309,12 +316,14 @@ module _ {L D : Type 0} (truth : Truth) (link : L → Link) (left : D → Option
             → RewritesBy left count p row opened found dice (Ok taken) acted after
             → Done (row_steps name p row at) olds dice taken
         opened_done (Ok opened) taken u r =
-            let rest = data_done opened.plain (u.envelope, u.object, u.is.0) opened.stale taken r in (
+            let rest = data_done opened.plain (u.envelope, u.object, u.is.0) opened.stale taken r
+            in (
               rest.0,
               rest.1,
               goes_on (value_read p.seeds (list_of p.rows row.resource) row.path row.stored)
                   (row_by name p row at) (Ok opened)
-                  (value_does truth link p.seeds opens (list_at p row.resource) row.path row.stored olds
+                  (value_does truth link p.seeds opens (list_at p row.resource) row.path row.stored
+                  olds
                   news distinct (left dice) drawn (with_lent_tape name None m a) truth_is
                   (Ok opened) (Ok (Ok opened)) u refl)
                   rest.2,

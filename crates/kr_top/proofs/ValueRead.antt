@@ -1,6 +1,6 @@
 -- How the steps of one row's value end: what it reads as, and what sealing its data gives.
 use Rattle.kr_base.specs.Faults.{Rose}
-use Rattle.std.proofs.Common.{◌≡◌, ◌≢◌, ℕ, zero, suc, ◌≤◌, ◌<◌, List, [], ◌∷◌, length, Bool, true, false, Option, None, Some, Result, Ok, Err, refl, sym, ◌∙◌, ap, subst, inl, inr, arith}
+use Rattle.std.proofs.Common.{◌≡◌, ◌≢◌, ℕ, zero, suc, ◌≤◌, List, [], ◌∷◌, length, true, Option, None, Some, Result, Ok, Err, refl, sym, ◌∙◌, ap, subst, inl, inr, arith}
 use Rattle.std.specs.Prelude.{All, nat_lt, ⊤}
 use Rattle.std.specs.Io.KnownBytes.{Consumes, Keeps}
 use Rattle.std.proofs.KnownBytes.{Keeps-refl}
@@ -15,7 +15,7 @@ use Rattle.kr_provider.specs.AskedLinks.{HasLinkWith}
 use Rattle.kr_provider.specs.Envelopes.{HasEnvelope, HasObject}
 use Rattle.kr_provider.specs.Names.{AreDistinct}
 use Rattle.kr_provider.specs.Readers.{reader_in}
-use Rattle.kr_provider.specs.Reading.{Reading, data_of, refused, unopened, is_stale, value_reading}
+use Rattle.kr_provider.specs.Reading.{data_of, refused, unopened, is_stale, value_reading}
 use Rattle.kr_provider.specs.Sealing.{draw_size, sealed_by, Seals}
 use Rattle.kr_provider.specs.Unsealing.{IsReading, UnsealsBy, plugin_reading}
 use Rattle.kr_provider.specs.declared.refusal.Opened.{Opened}
