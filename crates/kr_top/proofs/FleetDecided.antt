@@ -17,8 +17,8 @@ use Rattle.kr_top.specs.declared.refusal.Stop.{Stop}
 use Rattle.kr_top.specs.declared.refusal.Stop.TheVariants.{Words, Refused, Fault, NoMemory}
 use Rattle.kr_top.proofs.FleetSettled.{no_other, one_refusal}
 
-module _ {T L D : Type 0} {truth : Truth} {link : L → Link} {left : D → Option (List ℕ)}
-    {count : D → ℕ} (words : FleetWords) (old : Around) (told : IsFleetTold words old)
+module _ (T : Type 0) {L D : Type 0} (truth : Truth) (link : L → Link)
+    (left : D → Option (List ℕ)) (count : D → ℕ) (words : FleetWords) (old : Around) (told : IsFleetTold words old)
     (new : Around) (output errors : Receipt) where
   abbrev Decided : Point Begun → ℕ → Type 0
   Decided point status =

@@ -170,6 +170,7 @@ pub fleet_readings : (T : Type 0) {L D : Type 0} (truth : Truth) (link : L → L
     → FleetReadings T truth link left count words old new output errors status
 fleet_readings T truth link left count words old new output errors status ran =
     by_end T truth link left count words old new output errors status
-    (λ told point would. decided_so words old told new output errors point status would ran)
+    (λ told point would. decided_so T truth link left count words old told new output errors
+    point status would ran)
     (λ ready none. completed words old ready new output errors none status ran)
     ran.result ran.did ran.tells

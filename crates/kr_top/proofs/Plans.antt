@@ -33,7 +33,7 @@ use Rattle.kr_top.proofs.FleetLoads.{IsRead, same_rows}
 -- ---- files that were read
 
 -- a configuration that was read is among all of them
-rows_among : (files : List NamedRows) (name : List ℕ) (rows : List Row) (plugin : List ℕ)
+pub rows_among : (files : List NamedRows) (name : List ℕ) (rows : List Row) (plugin : List ℕ)
     → rows_at files name ≡ Some rows → Contains (plugins_in rows) plugin
     → Contains (plugins_in (all_rows files)) plugin
 rows_among [] name rows plugin e c = absurd cc
