@@ -1,5 +1,5 @@
 -- Over what is told, the last step that a fleet comes to up to its workers decides its status.
-use Rattle.std.proofs.Common.{◌≡◌, ℕ, ◌⊎◌, List, Option, Result, Ok, Err, sym, ◌∙◌, ap, subst, inl, inr}
+use Rattle.std.proofs.Common.{◌≡◌, ℕ, ◌⊎◌, List, Option, Result, Ok, Err, subst, inl, inr}
 use Rattle.std.specs.Io.KnownBytes.{Appends}
 use Rattle.kr_kms.specs.Calls.{Link}
 use Rattle.kr_kms.specs.Truth.{Truth}
@@ -18,8 +18,8 @@ use Rattle.kr_top.specs.declared.refusal.Stop.TheVariants.{Words, Refused, Fault
 use Rattle.kr_top.proofs.FleetSettled.{no_other, one_refusal}
 
 module _ (T : Type 0) {L D : Type 0} (truth : Truth) (link : L → Link)
-    (left : D → Option (List ℕ)) (count : D → ℕ) (words : FleetWords) (old : Around) (told : IsFleetTold words old)
-    (new : Around) (output errors : Receipt) where
+    (left : D → Option (List ℕ)) (count : D → ℕ) (words : FleetWords) (old : Around)
+    (told : IsFleetTold words old) (new : Around) (output errors : Receipt) where
   abbrev Decided : Point Begun → ℕ → Type 0
   Decided point status =
       IsDecidedBy T truth link left count words old new output errors point status

@@ -1,22 +1,18 @@
 -- Where all was ready and no count rose, no reply of a fleet is a fault or tells of an unhealthy
 -- plugin, and nothing stops it before its workers but want of memory.
-use Rattle.std.proofs.Common.{◌≡◌, ℕ, ◌+◌, ◌<◌, ◌≤◌, ◌⊎◌, zero, suc, List, [], ◌∷◌, ◌++◌, length, map, get_or, All, Contains, Option, None, Some, Result, Ok, Err, refl, sym, ◌∙◌, ap, subst, inl, inr, arith}
-use Rattle.std.specs.Io.KnownBytes.{Appends}
+use Rattle.std.proofs.Common.{◌≡◌, ℕ, ◌<◌, ◌≤◌, ◌⊎◌, zero, suc, List, [], ◌∷◌, length, Contains, Option, None, Some, Result, Ok, Err, sym, ◌∙◌, ap, subst, inl, inr, arith}
 use Rattle.std.specs.List.{slice_get}
 use Rattle.std.proofs.lemmas.List.{get_or-map, length-map}
-use Rattle.std.proofs.lemmas.List.Elements.{All-contains, Contains-get_or}
+use Rattle.std.proofs.lemmas.List.Elements.{All-contains}
 use Rattle.std.proofs.lemmas.Option.{get_or_from_slice_get, slice_get_within}
 use Rattle.std.proofs.Math.Nat.{eq-or-lt_of_le}
 use Rattle.kr_base.specs.Faults.{Rose}
-use Rattle.kr_base.specs.Told.{Agrees}
 use Rattle.kr_base.proofs.Counting.{Rose-later}
 use Rattle.kr_kms.specs.Calls.{Link}
-use Rattle.kr_kms.specs.Health.{HasBreach, breach_in}
+use Rattle.kr_kms.specs.Health.{breach_in}
 use Rattle.kr_kms.specs.Outside.{link_at}
 use Rattle.kr_kms.specs.Truth.{Truth}
-use Rattle.kr_kms.specs.declared.health.Field.{Field}
 use Rattle.kr_kms.specs.declared.plugin.Status.{Status}
-use Rattle.kr_provider.specs.AskedLinks.{FaultRose, HasLinkWith}
 use Rattle.kr_provider.specs.Names.{names_of}
 use Rattle.kr_rollout.specs.Histories.{IsRun, state_from, state_of}
 use Rattle.kr_rollout.specs.Openings.{start_of}
@@ -27,22 +23,21 @@ use Rattle.kr_rollout.specs.declared.line.Gave.TheVariants as gave
 use Rattle.kr_rollout.specs.declared.opening.Entry.{Entry}
 use Rattle.kr_rollout.specs.declared.opening.Opening.{Opening}
 use Rattle.kr_script.specs.Fleets.{Fleet, worker_of}
-use Rattle.kr_workers.specs.Endings.{ending_of, status_of}
+use Rattle.kr_workers.specs.Endings.{status_of}
 use Rattle.kr_workers.specs.Sentences.{FaultsRose, MayBeUnhealthy, RestsOn, SomeWorker}
 use Rattle.kr_workers.specs.declared.ending.Ending.{Ending}
 use Rattle.kr_workers.specs.declared.ending.Ending.TheVariants as ending
 use Rattle.kr_workers.specs.declared.worker.Worker.{Worker}
-use Rattle.kr_top.specs.Around.{Around, Ends, IsFault, IsHome, Reaches, faults_at, left_of}
+use Rattle.kr_top.specs.Around.{Around, IsHome, left_of}
 use Rattle.kr_top.specs.FleetReadings.{HasEnded, IsCompleted, NoneRose}
-use Rattle.kr_top.specs.FleetReady.{IsHealthy, IsReady}
-use Rattle.kr_top.specs.Fleets.{Begun, DidFleet, IsEquipped, RanFleet, RunsFleet, Starts, StartsNone, StopsBefore, TellsFleet, fleet_steps, opening_of}
-use Rattle.kr_top.specs.Message.{line_of, status_of as stop_status}
-use Rattle.kr_top.specs.Ran.{IsIdle, Receipt, Tells}
+use Rattle.kr_top.specs.FleetReady.{IsReady}
+use Rattle.kr_top.specs.Fleets.{Begun, IsEquipped, RanFleet, RunsFleet, Starts, StopsBefore, TellsFleet, fleet_steps, opening_of}
+use Rattle.kr_top.specs.Message.{status_of as stop_status}
+use Rattle.kr_top.specs.Ran.{IsIdle, Receipt}
 use Rattle.kr_top.specs.Steps.{Left, asking, drawing, gives, refuses, scanning}
 use Rattle.kr_top.specs.declared.fleet_words.FleetWords.{FleetWords}
 use Rattle.kr_top.specs.declared.programs.Program.{Program}
 use Rattle.kr_top.specs.declared.refusal.Object.TheVariants.{Store}
-use Rattle.kr_top.specs.declared.refusal.Refusal.{Refusal}
 use Rattle.kr_top.specs.declared.refusal.Stop.{Stop}
 use Rattle.kr_top.specs.declared.refusal.Stop.TheVariants.{Words, Refused, Fault, NoMemory}
 use Rattle.kr_top.specs.inner.Outfits.{names_in}

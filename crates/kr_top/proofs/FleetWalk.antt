@@ -1,31 +1,26 @@
 -- Where all is ready, the steps of a fleet refuse nothing up to its workers.
-use Rattle.std.proofs.Common.{◌≡◌, ◌≢◌, ℕ, zero, suc, ◌+◌, ◌<◌, ◌≤◌, ◌⊎◌, Bool, true, false, List, [], ◌∷◌, ◌++◌, length, map, get_or, append-nil, All, Contains, Option, None, Some, Result, Ok, Err, refl, sym, ◌∙◌, ap, subst, inl, inr, arith}
-use Rattle.std.specs.Prelude.{IsSome, find, if◌then◌else◌, sum}
+use Rattle.std.proofs.Common.{◌≡◌, ℕ, zero, suc, ◌+◌, ◌≤◌, ◌⊎◌, Bool, true, false, List, [], ◌∷◌, ◌++◌, length, map, get_or, append-nil, All, Contains, Option, None, Some, Result, Ok, Err, refl, sym, ◌∙◌, ap, subst, inl, inr, arith}
+use Rattle.std.specs.Prelude.{IsSome, if◌then◌else◌, sum}
 use Rattle.std.specs.List.{flat_map}
 use Rattle.std.specs.Option.{option_map}
 use Rattle.std.specs.Str.{bytes_eq}
 use Rattle.std.proofs.lemmas.Grind.{flat_map-append}
 use Rattle.std.proofs.lemmas.List.{append_assoc, map-append}
-use Rattle.std.proofs.lemmas.List.Elements.{All-append, All-cons, All-head, All-nil, All-tail, All-weaker, All-contains, Contains-append_cases, Contains-get_or}
+use Rattle.std.proofs.lemmas.List.Elements.{All-append, All-cons, All-head, All-nil, All-tail, All-weaker, Contains-append_cases, Contains-get_or}
 use Rattle.std.proofs.lemmas.Slice.Eq.{bytes_eq-Decides}
 use Rattle.kr_base.specs.Told.{Agrees}
 use Rattle.kr_config.specs.Kept.{Row, plugins_in}
 use Rattle.kr_config.specs.Providers.{plugins_among}
 use Rattle.kr_kms.specs.Health.{breach_in}
-use Rattle.kr_kms.specs.declared.plugin.Status.{Status}
-use Rattle.kr_kms.specs.declared.seeds.SeedRow.{SeedRow}
 use Rattle.kr_provider.specs.PluginOrder.{plugin_order}
 use Rattle.kr_provider.specs.Publication.{Publication}
 use Rattle.kr_provider.proofs.PluginOrder.{order_has}
 use Rattle.kr_rollout.specs.Openings.{settings_of}
-use Rattle.kr_rollout.specs.Starts.{IsNoStart, MayStart}
-use Rattle.kr_rollout.specs.declared.opening_board.StartNo.{StartNo}
+use Rattle.kr_rollout.specs.Starts.{MayStart}
 use Rattle.kr_rollout.specs.declared.opening_board.StartNo.TheVariants as no
 use Rattle.kr_rollout.proofs.Judging.{refusal_is_exact}
 use Rattle.kr_script.specs.Fleets.{Fleet, Worker}
-use Rattle.kr_script.specs.declared.script.ScriptNo.{ScriptNo}
 use Rattle.kr_script.proofs.OneAnswer.{one_meaning}
-use Rattle.kr_store.specs.Stores.{IsLiveCount}
 use Rattle.kr_store.specs.declared.rows.LogRow.{LogRow}
 use Rattle.kr_store.proofs.Listings.{listing_once}
 use Rattle.kr_words.specs.Arguments.{program_of}
@@ -35,13 +30,13 @@ use Rattle.kr_script.specs.declared.script.Part.{Part}
 use Rattle.kr_top.specs.Around.{Around, left_of}
 use Rattle.kr_top.specs.Commands.{by_result, configuration, with_memory}
 use Rattle.kr_top.specs.Configuration.{IsConfiguration}
-use Rattle.kr_top.specs.FleetFiles.{FleetPlan, IsFleetFile, NamedRows, all_rows, file_in, file_of_replica, files_in, fleet_in, mentioned, no_file, planning, programs_in, rows_at, unless_read}
+use Rattle.kr_top.specs.FleetFiles.{FleetPlan, IsFleetFile, NamedRows, all_rows, file_in, file_of_replica, files_in, mentioned, no_file, planning, programs_in, rows_at, unless_read}
 use Rattle.kr_top.specs.FleetReady.{HasSettings, HaveSettings, IsConfigured, IsHealthy, IsReady, TellsRows}
 use Rattle.kr_top.specs.Fleets.{AreWithin, Begun, IsStart, Replicas, beginning, borrow_links_of, equipped, equipping, fleet_steps, outfitted, over_store, parts_of, publishes, publishing, rows_of_replica, starting}
 use Rattle.kr_top.specs.Judgements.{start_refusal}
 use Rattle.kr_top.specs.Plugins.{join_program, make_seed, make_seeds, programs_of, unless_breach, wrap_seed}
 use Rattle.kr_top.specs.Steps.{Left, Steps, and_then, give, or_empty, tapes_with, with_asked}
-use Rattle.kr_top.specs.StoreFiles.{IsStored, Stored}
+use Rattle.kr_top.specs.StoreFiles.{IsStored}
 use Rattle.kr_top.specs.declared.fleet_words.FleetWords.{FleetWords}
 use Rattle.kr_top.specs.declared.programs.Program.{Program}
 use Rattle.kr_top.specs.declared.refusal.Refusal.{Refusal}

@@ -1,12 +1,11 @@
 -- Steps that refuse nothing over what is told, and what they give.
-use Rattle.std.proofs.Common.{◌≡◌, ℕ, List, Option, None, Some, refl, subst, sym, ◌∙◌, inl, inr}
+use Rattle.std.proofs.Common.{◌≡◌, ℕ, List, Option, Some, subst, sym, ◌∙◌, inl, inr}
 use Rattle.std.specs.Prelude.{true}
 use Rattle.kr_base.specs.Told.{Agrees}
 use Rattle.kr_kms.specs.declared.plugin.Status.{Status}
 use Rattle.kr_kms.specs.declared.plugin.Wrapped.{Wrapped}
 use Rattle.kr_kms.specs.declared.world.WorldCall.TheVariants.{File, Link, RandomSource, Tape}
-use Rattle.kr_top.specs.Steps.{Steps, load, take_input, borrow_dice, borrow_tape, read_tape, write_row, keep_rows, draw, borrow_link, ask_status, wrap, unwrap, note, find, refuse, give, and_then, Call, Point, awaits, amid, refuses, gives, Left, Goes, loading, reading, opening, lending, scanning, writing, drawing, linking, asking, with_asked, with_count, with_dice, with_input, with_said, with_tape, with_told}
-use Rattle.kr_top.specs.declared.refusal.Refusal.{Refusal}
+use Rattle.kr_top.specs.Steps.{Steps, load, take_input, borrow_dice, borrow_tape, read_tape, write_row, keep_rows, draw, borrow_link, ask_status, wrap, unwrap, note, find, refuse, give, and_then, Point, awaits, amid, refuses, gives, Left, Goes, loading, opening, lending, scanning, writing, drawing, linking, asking, with_asked, with_count, with_dice, with_said, with_tape, with_told}
 
 -- from what is left on, whatever they draw and find, they refuse nothing, and give this; such steps
 -- take no input

@@ -1,13 +1,12 @@
 -- What a fleet needs: that it is told, and that it is there and in form, healthy, goes together and
 -- passes no limit. All this is of what is told before the call.
-use Rattle.std.specs.Prelude.{◌≡◌, ◌≢◌, ℕ, ◌<◌, ◌≤◌, List, [], ◌∷◌, length, Contains, All, Option, None, Some, IsSome, Ok, ⊤}
+use Rattle.std.specs.Prelude.{◌≡◌, ◌≢◌, ℕ, ◌<◌, List, [], ◌∷◌, length, Contains, All, Option, None, Some, IsSome, Ok, ⊤}
 use Rattle.kr_base.specs.Told.{Agrees}
 use Rattle.kr_config.specs.Kept.{Row, plugins_in}
 use Rattle.kr_kms.specs.Health.{breach_in}
 use Rattle.kr_kms.specs.declared.plugin.Status.{Status}
 use Rattle.kr_rollout.specs.Starts.{MayStart}
 use Rattle.kr_script.specs.Fleets.{Fleet}
-use Rattle.kr_store.specs.declared.rows.LogRow.{LogRow}
 use Rattle.kr_words.specs.Arguments.{program_of}
 use Rattle.kr_top.specs.Around.{Around}
 use Rattle.kr_top.specs.Configuration.{IsConfiguration}
@@ -60,9 +59,9 @@ HaveSettings old (replica ∷ replicas) [] = ⊥
 HaveSettings old (replica ∷ replicas) (rows ∷ more) =
     HasSettings old replica rows × HaveSettings old replicas more
 
--- The fleet file is there, and so is each configuration that it names; each plugin has a program and
--- is healthy at each worker's seat; the store is a whole file within its limit, the journal within
--- its own; and what is stored and the replicas' settings go together.
+-- The fleet file is there, and so is each configuration that it names; each plugin has a program
+-- and is healthy at each worker's seat; the store is a whole file within its limit, the journal
+-- within its own; and what is stored and the replicas' settings go together.
 pub record IsReady (words : FleetWords) (old : Around) : Type 0 where
   pub fleet : Fleet
   pub file : TellsFleet old words.file fleet
@@ -75,8 +74,9 @@ pub record IsReady (words : FleetWords) (old : Around) : Type 0 where
   pub settings_are : HaveSettings old fleet.replicas settings
   pub fits : MayStart stored.rows settings
 
--- What the steps up to the workers go by is told, whatever it is: the fleet file, the configurations
--- that it names, the store, and at the first seat the status of each plugin that has a program.
+-- What the steps up to the workers go by is told, whatever it is: the fleet file, the
+-- configurations that it names, the store, and at the first seat the status of each plugin that has
+-- a program.
 pub record IsFleetTold (words : FleetWords) (old : Around) : Type 0 where
   pub fleet : IsSome (old.world.file words.file)
   pub files : (file : Option (List ℕ)) (fleet : Fleet) → Agrees (old.world.file words.file) file
