@@ -1,6 +1,6 @@
 -- Over a told store, where no plugin is named, the steps of a rewrite go one way whatever is drawn.
 use Rattle.std.proofs.Common.{◌≡◌, ℕ, ◌+◌, zero, suc, List, [], ◌∷◌, ◌++◌, length, Bool, true, false, Option, None, Some, Result, Ok, Err, refl, sym, ◌∙◌, ap, subst, length-append, arith}
-use Rattle.std.specs.Prelude.{not, ◌||◌, IsSome, nat_lt, if◌then◌else◌}
+use Rattle.std.specs.Prelude.{⊤, not, ◌||◌, IsSome, nat_lt, if◌then◌else◌}
 use Rattle.std.specs.List.{list_any}
 use Rattle.kr_base.specs.Limits.{data_limit, store_limit}
 use Rattle.kr_config.specs.Kept.{Row}
@@ -11,6 +11,7 @@ use Rattle.kr_config.specs.declared.who.Who.TheVariants as who
 use Rattle.kr_envelope.specs.declared.object.EncryptedObject.{EncryptedObject}
 use Rattle.kr_envelope.specs.declared.object.ObjectNo.{ObjectNo}
 use Rattle.kr_kms.specs.declared.seeds.SeedRow.{SeedRow}
+use Rattle.kr_kms.specs.declared.world.WorldCall.TheVariants.{File, Tape}
 use Rattle.kr_provider.specs.Envelopes.{Envelope}
 use Rattle.kr_provider.specs.PluginOrder.{in_order, plugin_order}
 use Rattle.kr_provider.specs.Publication.{Publication, names_plugin}
@@ -37,7 +38,7 @@ use Rattle.kr_top.specs.Judgements.{start_refusal}
 use Rattle.kr_top.specs.Plugins.{borrow_links, make_seeds, programs_of}
 use Rattle.kr_top.specs.Ran.{IsTelling}
 use Rattle.kr_top.specs.Reports.{report_done}
-use Rattle.kr_top.specs.Steps.{Steps, borrow_dice, find, give, write_row, and_then, Left}
+use Rattle.kr_top.specs.Steps.{Steps, borrow_dice, find, give, write_row, and_then, Left, with_asked, with_tape}
 use Rattle.kr_top.specs.StoreFiles.{Stored, with_row}
 use Rattle.kr_top.specs.declared.command.Command.TheVariants.{Rewrite}
 use Rattle.kr_top.specs.declared.command.Rewriting.{Rewriting}
@@ -305,7 +306,7 @@ pub settled_rewriting : (old : Around) (words : Rewriting) → IsTelling (Rewrit
     → IsSettled (rewriting words) (rewriting words) (left_of old) (left_of old)
 settled_rewriting old words (file, tape, plugins) = settled_configuration old words.config
     (λ rows. and_then (linking_programs words.options rows) (passed rows)) file
-    (λ file rows is agrees. λ u v h k. settled_result _ _
+    (λ file rows is agrees. λ u v h k. settled_result configured configured
     (programs_of words.options (plugin_order rows)) (passed rows) (λ programs. (
       tape,
       refl,
@@ -314,16 +315,22 @@ settled_rewriting old words (file, tape, plugins) = settled_configuration old wo
       (
         tape,
         refl,
-        λ bytes a b x y. settled_by _ _ a b (listed rows programs) (one_stored bytes a b x y)
+        λ bytes a b x y. settled_by lent lent a b (listed rows programs) (one_stored bytes a b x y)
             (λ store. λ live other c d.
             subst (λ o. IsSettled (rewriting_live words.store rows programs store live)
-            (rewriting_live words.store rows programs store o) _ _)
+            (rewriting_live words.store rows programs store o) lent lent)
             (listing_once store.rows live other c d)
-            (settled_live words.store rows (plugins file rows is agrees) store live programs _ _
-            refl)),
+            (settled_live words.store rows (plugins file rows is agrees) store live programs lent
+            lent refl)),
       ),
     )))
   where
+    configured : Left
+    configured = with_asked (File words.config) (left_of old)
+
+    lent : Left
+    lent = with_tape false words.store (with_asked (Tape words.store false) configured)
+
     passed : List Row → List Program → Steps Outcome
     passed rows programs = tape_for words.store false (rewriting_on words.store rows programs)
 
