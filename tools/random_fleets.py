@@ -102,15 +102,15 @@ def crowd(draw):
 
 
 def rewriting(draw):
-    """Two workers rewrite while others write, and a key is exchanged for another meanwhile."""
+    """Two workers rewrite while others write, and a third makes one key and the other the first in turn meanwhile."""
     lines = ["fleet 1", "replica a old", "replica b old"]
     for number in range(4):
         lines += [f"worker w{number} {'ab'[number % 2]}"]
         lines += [f"put secrets {draw.choice(PATHS)} {base64.b64encode(draw.randbytes(9)).decode()}" for _ in range(10)]
         lines += [f"delete {draw.choice(PATHS)}", f"get {draw.choice(PATHS)}"]
     for number, name in enumerate("ab", 4):
-        lines += [f"worker w{number} {name}"] + ["rewrite"] * 4
-    lines += ["worker w6 a"] + [f"reload {name} {file}" for file in ("both", "new") for name in "ab"] + ["rewrite"]
+        lines += [f"worker w{number} {name}"] + ["rewrite"] * 8
+    lines += ["worker w6 a"] + [f"reload {name} {file}" for file in ("both", "new") * 6 for name in "ab"] + ["rewrite"]
     return lines
 
 
