@@ -29,7 +29,7 @@ use Rattle.kr_workers.specs.declared.ending.Ending.{Ending}
 use Rattle.kr_workers.specs.declared.ending.Ending.TheVariants as ending
 use Rattle.kr_workers.specs.declared.worker.Worker.{Worker}
 use Rattle.kr_top.specs.Around.{Around, IsHome, left_of}
-use Rattle.kr_top.specs.FleetReadings.{HasEnded, IsCompleted, NoneRose}
+use Rattle.kr_top.specs.FleetReadings.{IsCompleted, NoneRose}
 use Rattle.kr_top.specs.FleetReady.{IsReady}
 use Rattle.kr_top.specs.Fleets.{Begun, IsEquipped, RanFleet, RunsFleet, Starts, StopsBefore, TellsFleet, fleet_steps, opening_of}
 use Rattle.kr_top.specs.Message.{status_of as stop_status}
@@ -72,6 +72,18 @@ store_rose o st (first ∷ history) runs e (suc k, below, is) says =
     Rose-later st.count first.line.faults (state_from (after st first) history).count
     runs.0.counted
     (store_rose o (after st first) history runs.1 e (k, omega (arith, below), is) says)
+
+-- an entry of a run says that the store is full, so its row would have passed the limit
+passes_limit : (o : Opening) (st : State) (history : List Entry) → IsRun o st history
+    → (e : Entry) → Contains history e → (needed : ℕ) → e.line.gave ≡ gave.StoreFull needed
+    → o.limit < needed
+passes_limit o st [] runs e (k, below, is) needed says = absurd (omega (arith, below))
+passes_limit o st (first ∷ history) runs e (zero, below, is) needed says =
+    let own : first.line.gave ≡ gave.StoreFull needed =
+    ap (λ (x : Entry). x.line.gave) is ∙ says in
+    (subst (λ g. Writes g o st first) own runs.0.writes).3
+passes_limit o st (first ∷ history) runs e (suc k, below, is) needed says =
+    passes_limit o (after st first) history runs.1 e (k, omega (arith, below), is) needed says
 
 -- ---- names
 
@@ -198,31 +210,40 @@ module _ {T L D : Type 0} {truth : Truth} {link : L → Link} {left : D → Opti
             absurd (let e : None ≡ Some (field, text) =
             sym t.2 ∙ ap breach_in same ∙ has.has.2 in cc)
 
-    -- so the lines end otherwise
-    by_ending : (status : ℕ) (e : Ending) → RestsOn link count history runs.workers ended e
-        → HasEnded T truth link left count words old new output errors e → status ≡ status_of e
-        → IsCompleted T truth link left count words old new output errors status
-    by_ending status ending.Done rests has is = inl (is, has)
-    by_ending status ending.Refused rests has is = inr (inl (is, has))
-    by_ending status ending.Full rests has is = inr (inr (inl (is, has)))
-    by_ending status ending.Memory rests has is = inr (inr (inr is))
-    by_ending status ending.Fault rests has is = absurd (no_fault rests)
-    by_ending status ending.Unhealthy rests has is = absurd (no_illness rests)
-
   abbrev Completed : ℕ → Type 0
   Completed status = IsCompleted T truth link left count words old new output errors status
+
+  module _ (e : Ending) (s : Starts T truth link left count words old new output (Ok e))
+      (idle : IsIdle errors) where
+    begins : BeginsWell words old ready s.begun s.reaches.end
+    begins = allowed (BeginsWell words old ready) (gives s.begun) s.reaches.end
+        (fleet_steps words) (left_of old) (walks words old ready) s.reaches.goes
+
+    links : s.mid.world.links.told ≡ old.world.links.told
+    links = s.reaches.stays.links ∙ begins.sees.links
+
+    rests : RestsOn link count s.history s.runs.workers s.ended e
+    rests = subst (RestsOn link count s.history s.runs.workers s.ended) (sym s.writes.0)
+        s.runs.replies.rests
 
   -- the workers ran
   ended_so : (status : ℕ) (e : Ending)
       → Starts T truth link left count words old new output (Ok e) → IsIdle errors
       → status ≡ status_of e → Completed status
-  ended_so status e s idle is =
-      let begins = allowed (BeginsWell words old ready) (gives s.begun) s.reaches.end
-      (fleet_steps words) (left_of old) (walks words old ready) s.reaches.goes in
-      by_ending s.begun s.mid s.since s.reaches.end begins
-      (s.reaches.stays.links ∙ begins.sees.links) s.history s.ended s.runs status e
-      (subst (RestsOn link count s.history s.runs.workers s.ended) (sym s.writes.0)
-      s.runs.replies.rests) (s, idle) is
+  ended_so status ending.Done s idle is = inl (is, (s, idle))
+  ended_so status ending.Refused s idle is = inr (inl (is, (s, idle)))
+  ended_so status ending.Full s idle is =
+      let r = rests ending.Full s idle in
+      let o = opening_of words.store s.begun s.mid in
+      let passed = passes_limit o (start_of o) s.history s.runs.one.legal.runs r.0 r.1 r.2 r.3 in
+      inr (inr (inl (is, (s, idle, (r.0, r.1, r.2, r.3, passed)))))
+  ended_so status ending.Memory s idle is = inr (inr (inr is))
+  ended_so status ending.Fault s idle is = absurd (no_fault s.begun s.mid s.since s.reaches.end
+      (begins ending.Fault s idle) (links ending.Fault s idle) s.history s.ended s.runs
+      (rests ending.Fault s idle))
+  ended_so status ending.Unhealthy s idle is = absurd (no_illness s.begun s.mid s.since
+      s.reaches.end (begins ending.Unhealthy s idle) (links ending.Unhealthy s idle) s.history
+      s.ended s.runs (rests ending.Unhealthy s idle))
 
   -- they didn't
   stopped_so : (status : ℕ) (stop : Stop) → status ≡ stop_status (Err stop)

@@ -1,9 +1,12 @@
 -- What follows from a fleet's relation for readers: what its status comes from.
-use Rattle.std.specs.Prelude.{◌≡◌, ℕ, ◌⊎◌, List, Option, Ok, ⊤}
+use Rattle.std.specs.Prelude.{◌≡◌, ℕ, ◌<◌, ◌⊎◌, List, Contains, Option, Ok, ⊤}
 use Rattle.std.specs.Io.KnownBytes.{Appends}
 use Rattle.kr_base.specs.Faults.{Rose}
+use Rattle.kr_base.specs.Limits.{store_limit}
 use Rattle.kr_kms.specs.Calls.{Link}
 use Rattle.kr_kms.specs.Truth.{Truth}
+use Rattle.kr_rollout.specs.declared.line.Gave.TheVariants as gave
+use Rattle.kr_rollout.specs.declared.opening.Entry.{Entry}
 use Rattle.kr_workers.specs.Endings.{status_of}
 use Rattle.kr_workers.specs.declared.ending.Ending.{Ending}
 use Rattle.kr_workers.specs.declared.ending.Ending.TheVariants as ending
@@ -15,6 +18,11 @@ use Rattle.kr_top.specs.Ran.{IsIdle, Receipt}
 use Rattle.kr_top.specs.Steps.{Call, Goes, Left, Point, awaits, gives, refuses}
 use Rattle.kr_top.specs.declared.fleet_words.FleetWords.{FleetWords}
 use Rattle.kr_top.specs.declared.refusal.Refusal.{Refusal}
+
+-- an entry says that the store is full, with the length that its file would have had
+abbrev pub PassesLimit : List Entry → Type 0
+PassesLimit history = (e : Entry) × Contains history e × (needed : ℕ)
+    × (e.line.gave ≡ gave.StoreFull needed) × (store_limit < needed)
 
 module _ (T : Type 0) {L D : Type 0} (truth : Truth) (link : L → Link)
     (left : D → Option (List ℕ)) (count : D → ℕ) (words : FleetWords) (old new : Around)
@@ -41,12 +49,18 @@ module _ (T : Type 0) {L D : Type 0} (truth : Truth) (link : L → Link)
     pub written : Rose output.old_faults output.new_faults → ⊥
     pub told : Rose errors.old_faults errors.new_faults → ⊥
 
+  -- the workers did their lines; an entry found the store full: with its row the file would have
+  -- passed its limit
+  abbrev pub HasFilled : Type 0
+  HasFilled = (s : Starts T truth link left count words old new output (Ok ending.Full))
+      × IsIdle errors × PassesLimit s.history
+
   -- all lines have replies, which decide the status: 0, or 1 where some reply isn't that its line was
   -- done, or 6 where a write would have passed the store's limit; or memory lacked
   abbrev pub IsCompleted : ℕ → Type 0
   IsCompleted status = ((status ≡ 0) × HasEnded ending.Done)
       ⊎ ((status ≡ 1) × HasEnded ending.Refused)
-      ⊎ ((status ≡ 6) × HasEnded ending.Full)
+      ⊎ ((status ≡ 6) × HasFilled)
       ⊎ (status ≡ 5)
 
   -- the steps up to the workers, over what is told and some drawn bytes, come to this point
