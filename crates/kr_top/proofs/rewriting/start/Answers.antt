@@ -42,10 +42,11 @@ begins_with store replicas names room = record {
 }
 
 -- what is known of a start of these replicas
-alone_starts : {S : Type 0} (store : Kept) (p : Publication) (names : List (List ℕ)) (room : ℕ)
+alone_starts : (store : Kept) (p : Publication) (names : List (List ℕ)) (room : ℕ)
     (replicas : List (Option Publication)) (core : CoreState) → replicas ≡ Some p ∷ []
-    → Starts {S = S} (opening_by store replicas names (0 ∷ [])) room (Ok core)
-    → StartsAlone {S = S} store p names room (Ok core)
+    → MayStart store.rows (settings_of replicas) × (core ≡ begins_with store replicas names room)
+    → MayStart store.rows (Some p.rows ∷ [])
+    × (core ≡ begins_with store (Some p ∷ []) names room)
 alone_starts store p names room replicas core is s = (
   subst (λ r. MayStart store.rows (settings_of r)) is s.0,
   s.1 ∙ ap (λ r. begins_with store r names room) is,
@@ -61,8 +62,8 @@ alone_fails {S} store p names room replicas why back is s = (
   refl,
 )
 
-pub returns-in-Ok-clause-starts : goal.returns-in-Ok-clause-starts
-returns-in-Ok-clause-starts g c = alone_starts c.args.rollout.store c.args.published
+pub returns-in-Ok-start-clause-starts : goal.returns-in-Ok-start-clause-starts
+returns-in-Ok-start-clause-starts g c = alone_starts c.args.rollout.store c.args.published
     c.args.rollout.names.0 c.args.rollout.room c.in-Ok.replicas.0 c.in-Ok-start.core
     c.in-Ok.ensures c.in-Ok-start.ensures.starts
 
