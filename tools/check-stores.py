@@ -1,10 +1,10 @@
 #!/usr/bin/env python3
 """Runs the built kmsrest's `put` under a full file system, killed at random moments, fifty at once, and at the limit of a store,
-its `migrate` at the limits of its target, and its `rewrite` at the limits of a journal and of a store.
+its `migrate` at the limits of its target, its `rewrite` at the limits of a journal and of a store, and a fleet at that of a store.
 
-    tools/check-stores.py [full] [killed] [crowd] [large] [migrates] [rewrites] [--kmsrest PATH] [--seed N]
+    tools/check-stores.py [full] [killed] [crowd] [large] [migrates] [rewrites] [fleets] [--kmsrest PATH] [--seed N]
 
-No name of a check means all six. After each run the store is read by tools/reference, which is no part of kmsrest: every
+No name of a check means all seven. After each run the store is read by tools/reference, which is no part of kmsrest: every
 row that was answered by its revision is there, whole and at that revision. It answers 0 where that always held."""
 import argparse
 import os
@@ -361,7 +361,60 @@ def migrates(checks, folder, _dice):
     checks.expect("migrate into it", (3, b"", f"kmsrest: text 52 {store.MOST_STORE + 1}\n"), migrate())
 
 
-CHECKS = {"full": full, "killed": killed, "crowd": crowd, "large": large, "migrates": migrates, "rewrites": rewrites}
+# ---- fleets
+
+SCRIPT = """fleet 1
+replica a config
+worker w a
+put secrets /large/last bGFzdA==
+delete /large/0
+get /large/last
+rewrite
+"""
+AT_THE_LIMIT = b"""journal
+0 w adopt a 0
+1 w full put /large/last
+2 w letgo
+3 w delete /large/0 %d
+4 w adopt a 0
+5 w fetch /large/last 0
+6 w letgo
+7 w adopt a 0
+8 w after - 2
+9 w full replace /large/1
+10 w letgo
+replies
+w 1 full
+w 2 delete %d
+w 3 absent
+w 4 full
+end
+"""
+
+
+def fleets(checks, folder, _dice):
+    """Of a store that is nearly full a fleet is told so by each line whose row doesn't fit; a shorter row is written."""
+    (Path(folder) / "config").write_text("kind: EncryptionConfiguration\napiVersion: apiserver.config.k8s.io/v1" + BY_KEY)
+    (Path(folder) / "script").write_text(SCRIPT)
+    sealed = store.Row(b"/large/last", b"secrets", b"k8s:enc:aescbc:v1:key1:" + bytes(32), bytes(8))
+    checks.name.write_bytes(store.written(2, many_rows(store.MOST_STORE - len(store.row_bytes(2, MANY + 1, sealed)) + 1)))
+    before = checks.held()
+    words_of_fleet = [checks.kmsrest, "fleet", "--file", "script", "--store", checks.name]
+    done = subprocess.run(words_of_fleet, cwd=folder, capture_output=True, stdin=subprocess.DEVNULL, timeout=60, check=False)
+    wanted = (6, AT_THE_LIMIT % (MANY + 1, MANY + 1), b"")
+    checks.expect("a fleet at the limit of a store", wanted, (done.returncode, done.stdout, done.stderr))
+    checks.expect("its rows", before + store.row_bytes(2, MANY + 1, store.Row(b"/large/0")), checks.held())
+
+
+CHECKS = {
+    "full": full,
+    "killed": killed,
+    "crowd": crowd,
+    "large": large,
+    "migrates": migrates,
+    "rewrites": rewrites,
+    "fleets": fleets,
+}
 
 
 def main():

@@ -49,7 +49,7 @@ nothing = give tt
 
 module _ {A B : Type 0} (point : Point B) (last : Left) (others : A → Steps B) where
   -- from where the first steps came to, the others went on; or all ended there
-  abbrev Further : Point A → Left → Type 0
+  abbrev pub Further : Point A → Left → Type 0
   Further (awaits call) end = IsAt point last (awaits call) end
   Further amid end = IsAt point last amid end
   Further (refuses why) end = IsAt point last (refuses why) end
@@ -60,7 +60,7 @@ module _ {A B : Type 0} (point : Point B) (last : Left) (others : A → Steps B)
   land {p} {end} {left} here at f =
       subst (λ l. Further here l) at.1 (subst (λ q. Further q end) at.0 f)
 
-  further : (p : Point A) (end : Left) → Further p end → (first : Steps A) (left : Left)
+  pub further : (p : Point A) (end : Left) → Further p end → (first : Steps A) (left : Left)
       → Goes p end first left → Goes point last (and_then first others) left
   further p end f (load name next) left (inl at) = inl (land amid at f)
   further p end f (load name next) left (inr (inl at)) =

@@ -324,7 +324,7 @@ settled_links (program ∷ programs) next left right same f =
     settled_links programs next _ _ same f
 
 -- what follows the first two follows the second of them
-regroup : {A B C : Type 0} (first : Steps A) (f : A → Steps B) (g : B → Steps C)
+pub regroup : {A B C : Type 0} (first : Steps A) (f : A → Steps B) (g : B → Steps C)
     → and_then (and_then first f) g ≡ and_then first (λ x. and_then (f x) g)
 regroup (load name next) f g = λ i. load name (λ bytes. regroup (next bytes) f g i)
 regroup (take_input limit long next) f g =
@@ -353,21 +353,21 @@ regroup (give x) f g = refl
 abbrev more_seeds : List (List ℕ) → SeedRow → Steps (List SeedRow)
 more_seeds names row = and_then (make_seeds names) (λ rows. give (row ∷ rows))
 
-settled_seeds : (names : List (List ℕ)) (left right : Left) → right.links ≡ left.links
+pub settled_seeds : (names : List (List ℕ)) (left right : Left) → right.links ≡ left.links
     → ((plugin : List ℕ) → Contains names plugin → IsSome (left.links (0, plugin)))
     → (next more : List SeedRow → Steps Outcome)
     → ((a b : List SeedRow) (l r : Left) → names_made a ≡ names → names_made b ≡ names
-    → IsSettled (next a) (more b) l r)
+    → l.links ≡ left.links → r.links ≡ left.links → IsSettled (next a) (more b) l r)
     → IsSettled (and_then (make_seeds names) next) (and_then (make_seeds names) more) left right
-settled_seeds [] left right same told next more f = f [] [] left right refl refl
+settled_seeds [] left right same told next more f = f [] [] left right refl refl refl same
 settled_seeds (name ∷ names) left right same told next more f = (
   told name (0, omega arith, refl),
   ap (λ t. t (0, name)) same,
   λ status. by_breach (λ x y rx ry u v. settled_seeds names _ _ same
       (λ plugin c. told plugin (suc c.0, omega (arith, c.1), c.2))
       (λ rows. next (seed_row name x u ∷ rows)) (λ rows. more (seed_row name y v ∷ rows))
-      (λ a b l r g h. f (seed_row name x u ∷ a) (seed_row name y v ∷ b) l r
-      (ap (λ n. name ∷ n) g) (ap (λ n. name ∷ n) h))) (breach_in status),
+      (λ a b l r g h. λ s t. f (seed_row name x u ∷ a) (seed_row name y v ∷ b) l r
+      (ap (λ n. name ∷ n) g) (ap (λ n. name ∷ n) h) s t)) (breach_in status),
 )
   where
     after : (a b : SeedRow) (l r : Left)
@@ -404,7 +404,7 @@ settled_working left right old Encrypt resource path bytes rows x y told = λ u 
     settled_seeds (plugin_order rows) left right (y ∙ sym x)
     (λ plugin c. subst (λ t. IsSome (t (0, plugin))) (sym x) (told plugin c))
     (working_by Encrypt resource path rows bytes) (working_by Encrypt resource path rows bytes)
-    (λ a b l r e f. λ u v h k. settled_draw l r (draw_size (writer_of (list_of rows resource)))
+    (λ a b l r e f. λ s t. λ u v h k. settled_draw l r (draw_size (writer_of (list_of rows resource)))
     (sealed_by a (writer_of (list_of rows resource)) path bytes)
     (sealed_by b (writer_of (list_of rows resource)) path bytes)
     (λ p q. one_seal (writer_of (list_of rows resource)) a b path bytes p q (e ∙ sym f)))

@@ -7,6 +7,7 @@ pub mod Commands
 pub mod FleetAsked
 pub mod FleetFiles
 pub mod FleetReadings
+pub mod FleetReady
 pub mod Fleets
 pub mod Configuration
 pub mod Inspect
