@@ -324,9 +324,9 @@ module _ {L D : Type 0} (truth : Truth) (link : L → Link) (left : D → Option
   puts_caused resource path plain p old new olds news dice after
       (refusal.Refused value.NoProvider) d = absurd d
   puts_caused resource path plain p old new olds news dice after
-      (refusal.Refused value.LooksEncrypted) d = tt
+      (refusal.Refused value.LooksEncrypted) d = d.0.2
   puts_caused resource path plain p old new olds news dice after (refusal.Refused value.TooLarge)
-      d = tt
+      d = d.0.1
   puts_caused resource path plain p old new olds news dice after (refusal.PluginFailed name) d =
       absurd d
   puts_caused resource path plain p old new olds news dice after refusal.DiceFailed d = (tt, d.0.2)

@@ -1,11 +1,13 @@
 -- Why a line has its reply: each line has its defined replies, each of which an own entry or a
 -- plugin's status bears out; and a reply that names an object as its fault is told only where the
 -- line may use that object, and the count of that very object rose.
-use Rattle.std.specs.Prelude.{◌≡◌, ◌<◌, ◌≤◌, ◌+◌, ◌-◌, ◌^◌, ℕ, Bool, true, false, List, ◌∷◌, ◌++◌, count_by, Contains, Option, Some, ⊤}
+use Rattle.std.specs.Prelude.{◌≡◌, ◌<◌, ◌≤◌, ◌+◌, ◌-◌, ◌^◌, ℕ, Bool, true, false, List, ◌∷◌, ◌++◌, count_by, length, Contains, Option, Some, ⊤}
 use Rattle.std.specs.List.{slice_get}
 use Rattle.std.specs.Str.{bytes_eq}
 use Rattle.kr_base.specs.Faults.{Rose}
+use Rattle.kr_base.specs.Limits.{data_limit}
 use Rattle.kr_base.specs.Lines.{of_seat}
+use Rattle.kr_envelope.specs.Prefixes.{is_marked}
 use Rattle.kr_kms.specs.Calls.{Link}
 use Rattle.kr_kms.specs.Health.{HasBreach}
 use Rattle.kr_kms.specs.Truth.{Truth}
@@ -33,15 +35,15 @@ use Rattle.kr_workers.specs.ScriptLines.{Workplace}
 
 -- ---- the defined replies of a line; faults and want of memory stand beside them
 
--- data that aren't sealed
-abbrev pub IsOfData : ValueNo → Type 0
-IsOfData LooksEncrypted = ⊤
-IsOfData TooLarge = ⊤
-IsOfData why = ⊥
+-- data that aren't sealed: they begin as sealed values do, or are too large
+abbrev pub IsOfData : (plain : List ℕ) → ValueNo → Type 0
+IsOfData plain LooksEncrypted = is_marked plain ≡ true
+IsOfData plain TooLarge = data_limit < length plain
+IsOfData plain why = ⊥
 
 abbrev pub IsDefined : ScriptLine → Told → Type 0
 IsDefined (line.Put resource path plain) (told.Put revision) = ⊤
-IsDefined (line.Put resource path plain) (told.Value why) = IsOfData why
+IsDefined (line.Put resource path plain) (told.Value why) = IsOfData plain why
 IsDefined (line.Put resource path plain) told.Full = ⊤
 IsDefined (line.Put resource path plain) told.Gone = ⊤
 IsDefined (line.Get path) (told.Got revision plain) = ⊤
