@@ -297,11 +297,9 @@ module _ {L D : Type 0} (truth : Truth) (link : L → Link) (left : D → Option
             (λ n p from to d. d) r,
       )
   refresh_caused replica old new reply (Ok (loaded.Unchanged number)) is r = told_caused
-      link count line.Refresh old new reply told.Unchanged is (
-        tt,
-        unchanged_caused replica old.caller new.caller old.links new.links old.dice new.dice
-            number r,
-      )
+      link count line.Refresh old new reply told.Unchanged is
+      (let u = unchanged_caused replica old.caller new.caller old.links new.links old.dice
+      new.dice number r in (tt, u.0, u.1, u.2))
   refresh_caused replica old new reply (Err why) is r =
       refused_caused link count line.Refresh old new reply why is
       (refresh_ends replica old.caller new.caller old.links new.links old.dice new.dice why r)

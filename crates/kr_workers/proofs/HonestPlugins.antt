@@ -1,5 +1,5 @@
 -- The history of a fleet is honest by any truth by which plugins unwrap what they wrapped.
-use Rattle.std.specs.Prelude.{All, IfSome, cond, find, slice_index}
+use Rattle.std.specs.Prelude.{All, IfSome, cond, slice_index, slice_index_or}
 use Rattle.std.specs.List.{slice_get}
 use Rattle.std.specs.Option.{option_map}
 use Rattle.std.specs.Str.{bytes_eq}
@@ -95,6 +95,12 @@ module _ {L D : Type 0} (truth : Truth) (link : L → Link) (left : D → Option
       parts_follow.both first.caller all.0.caller last.caller done.part (entries_in run)
       all.1.adds (run_adds replica all.0 run last all.2)
 
+  run_mine : (replica : ℕ) (first : Workplace L D) (run : List LineDone) (last : Workplace L D)
+      → DoesAll truth link left count files replica first run last
+      → last.caller.mine ≡ first.caller.mine ++ entries_in run
+  run_mine replica first run last all =
+      ap (λ (c : Caller). c.mine) (run_adds replica first run last all).new_is
+
   module _ {T : Type 0} (history : List Entry) (o : Opening) (parts : List Part)
       (budgets : List ℕ) (old new : List (Worker T L D))
       (one : IsOneHistory truth link left count files history o parts budgets old new) where
@@ -104,20 +110,17 @@ module _ {L D : Type 0} (truth : Truth) (link : L → Link) (left : D → Option
         let part = first_in parts seat within in
         let worker = first_in old seat (omega (arith, within, one.whole)) in
         let s = one.each seat part worker within in
-        let first : Caller = record {
-          opening = o;
-          seat = seat;
-          seen = [];
-          mine = [];
-          left = slice_index budgets seat;
-        } in
-        let known = (run_keeps truth link left count files _ _ s.run s.last s.does).all (record {
+        let replica = (slice_index_or parts seat part).replica in
+        let place = first_place o seat (slice_index budgets seat)
+        (slice_index_or old seat worker).bench in
+        let known = (run_keeps truth link left count files replica place s.run s.last s.does).all
+        (record {
           legal = front_law o [] history one.legal;
           own = refl;
           seat_in = there;
         }) (All-nil (IsKnown truth link left count)) in
         subst (λ (l : List Entry). All (IsKnown truth link left count) l)
-        (ap (λ (c : Caller). c.mine) (run_adds _ _ s.run s.last s.does).new_is ∙ s.parts_are) known
+        (run_mine replica place s.run s.last s.does ∙ s.parts_are) known
 
     pub resealed : (front : List Entry) (e : Entry) (rest : List Entry) (path : List ℕ)
         → history ≡ front ++ e ∷ rest → IsReplaced path e → Reseals truth link path e
@@ -167,7 +170,7 @@ module _ (opens : Opens) (seeds : List SeedRow) (all : OpenAll opens seeds) (pat
     -- the source opens to what it was unwrapped to, or is a published seed's
     source_opens : (name : List ℕ) (object : EncryptedObject) (source : Option (List ℕ))
         → TakesSeed seeds (Some (Kms name)) (record { object = Ok object; source = source })
-        → (MayAskFor seeds name object → opens (seed_key name object) ≡ source)
+        → (MayAskFor seeds name object → source ≡ opens (seed_key name object))
         → source ≡ opens (seed_key name object)
     source_opens name object source takes asked = at (seed_of name seeds) refl
       where
@@ -178,10 +181,10 @@ module _ (opens : Opens) (seeds : List SeedRow) (all : OpenAll opens seeds) (pat
             (same_key (key_of row) (seed_key name object)).0 same in
             takes object row refl is own ∙ sym (seed_opens opens name seeds row all is)
             ∙ ap opens own
-        by_row row is false other = sym (asked (λ q there own. false≢true (sym other
+        by_row row is false other = asked (λ q there own. false≢true (sym other
             ∙ (same_key (key_of row) (seed_key name object)).1
             (subst (λ (x : SeedRow). IsSeedOf x name object)
-            (same_Some q row (sym there ∙ is)) own))))
+            (same_Some q row (sym there ∙ is)) own)))
 
         at : (found : Option SeedRow) → seed_of name seeds ≡ found
             → source ≡ opens (seed_key name object)

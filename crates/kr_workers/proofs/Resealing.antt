@@ -316,14 +316,13 @@ module _ {L D : Type 0} (truth : Truth) (link : L → Link) (left : D → Option
       quiet_keeps old new (brings b.p) (answer.Gone replica) (quiet b.p) b.brought
   brings_keep rows brings quiet replica old new olds news dice after refusal.Spent b =
       none_keeps old new b.1
-  brings_keep rows brings quiet replica old new olds news dice after refusal.NoMemory b =
-      elim b [
-        | inl x ↦ same_keeps old new x.1
-        | inr x ↦ elim x [
-          | inl y ↦ same_keeps old new y.1
-          | inr y ↦ quiet_keeps old new (brings y.p) answer.NoMemory (quiet y.p) y.brought
-        ]
-      ]
+  brings_keep rows brings quiet replica old new olds news dice after refusal.NoMemory (inl b) =
+      same_keeps old new b.1
+  brings_keep rows brings quiet replica old new olds news dice after refusal.NoMemory
+      (inr (inl b)) = same_keeps old new b.1
+  brings_keep rows brings quiet replica old new olds news dice after refusal.NoMemory
+      (inr (inr b)) =
+      quiet_keeps old new (brings b.p) answer.NoMemory (quiet b.p) b.brought
 
   reload_keeps : (rows : List setting) (replica : ℕ) (old new : Caller) (olds news : List L)
       (dice after : D) (result : Result Loaded CallNo)
@@ -443,14 +442,14 @@ module _ {L D : Type 0} (truth : Truth) (link : L → Link) (left : D → Option
     unwritten : (stored : List ℕ) (given : Answer) → is_written (gave_of given) ≡ false
         → (a : AddsEntry old (event.Replace row.path row.revision stored) given new)
         → IsKnown a.entry
-    unwritten stored given no a path r = absurd (false≢true (sym no
+    unwritten stored given other a path r = absurd (false≢true (sym other
         ∙ ap is_written (sym a.records.gave_is ∙ r.gave_is)))
 
     replaced_known : (stored : List ℕ) (given : Answer)
         → IsSealing p row.resource row.path opened.plain stored
         → (a : AddsEntry old (event.Replace row.path row.revision stored) given new)
         → IsKnown a.entry
-    replaced_known stored (answer.Written revision) sealing a path r =
+    replaced_known stored (answer.Written revision) sealing a = λ path r.
         subst (λ q. Reseals truth link q a.entry)
         (ap (replaced_path path) (sym a.records.did_is ∙ r.did_is))
         (resealed stored revision sealing a)
