@@ -1,9 +1,7 @@
 -- The history of a fleet is honest by any truth by which plugins unwrap what they wrapped.
 use Rattle.std.specs.Prelude.{All, IfSome, cond, slice_index, slice_index_or}
-use Rattle.std.specs.List.{slice_get}
-use Rattle.std.specs.Option.{option_map}
 use Rattle.std.specs.Str.{bytes_eq}
-use Rattle.std.proofs.Common.{◌≡◌, ℕ, zero, suc, ◌<◌, ◌+◌, ◌==◌, Bool, true, false, List, [], ◌∷◌, ◌++◌, length, get_or, Option, None, Some, Result, Ok, Err, refl, ap, sym, subst, ◌∙◌, append-nil, arith, length-append}
+use Rattle.std.proofs.Common.{◌≡◌, ℕ, zero, suc, ◌<◌, ◌+◌, ◌==◌, Bool, true, false, List, [], ◌∷◌, ◌++◌, length, Option, None, Some, Result, Ok, Err, refl, ap, sym, subst, ◌∙◌, append-nil, arith, length-append}
 use Rattle.std.proofs.lemmas.Bool.{eq-eqb, false≢true}
 use Rattle.std.proofs.lemmas.List.{append_assoc, get_or_append_left}
 use Rattle.std.proofs.lemmas.List.Elements.{All-append, All-cons, All-nil, filter-append}
@@ -33,8 +31,8 @@ use Rattle.kr_rollout.specs.declared.opening.Entry.{Entry}
 use Rattle.kr_rollout.specs.declared.opening.Opening.{Opening}
 use Rattle.kr_rollout.specs.Acting.{Caller}
 use Rattle.kr_rollout.specs.Entries.{generation_named_in, published_at, seat_of}
-use Rattle.kr_rollout.specs.Histories.{IsLegal, IsRun, state_from, state_of}
-use Rattle.kr_rollout.specs.Honesty.{HonestBy, IsHonest, IsHonestEntry, KeepsData, SeedsOpen}
+use Rattle.kr_rollout.specs.Histories.{IsRun, state_from}
+use Rattle.kr_rollout.specs.Honesty.{HonestBy, IsHonestEntry, KeepsData, SeedsOpen}
 use Rattle.kr_rollout.specs.Openings.{generations_from, start_of}
 use Rattle.kr_rollout.specs.Parts.{Adds}
 use Rattle.kr_rollout.specs.States.{State}
@@ -45,7 +43,7 @@ use Rattle.kr_script.specs.declared.script.Part.{Part}
 use Rattle.kr_workers.specs.declared.files.SettingsFile.{SettingsFile}
 use Rattle.kr_workers.specs.declared.worker.Worker.{Worker}
 use Rattle.kr_workers.specs.Histories.{IsOneHistory, first_place}
-use Rattle.kr_workers.specs.Plugins.{FollowsPlugins, HonestOfPlugins, IsReplaced, Reseals, UnwrappedBy}
+use Rattle.kr_workers.specs.Plugins.{HonestOfPlugins, IsReplaced, Reseals, UnwrappedBy}
 use Rattle.kr_workers.specs.Runs.{DoesAll, LineDone, entries_in}
 use Rattle.kr_workers.specs.ScriptLines.{Workplace}
 use Rattle.kr_workers.proofs.Resealing.{IsKnown, run_keeps}
