@@ -10,7 +10,7 @@ use std::test::Fail;
 fn two_seats_adopt_in_two_threads(rt: HostRuntime) -> Result<(), Fail> {
     let alloc = rt.alloc();
     let core = core(alloc, 400).ok_or("no core")?;
-    let core = each_in_a_thread(&rt, alloc, core, 100).ok_or("no memory")?;
+    let core = each_in_a_thread(&rt, alloc, core, &[200, 200], 100).ok_or("no memory")?;
     assert_eq!(rt; core.journal().len(), 400);
     assert!(rt; lines_of(&core, 0));
     assert!(rt; lines_of(&core, 1));

@@ -1,10 +1,10 @@
 //! What the seats do, and a core that goes to another thread.
-ghost use Rattle.std.specs.Prelude.{◌≡◌, ◌<◌, ◌≤◌, [], length, IsTrue};
+ghost use Rattle.std.specs.Prelude.{◌≡◌, ◌≤◌, ◌∷◌, [], length, sum, IfOk, IfSome, IsTrue};
 ghost use Rattle.kr_turn.specs.Seats.{number_of};
 ghost use Rattle.kr_seats.specs.Fleets.{IsFleetSeat, caller_of};
-ghost use Rattle.kr_seats_tests.specs.Ready.{IsReady, Follows};
+ghost use Rattle.kr_seats_tests.specs.Ready.{IsReady, IsNewCore, IsNumbered, Follows};
 
-use kr_base::{List, MemTape, Tape};
+use kr_base::{List, MemTape, NoMemory, Tape};
 use kr_rollout::{Acts, Answer, Core, Did, Event, Gave, holding_follows};
 use kr_seats::{Fleet, Seat};
 use std::alloc::Global;
@@ -54,36 +54,121 @@ fn work<T: Tape, R: Wait>(rt: &R, fleet: &Fleet<T>, seat: Seat<T>, times: u64) -
     at.into_seat()
 }
 
+/// The seats of a fleet that has two.
+#[derive(Drop)]
+struct Pair {
+    first: Seat<MemTape>,
+    second: Seat<MemTape>,
+}
+
+impl Pair {
+    /// The seats of the list, if they are two.
+    #[tactic(auto, using(crate::proofs::Pairs::two_items))]
+    fn of(seats: List<Seat<MemTape>>) -> Option<Pair>
+        ensures { IfSome result (λ pair. seats.0 ≡ pair.first ∷ pair.second ∷ []) }
+    {
+        let mut seats = seats;
+        let Some(second) = seats.pop() else {
+            return None;
+        };
+        match last_of(seats) {
+            Some(first) => Some(Pair { first, second }),
+            None => None,
+        }
+    }
+
+    /// A list of them.
+    fn into_list(self, alloc: Global) -> Result<List<Seat<MemTape>>, NoMemory>
+        ensures { IfOk result (λ seats. seats.0 ≡ self.first ∷ self.second ∷ []) }
+    {
+        let Pair { first, second } = self;
+        let mut seats = List::new(alloc);
+        seats.reserve(2)?;
+        seats.push_in_room(first);
+        seats.push_in_room(second);
+        Ok(seats)
+    }
+}
+
+/// The item of a list that has just one.
+fn last_of(seats: List<Seat<MemTape>>) -> Option<Seat<MemTape>>
+    ensures { IfSome result (λ seat. seats.0 ≡ seat ∷ []) }
+{
+    let mut seats = seats;
+    let Some(seat) = seats.pop() else {
+        return None;
+    };
+    if !seats.as_slice().is_empty() {
+        return None;
+    }
+    seats.end();
+    Some(seat)
+}
+
 /// Lets two seats work in two threads, and gives the core back.
 pub fn each_in_a_thread<R: Threads + Wait + Sync>(
     rt: &R,
     alloc: Global,
     core: Core<MemTape>,
+    budgets: &[u64],
     times: u64,
 ) -> Option<Core<MemTape>>
-    requires opening { (length core.opening.replicas ≡ 1) × (length core.opening.reloads ≡ 2) }
-    requires new { (core.history ≡ []) × (400 ≤ core.room) }
+    requires new { IsNewCore 400 core }
+    requires budgets { (length budgets.now ≡ 2) × (sum budgets.now ≤ 400) }
 {
-    let (fleet, mut seats) = Fleet::new(alloc, core, &[200, 200]).ok()?;
-    let second = seats.pop()?;
-    let first = seats.pop()?;
-    seats.end();
-    let shared = &fleet;
+    let (fleet, seats) = match Fleet::new(alloc, core, budgets) {
+        Ok(made) => made,
+        Err(_) => return None,
+    };
+    let Some(pair) = Pair::of(seats) else {
+        return None;
+    };
+    let pair = both_work(rt, &fleet, pair, times);
+    closed(alloc, fleet, pair)
+}
+
+/// Lets the seats work at the same time.
+fn both_work<R: Threads + Wait + Sync>(
+    rt: &R,
+    fleet: &Fleet<MemTape>,
+    pair: Pair,
+    times: u64,
+) -> Pair
+    requires first { IsFleetSeat fleet.now pair.first × IsReady (caller_of fleet.now pair.first) }
+    requires second { IsFleetSeat fleet.now pair.second
+        × IsReady (caller_of fleet.now pair.second) }
+    ensures first { IsFleetSeat fleet.now result.first
+        × (number_of result.first ≡ number_of pair.first) }
+    ensures second { IsFleetSeat fleet.now result.second
+        × (number_of result.second ≡ number_of pair.second) }
+{
+    let Pair { first, second } = pair;
     let (first, second) = join(
         rt,
         || -> Seat<MemTape>
-            requires { IsFleetSeat shared.now first × IsReady (caller_of shared.now first) }
-            ensures { IsFleetSeat shared.entry.now result
+            requires { IsFleetSeat fleet.now first × IsReady (caller_of fleet.now first) }
+            ensures { IsFleetSeat fleet.entry.now result
                 × (number_of result ≡ number_of first) }
-        { work(rt, shared, first, times) },
+        { work(rt, fleet, first, times) },
         || -> Seat<MemTape>
-            requires { IsFleetSeat shared.now second × IsReady (caller_of shared.now second) }
-            ensures { IsFleetSeat shared.entry.now result
+            requires { IsFleetSeat fleet.now second × IsReady (caller_of fleet.now second) }
+            ensures { IsFleetSeat fleet.entry.now result
                 × (number_of result ≡ number_of second) }
-        { work(rt, shared, second, times) },
+        { work(rt, fleet, second, times) },
     );
-    let both = vec![in alloc; first, second].ok()?;
-    Some(fleet.close(List::from_vec(both)))
+    Pair { first, second }
+}
+
+/// Ends the fleet with both seats.
+fn closed(alloc: Global, fleet: Fleet<MemTape>, pair: Pair) -> Option<Core<MemTape>>
+    requires two { length fleet.terms.budgets ≡ 2 }
+    requires first { IsNumbered fleet 0 pair.first }
+    requires second { IsNumbered fleet 1 pair.second }
+{
+    match pair.into_list(alloc) {
+        Ok(seats) => Some(fleet.close(seats)),
+        Err(NoMemory) => None,
+    }
 }
 
 /// Whether the seat's lines are an Adopt and a LetGo by turns, and are 200.
@@ -105,8 +190,14 @@ pub fn lines_of(core: &Core<MemTape>, seat: u32) -> bool {
     count == 200
 }
 
-/// How many lines a core has that is closed in another thread.
+/// How many lines a core has that goes to another thread and is closed there.
 pub fn moved_into_a_thread<R: Threads + Sync>(rt: &R, core: Core<MemTape>) -> usize {
-    let (lines, ()) = join(rt, || core.journal().len(), || ());
+    let (lines, ()) = join(rt, move || lines_at_close(core), || ());
     lines
+}
+
+/// Closes the core, and tells how many lines it had.
+fn lines_at_close(core: Core<MemTape>) -> usize {
+    let (_store, journal) = core.close();
+    journal.as_slice().len()
 }
