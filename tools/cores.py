@@ -2,7 +2,7 @@
 """Writes the stored run of kr_cores, crates/kr_cores/stdin and stdout; with the word `check` it compares them instead.
 
 The lines are written here, the worked cases by hand and the rest drawn with a fixed seed. What they answer is found by the
-table of steps as it is written here, over a plain list of rows and a board of tools/boards.py, which goes through all
+table of steps as it is written here, over a plain list of rows and the board of tools/reference, which goes through all
 needs and generations; the program itself is never asked. A sealed value is kept as its provider and its data: of its bytes
 only their number is printed. The lines are those at the heads of crates/kr_cores/src/reading.rt and asking.rt.
 """
@@ -15,8 +15,9 @@ from pathlib import Path
 
 sys.dont_write_bytecode = True
 
-from boards import GCM1, IDENTITY, KEY1, KEY2, OTHER1, Board, Form, number_of, settings, who_text
+from boards import GCM1, IDENTITY, KEY1, KEY2, OTHER1, Form, number_of, settings
 from reference import configuration, values, words
+from reference.board import Board, who_text
 
 CRATE = Path(__file__).resolve().parent.parent / "crates" / "kr_cores"
 MAGICS = {b"": 2, b"KRSTORE2": 2, b"KRSTORE1": 1}
