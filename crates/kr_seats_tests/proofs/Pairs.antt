@@ -1,5 +1,5 @@
 -- The two seats of a new fleet with two budgets, and what they are afterwards.
-use Rattle.std.proofs.Common.{◌≡◌, ℕ, zero, suc, ◌<◌, List, [], ◌∷◌, ◌++◌, length, map, All, Contains, refl, sym, subst, ap, ◌∙◌, arith}
+use Rattle.std.proofs.Common.{◌≡◌, ℕ, zero, suc, ◌<◌, List, [], ◌∷◌, ◌++◌, length, map, All, Contains, sym, subst, ap, ◌∙◌, arith}
 use Rattle.std.proofs.lemmas.List.Elements.{All-cons, All-nil, All-head, All-tail}
 use Rattle.kr_turn.specs.Keys.{Home}
 use Rattle.kr_turn.specs.Seats.{IsSeatOf, IsFresh, AreFresh, AreAll, number_of}
