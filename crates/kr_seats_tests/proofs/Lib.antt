@@ -1,0 +1,3 @@
+-- Lemmas of the tests.
+pub mod Bare
+pub mod Pairs
