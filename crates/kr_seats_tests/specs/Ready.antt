@@ -4,6 +4,8 @@ use Rattle.kr_provider.specs.Publication.{Publication, names_plugin}
 use Rattle.kr_rollout.specs.Acting.{Caller}
 use Rattle.kr_rollout.specs.Callers.{holding}
 use Rattle.kr_rollout.specs.Cores.{CoreState}
+use Rattle.kr_rollout.specs.declared.event.Event.{Event}
+use Rattle.kr_rollout.specs.declared.event.Event.TheVariants.{Leave}
 use Rattle.kr_rollout.specs.declared.opening.Entry.{Entry}
 use Rattle.kr_rollout.specs.declared.opening.Opening.{Opening}
 use Rattle.kr_turn.specs.Keys.{Home}
@@ -35,3 +37,7 @@ Follows old new = (new.opening ≡ old.opening) × (new.seat ≡ old.seat)
 -- it is the fleet's seat with this number
 abbrev pub IsNumbered : {S : Type 0} → Home Opening → (number : ℕ) → Place S Entry Opening → Type 0
 IsNumbered home number seat = IsFleetSeat home seat × (number_of seat ≡ number)
+
+-- each of two seats takes the first replica's generation away
+abbrev pub both_leave : List (ℕ × Event)
+both_leave = (0, Leave 0) ∷ (1, Leave 0) ∷ []
