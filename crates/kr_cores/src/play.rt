@@ -107,7 +107,8 @@ impl Play {
         add_live(page, self.table()?.live())
     }
 
-    /// Ends the core, and prints its store's rows; before them, of a core with one caller, all lines.
+    /// Ends the core, and prints its store's rows; before them, of a core with one caller, all
+    /// lines.
     pub fn close(&mut self, alloc: Global, page: &mut Page) -> Result<(), Wrong> {
         match mem::replace(&mut self.stage, Stage::Empty) {
             Stage::Running(table) => {

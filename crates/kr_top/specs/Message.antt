@@ -173,7 +173,7 @@ object_text (Plugin name) = codes "plugin " ++ name
 abbrev pub fault_line : Object → ℕ → List ℕ
 fault_line object count = counted_line (codes "kmsrest: fault ") (object_text object) count
 
--- decrypt says whether the value is one that the resource's writer would write today
+-- `decrypt` and `get` say whether the value is one that the resource's writer would write today
 abbrev pub done_line : Done → List ℕ
 done_line Silent = []
 done_line Fresh = codes "fresh\n"

@@ -36,12 +36,12 @@ use std::thread::Threads;
 /// Does the command that the words mean, and answers its status: 0 done, 1 a value or a reload was
 /// refused, or a rewrite left some objects, 2 the words mean no command, 3 a configuration or a
 /// store is not read, or they don't go together, 4 an object of the outside failed, 5 want of
-/// memory, 6 a limit was passed. Each status other than 0 has one line on `errors`, but for a reload
-/// that was refused, for a rewrite that left some and for those that a fleet's replies decide, of
-/// which the output says why; where the line can't be written the status is 4. A fleet's workers
-/// wait for each other by `rt`. `readings` is what follows from `ran`, for readers; `tapes` is what
-/// is left of the tapes, by the status. For words that ask for a fleet `fleet` says what was done,
-/// and `fleet_readings` what the status comes from.
+/// memory, 6 a limit was passed. Each status other than 0 has one line on `errors`, but for a
+/// reload that was refused, for a rewrite that left some and for those that a fleet's replies
+/// decide, of which the output says why; where the line can't be written the status is 4. A fleet's
+/// workers wait for each other by `rt`. `readings` is what follows from `ran`, for readers; `tapes`
+/// is what is left of the tapes, by the status. For words that ask for a fleet `fleet` says what
+/// was done, and `fleet_readings` what the status comes from.
 pub fn run<R: Threads + Wait + Sync, W: World, I: Source, O: Sink, E: Sink>(
     rt: &R,
     alloc: Global,

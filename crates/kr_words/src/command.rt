@@ -26,7 +26,7 @@ pub enum Verb {
     Migrate,
     /// Judges a reload of one replica of many.
     Judge,
-    /// Encrypts all stale rows of a store anew.
+    /// Writes the stale rows of a store anew.
     Rewrite,
     /// Runs the replicas of a fleet file.
     Fleet,

@@ -1,6 +1,6 @@
--- Why a line has its reply: each line has its defined replies, each of which an own entry or a
--- plugin's status bears out; and a reply that names an object as its fault is told only where the
--- line may use that object, and the count of that very object rose.
+-- Why a line has its reply: each line has its defined replies; those that tell an answer an own
+-- entry bears out, and an unhealthy plugin its status; and a reply that names an object as its fault
+-- is told only where the line may use that object, and the count of that very object rose.
 use Rattle.std.specs.Prelude.{◌≡◌, ◌<◌, ◌≤◌, ◌+◌, ◌-◌, ◌^◌, ℕ, Bool, true, false, List, ◌∷◌, ◌++◌, count_by, length, Contains, Option, Some, ⊤}
 use Rattle.std.specs.List.{slice_get}
 use Rattle.std.specs.Str.{bytes_eq}
@@ -162,9 +162,9 @@ module _ {L D : Type 0} (link : L → Link) (count : D → ℕ) (asked : ScriptL
   -- from a workplace on up to such a history, such links and such a random source: the reply is
   -- want of memory at a line that may want it; or names the plugin, the seat's own random source
   -- or the store, which the line may use and whose count rose meanwhile; or it is one of the line's
-  -- defined replies. A plugin is unhealthy where its status may break that rule, nothing has changed
-  -- where no plugin tells another key id than that of its adopted seed, and each other reply that
-  -- tells an answer tells that of an own entry
+  -- defined replies. A plugin is unhealthy where its status may break that rule; nothing has
+  -- changed where no plugin tells another key id than that of its seed in a configuration that the
+  -- worker adopted; and each other reply that tells an answer tells that of an own entry
   abbrev pub HasCause : Told → (seen : List Entry) → List L → D → Type 0
   HasCause told.Memory seen links dice = TakesMemory asked
   HasCause (told.FaultPlugin name) seen links dice =

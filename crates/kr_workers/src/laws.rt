@@ -17,9 +17,10 @@ pub fn gets_tell_content<L: Kms, D: Dice>()
         → GetsTellContent L.truth L.link D.left D.count files }
 {}
 
-/// No line is answered otherwise than by one of its defined replies, which an own entry or a
-/// plugin's status bears out, but with want of memory, or where the line may use the plugin, random
-/// source or store that its reply names and the count of that rose.
+/// No line is answered otherwise than by one of its defined replies, of which those that tell an
+/// answer an own entry bears out and an unhealthy plugin its status, but with want of memory, or
+/// where the line may use the plugin, random source or store that its reply names and the count of
+/// that rose.
 pub fn replies_have_causes<L: Kms, D: Dice>()
     ensures { (files : List SettingsFile)
         → RepliesHaveCauses L.truth L.link D.left D.count files }
