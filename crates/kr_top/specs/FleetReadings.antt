@@ -56,8 +56,8 @@ module _ (T : Type 0) {L D : Type 0} (truth : Truth) (link : L → Link)
       × IsIdle errors × PassesLimit s.history
 
   -- all lines have replies, which decide the status: 0, or 1 where some reply isn't that its line
-  -- was done, or 6 where a write would have passed the store's limit; or memory lacked   abbrev pub
-  -- IsCompleted : ℕ → Type 0
+  -- was done, or 6 where a write would have passed the store's limit; or memory lacked
+  abbrev pub IsCompleted : ℕ → Type 0
   IsCompleted status = ((status ≡ 0) × HasEnded ending.Done)
       ⊎ ((status ≡ 1) × HasEnded ending.Refused)
       ⊎ ((status ≡ 6) × HasFilled)

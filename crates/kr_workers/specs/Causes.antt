@@ -1,6 +1,6 @@
 -- Why a line has its reply: each line has its defined replies; those that tell an answer an own
--- entry bears out, and an unhealthy plugin its status; and a reply that names an object as its fault
--- is told only where the line may use that object, and the count of that very object rose.
+-- entry bears out, and an unhealthy plugin its status; and a reply that names an object as its
+-- fault is told only where the line may use that object, and the count of that very object rose.
 use Rattle.std.specs.Prelude.{◌≡◌, ◌<◌, ◌≤◌, ◌+◌, ◌-◌, ◌^◌, ℕ, Bool, true, false, List, ◌∷◌, ◌++◌, count_by, length, Contains, Option, Some, ⊤}
 use Rattle.std.specs.List.{slice_get}
 use Rattle.std.specs.Str.{bytes_eq}

@@ -45,8 +45,8 @@ pub record Reseals {L : Type 0} (truth : Truth) (link : L → Link) (path : List
   pub sealing : IsSealing p old.resource path opened.plain new.stored
 
 -- by this truth the source of the replaced row opens to what it was unwrapped to: the source that
--- the bench read by, which is the plugin's answer as far as links tell the truth. That is asked only
--- where a plugin read the row and may have been asked for its source
+-- the bench read by, which is the plugin's answer as far as links tell the truth. That is asked
+-- only where a plugin read the row and may have been asked for its source
 abbrev pub UnwrappedBy : {L : Type 0} → {truth : Truth} → {link : L → Link} → {path : List ℕ}
     → {e : Entry} → Opens → Reseals truth link path e → Type 0
 UnwrappedBy opens r =
