@@ -40,6 +40,15 @@ impl Play {
         }
     }
 
+    /// Ends what is on the stage.
+    pub fn finish(self) {
+        let Play {
+            named: _named,
+            stage,
+        } = self;
+        end_stage(stage);
+    }
+
     /// A store in the place of what is there.
     pub fn begin(&mut self, store: Store<MemTape>) {
         self.put(Stage::Stored(store));
