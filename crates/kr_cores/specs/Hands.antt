@@ -1,6 +1,6 @@
 -- What the program keeps of a seat, that it is what the seat's own entries say, and what the seat
 -- may ask by it.
-use Rattle.std.specs.Prelude.{◌≡◌, ℕ, ◌+◌, ◌-◌, ◌<◌, ◌≤◌, ◌⊎◌, Bool, true, false, not, List, [], map, length, sum, slice_get, get_or, Option, None, Some, IsSome}
+use Rattle.std.specs.Prelude.{◌≡◌, ℕ, ◌+◌, ◌-◌, ◌<◌, ◌≤◌, ◌⊎◌, Bool, true, false, not, List, [], length, sum, slice_get, get_or, Option, None, Some, IsSome}
 use Rattle.std.specs.List.{list_all}
 use Rattle.std.specs.Option.{option_map}
 use Rattle.kr_base.specs.Lines.{of_seat}

@@ -20,17 +20,30 @@ mod words;
 
 use play::Play;
 use std::alloc::Global;
-use std::io::{self, BufRead, BufReader, BufWriter, Write};
+use std::io::{self, BufRead, BufReader, BufWriter, Lines, Write};
 
 fn main(rt: HostRuntime) -> io::Result<()> {
     let alloc = rt.alloc();
     let mut output = BufWriter::new(alloc, rt.stdout())?;
     let lines = BufReader::new(alloc, rt.stdin())?.lines(alloc);
     let mut play = Play::new(alloc);
-    for line in lines {
-        answer_line(alloc, &mut play, line, &mut output)?;
-    }
+    let answered = answer_all(alloc, &mut play, lines, &mut output);
+    play.finish();
+    answered?;
     output.flush()
+}
+
+/// Prints what the lines are answered by.
+fn answer_all<R: BufRead + Drop, W: Write>(
+    alloc: Global,
+    play: &mut Play,
+    lines: Lines<R>,
+    output: &mut W,
+) -> io::Result<()> {
+    for line in lines {
+        answer_line(alloc, play, line, output)?;
+    }
+    Ok(())
 }
 
 /// Prints what the line is answered by.

@@ -10,7 +10,7 @@ use crate::stored::add_rows;
 use crate::table::Table;
 use crate::terms::Terms;
 use crate::words::{Wrong, long_of, number_of, numbers_of, two_words};
-use kr_base::MemTape;
+use kr_base::{List, MemTape};
 use kr_rollout::{Line, StartNo};
 use kr_store::Store;
 use std::alloc::Global;
@@ -40,9 +40,38 @@ impl Play {
         }
     }
 
+    /// Ends what is on the stage.
+    pub fn finish(self) {
+        let Play {
+            named: _named,
+            stage,
+        } = self;
+        end_stage(stage);
+    }
+
     /// A store in the place of what is there.
     pub fn begin(&mut self, store: Store<MemTape>) {
-        self.stage = Stage::Stored(store);
+        self.put(Stage::Stored(store));
+    }
+
+    fn put(&mut self, stage: Stage) {
+        end_stage(self.exchange(stage));
+    }
+
+    /// Takes the store, while no core has it.
+    fn take_store(&mut self) -> Result<Store<MemTape>, Wrong> {
+        match self.exchange(Stage::Empty) {
+            Stage::Stored(store) => Ok(store),
+            other => {
+                self.put(other);
+                Err(Wrong::Form)
+            }
+        }
+    }
+
+    /// Puts this stage in the place of the one that is there, which it gives back.
+    fn exchange(&mut self, stage: Stage) -> Stage {
+        mem::replace(&mut self.stage, stage)
     }
 
     /// The store, while no core has it.
@@ -83,21 +112,15 @@ impl Play {
         let reloads = numbers_of(alloc, reloads)?;
         let replicas = self.named.replicas(alloc, names)?;
         let terms = Terms::new(replicas, reloads, room)?;
-        match mem::replace(&mut self.stage, Stage::Empty) {
-            Stage::Stored(store) => match started(alloc, store, terms, is_alone) {
-                Ok(stage) => {
-                    self.stage = stage;
-                    page.word(b"started")?;
-                    page.end_line()
-                }
-                Err((why, store)) => {
-                    self.stage = Stage::Stored(store);
-                    add_refusal(alloc, page, &why)
-                }
-            },
-            other => {
-                self.stage = other;
-                Err(Wrong::Form)
+        match started(alloc, self.take_store()?, terms, is_alone) {
+            Ok(stage) => {
+                self.put(stage);
+                page.word(b"started")?;
+                page.end_line()
+            }
+            Err((why, store)) => {
+                self.begin(store);
+                add_refusal(alloc, page, &why)
             }
         }
     }
@@ -110,22 +133,49 @@ impl Play {
     /// Ends the core, and prints its store's rows; before them, of a core with one caller, all
     /// lines.
     pub fn close(&mut self, alloc: Global, page: &mut Page) -> Result<(), Wrong> {
-        match mem::replace(&mut self.stage, Stage::Empty) {
-            Stage::Running(table) => {
-                self.stage = Stage::Stored(table.close());
-            }
+        match self.exchange(Stage::Empty) {
+            Stage::Running(table) => self.end(alloc, page, table.close(), List::new(alloc)),
             Stage::Alone(alone) => {
-                let (store, journal) = alone.close();
-                self.stage = Stage::Stored(store);
-                add_lines(alloc, page, journal.as_slice())?;
+                let (store, lines) = alone.close();
+                self.end(alloc, page, store, lines)
             }
             other => {
-                self.stage = other;
-                return Err(Wrong::Form);
+                self.put(other);
+                Err(Wrong::Form)
             }
         }
-        add_rows(page, self.store()?)
     }
+
+    /// Prints what a core leaves, whose store takes its place.
+    fn end(
+        &mut self,
+        alloc: Global,
+        page: &mut Page,
+        store: Store<MemTape>,
+        lines: List<Line>,
+    ) -> Result<(), Wrong> {
+        let printed = add_ending(alloc, page, &store, lines.as_slice());
+        self.begin(store);
+        printed
+    }
+}
+
+/// Ends what is on the stage.
+fn end_stage(stage: Stage) {
+    match stage {
+        Stage::Empty => {}
+        Stage::Stored(store) => end_store(store),
+        Stage::Running(table) => end_store(table.close()),
+        Stage::Alone(alone) => {
+            let (store, _lines) = alone.close();
+            end_store(store)
+        }
+    }
+}
+
+/// Lets a store go with its tape.
+fn end_store(store: Store<MemTape>) {
+    let _tape = store.close();
 }
 
 /// A core over the store.
@@ -147,6 +197,17 @@ fn started(
         Ok(table) => Ok(Stage::Running(table)),
         Err(refused) => Err(refused),
     }
+}
+
+/// Adds the lines, and the store's rows.
+fn add_ending(
+    alloc: Global,
+    page: &mut Page,
+    store: &Store<MemTape>,
+    lines: &[Line],
+) -> Result<(), Wrong> {
+    add_lines(alloc, page, lines)?;
+    add_rows(page, store)
 }
 
 fn add_lines(alloc: Global, page: &mut Page, lines: &[Line]) -> Result<(), Wrong> {

@@ -26,32 +26,34 @@ use std::alloc::{AllocError, Global};
 
 /// Does what the line says, and tells what is printed for it.
 pub fn answer(alloc: Global, play: &mut Play, line: &str) -> Result<Vec<u8>, AllocError> {
-    match act(alloc, play, line) {
-        Ok(text) => Ok(text),
+    let mut page = Page::new(alloc);
+    match act(alloc, play, &mut page, line) {
+        Ok(()) => Ok(page.into_bytes()),
         Err(Wrong::Form) => b"line\n".to_vec(alloc),
         Err(Wrong::Memory) => Err(AllocError),
     }
 }
 
-fn act(alloc: Global, play: &mut Play, line: &str) -> Result<Vec<u8>, Wrong> {
+fn act(alloc: Global, play: &mut Play, page: &mut Page, line: &str) -> Result<(), Wrong> {
     let (key, rest) = match line.split_once(' ') {
         Some(parts) => parts,
         None => (line, ""),
     };
-    let mut page = Page::new(alloc);
     match key {
-        "#" => {}
-        "settings" => play.named.add(alloc, rest)?,
-        "store" => play.begin(load(alloc, rest)?),
-        "row" => put_row(alloc, play.store()?, &mut page, rest)?,
-        "start" => play.start(alloc, &mut page, false, rest)?,
-        "solo" => play.start(alloc, &mut page, true, rest)?,
-        "board" => play.board(alloc, &mut page, rest)?,
-        "do" => play.once(alloc, &mut page, rest)?,
-        "turns" => play.turns(alloc, &mut page, rest)?,
-        "live" => play.live(&mut page)?,
-        "close" => play.close(alloc, &mut page)?,
-        _ => return Err(Wrong::Form),
+        "#" => Ok(()),
+        "settings" => play.named.add(alloc, rest),
+        "store" => {
+            play.begin(load(alloc, rest)?);
+            Ok(())
+        }
+        "row" => put_row(alloc, play.store()?, page, rest),
+        "start" => play.start(alloc, page, false, rest),
+        "solo" => play.start(alloc, page, true, rest),
+        "board" => play.board(alloc, page, rest),
+        "do" => play.once(alloc, page, rest),
+        "turns" => play.turns(alloc, page, rest),
+        "live" => play.live(page),
+        "close" => play.close(alloc, page),
+        _ => Err(Wrong::Form),
     }
-    Ok(page.into_bytes())
 }

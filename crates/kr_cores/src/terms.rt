@@ -1,5 +1,5 @@
 //! What a core may be started with.
-ghost use Rattle.std.specs.Prelude.{◌≡◌, ◌≤◌, IsTrue, IfOk, [], get_or, length, sum, true};
+ghost use Rattle.std.specs.Prelude.{◌≡◌, ◌≤◌, IsTrue, IfOk, get_or, length, sum, true};
 ghost use Rattle.std.specs.List.{list_all};
 ghost use Rattle.kr_rollout.specs.Openings.{IsFirstIn};
 ghost use Rattle.kr_cores.specs.Hands.{AreTerms, IsNew, is_bare};

@@ -4,7 +4,7 @@ mod lists;
 mod turns;
 
 use crate::tests::core_in_memory::core;
-use crate::tests::lists::{have_left, leaves, made};
+use crate::tests::lists::both_left;
 use crate::tests::turns::{each_in_a_thread, lines_of, moved_into_a_thread};
 use std::test::Fail;
 
@@ -30,8 +30,6 @@ fn a_core_goes_to_another_thread(rt: HostRuntime) -> Result<(), Fail> {
 fn a_list_of_events_is_made(rt: HostRuntime) -> Result<(), Fail> {
     let alloc = rt.alloc();
     let mut core = core(alloc, 2).ok_or("no core")?;
-    let events = leaves(alloc).ok().ok_or("no memory")?;
-    made(&mut core, events);
-    assert!(rt; have_left(&core));
+    assert!(rt; both_left(alloc, &mut core));
     Ok(())
 }

@@ -7,7 +7,7 @@ use kr_rollout::{Core, Did, Event, Gave, Line};
 use std::alloc::Global;
 
 /// Both seats take the only replica's generation away, one after the other.
-pub fn leaves(alloc: Global) -> Result<Vec<(u32, Event)>, NoMemory>
+fn leaves(alloc: Global) -> Result<Vec<(u32, Event)>, NoMemory>
     ensures { IfOk result (λ events. events.items ≡ both_leave) }
 {
     let mut events = Vec::new(alloc);
@@ -16,9 +16,19 @@ pub fn leaves(alloc: Global) -> Result<Vec<(u32, Event)>, NoMemory>
     Ok(events)
 }
 
-/// Makes these events.
+/// Makes these events, and says whether the journal is theirs.
+pub fn both_left(alloc: Global, core: &mut Core<MemTape>) -> bool
+    requires { IsNewCore 2 core.old }
+{
+    match leaves(alloc) {
+        Ok(events) => made(core, events),
+        Err(NoMemory) => return false,
+    }
+    have_left(core)
+}
+
 #[tactic(auto, using(crate::proofs::Leaving::both_may))]
-pub fn made(core: &mut Core<MemTape>, events: Vec<(u32, Event)>)
+fn made(core: &mut Core<MemTape>, events: Vec<(u32, Event)>)
     requires new { IsNewCore 2 core.old }
     requires events { events.items ≡ both_leave }
 {
@@ -26,7 +36,7 @@ pub fn made(core: &mut Core<MemTape>, events: Vec<(u32, Event)>)
 }
 
 /// Whether the first seat's event was done, and the second one's found the replica gone.
-pub fn have_left(core: &Core<MemTape>) -> bool {
+fn have_left(core: &Core<MemTape>) -> bool {
     match core.journal() {
         [first, second] => has_departed(first) && is_gone(second),
         _ => false,
