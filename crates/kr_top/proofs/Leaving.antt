@@ -15,7 +15,7 @@ use Rattle.kr_store.specs.File.{file_bytes}
 use Rattle.kr_store.specs.Rows.{check_in}
 use Rattle.kr_store.specs.declared.rows.LogRow.{LogRow}
 use Rattle.kr_kms.specs.declared.world.WorldCall.TheVariants.{Tape}
-use Rattle.kr_top.specs.Afterwards.{AreLeft, IsUngrown, LeavesTapes, OneMore, OthersStay, StillBegins, ToldTape, new_store}
+use Rattle.kr_top.specs.Afterwards.{AreLeft, IsUngrown, KeepsRows, LeavesTapes, OneMore, OthersStay, StillBegins, ToldTape, new_store}
 use Rattle.kr_top.specs.Around.{Around, with_what_is_said, Ends, MayLack, Reaches, faults_at, left_of}
 use Rattle.kr_top.specs.Commands.{adding, bench_steps, by_result, configuration, input_of, linking_programs, migrating, new_row, putting, revision_line, rewriting, silently, steps, stored_into}
 use Rattle.kr_top.specs.Plugins.{programs_of}
@@ -43,70 +43,11 @@ use Rattle.kr_top.proofs.Copied.{IsMigrated, Migrates, migrate_leaves}
 use Rattle.kr_top.proofs.Points.{IsShort, IsSilent, IsTorn}
 use Rattle.kr_top.proofs.ReadOnly.{IsReadOnly, IsReader, command_reads, configuration_reads, leaves_tapes, result_reads, work_reads}
 use Rattle.kr_top.proofs.Readings.{status_in}
+use Rattle.kr_top.proofs.KeptRows.{rows_kept}
 use Rattle.kr_top.proofs.OneTape.{others_stay, rewriting_is_on}
+use Rattle.kr_top.proofs.Parts.{parts}
 use Rattle.kr_top.proofs.Tapes.{own_name}
 
--- ---- steps behind others that only read
-
-module _ {A B : Type 0} (others : A → Steps B) (p : Point B) (end : Left) where
-  -- the first steps ended it, or the others went on; the tapes are the same so far
-  abbrev Parts : Left → Type 0
-  Parts left = (IsShort p × (end.tapes ≡ left.tapes))
-      ⊎ ((x : A) × (mid : Left) × (mid.tapes ≡ left.tapes) × Goes p end (others x) mid)
-
-  ends_at : {here : Point B} {left : Left} → IsAt p end here left → IsShort here
-      → IsShort p × (end.tapes ≡ left.tapes)
-  ends_at at short = (subst IsShort (sym at.0) short, ap (λ l. l.tapes) at.1)
-
-  parts : (first : Steps A) (left : Left) → IsReadOnly first
-      → Goes p end (and_then first others) left → Parts left
-  parts (load name next) left r (inl at) = inl (ends_at at tt)
-  parts (load name next) left r (inr (inl at)) = inl (ends_at at tt)
-  parts (load name next) left r (inr (inr (bytes, agrees, goes))) =
-      parts (next bytes) _ (r bytes) goes
-  parts (take_input limit long next) left r (bytes, rest, c, inl (short, at)) =
-      inl (ends_at at tt)
-  parts (take_input limit long next) left r (bytes, rest, c, inr (inl (more, at))) =
-      inl (ends_at at tt)
-  parts (take_input limit long next) left r (bytes, rest, c, inr (inr (short, e, goes))) =
-      parts (next bytes) _ (r bytes) goes
-  parts (borrow_dice seat next) left r (inl at) = inl (ends_at at tt)
-  parts (borrow_dice seat next) left r (inr (inl at)) = inl (ends_at at tt)
-  parts (borrow_dice seat next) left r (inr (inr goes)) = parts next _ r goes
-  parts (borrow_tape name make absent next) left r (inl at) = inl (ends_at at tt)
-  parts (borrow_tape name make absent next) left r (inr (inl at)) = inl (ends_at at tt)
-  parts (borrow_tape name make absent next) left r (inr (inr (inl (may, agrees, at)))) =
-      inl (ends_at at tt)
-  parts (borrow_tape name true absent next) left r (inr (inr (inr (may, goes)))) =
-      absurd (let t : true ≡ false = r.0 in cc)
-  parts (borrow_tape name false absent next) left r (inr (inr (inr (may, goes)))) =
-      parts next _ r.1 goes
-  parts (read_tape object name next) left r (inl at) = inl (ends_at at tt)
-  parts (read_tape object name next) left r (inr (bytes, agrees, goes)) =
-      parts (next bytes) left (r bytes) goes
-  parts (write_row object name store row next) left r goes = absurd r
-  parts (keep_rows name store next) left r goes = absurd r
-  parts (draw seat size next) left r (inl at) = inl (ends_at at tt)
-  parts (draw seat size next) left r (inr (bytes, rest, c, fits, goes)) =
-      parts (next bytes) _ (r bytes) goes
-  parts (borrow_link seat plugin program next) left r (inl at) = inl (ends_at at tt)
-  parts (borrow_link seat plugin program next) left r (inr (inl at)) =
-      inl (ends_at at tt)
-  parts (borrow_link seat plugin program next) left r (inr (inr goes)) = parts next _ r goes
-  parts (ask_status seat plugin next) left r (inl at) = inl (ends_at at tt)
-  parts (ask_status seat plugin next) left r (inr (status, agrees, goes)) =
-      parts (next status) left (r status) goes
-  parts (wrap seat plugin plain next) left r (inl at) = inl (ends_at at tt)
-  parts (wrap seat plugin plain next) left r (inr (wrapped, tells, within, goes)) =
-      parts (next wrapped) left (r wrapped) goes
-  parts (unwrap seat key next) left r (inl at) = inl (ends_at at tt)
-  parts (unwrap seat key next) left r (inr (bytes, tells, goes)) =
-      parts (next bytes) left (r bytes) goes
-  parts (note text next) left r goes = parts next _ r goes
-  parts (find D P next) left r (inl at) = inl (ends_at at tt)
-  parts (find D P next) left r (inr (d, is, goes)) = parts (next d) _ (r d) goes
-  parts (refuse why) left r at = inl (ends_at at tt)
-  parts (give x) left r goes = inr (x, left, refl, goes)
 
 -- ---- put
 
@@ -456,13 +397,17 @@ module _ (command : Command) (is : IsReader command) (old : Around) where
 module _ (words : Rewriting) (old : Around) where
   abbrev Stay : Around → Type 0
   Stay new = OthersStay words.store old.world.tapes.told new.world.tapes.told
+      × KeepsRows (old.world.tapes.told words.store) (new.world.tapes.told words.store)
 
   rewrite_reaches : {new : Around} {point : Point Outcome}
       → Reaches (rewriting words) (left_of old) new point → Stay new
   rewrite_reaches {new} {point} r =
-      subst (λ t. OthersStay words.store old.world.tapes.told t) (sym r.stays.tapes)
-      (others_stay words.store point r.end (rewriting words) (left_of old)
-      (rewriting_is_on words) r.goes)
+      subst (λ t. OthersStay words.store old.world.tapes.told t
+      × KeepsRows (old.world.tapes.told words.store) (t words.store)) (sym r.stays.tapes) (
+        others_stay words.store point r.end (rewriting words) (left_of old)
+            (rewriting_is_on words) r.goes,
+        rows_kept words point r.end (left_of old) r.goes,
+      )
 
   rewrite_left : (new : Around) (made : Result Outcome Stop)
       → Ends (rewriting words) (left_of old) old new made → Stay new

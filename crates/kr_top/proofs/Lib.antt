@@ -30,6 +30,7 @@ pub mod OnePoint
 mod OneTape
 pub mod Outfits
 pub mod Outfitting
+pub mod Parts
 pub mod Plans
 pub mod Pieces
 pub mod Publishings
@@ -37,6 +38,7 @@ pub mod Loading
 pub mod Loads
 pub mod LoneCallers
 pub mod Judging
+pub mod KeptRows
 pub mod ReplicaLists
 pub mod Leaving
 pub mod Lending

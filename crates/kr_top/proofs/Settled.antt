@@ -324,7 +324,7 @@ settled_links (program ∷ programs) next left right same f =
     settled_links programs next _ _ same f
 
 -- what follows the first two follows the second of them
-regroup : {A B C : Type 0} (first : Steps A) (f : A → Steps B) (g : B → Steps C)
+pub regroup : {A B C : Type 0} (first : Steps A) (f : A → Steps B) (g : B → Steps C)
     → and_then (and_then first f) g ≡ and_then first (λ x. and_then (f x) g)
 regroup (load name next) f g = λ i. load name (λ bytes. regroup (next bytes) f g i)
 regroup (take_input limit long next) f g =

@@ -64,6 +64,11 @@ abbrev pub OthersStay : (name : List ℕ) → (old new : List ℕ → ToldTape) 
 OthersStay name old new =
     (other : List ℕ) → same_name name other ≡ false → new other ≡ old other
 
+-- no row of a store that `rewrite` was asked for is lost: its tape is as it was, or begins with the
+-- file of the rows that it had
+abbrev pub KeepsRows : (was is : ToldTape) → Type 0
+KeepsRows was is = (is ≡ was) ⊎ StillBegins was is
+
 -- what was copied of the rows of a store, by its configuration, and the rows still to come
 pub record Copies (words : Migration) (old : Outside) (copied rest : List LogRow) : Type 0 where
   pub file : Option (List ℕ)
@@ -113,6 +118,7 @@ LeavesTapes (Rows store) status old new = new.tapes.told ≡ old.tapes.told
 LeavesTapes (Judge words) status old new = new.tapes.told ≡ old.tapes.told
 LeavesTapes (Rewrite words) status old new =
     OthersStay words.store old.tapes.told new.tapes.told
+    × KeepsRows (old.tapes.told words.store) (new.tapes.told words.store)
 
 -- the words stopped the call, or they ask for a command that leaves the tapes so
 abbrev pub AreLeft : List (List ℕ) → Around → Around → (status : ℕ) → Type 0
