@@ -15,7 +15,7 @@ use Rattle.kr_store.specs.File.{file_bytes}
 use Rattle.kr_store.specs.Rows.{check_in}
 use Rattle.kr_store.specs.declared.rows.LogRow.{LogRow}
 use Rattle.kr_kms.specs.declared.world.WorldCall.TheVariants.{Tape}
-use Rattle.kr_top.specs.Afterwards.{AreLeft, IsUngrown, KeepsRows, LeavesTapes, OneMore, OthersStay, StillBegins, ToldTape, new_store}
+use Rattle.kr_top.specs.Afterwards.{AreLeft, IsUngrown, LeavesTapes, OneMore, OthersStay, StillBegins, ToldTape, new_store}
 use Rattle.kr_top.specs.Around.{Around, with_what_is_said, Ends, MayLack, Reaches, faults_at, left_of}
 use Rattle.kr_top.specs.Commands.{adding, bench_steps, by_result, configuration, input_of, linking_programs, migrating, new_row, putting, revision_line, rewriting, silently, steps, stored_into}
 use Rattle.kr_top.specs.Plugins.{programs_of}
@@ -43,11 +43,10 @@ use Rattle.kr_top.proofs.Copied.{IsMigrated, Migrates, migrate_leaves}
 use Rattle.kr_top.proofs.Points.{IsShort, IsSilent, IsTorn}
 use Rattle.kr_top.proofs.ReadOnly.{IsReadOnly, IsReader, command_reads, configuration_reads, leaves_tapes, result_reads, work_reads}
 use Rattle.kr_top.proofs.Readings.{status_in}
-use Rattle.kr_top.proofs.KeptRows.{rows_kept}
+use Rattle.kr_top.proofs.KeptRows.{MayDrive, keeps_rows, rows_kept}
 use Rattle.kr_top.proofs.OneTape.{others_stay, rewriting_is_on}
 use Rattle.kr_top.proofs.Parts.{parts}
 use Rattle.kr_top.proofs.Tapes.{own_name}
-
 
 -- ---- put
 
@@ -375,6 +374,57 @@ module _ (words : Migration) (old new : Around) (status : ℕ) where
   migrate_left (Err NoMemory) (inr r) s =
       short_so amid (comes r) (λ e. e) (λ e. absurd e) s
 
+-- ---- rewrite
+
+module _ (words : Rewriting) (old new : Around) (status : ℕ) where
+  abbrev Stay : Type 0
+  Stay = LeavesTapes (Rewrite words) status old.world new.world
+
+  abbrev before : ℕ
+  before = old.world.tapes.faults words.store
+
+  abbrev now : ℕ
+  now = new.world.tapes.faults words.store
+
+  -- no row, where the steps came short, and the status isn't 0; a write failed only where the
+  -- tape's count rose
+  by_point : (point : Point Outcome) (r : Reaches (rewriting words) (left_of old) new point)
+      → (IsShort point → status ≢ 0) → (IsTorn Store words.store point → Rose before now)
+      → MayDrive words.store point r.end (left_of old) → Stay
+  by_point point r some torn kept = (
+    subst (λ t. OthersStay words.store old.world.tapes.told t) (sym r.stays.tapes)
+        (others_stay words.store point r.end (rewriting words) (left_of old)
+        (rewriting_is_on words) r.goes),
+    elim kept [
+      | inl none ↦ inl (
+        some none.0,
+        ap (λ (t : List ℕ → ToldTape). t words.store) (r.stays.tapes ∙ none.1),
+      )
+      | inr drove ↦ inr (keeps_rows words.store point r.end (left_of old)
+          (new.world.tapes.told words.store) now drove
+          (ap (λ (t : List ℕ → ToldTape). t words.store) r.stays.tapes)
+          (r.stays.counts words.store) torn)
+    ],
+  )
+
+  at_point : (point : Point Outcome) → Reaches (rewriting words) (left_of old) new point
+      → (IsShort point → status ≢ 0) → (IsTorn Store words.store point → Rose before now)
+      → Stay
+  at_point point r some torn =
+      by_point point r some torn (rows_kept words point r.end (left_of old) r.goes)
+
+  rewrite_left : (made : Result Outcome Stop)
+      → Ends (rewriting words) (left_of old) old new made → Fits made status → Stay
+  rewrite_left (Ok x) r s = at_point (gives x) r (λ e. absurd e) (λ e. absurd e)
+  rewrite_left (Err (Words why)) r s = absurd r
+  rewrite_left (Err (Refused why)) r s = at_point (refuses why) r (λ u. s) (λ e. absurd e)
+  rewrite_left (Err (Fault object count)) (call, r, f) s = at_point (awaits call) r
+      (λ u zero_is. omega (arith, s, zero_is))
+      (λ is. subst (λ c. Rose (faults_at c old) (faults_at c new)) is f.1)
+  rewrite_left (Err NoMemory) (inl (call, may, r)) s = at_point (awaits call) r (λ u. s)
+      (λ is. absurd (subst MayLack is may))
+  rewrite_left (Err NoMemory) (inr r) s = at_point amid r (λ u. s) (λ e. absurd e)
+
 -- ---- commands
 
 module _ (command : Command) (is : IsReader command) (old : Around) where
@@ -394,30 +444,6 @@ module _ (command : Command) (is : IsReader command) (old : Around) where
   reader_left new (Err NoMemory) (inl (call, may, r)) = reaches_left r
   reader_left new (Err NoMemory) (inr r) = reaches_left r
 
-module _ (words : Rewriting) (old : Around) where
-  abbrev Stay : Around → Type 0
-  Stay new = OthersStay words.store old.world.tapes.told new.world.tapes.told
-      × KeepsRows (old.world.tapes.told words.store) (new.world.tapes.told words.store)
-
-  rewrite_reaches : {new : Around} {point : Point Outcome}
-      → Reaches (rewriting words) (left_of old) new point → Stay new
-  rewrite_reaches {new} {point} r =
-      subst (λ t. OthersStay words.store old.world.tapes.told t
-      × KeepsRows (old.world.tapes.told words.store) (t words.store)) (sym r.stays.tapes) (
-        others_stay words.store point r.end (rewriting words) (left_of old)
-            (rewriting_is_on words) r.goes,
-        rows_kept words point r.end (left_of old) r.goes,
-      )
-
-  rewrite_left : (new : Around) (made : Result Outcome Stop)
-      → Ends (rewriting words) (left_of old) old new made → Stay new
-  rewrite_left new (Ok x) r = rewrite_reaches r
-  rewrite_left new (Err (Words why)) r = absurd r
-  rewrite_left new (Err (Refused why)) r = rewrite_reaches r
-  rewrite_left new (Err (Fault object count)) (call, r, f) = rewrite_reaches r
-  rewrite_left new (Err NoMemory) (inl (call, may, r)) = rewrite_reaches r
-  rewrite_left new (Err NoMemory) (inr r) = rewrite_reaches r
-
 ends_left : (command : Command) (old new : Around) (status : ℕ) (made : Result Outcome Stop)
     → Ends (steps command) (left_of old) old new made → Fits made status
     → LeavesTapes command status old.world new.world
@@ -433,7 +459,8 @@ ends_left (Migrate words) old new status made r s =
     migrate_left words old new status made r s
 ends_left (Rows store) old new status made r s = reader_left (Rows store) tt old new made r
 ends_left (Judge words) old new status made r s = reader_left (Judge words) tt old new made r
-ends_left (Rewrite words) old new status made r s = rewrite_left words old new made r
+ends_left (Rewrite words) old new status made r s =
+    rewrite_left words old new status made r s
 
 -- ---- statuses
 
