@@ -114,7 +114,7 @@ kept_here name before store text left told count first later holds =
 -- ---- a drive
 
 -- the tape has the rows of the store and some more; a write failed, or no more than these is there
-record Grows (name : List ℕ) (before : ℕ) (point : Point Outcome) (end : Left) (store : Stored)
+pub record Grows (name : List ℕ) (before : ℕ) (point : Point Outcome) (end : Left) (store : Stored)
     (live : List stored.Row) : Type 0 where
   pub added : List LogRow
   pub told : Option (List ℕ)
@@ -294,11 +294,11 @@ module _ (words : Rewriting) (point : Point Outcome) (end left : Left) where
   untouched same short at =
       inl (subst IsShort (sym at.0) short, ap (λ (l : Left). l.tapes) at.1 ∙ same.0)
 
-  ended : {mid : Left} → IsKept mid left → IsShort point × IsKept end mid → Kept
-  ended same e = inl (e.0, e.1.0 ∙ same.0)
+  ended : (mid : Left) → IsKept mid left → IsShort point × IsKept end mid → Kept
+  ended mid same e = inl (e.0, e.1.0 ∙ same.0)
 
-  and_so : {one other : Left} → IsKept one left → IsKept other one → IsKept other left
-  and_so same more = (more.0 ∙ same.0, more.1 ∙ same.1)
+  and_so : (one other : Left) → IsKept one left → IsKept other one → IsKept other left
+  and_so one other same more = (more.0 ∙ same.0, more.1 ∙ same.1)
 
   module _ (rows : List Row) (programs : List Program) (bytes : List ℕ) (base : Stored)
       (held : Agrees (left.tapes words.store) (Some bytes)) (is : IsStored bytes (Ok base))
@@ -328,8 +328,8 @@ module _ (words : Rewriting) (point : Point Outcome) (end left : Left) where
     at_seeds mid same (inl e) = untouched same tt e
     at_seeds mid same (inr (u, v, goes)) = elim (halves behind_seeds point end
         (make_seeds (plugin_order rows)) mid (seeds_read (plugin_order rows)) goes) [
-          | inl e ↦ ended same e
-          | inr m ↦ at_start m.0 m.1 (and_so same m.2) m.3
+          | inl e ↦ ended mid same e
+          | inr m ↦ at_start m.0 m.1 (and_so mid m.1 same m.2) m.3
         ]
 
     at_links : (links : List Program) (mid : Left) → IsKept mid left
@@ -373,13 +373,14 @@ module _ (words : Rewriting) (point : Point Outcome) (end left : Left) where
   rows_kept goes = elim (halves (λ rows. and_then (linking_programs words.options rows)
       (λ programs. tape_for words.store false (rewriting_on words.store rows programs))) point end
       (configuration words.config) left (configuration_reads words.config) goes) [
-        | inl e ↦ ended (refl, refl) e
+        | inl e ↦ ended left (refl, refl) e
         | inr first ↦ elim (halves (λ programs.
             tape_for words.store false (rewriting_on words.store first.0 programs)) point end
             (linking_programs words.options first.0) first.1
             (λ u. result_reads (programs_of words.options (plugin_order first.0))) first.3) [
-              | inl e ↦ ended first.2 e
-              | inr second ↦ at_tape first.0 second.0 second.1 (and_so first.2 second.2) second.3
+              | inl e ↦ ended first.1 first.2 e
+              | inr second ↦ at_tape first.0 second.0 second.1
+                  (and_so first.1 second.1 first.2 second.2) second.3
             ]
       ]
 

@@ -21,7 +21,7 @@ use Rattle.kr_top.specs.Commands.{adding, bench_steps, by_result, configuration,
 use Rattle.kr_top.specs.Plugins.{programs_of}
 use Rattle.kr_top.specs.Message.{line_of, status_of, status_of_done}
 use Rattle.kr_top.specs.Ran.{Answers, Receipt, StopsAtOnce, Tells, Writes}
-use Rattle.kr_top.specs.Steps.{Steps, load, take_input, borrow_dice, borrow_tape, read_tape, write_row, keep_rows, draw, borrow_link, ask_status, wrap, unwrap, note, find, refuse, give, and_then, or_empty, tapes_with, with_asked, with_tape, Call, writing, Point, awaits, amid, refuses, gives, Left, IsAt, Goes}
+use Rattle.kr_top.specs.Steps.{write_row, give, and_then, or_empty, tapes_with, with_asked, with_tape, Call, writing, Point, awaits, amid, refuses, gives, Left, IsAt, Goes}
 use Rattle.kr_top.specs.StoreFiles.{BeginsWith, HoldsRows, Stored, IsStored, with_row}
 use Rattle.kr_top.specs.declared.command.Command.{Command}
 use Rattle.kr_top.specs.declared.command.Command.TheVariants.{Convert, Check, Inspect, Put, Get, Migrate, Rows, Judge, Rewrite}
@@ -35,13 +35,12 @@ use Rattle.kr_top.specs.declared.refusal.Object.TheVariants.{Store, Target}
 use Rattle.kr_top.specs.declared.refusal.Refusal.TheVariants.{Limit}
 use Rattle.kr_top.specs.declared.refusal.BadWords.TheVariants.{Usage, Replicas, Size}
 use Rattle.kr_top.specs.declared.refusal.Done.{Done}
-use Rattle.kr_top.specs.declared.refusal.Done.TheVariants.{Silent}
 use Rattle.kr_top.specs.declared.refusal.Outcome.{Outcome}
 use Rattle.kr_top.specs.declared.refusal.Stop.{Stop}
 use Rattle.kr_top.specs.declared.refusal.Stop.TheVariants.{Words, Refused, Fault, NoMemory}
 use Rattle.kr_top.proofs.Copied.{IsMigrated, Migrates, migrate_leaves}
 use Rattle.kr_top.proofs.Points.{IsShort, IsSilent, IsTorn}
-use Rattle.kr_top.proofs.ReadOnly.{IsReadOnly, IsReader, command_reads, configuration_reads, leaves_tapes, result_reads, work_reads}
+use Rattle.kr_top.proofs.ReadOnly.{IsReader, command_reads, configuration_reads, leaves_tapes, result_reads, work_reads}
 use Rattle.kr_top.proofs.Readings.{status_in}
 use Rattle.kr_top.proofs.KeptRows.{MayDrive, keeps_rows, rows_kept}
 use Rattle.kr_top.proofs.OneTape.{others_stay, rewriting_is_on}

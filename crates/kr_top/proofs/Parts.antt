@@ -1,5 +1,5 @@
 -- Steps behind others that only read: the first end them, or the others go on over the same tapes.
-use Rattle.std.proofs.Common.{◌≡◌, ◌⊎◌, ℕ, List, Bool, true, false, refl, sym, ap, subst, inl, inr}
+use Rattle.std.proofs.Common.{◌≡◌, ◌⊎◌, true, false, refl, sym, ap, subst, inl, inr}
 use Rattle.kr_top.specs.Steps.{Steps, load, take_input, borrow_dice, borrow_tape, read_tape, write_row, keep_rows, draw, borrow_link, ask_status, wrap, unwrap, note, find, refuse, give, and_then, Point, Left, IsAt, Goes}
 use Rattle.kr_top.proofs.Points.{IsShort}
 use Rattle.kr_top.proofs.ReadOnly.{IsReadOnly}
