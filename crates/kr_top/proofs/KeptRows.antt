@@ -142,8 +142,8 @@ module _ (name : List ℕ) (before : ℕ) (p : Publication) (point : Point Outco
     added_are = tt;
     is_told = now.is_told;
     holds = inr (subst (λ (rows : List LogRow).
-        StillHolds (record { format = store.format; rows = rows }) now.told before (end.counts name))
-        (sym (append-nil store.rows)) now.holds);
+        StillHolds (record { format = store.format; rows = rows }) now.told before
+        (end.counts name)) (sym (append-nil store.rows)) now.holds);
   }
 
   ends_so : (store : Stored) (live : List stored.Row) (mid : Left) → Now name before store mid
