@@ -133,8 +133,8 @@ MayBorrow tape make = tape ≡ Some None → make ≡ true
 
 -- the truth of plugins, the files by their names and the statuses of links, which stay; what the
 -- steps so far left of the tapes, of the input and of the random source of each seat, and the calls
--- that they made on the world, all this where it is told; what they said last; and the tapes' counts
--- of faults, which are no less in the end
+-- that they made on the world, all this where it is told; what they said last; and the tapes'
+-- counts of faults, which are no less in the end
 pub record Left : Type 0 where
   pub truth : Truth
   pub file : List ℕ → Option (Option (List ℕ))

@@ -25,8 +25,8 @@ pub returns-in_default-clause-said : goal.returns-in_default-clause-said
 returns-in_default-clause-said g c = none_said c.args.said _ c.in_default.is (refl, refl)
 
 pub returns-clause-said : goal.returns-clause-said
-returns-clause-said g c = some_said c.args.said c.in-Some.counts _ c.write_report-_told.result
-    c.in-Some.is c.write_report-_told.ensures
+returns-clause-said g c = some_said c.args.said c.in-Some.counts _ c.write_report-told.result
+    c.in-Some.is c.write_report-told.ensures
 
 pub returns-clause-later : goal.returns-clause-later
-returns-clause-later g c = c.write_report-_told.ensures.cause.later
+returns-clause-later g c = c.write_report-told.ensures.cause.later
