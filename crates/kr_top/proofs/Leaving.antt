@@ -21,7 +21,7 @@ use Rattle.kr_top.specs.Commands.{adding, bench_steps, by_result, configuration,
 use Rattle.kr_top.specs.Plugins.{programs_of}
 use Rattle.kr_top.specs.Message.{line_of, status_of, status_of_done}
 use Rattle.kr_top.specs.Ran.{Answers, Receipt, StopsAtOnce, Tells, Writes}
-use Rattle.kr_top.specs.Steps.{Steps, load, take_input, borrow_dice, borrow_tape, read_tape, write_row, keep_rows, draw, borrow_link, ask_status, wrap, unwrap, note, find, refuse, give, and_then, or_empty, tapes_with, with_asked, with_tape, Call, writing, Point, awaits, amid, refuses, gives, Left, IsAt, Goes}
+use Rattle.kr_top.specs.Steps.{write_row, give, and_then, or_empty, tapes_with, with_asked, with_tape, Call, writing, Point, awaits, amid, refuses, gives, Left, IsAt, Goes}
 use Rattle.kr_top.specs.StoreFiles.{BeginsWith, HoldsRows, Stored, IsStored, with_row}
 use Rattle.kr_top.specs.declared.command.Command.{Command}
 use Rattle.kr_top.specs.declared.command.Command.TheVariants.{Convert, Check, Inspect, Put, Get, Migrate, Rows, Judge, Rewrite}
@@ -35,78 +35,17 @@ use Rattle.kr_top.specs.declared.refusal.Object.TheVariants.{Store, Target}
 use Rattle.kr_top.specs.declared.refusal.Refusal.TheVariants.{Limit}
 use Rattle.kr_top.specs.declared.refusal.BadWords.TheVariants.{Usage, Replicas, Size}
 use Rattle.kr_top.specs.declared.refusal.Done.{Done}
-use Rattle.kr_top.specs.declared.refusal.Done.TheVariants.{Silent}
 use Rattle.kr_top.specs.declared.refusal.Outcome.{Outcome}
 use Rattle.kr_top.specs.declared.refusal.Stop.{Stop}
 use Rattle.kr_top.specs.declared.refusal.Stop.TheVariants.{Words, Refused, Fault, NoMemory}
 use Rattle.kr_top.proofs.Copied.{IsMigrated, Migrates, migrate_leaves}
 use Rattle.kr_top.proofs.Points.{IsShort, IsSilent, IsTorn}
-use Rattle.kr_top.proofs.ReadOnly.{IsReadOnly, IsReader, command_reads, configuration_reads, leaves_tapes, result_reads, work_reads}
+use Rattle.kr_top.proofs.ReadOnly.{IsReader, command_reads, configuration_reads, leaves_tapes, result_reads, work_reads}
 use Rattle.kr_top.proofs.Readings.{status_in}
+use Rattle.kr_top.proofs.KeptRows.{MayDrive, keeps_rows, rows_kept}
 use Rattle.kr_top.proofs.OneTape.{others_stay, rewriting_is_on}
+use Rattle.kr_top.proofs.Parts.{parts}
 use Rattle.kr_top.proofs.Tapes.{own_name}
-
--- ---- steps behind others that only read
-
-module _ {A B : Type 0} (others : A → Steps B) (p : Point B) (end : Left) where
-  -- the first steps ended it, or the others went on; the tapes are the same so far
-  abbrev Parts : Left → Type 0
-  Parts left = (IsShort p × (end.tapes ≡ left.tapes))
-      ⊎ ((x : A) × (mid : Left) × (mid.tapes ≡ left.tapes) × Goes p end (others x) mid)
-
-  ends_at : {here : Point B} {left : Left} → IsAt p end here left → IsShort here
-      → IsShort p × (end.tapes ≡ left.tapes)
-  ends_at at short = (subst IsShort (sym at.0) short, ap (λ l. l.tapes) at.1)
-
-  parts : (first : Steps A) (left : Left) → IsReadOnly first
-      → Goes p end (and_then first others) left → Parts left
-  parts (load name next) left r (inl at) = inl (ends_at at tt)
-  parts (load name next) left r (inr (inl at)) = inl (ends_at at tt)
-  parts (load name next) left r (inr (inr (bytes, agrees, goes))) =
-      parts (next bytes) _ (r bytes) goes
-  parts (take_input limit long next) left r (bytes, rest, c, inl (short, at)) =
-      inl (ends_at at tt)
-  parts (take_input limit long next) left r (bytes, rest, c, inr (inl (more, at))) =
-      inl (ends_at at tt)
-  parts (take_input limit long next) left r (bytes, rest, c, inr (inr (short, e, goes))) =
-      parts (next bytes) _ (r bytes) goes
-  parts (borrow_dice seat next) left r (inl at) = inl (ends_at at tt)
-  parts (borrow_dice seat next) left r (inr (inl at)) = inl (ends_at at tt)
-  parts (borrow_dice seat next) left r (inr (inr goes)) = parts next _ r goes
-  parts (borrow_tape name make absent next) left r (inl at) = inl (ends_at at tt)
-  parts (borrow_tape name make absent next) left r (inr (inl at)) = inl (ends_at at tt)
-  parts (borrow_tape name make absent next) left r (inr (inr (inl (may, agrees, at)))) =
-      inl (ends_at at tt)
-  parts (borrow_tape name true absent next) left r (inr (inr (inr (may, goes)))) =
-      absurd (let t : true ≡ false = r.0 in cc)
-  parts (borrow_tape name false absent next) left r (inr (inr (inr (may, goes)))) =
-      parts next _ r.1 goes
-  parts (read_tape object name next) left r (inl at) = inl (ends_at at tt)
-  parts (read_tape object name next) left r (inr (bytes, agrees, goes)) =
-      parts (next bytes) left (r bytes) goes
-  parts (write_row object name store row next) left r goes = absurd r
-  parts (keep_rows name store next) left r goes = absurd r
-  parts (draw seat size next) left r (inl at) = inl (ends_at at tt)
-  parts (draw seat size next) left r (inr (bytes, rest, c, fits, goes)) =
-      parts (next bytes) _ (r bytes) goes
-  parts (borrow_link seat plugin program next) left r (inl at) = inl (ends_at at tt)
-  parts (borrow_link seat plugin program next) left r (inr (inl at)) =
-      inl (ends_at at tt)
-  parts (borrow_link seat plugin program next) left r (inr (inr goes)) = parts next _ r goes
-  parts (ask_status seat plugin next) left r (inl at) = inl (ends_at at tt)
-  parts (ask_status seat plugin next) left r (inr (status, agrees, goes)) =
-      parts (next status) left (r status) goes
-  parts (wrap seat plugin plain next) left r (inl at) = inl (ends_at at tt)
-  parts (wrap seat plugin plain next) left r (inr (wrapped, tells, within, goes)) =
-      parts (next wrapped) left (r wrapped) goes
-  parts (unwrap seat key next) left r (inl at) = inl (ends_at at tt)
-  parts (unwrap seat key next) left r (inr (bytes, tells, goes)) =
-      parts (next bytes) left (r bytes) goes
-  parts (note text next) left r goes = parts next _ r goes
-  parts (find D P next) left r (inl at) = inl (ends_at at tt)
-  parts (find D P next) left r (inr (d, is, goes)) = parts (next d) _ (r d) goes
-  parts (refuse why) left r at = inl (ends_at at tt)
-  parts (give x) left r goes = inr (x, left, refl, goes)
 
 -- ---- put
 
@@ -434,6 +373,57 @@ module _ (words : Migration) (old new : Around) (status : ℕ) where
   migrate_left (Err NoMemory) (inr r) s =
       short_so amid (comes r) (λ e. e) (λ e. absurd e) s
 
+-- ---- rewrite
+
+module _ (words : Rewriting) (old new : Around) (status : ℕ) where
+  abbrev Stay : Type 0
+  Stay = LeavesTapes (Rewrite words) status old.world new.world
+
+  abbrev before : ℕ
+  before = old.world.tapes.faults words.store
+
+  abbrev now : ℕ
+  now = new.world.tapes.faults words.store
+
+  -- no row, where the steps came short, and the status isn't 0; a write failed only where the
+  -- tape's count rose
+  by_point : (point : Point Outcome) (r : Reaches (rewriting words) (left_of old) new point)
+      → (IsShort point → status ≢ 0) → (IsTorn Store words.store point → Rose before now)
+      → MayDrive words.store point r.end (left_of old) → Stay
+  by_point point r some torn kept = (
+    subst (λ t. OthersStay words.store old.world.tapes.told t) (sym r.stays.tapes)
+        (others_stay words.store point r.end (rewriting words) (left_of old)
+        (rewriting_is_on words) r.goes),
+    elim kept [
+      | inl none ↦ inl (
+        some none.0,
+        ap (λ (t : List ℕ → ToldTape). t words.store) (r.stays.tapes ∙ none.1),
+      )
+      | inr drove ↦ inr (keeps_rows words.store point r.end (left_of old)
+          (new.world.tapes.told words.store) now drove
+          (ap (λ (t : List ℕ → ToldTape). t words.store) r.stays.tapes)
+          (r.stays.counts words.store) torn)
+    ],
+  )
+
+  at_point : (point : Point Outcome) → Reaches (rewriting words) (left_of old) new point
+      → (IsShort point → status ≢ 0) → (IsTorn Store words.store point → Rose before now)
+      → Stay
+  at_point point r some torn =
+      by_point point r some torn (rows_kept words point r.end (left_of old) r.goes)
+
+  rewrite_left : (made : Result Outcome Stop)
+      → Ends (rewriting words) (left_of old) old new made → Fits made status → Stay
+  rewrite_left (Ok x) r s = at_point (gives x) r (λ e. absurd e) (λ e. absurd e)
+  rewrite_left (Err (Words why)) r s = absurd r
+  rewrite_left (Err (Refused why)) r s = at_point (refuses why) r (λ u. s) (λ e. absurd e)
+  rewrite_left (Err (Fault object count)) (call, r, f) s = at_point (awaits call) r
+      (λ u zero_is. omega (arith, s, zero_is))
+      (λ is. subst (λ c. Rose (faults_at c old) (faults_at c new)) is f.1)
+  rewrite_left (Err NoMemory) (inl (call, may, r)) s = at_point (awaits call) r (λ u. s)
+      (λ is. absurd (subst MayLack is may))
+  rewrite_left (Err NoMemory) (inr r) s = at_point amid r (λ u. s) (λ e. absurd e)
+
 -- ---- commands
 
 module _ (command : Command) (is : IsReader command) (old : Around) where
@@ -453,26 +443,6 @@ module _ (command : Command) (is : IsReader command) (old : Around) where
   reader_left new (Err NoMemory) (inl (call, may, r)) = reaches_left r
   reader_left new (Err NoMemory) (inr r) = reaches_left r
 
-module _ (words : Rewriting) (old : Around) where
-  abbrev Stay : Around → Type 0
-  Stay new = OthersStay words.store old.world.tapes.told new.world.tapes.told
-
-  rewrite_reaches : {new : Around} {point : Point Outcome}
-      → Reaches (rewriting words) (left_of old) new point → Stay new
-  rewrite_reaches {new} {point} r =
-      subst (λ t. OthersStay words.store old.world.tapes.told t) (sym r.stays.tapes)
-      (others_stay words.store point r.end (rewriting words) (left_of old)
-      (rewriting_is_on words) r.goes)
-
-  rewrite_left : (new : Around) (made : Result Outcome Stop)
-      → Ends (rewriting words) (left_of old) old new made → Stay new
-  rewrite_left new (Ok x) r = rewrite_reaches r
-  rewrite_left new (Err (Words why)) r = absurd r
-  rewrite_left new (Err (Refused why)) r = rewrite_reaches r
-  rewrite_left new (Err (Fault object count)) (call, r, f) = rewrite_reaches r
-  rewrite_left new (Err NoMemory) (inl (call, may, r)) = rewrite_reaches r
-  rewrite_left new (Err NoMemory) (inr r) = rewrite_reaches r
-
 ends_left : (command : Command) (old new : Around) (status : ℕ) (made : Result Outcome Stop)
     → Ends (steps command) (left_of old) old new made → Fits made status
     → LeavesTapes command status old.world new.world
@@ -488,7 +458,8 @@ ends_left (Migrate words) old new status made r s =
     migrate_left words old new status made r s
 ends_left (Rows store) old new status made r s = reader_left (Rows store) tt old new made r
 ends_left (Judge words) old new status made r s = reader_left (Judge words) tt old new made r
-ends_left (Rewrite words) old new status made r s = rewrite_left words old new made r
+ends_left (Rewrite words) old new status made r s =
+    rewrite_left words old new status made r s
 
 -- ---- statuses
 

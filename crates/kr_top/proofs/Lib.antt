@@ -35,6 +35,7 @@ pub mod OnePoint
 mod OneTape
 pub mod Outfits
 pub mod Outfitting
+pub mod Parts
 pub mod Plans
 pub mod Pieces
 pub mod Publishings
@@ -42,6 +43,7 @@ pub mod Loading
 pub mod Loads
 pub mod LoneCallers
 pub mod Judging
+pub mod KeptRows
 pub mod ReplicaLists
 pub mod Leaving
 pub mod Lending

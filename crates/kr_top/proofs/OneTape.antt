@@ -194,7 +194,7 @@ module _ (name : List ℕ) (p : Publication) where
       (adding Store name at.store new) (adding_is_on at new)
 
   -- a draw writes none
-  draws_read : {A : Type 0} (size : ℕ) (next : List ℕ → Steps A)
+  pub draws_read : {A : Type 0} (size : ℕ) (next : List ℕ → Steps A)
       → ((drawn : List ℕ) → IsReadOnly (next drawn)) → IsReadOnly (draw_some size next)
   draws_read zero next r = r []
   draws_read (suc more) next r = r
@@ -244,7 +244,7 @@ module _ (name : List ℕ) (p : Publication) where
   opening_reads seeds (Some (Kms n)) (Ok object) next r =
       source_reads (published_source (seed_of n seeds) (seed_key n object)) (seed_key n object) next r
 
-  value_reads : (list : List Who) (path bytes : List ℕ)
+  pub value_reads : (list : List Who) (path bytes : List ℕ)
       → IsReadOnly (value_read p.seeds list path bytes)
   value_reads list path bytes object = opening_reads p.seeds (reader_in list bytes) object
       (value_with p.seeds list path bytes object)

@@ -1,5 +1,5 @@
 -- What a call leaves of the tapes, where they are told, by its status.
-use Rattle.std.specs.Prelude.{◌≡◌, ◌≢◌, ℕ, ◌⊎◌, false, List, [], ◌++◌, map, Option, Some, Ok}
+use Rattle.std.specs.Prelude.{◌≡◌, ◌≢◌, ℕ, ◌⊎◌, ⊤, false, List, [], ◌∷◌, ◌++◌, map, Option, Some, Ok}
 use Rattle.std.specs.Option.{option_map}
 use Rattle.kr_base.specs.Faults.{Rose}
 use Rattle.kr_base.specs.Told.{Agrees}
@@ -9,12 +9,14 @@ use Rattle.kr_store.specs.Rows.{put_of}
 use Rattle.kr_store.specs.declared.format.Check as kept
 use Rattle.kr_store.specs.declared.format.Format.TheVariants.{Two}
 use Rattle.kr_store.specs.declared.rows.LogRow.{LogRow}
+use Rattle.kr_store.specs.declared.rows.Row as stored
+use Rattle.kr_store.specs.Stores.{IsListing}
 use Rattle.kr_top.specs.Around.{Around}
 use Rattle.kr_top.specs.Command.{Asks}
 use Rattle.kr_top.specs.Commands.{migrated_row}
 use Rattle.kr_top.specs.Configuration.{IsConfiguration}
 use Rattle.kr_top.specs.Steps.{or_empty}
-use Rattle.kr_top.specs.StoreFiles.{Stored, IsStored, with_row, HoldsRows, BeginsWith}
+use Rattle.kr_top.specs.StoreFiles.{Stored, IsStored, with_row, HoldsRows, BeginsWith, StillHolds}
 use Rattle.kr_top.specs.declared.command.Command.{Command}
 use Rattle.kr_top.specs.declared.command.Command.TheVariants.{Convert, Check, Inspect, Put, Get, Migrate, Rows, Judge, Rewrite}
 use Rattle.kr_top.specs.declared.command.Conversion.{Conversion}
@@ -63,6 +65,37 @@ MayGrow words status was is before count =
 abbrev pub OthersStay : (name : List ℕ) → (old new : List ℕ → ToldTape) → Type 0
 OthersStay name old new =
     (other : List ℕ) → same_name name other ≡ false → new other ≡ old other
+
+-- a store with these rows behind its own
+abbrev pub with_rows : List LogRow → Stored → Stored
+with_rows added store = record { format = store.format; rows = store.rows ++ added }
+
+-- a put of a live row's path and resource, with some value and check
+abbrev pub IsPutOf : LogRow → stored.Row → Type 0
+IsPutOf put row = (value : List ℕ) × (check : Option kept.Check)
+    × (put ≡ put_of row.path row.resource value check)
+
+-- each is a put of one of these live rows, in their order; some of them are passed by
+abbrev pub ArePutsOf : List LogRow → List stored.Row → Type 0
+ArePutsOf [] live = ⊤
+ArePutsOf (put ∷ puts) [] = ⊥
+ArePutsOf (put ∷ puts) (row ∷ live) =
+    ArePutsOf (put ∷ puts) live ⊎ (IsPutOf put row × ArePutsOf puts live)
+
+-- no row of a store is lost, and nothing but puts at its live paths was added: the tape has the
+-- rows that it had and these behind them, and more than that only where its count of faults rose
+pub record KeepsRows (was is : ToldTape) (before count : ℕ) : Type 0 where
+  pub bytes : List ℕ
+  pub store : Stored
+  pub live : List stored.Row
+  pub added : List LogRow
+  pub told : Option (List ℕ)
+  pub held : Agrees was (Some bytes)
+  pub read : IsStored bytes (Ok store)
+  pub listing : IsListing store.rows live
+  pub added_are : ArePutsOf added live
+  pub holds : StillHolds (with_rows added store) told before count
+  pub is_told : is ≡ option_map Some told
 
 -- what was copied of the rows of a store, by its configuration, and the rows still to come
 pub record Copies (words : Migration) (old : Outside) (copied rest : List LogRow) : Type 0 where
@@ -113,6 +146,9 @@ LeavesTapes (Rows store) status old new = new.tapes.told ≡ old.tapes.told
 LeavesTapes (Judge words) status old new = new.tapes.told ≡ old.tapes.told
 LeavesTapes (Rewrite words) status old new =
     OthersStay words.store old.tapes.told new.tapes.told
+    × (((status ≢ 0) × (new.tapes.told words.store ≡ old.tapes.told words.store))
+    ⊎ KeepsRows (old.tapes.told words.store) (new.tapes.told words.store)
+    (old.tapes.faults words.store) (new.tapes.faults words.store))
 
 -- the words stopped the call, or they ask for a command that leaves the tapes so
 abbrev pub AreLeft : List (List ℕ) → Around → Around → (status : ℕ) → Type 0
