@@ -1,5 +1,5 @@
 -- What a migration leaves of the tapes, by the rows that it copies.
-use Rattle.std.proofs.Common.{◌≡◌, ◌≢◌, ℕ, List, [], ◌∷◌, ◌++◌, length, map, Bool, true, false, Option, None, Some, Result, Ok, Err, refl, sym, ◌∙◌, ap, subst, inl, inr, append-nil}
+use Rattle.std.proofs.Common.{◌≡◌, ◌≢◌, ℕ, List, [], ◌∷◌, ◌++◌, length, map, Bool, true, false, Option, None, Some, Result, Ok, Err, refl, sym, ◌∙◌, ap, subst, inl, inr}
 use Rattle.std.specs.Prelude.{◌⊎◌, nat_lt, if◌then◌else◌}
 use Rattle.std.specs.Option.{option_map}
 use Rattle.std.proofs.lemmas.List.{append_assoc}
@@ -12,9 +12,9 @@ use Rattle.kr_store.specs.File.{file_bytes}
 use Rattle.kr_store.specs.declared.format.Format.TheVariants.{Two}
 use Rattle.kr_store.specs.declared.rows.LogRow.{LogRow}
 use Rattle.kr_top.specs.Afterwards.{IsUngrown, OthersStay, ToldTape, new_store}
-use Rattle.kr_top.specs.Commands.{adding, by_result, copied_into, copying, migrated_line, migrated_row, migrating, migrating_into, silently, target_on}
+use Rattle.kr_top.specs.Commands.{by_result, copied_into, copying, migrated_line, migrated_row, migrating, migrating_into, silently, target_on}
 use Rattle.kr_top.specs.Configuration.{IsConfiguration}
-use Rattle.kr_top.specs.Steps.{Steps, write_row, give, and_then, or_empty, tapes_with, with_asked, with_tape, with_told, Point, Left, IsAt, Goes}
+use Rattle.kr_top.specs.Steps.{write_row, give, and_then, or_empty, tapes_with, with_asked, with_tape, with_told, Point, Left, IsAt, Goes}
 use Rattle.kr_top.specs.StoreFiles.{BeginsWith, HoldsRows, IsStored, Stored, begins_new, unless_new, unless_there, with_row}
 use Rattle.kr_top.specs.declared.command.Migration.{Migration}
 use Rattle.kr_top.specs.declared.refusal.Limit.TheVariants as limit

@@ -1,8 +1,7 @@
 -- The rows of a migration, copied one behind another onto a tape that is out.
-use Rattle.std.proofs.Common.{◌≡◌, ℕ, suc, ◌+◌, ◌<◌, ◌≤◌, ◌-◌, List, [], ◌∷◌, ◌++◌, length, map, take, drop, Option, None, Some, Result, Ok, Err, refl, sym, ◌∙◌, ap, subst, add-one, arith}
+use Rattle.std.proofs.Common.{◌≡◌, ℕ, suc, ◌+◌, ◌<◌, ◌≤◌, ◌-◌, List, [], ◌∷◌, ◌++◌, length, map, take, drop, None, Some, Result, Ok, Err, sym, ◌∙◌, ap, subst, add-one, arith}
 use Rattle.std.specs.Prelude.{IfOk, IsSome, slice_get}
 use Rattle.std.proofs.lemmas.List.{drop_all, length-map, take_all}
-use Rattle.kr_base.specs.Limits.{store_limit}
 use Rattle.kr_config.specs.Kept.{Row}
 use Rattle.kr_config.specs.Lists.{list_of}
 use Rattle.kr_config.specs.declared.who.Who.{Who}
@@ -16,7 +15,6 @@ use Rattle.kr_store.specs.declared.rows.LogRow.{LogRow}
 use Rattle.kr_store.specs.declared.rows.Row as stored
 use Rattle.kr_top.specs.Around.{Around, with_lent_tape}
 use Rattle.kr_top.specs.Commands.{adding, copying, migrated_row, reader_check}
-use Rattle.kr_top.specs.Steps.{Steps}
 use Rattle.kr_top.specs.StoreFiles.{Stored, with_row}
 use Rattle.kr_top.specs.inner.Migrating.{HasCopied, IsNew, all_grown, migrated_put}
 use Rattle.kr_top.specs.inner.Phases.{Does}

@@ -1,7 +1,6 @@
 -- The source and the target of a migration, whose tapes are out.
-use Rattle.std.proofs.Common.{◌≡◌, ℕ, zero, suc, ◌+◌, ◌<◌, ◌≤◌, List, [], ◌∷◌, ◌++◌, length, take, Bool, true, false, Option, None, Some, Result, Ok, Err, refl, sym, ◌∙◌, ap, subst, inl, inr, length-append, arith}
+use Rattle.std.proofs.Common.{◌≡◌, ℕ, zero, suc, ◌<◌, ◌≤◌, List, [], ◌∷◌, ◌++◌, length, Bool, true, false, Option, None, Some, Result, Ok, Err, refl, sym, ◌∙◌, ap, subst, inl, inr, length-append, arith}
 use Rattle.std.specs.Prelude.{IfErr, IfOk, IfSome, codes, decimal, map, nat_lt, if◌then◌else◌}
-use Rattle.std.specs.Option.{option_map}
 use Rattle.std.proofs.lemmas.Bool.{lt-ltb}
 use Rattle.kr_base.specs.Faults.{Rose}
 use Rattle.kr_base.specs.Told.{Agrees}
@@ -13,9 +12,9 @@ use Rattle.kr_store.specs.declared.format.Format.TheVariants.{One, Two}
 use Rattle.kr_store.specs.declared.rows.LogRow.{LogRow}
 use Rattle.kr_top.specs.Around.{Around, with_lent_tape, Stays, Reaches, Ends}
 use Rattle.kr_top.specs.Commands.{by_result, copied_into, copying, migrated_line, migrated_row, silently, source_on, stored_on, target_on, target_read, with_memory}
-use Rattle.kr_top.specs.Steps.{Steps, read_tape, find, give, and_then, scanning, Point, awaits, gives, Left, Goes}
-use Rattle.kr_top.specs.StoreFiles.{Stored, IsSource, IsStored, IsTarget, begins_new, none_there, unless_new, unless_there}
-use Rattle.kr_top.specs.inner.Migrating.{IsNew, all_grown, has_new_bytes}
+use Rattle.kr_top.specs.Steps.{Steps, read_tape, find, give, and_then, scanning, Point, Left, Goes}
+use Rattle.kr_top.specs.StoreFiles.{Stored, IsSource, IsStored, IsTarget, begins_new, none_there, unless_there}
+use Rattle.kr_top.specs.inner.Migrating.{all_grown, has_new_bytes}
 use Rattle.kr_top.specs.inner.Phases.{Does}
 use Rattle.kr_top.specs.inner.Tapes.{IsLoaded, answered, stored_of}
 use Rattle.kr_top.specs.declared.refusal.Object.{Object}

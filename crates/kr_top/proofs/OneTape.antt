@@ -1,8 +1,8 @@
 -- Steps that write one tape alone leave every other.
-use Rattle.std.proofs.Common.{◌≡◌, ℕ, zero, suc, List, [], ◌∷◌, Bool, true, false, Option, None, Some, Result, Ok, Err, refl, sym, ◌∙◌, ap, subst, inl, inr}
+use Rattle.std.proofs.Common.{◌≡◌, ℕ, zero, suc, List, [], ◌∷◌, Bool, true, false, Option, None, Some, Result, Ok, Err, refl, ◌∙◌, ap, inl, inr}
 use Rattle.std.specs.Prelude.{nat_lt, length, if◌then◌else◌}
 use Rattle.std.specs.Option.{option_map}
-use Rattle.kr_base.specs.Limits.{data_limit, store_limit}
+use Rattle.kr_base.specs.Limits.{data_limit}
 use Rattle.kr_config.specs.Kept.{Row}
 use Rattle.kr_config.specs.Lists.{list_of}
 use Rattle.kr_config.specs.declared.who.Who.{Who}
@@ -26,7 +26,7 @@ use Rattle.kr_store.specs.Stores.{IsListing}
 use Rattle.kr_store.specs.declared.rows.LogRow.{LogRow}
 use Rattle.kr_store.specs.declared.rows.Row as stored
 use Rattle.kr_top.specs.Afterwards.{OthersStay}
-use Rattle.kr_top.specs.Commands.{Progress, adding, begun, by_result, configuration, draw_some, driving, linking_programs, one_rewritten, opening, published_source, reading_given, replacing, resealing, rewriting, rewriting_by, rewriting_live, rewriting_on, row_anew, row_by, row_data, row_steps, source_steps, starting, tape_for, value_read, value_sealed, value_with, with_memory, within_journal, within_limit}
+use Rattle.kr_top.specs.Commands.{Progress, adding, begun, by_result, configuration, draw_some, driving, linking_programs, one_rewritten, opening, published_source, reading_given, replacing, resealing, rewriting, rewriting_by, rewriting_live, rewriting_on, row_anew, row_by, row_data, row_steps, source_steps, starting, tape_for, value_read, value_sealed, value_with, within_journal, within_limit}
 use Rattle.kr_top.specs.Plugins.{borrow_links, make_seeds, programs_of}
 use Rattle.kr_top.specs.Steps.{Steps, load, take_input, borrow_dice, borrow_tape, read_tape, write_row, keep_rows, draw, borrow_link, ask_status, wrap, unwrap, note, find, refuse, give, and_then, Point, Left, Goes}
 use Rattle.kr_top.specs.StoreFiles.{Stored, with_row}

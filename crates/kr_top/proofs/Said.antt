@@ -1,13 +1,12 @@
 -- A command that reports: what is said at its end, whatever is lent meanwhile.
-use Rattle.std.proofs.Common.{◌≡◌, ℕ, ◌+◌, ◌*◌, ◌<◌, ◌≤◌, List, length, Option, None, Some, Result, Ok, Err, refl, sym, ◌∙◌, ap, subst, inl, inr, arith}
-use Rattle.std.specs.Prelude.{Bool, if◌then◌else◌, nat_lt}
+use Rattle.std.proofs.Common.{◌≡◌, ℕ, ◌+◌, ◌*◌, ◌<◌, ◌≤◌, List, length, Option, None, Some, Result, Ok, Err, refl, sym, ap, subst, inl, inr, arith}
+use Rattle.std.specs.Prelude.{Bool, if◌then◌else◌}
 use Rattle.std.specs.Option.{option_map}
 use Rattle.std.proofs.lemmas.Bool.{le-ltb, lt-ltb}
 use Rattle.kr_config.specs.Kept.{Row}
 use Rattle.kr_kms.specs.Calls.{Link}
 use Rattle.kr_kms.specs.Outside.{Outside, same_name}
 use Rattle.kr_store.specs.Stores.{IsListing}
-use Rattle.kr_store.specs.declared.rows.LogRow.{LogRow}
 use Rattle.kr_store.specs.declared.rows.Row as stored
 use Rattle.kr_top.specs.Around.{Around, Tapes, with_world, with_tapes, with_lent, with_lent_dice, with_lent_links, with_lent_tape}
 use Rattle.kr_top.specs.Commands.{by_result, rewriting_by, rewriting_live, within_journal}
@@ -19,14 +18,13 @@ use Rattle.kr_top.specs.declared.programs.Program.{Program}
 use Rattle.kr_top.specs.declared.refusal.Ended.{Ended}
 use Rattle.kr_top.specs.declared.refusal.Limit.TheVariants as limit
 use Rattle.kr_top.specs.declared.refusal.Outcome.{Outcome}
-use Rattle.kr_top.specs.declared.refusal.Refusal.{Refusal}
 use Rattle.kr_top.specs.declared.refusal.Refusal.TheVariants.{Limit}
 use Rattle.kr_top.specs.declared.refusal.Stop.{Stop}
 use Rattle.kr_top.specs.declared.refusal.Stop.TheVariants.{Refused, NoMemory}
 use Rattle.kr_top.specs.declared.report.Counts.{Counts}
 use Rattle.kr_top.specs.inner.Phases.{Does}
 use Rattle.kr_top.specs.inner.Reporting.{saying}
-use Rattle.kr_top.specs.inner.Rewriting.{HasRoom, LacksRoom}
+use Rattle.kr_top.specs.inner.Rewriting.{LacksRoom}
 use Rattle.kr_top.proofs.Frames.{Seen}
 use Rattle.kr_top.proofs.Goes.{goes_on, home_refl, reach}
 

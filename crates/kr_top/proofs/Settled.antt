@@ -36,7 +36,7 @@ use Rattle.kr_provider.proofs.OneReading.{IsNoPlugin, any_envelope, no_plugin}
 use Rattle.kr_provider.proofs.WithoutPlugins.{none_listed}
 use Rattle.kr_provider.specs.Sealing.{draw_size, sealed_by}
 use Rattle.kr_rollout.specs.Checks.{store_check}
-use Rattle.kr_top.specs.Commands.{by_result, value_steps, draw_some, input_of, linking_programs, opening, read_with, reading_steps, unsealing, working, working_by, converting, steps, bench_steps, configuration, getting, row_found, row_on, tape_for, with_memory, configurations, judging_at, judging_by, telling, adding, new_row, putting, revision_line, sealed_into, silently, stored_into}
+use Rattle.kr_top.specs.Commands.{by_result, value_steps, draw_some, input_of, linking_programs, opening, read_with, reading_steps, unsealing, working, working_by, converting, bench_steps, configuration, getting, row_found, row_on, tape_for, with_memory, configurations, judging_at, judging_by, telling, adding, new_row, putting, revision_line, sealed_into, silently, stored_into}
 use Rattle.kr_store.specs.Rows.{live, check_in}
 use Rattle.kr_store.specs.File.{file_bytes}
 use Rattle.kr_store.specs.declared.rows.LogRow.{LogRow}
@@ -47,8 +47,7 @@ use Rattle.kr_top.specs.Plugins.{borrow_links, make_seeds, programs_of, seed_row
 use Rattle.kr_top.specs.Steps.{Steps, load, take_input, borrow_dice, borrow_tape, read_tape, write_row, keep_rows, draw, borrow_link, ask_status, wrap, unwrap, note, find, refuse, give, and_then, Left, with_asked, with_dice, or_empty, tapes_with}
 use Rattle.kr_top.specs.StoreFiles.{Stored, with_row}
 use Rattle.kr_top.specs.Texts.{line, word_and_number}
-use Rattle.kr_top.specs.declared.command.Command.{Command}
-use Rattle.kr_top.specs.declared.command.Command.TheVariants.{Convert, Check, Inspect, Put, Get, Rows, Judge, Rewrite}
+use Rattle.kr_top.specs.declared.command.Command.TheVariants.{Convert, Put, Get}
 use Rattle.kr_top.specs.declared.command.Conversion.{Conversion}
 use Rattle.kr_top.specs.declared.command.Lookup.{Lookup}
 use Rattle.kr_top.specs.declared.command.Direction.{Direction}
@@ -63,7 +62,7 @@ use Rattle.kr_top.specs.Around.{Around, left_of}
 use Rattle.kr_top.specs.Command.{replica_names, reload_in, reload_number, reload_file}
 use Rattle.kr_top.specs.Ran.{IsTelling, ArePluginsTold, AreTold}
 use Rattle.kr_top.proofs.EquallyLong.{AreAsLong, as_long, no_kms_writer, same_file}
-use Rattle.kr_top.proofs.Listed.{one_stored, one_shown}
+use Rattle.kr_top.proofs.Listed.{one_stored}
 use Rattle.kr_top.proofs.Judging.{one_judged, read_then}
 use Rattle.kr_top.proofs.Tapes.{own_name}
 use Rattle.kr_top.proofs.OnePoint.{IsSettled}

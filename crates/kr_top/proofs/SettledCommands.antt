@@ -1,5 +1,5 @@
 -- What each command's steps find is one thing, and what they draw decides nothing but the value.
-use Rattle.std.proofs.Common.{◌≡◌, List, refl, sym, ◌∙◌}
+use Rattle.std.proofs.Common.{refl, sym, ◌∙◌}
 use Rattle.kr_top.specs.Around.{Around, left_of}
 use Rattle.kr_top.specs.Commands.{steps}
 use Rattle.kr_top.specs.Ran.{IsTelling}

@@ -1,6 +1,6 @@
 -- Over a told store, where no plugin is named, the steps of a rewrite go one way whatever is drawn.
-use Rattle.std.proofs.Common.{◌≡◌, ℕ, ◌+◌, zero, suc, List, [], ◌∷◌, ◌++◌, length, Bool, true, false, Option, None, Some, Result, Ok, Err, refl, sym, ◌∙◌, ap, subst, length-append, arith}
-use Rattle.std.specs.Prelude.{⊤, not, ◌||◌, IsSome, nat_lt, if◌then◌else◌}
+use Rattle.std.proofs.Common.{◌≡◌, ℕ, ◌+◌, zero, suc, List, [], ◌∷◌, ◌++◌, length, Bool, true, false, Option, None, Some, Result, Ok, Err, refl, sym, ◌∙◌, ap, subst, length-append}
+use Rattle.std.specs.Prelude.{⊤, not, ◌||◌, nat_lt, if◌then◌else◌}
 use Rattle.std.specs.List.{list_any}
 use Rattle.kr_base.specs.Limits.{data_limit, store_limit}
 use Rattle.kr_config.specs.Kept.{Row}
@@ -33,11 +33,10 @@ use Rattle.kr_store.specs.declared.rows.LogRow.{LogRow}
 use Rattle.kr_store.specs.declared.rows.Row as stored
 use Rattle.kr_store.proofs.Listings.{listing_once}
 use Rattle.kr_top.specs.Around.{Around, left_of}
-use Rattle.kr_top.specs.Commands.{IsStarted, Progress, begun, by_result, driving, linking_programs, one_fresh, one_left, one_rewritten, opening, reading_given, replacing, resealing, rewriting, rewriting_by, rewriting_live, rewriting_on, row_anew, row_by, row_data, row_steps, starting, tape_for, value_with, within_journal, draw_some}
+use Rattle.kr_top.specs.Commands.{IsStarted, Progress, begun, by_result, driving, linking_programs, one_rewritten, opening, reading_given, replacing, resealing, rewriting, rewriting_by, rewriting_live, rewriting_on, row_anew, row_by, row_data, row_steps, starting, tape_for, value_with, within_journal, draw_some}
 use Rattle.kr_top.specs.Judgements.{start_refusal}
 use Rattle.kr_top.specs.Plugins.{borrow_links, make_seeds, programs_of}
 use Rattle.kr_top.specs.Ran.{IsTelling}
-use Rattle.kr_top.specs.Reports.{report_done}
 use Rattle.kr_top.specs.Steps.{Steps, borrow_dice, find, give, write_row, and_then, Left, with_asked, with_tape}
 use Rattle.kr_top.specs.StoreFiles.{Stored, with_row}
 use Rattle.kr_top.specs.declared.command.Command.TheVariants.{Rewrite}

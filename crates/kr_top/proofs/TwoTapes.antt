@@ -1,9 +1,9 @@
 -- A tape that is borrowed, and comes back, while another one is out.
 use Rattle.std.proofs.Common.{◌≡◌, ℕ, ◌+◌, List, Option, None, Some, Result, Err, refl, sym, ◌∙◌, ap, subst, arith}
-use Rattle.std.specs.Prelude.{Bool, true, false, ◌<◌, ◌-◌, if◌then◌else◌}
+use Rattle.std.specs.Prelude.{Bool, true, false, ◌-◌, if◌then◌else◌}
 use Rattle.std.specs.Option.{option_map}
 use Rattle.kr_base.specs.Told.{Agrees}
-use Rattle.kr_kms.specs.Outside.{Outside, Objects, at_key, same_name, HandsOut, TakesBack, IsTape, KeepsFiles, KeepsObjects}
+use Rattle.kr_kms.specs.Outside.{Outside, at_key, same_name, HandsOut, TakesBack, IsTape, KeepsFiles, KeepsObjects}
 use Rattle.kr_kms.proofs.Lent.{names_decide}
 use Rattle.kr_kms.specs.declared.world.WorldCall.TheVariants.{Tape}
 use Rattle.kr_top.specs.Around.{Around, Tapes, with_lent, with_lent_tape, with_tapes, with_world}

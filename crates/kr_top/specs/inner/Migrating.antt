@@ -1,5 +1,5 @@
 -- What the phases of `migrate` give to it.
-use Rattle.std.specs.Prelude.{◌≡◌, ◌++◌, ℕ, Bool, false, List, [], length, map, nat_lt, take, Some, Result, Ok, Err}
+use Rattle.std.specs.Prelude.{◌≡◌, ◌++◌, ℕ, Bool, false, List, [], map, nat_lt, take, Some, Result, Ok, Err}
 use Rattle.kr_base.specs.Limits.{store_limit}
 use Rattle.kr_config.specs.Kept.{Row}
 use Rattle.kr_config.specs.Lists.{list_of}

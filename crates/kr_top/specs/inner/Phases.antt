@@ -26,7 +26,7 @@ use Rattle.kr_top.specs.inner.Judging.{HasReplicas}
 use Rattle.kr_top.specs.Steps.{Steps, Left}
 use Rattle.kr_top.specs.declared.command.Command.{Command}
 use Rattle.kr_top.specs.declared.command.Command.TheVariants.{Convert, Check, Inspect, Put, Get, Migrate, Rows, Judge, Rewrite}
-use Rattle.kr_top.specs.declared.refusal.Object.TheVariants.{Input, Files, Dice}
+use Rattle.kr_top.specs.declared.refusal.Object.TheVariants.{Input, Files}
 use Rattle.kr_top.specs.declared.refusal.Outcome.{Outcome}
 use Rattle.kr_top.specs.declared.refusal.Refusal.{Refusal}
 use Rattle.kr_top.specs.declared.refusal.Refusal.TheVariants.{Configuration}

@@ -1,7 +1,6 @@
 -- What the phases of `rewrite` give to it.
-use Rattle.std.specs.Prelude.{◌≡◌, ◌+◌, ◌*◌, ◌<◌, ◌≤◌, ◌⊎◌, ℕ, false, List, [], ◌∷◌, length, Contains, Option, None, Some, Result, Ok, Err, ⊤}
+use Rattle.std.specs.Prelude.{◌≡◌, ◌+◌, ◌*◌, ◌<◌, ◌≤◌, ◌⊎◌, ℕ, false, List, [], ◌∷◌, length, Contains, Option, Some, Result, Ok, Err, ⊤}
 use Rattle.kr_base.specs.Limits.{store_limit}
-use Rattle.kr_config.specs.Kept.{Row}
 use Rattle.kr_kms.specs.Calls.{Link}
 use Rattle.kr_provider.specs.AskedLinks.{HasLinkWith}
 use Rattle.kr_provider.specs.Publication.{Publication}

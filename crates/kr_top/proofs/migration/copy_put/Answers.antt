@@ -1,14 +1,10 @@
 -- `copy_put`: a put with its check, where there is memory for a copy of its value.
-use Rattle.std.proofs.Common.{◌≡◌, ◌≤◌, length, Some, ◌∙◌, ap, subst, sym}
+use Rattle.std.proofs.Common.{◌≤◌, length, ◌∙◌, subst, sym}
 use Rattle.std.specs.Prelude.{IfOk}
 use Rattle.kr_base.specs.Limits.{value_limit}
 use Rattle.kr_base.specs.Rules.{IsPath, IsResource}
 use Rattle.kr_config.specs.Kept.{rows_of}
-use Rattle.kr_config.specs.Lists.{list_of}
-use Rattle.kr_provider.specs.Readers.{reader_in}
-use Rattle.kr_store.specs.Rows.{check_in, put_of}
 use Rattle.kr_top.specs.Around.{with_lent_tape}
-use Rattle.kr_top.specs.Commands.{reader_check}
 use Rattle.kr_top.specs.inner.Migrating.{migrated_put}
 use Rattle.kr_top.specs.inner.Tapes.{HasOneMore, stored_of}
 use Rattle.kr_top.proofs.Copying.{as_line, lacks_row, line_is}

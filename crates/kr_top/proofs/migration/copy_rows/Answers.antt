@@ -1,5 +1,5 @@
 -- `copy_rows`: each turn copies the row of the next revision.
-use Rattle.std.proofs.Common.{◌≡◌, ◌+◌, ◌-◌, ℕ, subst, arith}
+use Rattle.std.proofs.Common.{◌≡◌, ◌+◌, ◌-◌, subst, arith}
 use Rattle.kr_config.specs.Kept.{rows_of}
 use Rattle.kr_top.specs.inner.Migrating.{HasCopied}
 use Rattle.kr_top.proofs.Copying.{copies_all, copies_more, copies_none, copies_not}

@@ -1,5 +1,5 @@
 -- `migrate_into`: the target's tape is borrowed while the source's is out, and comes back.
-use Rattle.std.proofs.Common.{◌≡◌, List, ℕ, false, true, sym, subst, ap, arith}
+use Rattle.std.proofs.Common.{◌≡◌, false, true, sym, subst, ap, arith}
 use Rattle.kr_config.specs.Kept.{rows_of}
 use Rattle.kr_kms.specs.Outside.{same_name}
 use Rattle.kr_top.specs.Around.{with_lent_tape, with_world}

@@ -1,5 +1,5 @@
 -- `write_output`: a value is written, whatever would have been said; or what was said.
-use Rattle.std.proofs.Common.{◌≡◌, ℕ, List, Result, Ok, Err, refl, sym, subst}
+use Rattle.std.proofs.Common.{◌≡◌, ℕ, List, Result, Err, refl, sym, subst}
 use Rattle.kr_top.specs.Ran.{Receipt, Reports, receipt, Writes}
 use Rattle.kr_top.specs.Reports.{said_text}
 use Rattle.kr_top.specs.declared.refusal.Outcome.{Outcome}

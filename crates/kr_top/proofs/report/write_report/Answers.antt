@@ -1,6 +1,6 @@
 -- `write_report`: nine pieces, which are four lines.
 use Rattle.std.proofs.Common.{◌≡◌, ℕ, List, [], ◌++◌, sym, ◌∙◌, ap, append_assoc, codes, decimal}
-use Rattle.kr_top.specs.Reports.{count_line, report_text}
+use Rattle.kr_top.specs.Reports.{report_text}
 use Rattle.kr_top.specs.declared.report.Counts.{Counts}
 use Rattle.kr_top.proofs.Pieces.{says_by}
 use Rattle.kr_top.proofs.report.write_report.Goals as goal

@@ -13,8 +13,7 @@ use Rattle.kr_top.specs.inner.Phases.{Does}
 use Rattle.kr_top.specs.inner.Reporting.{saying}
 use Rattle.kr_top.specs.inner.Tapes.{stored_of}
 use Rattle.kr_top.proofs.Apart.{files_apart, objects_apart, link_apart, link_back_apart}
-use Rattle.kr_top.proofs.Frames.{Seen}
-use Rattle.kr_top.proofs.Linked.{all_back, at_end, at_first, borrows_to, is_new, is_out, none_added, none_borrowed, one_linked, same_last, some_named}
+use Rattle.kr_top.proofs.Linked.{all_back, at_end, at_first, borrows_to, is_new, is_out, none_added, none_borrowed, same_last, some_named}
 use Rattle.kr_top.proofs.NamedPrograms.{names_in}
 use Rattle.kr_top.proofs.Said.{All_lent, saying_seen, stopped_by, tapes_lent}
 use Rattle.kr_top.proofs.rewriting.+rewrite_linked.Goals as goal

@@ -1,16 +1,14 @@
 -- `rewrite_on`: the store is loaded, there is room, and what follows has its tape out.
-use Rattle.std.proofs.Common.{◌≡◌, ◌++◌, ◌<◌, ℕ, List, sym, ◌∙◌, ap, subst, arith}
-use Rattle.kr_config.specs.Kept.{Row, rows_of}
+use Rattle.std.proofs.Common.{◌≡◌, ◌++◌, ◌<◌, sym, ◌∙◌, ap, subst, arith}
+use Rattle.kr_config.specs.Kept.{rows_of}
 use Rattle.kr_provider.specs.Names.{names_of}
 use Rattle.kr_provider.specs.PluginOrder.{plugin_order}
-use Rattle.kr_store.specs.declared.rows.Row as stored
-use Rattle.kr_top.specs.Around.{with_world, with_tapes, with_lent_tape, with_lent_dice}
+use Rattle.kr_top.specs.Around.{with_world, with_tapes, with_lent_tape}
 use Rattle.kr_top.specs.Commands.{rewriting_by, rewriting_on, stored_on}
 use Rattle.kr_top.specs.Plugins.{borrow_links}
-use Rattle.kr_top.specs.Steps.{Steps, borrow_dice}
+use Rattle.kr_top.specs.Steps.{borrow_dice}
 use Rattle.kr_top.specs.declared.refusal.Limit.TheVariants as limit
 use Rattle.kr_top.specs.declared.refusal.Object.TheVariants.{Store}
-use Rattle.kr_top.specs.declared.refusal.Outcome.{Outcome}
 use Rattle.kr_top.specs.declared.refusal.Refusal.TheVariants.{Limit}
 use Rattle.kr_top.specs.declared.refusal.Stop.TheVariants.{Refused, NoMemory}
 use Rattle.kr_top.specs.inner.Phases.{Does}

@@ -1,6 +1,6 @@
 -- `start`: a core of one replica.
-use Rattle.std.proofs.Common.{◌≡◌, ℕ, List, [], ◌∷◌, Option, Some, Result, Ok, Err, refl, sym, ◌∙◌, ap, subst, arith}
-use Rattle.std.specs.Prelude.{◌≤◌, All, IfSome, length}
+use Rattle.std.proofs.Common.{◌≡◌, ℕ, List, [], ◌∷◌, Option, Some, Err, refl, sym, ◌∙◌, ap, subst, arith}
+use Rattle.std.specs.Prelude.{◌≤◌, IfSome, length}
 use Rattle.kr_provider.specs.Publication.{Publication}
 use Rattle.kr_rollout.specs.Cores.{CoreState}
 use Rattle.kr_rollout.specs.Openings.{AreAmong, IsFirstIn, NamesAmong, opening_by, settings_of}
