@@ -45,11 +45,12 @@ among names replicas none one =
     subst (λ ns. AreAmong ns replicas) (sym none) (bare_among replicas one)
 
 pub new_core : {S : Type 0} (o : Opening) (room : ℕ) (core : CoreState)
-    (result : Result CoreState (StartNo × S)) → result ≡ Ok core → Starts o room result
-    → IsOneBare o.replicas → length o.reloads ≡ 2 → IsNewCore room core
+    (result : Result CoreState (StartNo × S)) → result ≡ Ok core
+    → Starts {S = S} o room result → IsOneBare o.replicas → length o.reloads ≡ 2
+    → IsNewCore room core
 new_core {S} o room core result is starts one two =
-    let at : Starts o room (Ok core) =
-    subst (λ (r : Result CoreState (StartNo × S)). Starts o room r) is starts in record {
+    let at : Starts {S = S} o room (Ok core) =
+    subst (λ (r : Result CoreState (StartNo × S)). Starts {S = S} o room r) is starts in record {
       replicas = ap (λ (c : CoreState). length c.opening.replicas) at.1 ∙ one_long o.replicas one;
       seats = ap (λ (c : CoreState). length c.opening.reloads) at.1 ∙ two;
       history = ap (λ (c : CoreState). c.history) at.1;

@@ -1,5 +1,5 @@
 -- A list of events of both seats, each of which may be made whatever is answered to the first.
-use Rattle.std.proofs.Common.{◌≡◌, ℕ, ◌+◌, ◌<◌, List, [], ◌∷◌, ◌++◌, length, sym, subst, ap, ◌∙◌, arith}
+use Rattle.std.proofs.Common.{◌≡◌, ℕ, ◌+◌, ◌<◌, List, [], ◌∷◌, length, sym, subst, ap, ◌∙◌, arith}
 use Rattle.std.proofs.lemmas.List.{length-append}
 use Rattle.kr_base.specs.Lines.{of_seat}
 use Rattle.kr_rollout.specs.declared.answer.Answer.{Answer}

@@ -4,7 +4,6 @@ use Rattle.std.proofs.lemmas.List.Elements.{All-cons, All-nil, All-head, All-tai
 use Rattle.kr_turn.specs.Keys.{Home}
 use Rattle.kr_turn.specs.Seats.{IsSeatOf, IsFresh, AreFresh, AreAll, number_of}
 use Rattle.kr_turn.specs.declared.seat.Place.{Place}
-use Rattle.kr_turn.specs.declared.view.Terms.{Terms}
 use Rattle.kr_rollout.specs.declared.opening.Entry.{Entry}
 use Rattle.kr_rollout.specs.declared.opening.Opening.{Opening}
 use Rattle.kr_rollout.specs.Callers.{holding}
@@ -35,13 +34,17 @@ module _ {S : Type 0} (home : Home Opening) where
   one_new number seat is fresh number_is one =
       (is, (omega (arith, one), ap holding fresh.none_mine), number_is)
 
-  pub two_new : (seats : List (Place S Entry Opening)) (first second : Place S Entry Opening)
-      → AreFresh home 2 seats → All (IsFleetSeat home) seats → seats ≡ first ∷ second ∷ []
-      → length home.terms.basis.replicas ≡ 1 → IsNew 0 first × IsNew 1 second
-  two_new seats first second fresh theirs both one =
+  pub two_new : (count : ℕ) (o : Opening) (seats : List (Place S Entry Opening))
+      (first second : Place S Entry Opening) → AreFresh home count seats
+      → All (IsFleetSeat home) seats → seats ≡ first ∷ second ∷ [] → count ≡ 2
+      → home.terms.basis ≡ o → length o.replicas ≡ 1 → IsNew 0 first × IsNew 1 second
+  unfolding head_or second_or
+  two_new count o seats first second fresh theirs both two basis single =
       let news = subst (All (IsFresh home)) both fresh.each in
       let own = subst (All (IsFleetSeat home)) both theirs in
-      let numbers = sym (ap (map number_of) both) ∙ fresh.numbers in (
+      let numbers = sym (ap (map number_of) both)
+      ∙ (subst (λ n. AreFresh home n seats) two fresh).numbers in
+      let one = ap (λ (x : Opening). length x.replicas) basis ∙ single in (
         one_new 0 first (All-head (IsFleetSeat home) first (second ∷ []) own)
             (All-head (IsFresh home) first (second ∷ []) news) (ap (head_or 0) numbers) one,
         one_new 1 second
