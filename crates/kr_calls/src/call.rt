@@ -1,5 +1,6 @@
 //! Calls as lines, and their answers.
 use crate::desk::Desk;
+use crate::linked::{Spelled, bench_of, end_bench};
 use crate::named::Named;
 use crate::page::Page;
 use crate::words::{Wrong, number_of, text_of, two_words};
@@ -197,8 +198,23 @@ pub fn serve<A: Acts, L: Kms>(
     }
 }
 
-/// Does what the line asks, and prints what came of it, or `line`.
-pub fn serve_line<A: Acts, L: Kms>(
+/// Makes the call, and prints what it answered, or `line` where it can't be made.
+pub fn serve_or_tell<A: Acts, L: Kms>(
+    alloc: Global,
+    desk: &mut Desk<A, L>,
+    call: Call,
+    page: &mut Page,
+) -> Result<(), Wrong> {
+    match serve(alloc, desk, call, page) {
+        Ok(()) => {}
+        Err(Wrong::Form) => page.word("line")?,
+        Err(Wrong::Memory) => return Err(Wrong::Memory),
+    }
+    page.end_line()
+}
+
+/// Makes the call of a line, and prints what it answered, or `line`.
+fn serve_spelled<A: Acts, L: Kms>(
     alloc: Global,
     named: &Named,
     desk: &mut Desk<A, L>,
@@ -215,17 +231,29 @@ pub fn serve_line<A: Acts, L: Kms>(
     }
 }
 
-/// Makes the call, and prints what it answered, or `line` where it can't be made.
-pub fn serve_or_tell<A: Acts, L: Kms>(
+/// Another bench takes the place of a desk's.
+fn change_bench<A: Acts, L: Spelled>(
     alloc: Global,
     desk: &mut Desk<A, L>,
-    call: Call,
+    words: &str,
     page: &mut Page,
 ) -> Result<(), Wrong> {
-    match serve(alloc, desk, call, page) {
-        Ok(()) => {}
-        Err(Wrong::Form) => page.word("line")?,
-        Err(Wrong::Memory) => return Err(Wrong::Memory),
+    let bench = bench_of(alloc, words)?;
+    end_bench(desk.change(bench), page)
+}
+
+/// Does what the line asks: `# TEXT` says nothing, `bench WORDS` brings another bench, and else it
+/// spells a call.
+pub fn serve_line<A: Acts, L: Spelled>(
+    alloc: Global,
+    named: &Named,
+    desk: &mut Desk<A, L>,
+    line: &str,
+    page: &mut Page,
+) -> Result<(), Wrong> {
+    match line.split_once(' ') {
+        Some(("#", _)) => Ok(()),
+        Some(("bench", words)) => change_bench(alloc, desk, words, page),
+        _ => serve_spelled(alloc, named, desk, line, page),
     }
-    page.end_line()
 }

@@ -153,22 +153,7 @@ fn serve_all<A: Acts, L: Spelled>(
     page: &mut Page,
 ) -> Result<(), Wrong> {
     for line in calls.lines() {
-        match line.split_once(' ') {
-            Some(("bench", words)) => change_bench(alloc, desk, words, page)?,
-            Some(("#", _)) => {}
-            _ => serve_line(alloc, named, desk, line, page)?,
-        }
+        serve_line(alloc, named, desk, line, page)?;
     }
     Ok(())
-}
-
-/// Another bench takes the place of a desk's.
-fn change_bench<A: Acts, L: Spelled>(
-    alloc: Global,
-    desk: &mut Desk<A, L>,
-    words: &str,
-    page: &mut Page,
-) -> Result<(), Wrong> {
-    let bench = bench_of(alloc, words)?;
-    end_bench(desk.change(bench), page)
 }

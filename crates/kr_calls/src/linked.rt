@@ -79,8 +79,17 @@ pub fn names_one(alloc: Global, settings: &Settings) -> Result<bool, Wrong>
     Ok(links.serve(settings))
 }
 
+/// So many bytes, which count up from 00 and begin again behind ff.
+fn counted_bytes(alloc: Global, size: u32) -> Result<Bytes, Wrong> {
+    let mut bytes = Vec::new(alloc);
+    for place in 0..size {
+        bytes.push((place % 256) as u8)?;
+    }
+    Ok(Bytes::from_vec(bytes))
+}
+
 /// `KEYID FAILS DRAWN DICEFAILS`: a bench with a link whose calls of these numbers fail, and so
-/// many random bytes, 07 each, whose draws of these numbers fail.
+/// many random bytes, whose draws of these numbers fail.
 pub fn bench_of<L: Spelled>(alloc: Global, words: &str) -> Result<Bench<L, MemDice>, Wrong>
     ensures { IfOk result (λ bench. IsBench (names_of L.link bench.links) bench.pages) }
 {
@@ -88,8 +97,8 @@ pub fn bench_of<L: Spelled>(alloc: Global, words: &str) -> Result<Bench<L, MemDi
     let (fails, rest) = two_words(rest)?;
     let (drawn, dice_fails) = two_words(rest)?;
     let link: L = Spelled::spelled(alloc, key_id, longs_of(alloc, fails)?)?;
-    let bytes = vec![in alloc; 7; number_of(drawn)? as usize]?;
-    let dice = MemDice::new(Bytes::from_vec(bytes), longs_of(alloc, dice_fails)?);
+    let bytes = counted_bytes(alloc, number_of(drawn)?)?;
+    let dice = MemDice::new(bytes, longs_of(alloc, dice_fails)?);
     let links = one_link(alloc, link)?;
     match Bench::new(alloc, links, dice, PAGES, SEEDS) {
         Ok(bench) => Ok(bench),

@@ -94,7 +94,6 @@ fn serve_both<A: Acts, B: Acts, L: Spelled>(
     for line in calls.lines() {
         match line.split_once(' ') {
             Some(("between", words)) => desk.plan(planned(alloc, named, words)?),
-            Some(("#", _)) => {}
             _ => {
                 serve_line(alloc, named, desk, line, page)?;
                 desk.tell(page)?;
