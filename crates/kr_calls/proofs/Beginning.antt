@@ -15,6 +15,7 @@ use Rattle.kr_rollout.specs.Cores.{CoreState}
 use Rattle.kr_rollout.specs.Openings.{AreAmong, NamesAmong}
 use Rattle.kr_rollout.specs.Starts.{Starts}
 use Rattle.kr_seats.specs.Fleets.{IsFleetSeat, caller_of}
+use Rattle.kr_calls.specs.declared.opening.Budget.{Budget}
 use Rattle.kr_calls.specs.Desks.{IsCallerOf, IsCore, one_name}
 
 -- ---- a new core
@@ -29,12 +30,12 @@ two_among names replicas p second n r first next =
     subst (λ ns. AreAmong ns replicas) (sym n) (subst (AreAmong one_name) (sym r)
     (All-cons Named (Some p) (second ∷ []) first (All-cons Named second [] next (All-nil Named))))
 
-pub new_core : {S : Type 0} (o : Opening) (reloads room : ℕ)
+pub new_core : {S : Type 0} (o : Opening) (budget : Budget)
     (result : Result CoreState (StartNo × S)) → o.names ≡ one_name → length o.replicas ≡ 2
-    → o.reloads ≡ reloads ∷ (reloads ∷ []) → Starts o room result
-    → IfOk result (λ core. IsCore reloads room core)
-new_core o reloads room (Err refused) n r b s = tt
-new_core o reloads room (Ok core) n r b s = record {
+    → o.reloads ≡ budget.reloads ∷ (budget.reloads ∷ []) → Starts o budget.room result
+    → IfOk result (λ core. IsCore budget core)
+new_core o budget (Err refused) n r b s = tt
+new_core o budget (Ok core) n r b s = record {
   names = ap (λ (c : CoreState). c.opening.names) s.1 ∙ n;
   replicas_are = ap (λ (c : CoreState). length c.opening.replicas) s.1 ∙ r;
   reloads_are = ap (λ (c : CoreState). c.opening.reloads) s.1 ∙ b;
@@ -44,10 +45,10 @@ new_core o reloads room (Ok core) n r b s = record {
 
 -- ---- an only caller
 
-pub only_begin : (core : CoreState) (reloads room : ℕ) (solo : Caller) → IsCore reloads room core
-    → solo ≡ only_caller core → IsCallerOf solo 2 reloads false
-only_begin core reloads room solo c is =
-    subst (λ (x : Caller). IsCallerOf x 2 reloads false) (sym is) (record {
+pub only_begin : (core : CoreState) (budget : Budget) (solo : Caller) → IsCore budget core
+    → solo ≡ only_caller core → IsCallerOf solo 2 budget.reloads false
+only_begin core budget solo c is =
+    subst (λ (x : Caller). IsCallerOf x 2 budget.reloads false) (sym is) (record {
       names = c.names;
       replicas_are = c.replicas_are;
       room = omega (arith, ap reloads_in c.history, ap (λ r. get_or r 0 0) c.reloads_are);
@@ -77,11 +78,11 @@ both P rest before all first second a split again =
     (one.1, two.1)
 
 module _ {S : Type 0} (home : Home Opening) where
-  pub seat_begins : (core : CoreState) (reloads room : ℕ) (seat : Place S Entry Opening)
-      → IsCore reloads room core → home.terms.basis ≡ core.opening → IsFleetSeat home seat
-      → IsFresh home seat → IsCallerOf (caller_of home seat) 2 reloads false
-  seat_begins core reloads room seat c is its fresh =
-      let budgets : home.terms.basis.reloads ≡ reloads ∷ (reloads ∷ []) =
+  pub seat_begins : (core : CoreState) (budget : Budget) (seat : Place S Entry Opening)
+      → IsCore budget core → home.terms.basis ≡ core.opening → IsFleetSeat home seat
+      → IsFresh home seat → IsCallerOf (caller_of home seat) 2 budget.reloads false
+  seat_begins core budget seat c is its fresh =
+      let budgets : home.terms.basis.reloads ≡ budget.reloads ∷ (budget.reloads ∷ []) =
       ap (λ (o : Opening). o.reloads) is ∙ c.reloads_are in
       let low : number_of seat < 2 =
       subst (λ (r : List ℕ). number_of seat < length r) budgets its.caller.seat_in in
@@ -92,7 +93,7 @@ module _ {S : Type 0} (home : Home Opening) where
           arith,
           ap reloads_in fresh.none_mine,
           ap (λ r. get_or r (number_of seat) 0) budgets,
-          same_budget reloads (number_of seat) low,
+          same_budget budget.reloads (number_of seat) low,
         );
         idle = λ e. ap holding fresh.none_mine;
       }

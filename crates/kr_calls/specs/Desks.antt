@@ -3,9 +3,11 @@ use Rattle.std.specs.Prelude.{◌≡◌, ℕ, ◌+◌, ◌≤◌, Bool, true, fa
 use Rattle.kr_provider.specs.KeyPages.{KeyPages, size_of}
 use Rattle.kr_rollout.specs.declared.call.CallNo.{CallNo}
 use Rattle.kr_rollout.specs.declared.call.CallNo.TheVariants.{Spent}
+use Rattle.kr_rewrite.specs.declared.outcome.Report.{Report}
 use Rattle.kr_rollout.specs.Acting.{Caller}
 use Rattle.kr_rollout.specs.Callers.{holding, reloads_in}
 use Rattle.kr_rollout.specs.Cores.{CoreState}
+use Rattle.kr_calls.specs.declared.opening.Budget.{Budget}
 
 -- the names of the plugins that configurations may name
 abbrev pub one_name : List (List ℕ)
@@ -24,16 +26,21 @@ pub record IsCallerOf (c : Caller) (replicas left : ℕ) (ended : Bool) : Type 0
   pub room : reloads_in c.mine + left ≤ get_or c.opening.reloads c.seat 0
   pub idle : ended ≡ false → holding c.mine ≡ None
 
--- a new core with two replicas and two seats
-pub record IsCore (reloads room : ℕ) (core : CoreState) : Type 0 where
+-- a new core with two replicas and two seats, with this budget
+pub record IsCore (budget : Budget) (core : CoreState) : Type 0 where
   pub names : core.opening.names ≡ one_name
   pub replicas_are : length core.opening.replicas ≡ 2
-  pub reloads_are : core.opening.reloads ≡ reloads ∷ reloads ∷ []
+  pub reloads_are : core.opening.reloads ≡ budget.reloads ∷ budget.reloads ∷ []
   pub history : core.history ≡ []
-  pub room_is : core.room ≡ room
+  pub room_is : core.room ≡ budget.room
 
 -- the call ended since the seat may add no more lines
 abbrev pub is_spent : {T : Type 0} → Result T CallNo → Bool
 is_spent (Ok done) = false
 is_spent (Err Spent) = true
 is_spent (Err why) = false
+
+-- a drive's report, and how it ended
+abbrev pub parted : Result Report (Report × CallNo) → Report × Result (Unit {0}) CallNo
+parted (Ok report) = (report, Ok tt)
+parted (Err cut) = (cut.0, Err cut.1)

@@ -67,7 +67,7 @@ impl Call {
     pub fn spelled(alloc: Global, named: &Named, line: &str) -> Result<Call, Wrong> {
         let (key, rest) = two_words(line)?;
         match key {
-            "read" => placed(alloc, rest, Placed::Read),
+            "read" => with_path(alloc, rest, Placed::Read),
             "write" => written(alloc, rest),
             "delete" => Ok(Call::Delete {
                 path: Text::copy(alloc, rest)?,
@@ -80,8 +80,8 @@ impl Call {
             "refresh" => Ok(Call::Refresh {
                 replica: number_of(rest)?,
             }),
-            "step" => placed(alloc, rest, Placed::Step),
-            "drive" => placed(alloc, rest, Placed::Drive),
+            "step" => with_path(alloc, rest, Placed::Step),
+            "drive" => with_path(alloc, rest, Placed::Drive),
             _ => Err(Wrong::Form),
         }
     }
@@ -96,7 +96,7 @@ enum Placed {
 }
 
 /// `REPLICA PATH`.
-fn placed(alloc: Global, words: &str, kind: Placed) -> Result<Call, Wrong> {
+fn with_path(alloc: Global, words: &str, kind: Placed) -> Result<Call, Wrong> {
     let (replica, path) = two_words(words)?;
     let replica = number_of(replica)?;
     let path = Text::copy(alloc, text_of(path))?;

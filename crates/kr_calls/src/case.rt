@@ -18,7 +18,7 @@ use crate::call::serve_line;
 use crate::desk::Desk;
 use crate::linked::{Spelled, bench_of, end_bench};
 use crate::named::Named;
-use crate::opening::{core_of, terms_of};
+use crate::opening::{Budget, core_of, terms_of};
 use crate::page::Page;
 use crate::stored::{add_rows, load};
 use crate::two::{end_benches, play_two, seated};
@@ -70,8 +70,7 @@ fn begin<L: Spelled, R: Wait>(
     let store = load(alloc, behind("store", second)?)?;
     let (kind, third) = two_words(third)?;
     let terms = terms_of(named, third)?;
-    let reloads = terms.reloads;
-    let room = terms.room;
+    let budget = terms.budget;
     let mut bench: Bench<L, MemDice> = bench_of(alloc, words)?;
     let core = match core_of(alloc, &mut bench, store, terms) {
         Ok(core) => core,
@@ -81,11 +80,9 @@ fn begin<L: Spelled, R: Wait>(
         }
     };
     if kind == "two" {
-        play_with_rival(
-            rt, alloc, named, core, reloads, room, bench, words, calls, page,
-        )
+        play_with_rival(rt, alloc, named, core, budget, bench, words, calls, page)
     } else {
-        play_alone(alloc, named, core, reloads, room, bench, calls, page)
+        play_alone(alloc, named, core, budget, bench, calls, page)
     }
 }
 
@@ -95,14 +92,13 @@ fn play_with_rival<L: Spelled, R: Wait>(
     alloc: Global,
     named: &Named,
     core: Core<MemTape>,
-    reloads: u32,
-    room: u32,
+    budget: Budget,
     bench: Bench<L, MemDice>,
     words: &str,
     calls: &str,
     page: &mut Page,
 ) -> Result<(), Wrong>
-    requires core { IsCore reloads room core }
+    requires core { IsCore budget core }
     requires bench { IsBench (names_of L.link bench.links) bench.pages }
 {
     let other = match bench_of(alloc, words) {
@@ -112,8 +108,8 @@ fn play_with_rival<L: Spelled, R: Wait>(
             return Err(why);
         }
     };
-    match seated(alloc, core, reloads, room) {
-        Some(seats) => play_two(rt, alloc, named, seats, reloads, bench, other, calls, page),
+    match seated(alloc, core, budget) {
+        Some(seats) => play_two(rt, alloc, named, seats, budget, bench, other, calls, page),
         None => {
             end_benches(bench, other, page)?;
             Err(Wrong::Memory)
@@ -126,16 +122,15 @@ fn play_alone<L: Spelled>(
     alloc: Global,
     named: &Named,
     core: Core<MemTape>,
-    reloads: u32,
-    room: u32,
+    budget: Budget,
     bench: Bench<L, MemDice>,
     calls: &str,
     page: &mut Page,
 ) -> Result<(), Wrong>
-    requires core { IsCore reloads room core }
+    requires core { IsCore budget core }
     requires bench { IsBench (names_of L.link bench.links) bench.pages }
 {
-    let mut desk = Desk::new(Solo::new(core), bench, 2, reloads);
+    let mut desk = Desk::new(Solo::new(core), bench, 2, budget.reloads);
     let done = serve_all(alloc, named, &mut desk, calls, page);
     let (solo, bench) = desk.into_parts();
     let (store, _lines) = solo.into_core().close();

@@ -1,7 +1,8 @@
 //! A caller of a core, with the bench by which it makes its calls.
-ghost use Rattle.std.specs.Prelude.{◌≡◌, false};
+ghost use Rattle.std.specs.Prelude.{◌≡◌, ◌<◌, ◌⊎◌, [], false, IsTrue};
+ghost use Rattle.kr_base.specs.Rules.{IsPath};
 ghost use Rattle.kr_provider.specs.Names.{names_of};
-ghost use Rattle.kr_calls.specs.Desks.{IsBench, IsCallerOf, is_spent};
+ghost use Rattle.kr_calls.specs.Desks.{IsBench, IsCallerOf, is_spent, parted};
 
 use crate::between::{Between, Planned};
 use crate::linked::{Spelled, names_one};
@@ -44,6 +45,27 @@ impl<A: Acts, L: Kms> Model for Desk<A, L> {
 
 /// What a call answered.
 pub type Done<T> = Result<T, CallNo>;
+
+/// Whether a seat may make a call of the replica.
+fn may(ended: bool, replicas: u32, replica: u32) -> bool
+    ensures { IsTrue result → (ended ≡ false) × (replica < replicas) }
+{
+    !ended && replica < replicas
+}
+
+/// Whether a configuration may still be brought.
+fn may_bring(left: u32) -> bool
+    ensures { IsTrue result → 0 < left }
+{
+    left > 0
+}
+
+/// Whether a step may begin above this.
+fn is_above(path: &str) -> bool
+    ensures { IsTrue result → (path.now ≡ []) ⊎ IsPath path.now }
+{
+    path.is_empty() || path_ok(path)
+}
 
 /// Whether the seat may add no more lines.
 fn is_spent<T>(done: &Done<T>) -> bool
@@ -89,7 +111,10 @@ impl<A: Acts, L: Kms> Desk<A, L> {
     }
 
     pub fn read(&mut self, alloc: Global, replica: u32, path: &str) -> Result<Done<Read>, Wrong> {
-        if self.ended || replica >= self.replicas || !path_ok(path) {
+        if !may(self.ended, self.replicas, replica) {
+            return Err(Wrong::Form);
+        }
+        if !path_ok(path) {
             return Err(Wrong::Form);
         }
         let done = read(alloc, &mut self.acts, replica, &mut self.bench, path);
@@ -105,7 +130,10 @@ impl<A: Acts, L: Kms> Desk<A, L> {
         path: &str,
         plain: Bytes,
     ) -> Result<Done<u64>, Wrong> {
-        if self.ended || replica >= self.replicas || !path_ok(path) || !resource_ok(resource) {
+        if !may(self.ended, self.replicas, replica) {
+            return Err(Wrong::Form);
+        }
+        if !path_ok(path) || !resource_ok(resource) {
             return Err(Wrong::Form);
         }
         let done = write(
@@ -122,17 +150,22 @@ impl<A: Acts, L: Kms> Desk<A, L> {
     }
 
     pub fn delete(&mut self, alloc: Global, path: &str) -> Result<Done<Option<u64>>, Wrong> {
-        if self.ended || !path_ok(path) {
+        if self.ended {
             return Err(Wrong::Form);
         }
-        Ok(delete(alloc, &mut self.acts, path))
+        if !path_ok(path) {
+            return Err(Wrong::Form);
+        }
+        let done = delete(alloc, &mut self.acts, path);
+        Ok(done)
     }
 
     pub fn leave(&mut self, replica: u32) -> Result<Done<Option<u32>>, Wrong> {
-        if self.ended || replica >= self.replicas {
+        if !may(self.ended, self.replicas, replica) {
             return Err(Wrong::Form);
         }
-        Ok(leave(&mut self.acts, replica))
+        let done = leave(&mut self.acts, replica);
+        Ok(done)
     }
 
     pub fn reload(
@@ -141,14 +174,19 @@ impl<A: Acts, L: Kms> Desk<A, L> {
         replica: u32,
         settings: Shared<Settings>,
     ) -> Result<Done<Loaded>, Wrong> {
-        if self.ended || replica >= self.replicas || !names_one(alloc, settings.get())? {
+        if !may(self.ended, self.replicas, replica) {
             return Err(Wrong::Form);
         }
-        let Some(left) = self.left.checked_sub(1) else {
+        if !may_bring(self.left) {
             return Err(Wrong::Form);
-        };
-        self.left = left;
-        Ok(reload(alloc, &mut self.acts, &mut self.bench, replica, settings))
+        }
+        let known = names_one(alloc, &settings)?;
+        if !known {
+            return Err(Wrong::Form);
+        }
+        self.left -= 1;
+        let done = reload(alloc, &mut self.acts, &mut self.bench, replica, settings);
+        Ok(done)
     }
 
     pub fn join(
@@ -157,31 +195,39 @@ impl<A: Acts, L: Kms> Desk<A, L> {
         replica: u32,
         settings: Shared<Settings>,
     ) -> Result<Done<Joining>, Wrong> {
-        if self.ended || replica >= self.replicas || !names_one(alloc, settings.get())? {
+        if !may(self.ended, self.replicas, replica) {
             return Err(Wrong::Form);
         }
-        let Some(left) = self.left.checked_sub(1) else {
+        if !may_bring(self.left) {
             return Err(Wrong::Form);
-        };
-        self.left = left;
-        Ok(join(alloc, &mut self.acts, &mut self.bench, replica, settings))
+        }
+        let known = names_one(alloc, &settings)?;
+        if !known {
+            return Err(Wrong::Form);
+        }
+        self.left -= 1;
+        let done = join(alloc, &mut self.acts, &mut self.bench, replica, settings);
+        Ok(done)
     }
 
     pub fn refresh(&mut self, alloc: Global, replica: u32) -> Result<Done<Loaded>, Wrong> {
-        if self.ended || replica >= self.replicas {
+        if !may(self.ended, self.replicas, replica) {
             return Err(Wrong::Form);
         }
-        let Some(left) = self.left.checked_sub(1) else {
+        if !may_bring(self.left) {
             return Err(Wrong::Form);
-        };
+        }
+        self.left -= 1;
         let done = refresh(alloc, &mut self.acts, replica, &mut self.bench);
-        self.left = left;
         self.ended = is_spent(&done);
         Ok(done)
     }
 
     pub fn step(&mut self, alloc: Global, replica: u32, after: &str) -> Result<Done<Step>, Wrong> {
-        if self.ended || replica >= self.replicas || !(after.is_empty() || path_ok(after)) {
+        if !may(self.ended, self.replicas, replica) {
+            return Err(Wrong::Form);
+        }
+        if !is_above(after) {
             return Err(Wrong::Form);
         }
         let done = rewrite_next(alloc, &mut self.acts, replica, &mut self.bench, after);
@@ -196,13 +242,16 @@ impl<A: Acts, L: Kms> Desk<A, L> {
         replica: u32,
         after: &str,
     ) -> Result<(Report, Done<()>), Wrong> {
-        if self.ended || replica >= self.replicas || !(after.is_empty() || path_ok(after)) {
+        if !may(self.ended, self.replicas, replica) {
+            return Err(Wrong::Form);
+        }
+        if !is_above(after) {
             return Err(Wrong::Form);
         }
         let driven = drive(alloc, &mut self.acts, replica, &mut self.bench, after);
-        let (report, done) = parted(driven);
-        self.ended = is_spent(&done);
-        Ok((report, done))
+        let told = parted(driven);
+        self.ended = is_spent(&told.1);
+        Ok(told)
     }
 }
 

@@ -7,7 +7,7 @@ ghost use Rattle.kr_calls.specs.Desks.{IsBench};
 
 use crate::page::Page;
 use crate::words::{Wrong, longs_of, number_of, two_words};
-use kr_base::{Bytes, List, MemDice, Text};
+use kr_base::{Bytes, List, MemDice, Shared, Text};
 use kr_config::Settings;
 use kr_keywrap::{ExampleRing, KeyLink};
 use kr_kms::{Kms, TablePlugin};
@@ -70,13 +70,13 @@ fn one_link<L: Spelled>(alloc: Global, link: L) -> Result<Links<L>, Wrong>
 }
 
 /// Whether the settings name no other plugin.
-pub fn names_one(alloc: Global, settings: &Settings) -> Result<bool, Wrong>
+pub fn names_one(alloc: Global, settings: &Shared<Settings>) -> Result<bool, Wrong>
     ensures { IfOk result (λ one. IsTrue one
         → NamesAmong (codes "p" ∷ []) (rows_of settings.now.entries.0)) }
 {
-    let link: TablePlugin = Spelled::spelled(alloc, "k", List::new(alloc))?;
+    let link = TablePlugin::spelled(alloc, "k1", List::new(alloc))?;
     let links = one_link(alloc, link)?;
-    Ok(links.serve(settings))
+    Ok(links.serve(settings.get()))
 }
 
 /// So many bytes, which count up from 00 and begin again behind ff.

@@ -1,5 +1,5 @@
 //! A core with two replicas, of which the first is in, two seats, and `p` as the only plugin.
-ghost use Rattle.std.specs.Prelude.{◌≤◌, ◌*◌, IfOk, IfSome, codes, [], ◌∷◌};
+ghost use Rattle.std.specs.Prelude.{◌≡◌, IfOk, IfSome, codes, [], ◌∷◌};
 ghost use Rattle.kr_config.specs.Kept.{rows_of};
 ghost use Rattle.kr_provider.specs.Names.{names_of};
 ghost use Rattle.kr_rollout.specs.Openings.{NamesAmong};
@@ -16,14 +16,19 @@ use kr_rollout::Core;
 use kr_store::Store;
 use std::alloc::Global;
 
+/// How many configurations each seat may bring, and how many lines the journal may have.
+#[derive(Clone, Copy)]
+pub struct Budget {
+    pub reloads: u32,
+    pub room: u32,
+}
+
 /// What a core is started with.
 #[derive(Drop)]
 pub struct Terms {
     pub first: Shared<Settings>,
     pub second: Option<Shared<Settings>>,
-    /// How many configurations each seat may bring.
-    pub reloads: u32,
-    pub room: u32,
+    pub budget: Budget,
 }
 
 /// `ROOM RELOADS NAME NAME`: the journal's room, how many configurations each seat may bring, and
@@ -40,9 +45,21 @@ pub fn terms_of(named: &Named, words: &str) -> Result<Terms, Wrong> {
     Ok(Terms {
         first: named.share(first)?,
         second,
-        reloads: number_of(reloads)?,
-        room: number_of(room)?,
+        budget: Budget {
+            reloads: number_of(reloads)?,
+            room: number_of(room)?,
+        },
     })
+}
+
+/// A configuration to be shared.
+fn shared(alloc: Global, published: Published) -> Result<Shared<Published>, Wrong>
+    ensures { IfOk result (λ p. p ≡ published) }
+{
+    match Shared::new(alloc, published) {
+        Ok(shared) => Ok(shared),
+        Err(_) => Err(Wrong::Memory),
+    }
 }
 
 /// Publishes settings.
@@ -55,11 +72,12 @@ fn published<L: Kms>(
     ensures named { IfOk result (λ p. NamesAmong (codes "p" ∷ []) p.rows) }
     ensures bench { IsBench (names_of L.link bench.new.links) bench.new.pages }
 {
-    if !names_one(alloc, settings.get())? {
+    let known = names_one(alloc, &settings)?;
+    if !known {
         return Err(Wrong::Form);
     }
     match bench.publish(alloc, settings) {
-        Ok(published) => Ok(Shared::new(alloc, published)?),
+        Ok(published) => shared(alloc, published),
         Err(_) => Err(Wrong::Form),
     }
 }
@@ -88,18 +106,17 @@ pub fn core_of<L: Kms>(
     terms: Terms,
 ) -> Result<Core<MemTape>, Wrong>
     requires { IsBench (names_of L.link bench.old.links) bench.old.pages }
-    ensures core { IfOk result (λ core. IsCore terms.reloads terms.room core) }
+    ensures core { IfOk result (λ core. IsCore terms.budget core) }
     ensures bench { IsBench (names_of L.link bench.new.links) bench.new.pages }
 {
     let Terms {
         first,
         second,
-        reloads,
-        room,
+        budget,
     } = terms;
     let first = published(alloc, bench, first)?;
     let second = published_some(alloc, bench, second)?;
-    started(alloc, store, first, second, reloads, room)
+    started(alloc, store, first, second, budget)
 }
 
 /// The name of the plugin, in a list.
@@ -115,13 +132,13 @@ fn started(
     store: Store<MemTape>,
     first: Shared<Published>,
     second: Option<Shared<Published>>,
-    reloads: u32,
-    room: u32,
+    budget: Budget,
 ) -> Result<Core<MemTape>, Wrong>
     requires first { NamesAmong (codes "p" ∷ []) first.rows }
     requires second { IfSome second (λ p. NamesAmong (codes "p" ∷ []) p.rows) }
-    ensures { IfOk result (λ core. IsCore reloads room core) }
+    ensures { IfOk result (λ core. IsCore budget core) }
 {
+    let Budget { reloads, room } = budget;
     if room > 4_000_000 || reloads > room / 2 {
         return Err(Wrong::Form);
     }

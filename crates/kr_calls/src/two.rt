@@ -9,6 +9,7 @@ use crate::call::{Call, serve_line};
 use crate::desk::Desk;
 use crate::linked::{Spelled, end_bench};
 use crate::named::Named;
+use crate::opening::Budget;
 use crate::page::Page;
 use crate::words::{Wrong, number_of, two_words};
 use kr_base::{MemDice, MemTape};
@@ -22,14 +23,14 @@ use std::sync::Wait;
 pub type Seated = (Fleet<MemTape>, Seat<MemTape>, Seat<MemTape>);
 
 /// Takes the core up; each seat may add half of its lines.
-pub fn seated(alloc: Global, core: Core<MemTape>, reloads: u32, room: u32) -> Option<Seated>
-    requires { IsCore reloads room core }
+pub fn seated(alloc: Global, core: Core<MemTape>, budget: Budget) -> Option<Seated>
+    requires { IsCore budget core }
     ensures first { IfSome result (λ made. IsFleetSeat made.0 made.1
-        × IsCallerOf (caller_of made.0 made.1) 2 reloads false) }
+        × IsCallerOf (caller_of made.0 made.1) 2 budget.reloads false) }
     ensures second { IfSome result (λ made. IsFleetSeat made.0 made.2
-        × IsCallerOf (caller_of made.0 made.2) 2 reloads false) }
+        × IsCallerOf (caller_of made.0 made.2) 2 budget.reloads false) }
 {
-    let half = (room / 2) as u64;
+    let half = (budget.room / 2) as u64;
     let (fleet, mut seats) = Fleet::new(alloc, core, &[half, half]).ok()?;
     let second = seats.pop()?;
     let first = seats.pop()?;
@@ -42,23 +43,23 @@ pub fn play_two<L: Spelled, R: Wait>(
     alloc: Global,
     named: &Named,
     seats: Seated,
-    reloads: u32,
+    budget: Budget,
     own: Bench<L, MemDice>,
     other: Bench<L, MemDice>,
     calls: &str,
     page: &mut Page,
 ) -> Result<(), Wrong>
     requires first { IsFleetSeat seats.0 seats.1
-        × IsCallerOf (caller_of seats.0 seats.1) 2 reloads false }
+        × IsCallerOf (caller_of seats.0 seats.1) 2 budget.reloads false }
     requires second { IsFleetSeat seats.0 seats.2
-        × IsCallerOf (caller_of seats.0 seats.2) 2 reloads false }
+        × IsCallerOf (caller_of seats.0 seats.2) 2 budget.reloads false }
     requires own { IsBench (names_of L.link own.links) own.pages }
     requires other { IsBench (names_of L.link other.links) other.pages }
 {
     let (fleet, first, second) = seats;
-    let rival = Desk::new(fleet.at(rt, second), other, 2, reloads);
+    let rival = Desk::new(fleet.at(rt, second), other, 2, budget.reloads);
     let between = Between::new(alloc, fleet.at(rt, first), rival);
-    let mut desk = Desk::new(between, own, 2, reloads);
+    let mut desk = Desk::new(between, own, 2, budget.reloads);
     let done = serve_both(alloc, named, &mut desk, calls, page);
     let (between, bench) = desk.into_parts();
     let (own, rival, other) = between.into_parts();
