@@ -1,4 +1,6 @@
 //! A caller in the midst of whose calls another one makes a call.
+ghost use Rattle.std.specs.Prelude.{◌≡◌};
+
 use crate::call::{Call, serve_or_tell};
 use crate::desk::Desk;
 use crate::linked::Spelled;

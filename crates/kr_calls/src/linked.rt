@@ -1,5 +1,5 @@
 //! Benches with one link, to the plugin `p`.
-ghost use Rattle.std.specs.Prelude.{IfOk, IsTrue, codes, [], ◌∷◌};
+ghost use Rattle.std.specs.Prelude.{◌≡◌, IfOk, IsTrue, codes, [], ◌∷◌};
 ghost use Rattle.kr_config.specs.Kept.{rows_of};
 ghost use Rattle.kr_provider.specs.Names.{names_of};
 ghost use Rattle.kr_rollout.specs.Openings.{NamesAmong};
