@@ -14,6 +14,14 @@ use std::alloc::Global;
 /// A call with its arguments.
 #[derive(Drop)]
 pub enum Call {
+    Object(ObjectCall),
+    Load(LoadCall),
+    Rewrite(RewriteCall),
+}
+
+/// A call for the data at a path.
+#[derive(Drop)]
+pub enum ObjectCall {
     Read {
         replica: u32,
         path: Text,
@@ -27,6 +35,11 @@ pub enum Call {
     Delete {
         path: Text,
     },
+}
+
+/// A call for a replica's configuration.
+#[derive(Drop)]
+pub enum LoadCall {
     Leave {
         replica: u32,
     },
@@ -41,15 +54,14 @@ pub enum Call {
     Refresh {
         replica: u32,
     },
-    /// One step of the rewrite.
-    Step {
-        replica: u32,
-        after: Text,
-    },
-    Drive {
-        replica: u32,
-        after: Text,
-    },
+}
+
+/// The rewrite above a path: one step, or all.
+#[derive(Drop)]
+pub struct RewriteCall {
+    replica: u32,
+    after: Text,
+    all: bool,
 }
 
 impl Call {
@@ -67,74 +79,67 @@ impl Call {
     pub fn spelled(alloc: Global, named: &Named, line: &str) -> Result<Call, Wrong> {
         let (key, rest) = two_words(line)?;
         match key {
-            "read" => with_path(alloc, rest, Placed::Read),
-            "write" => written(alloc, rest),
-            "delete" => Ok(Call::Delete {
+            "read" => read_of(alloc, rest),
+            "write" => write_of(alloc, rest),
+            "delete" => Ok(Call::Object(ObjectCall::Delete {
                 path: Text::copy(alloc, rest)?,
-            }),
-            "leave" => Ok(Call::Leave {
+            })),
+            "leave" => Ok(Call::Load(LoadCall::Leave {
                 replica: number_of(rest)?,
-            }),
-            "reload" => brought(named, rest, true),
-            "join" => brought(named, rest, false),
-            "refresh" => Ok(Call::Refresh {
+            })),
+            "reload" => load_of(named, rest, true),
+            "join" => load_of(named, rest, false),
+            "refresh" => Ok(Call::Load(LoadCall::Refresh {
                 replica: number_of(rest)?,
-            }),
-            "step" => with_path(alloc, rest, Placed::Step),
-            "drive" => with_path(alloc, rest, Placed::Drive),
+            })),
+            "step" => rewrite_of(alloc, rest, false),
+            "drive" => rewrite_of(alloc, rest, true),
             _ => Err(Wrong::Form),
         }
     }
 }
 
-/// The calls of a replica and a path.
-#[derive(Clone, Copy)]
-enum Placed {
-    Read,
-    Step,
-    Drive,
-}
-
 /// `REPLICA PATH`.
-fn with_path(alloc: Global, words: &str, kind: Placed) -> Result<Call, Wrong> {
+fn read_of(alloc: Global, words: &str) -> Result<Call, Wrong> {
     let (replica, path) = two_words(words)?;
-    let replica = number_of(replica)?;
-    let path = Text::copy(alloc, text_of(path))?;
-    Ok(match kind {
-        Placed::Read => Call::Read { replica, path },
-        Placed::Step => Call::Step {
-            replica,
-            after: path,
-        },
-        Placed::Drive => Call::Drive {
-            replica,
-            after: path,
-        },
-    })
+    Ok(Call::Object(ObjectCall::Read {
+        replica: number_of(replica)?,
+        path: Text::copy(alloc, path)?,
+    }))
 }
 
 /// `REPLICA PATH RESOURCE HEX`.
-fn written(alloc: Global, words: &str) -> Result<Call, Wrong> {
+fn write_of(alloc: Global, words: &str) -> Result<Call, Wrong> {
     let (replica, rest) = two_words(words)?;
     let (path, rest) = two_words(rest)?;
     let (resource, plain) = two_words(rest)?;
-    Ok(Call::Write {
+    Ok(Call::Object(ObjectCall::Write {
         replica: number_of(replica)?,
         path: Text::copy(alloc, path)?,
         resource: Text::copy(alloc, resource)?,
         plain: Bytes::from_vec(bytes_of(alloc, plain)?),
-    })
+    }))
 }
 
 /// `REPLICA NAME`.
-fn brought(named: &Named, words: &str, again: bool) -> Result<Call, Wrong> {
+fn load_of(named: &Named, words: &str, again: bool) -> Result<Call, Wrong> {
     let (replica, name) = two_words(words)?;
     let replica = number_of(replica)?;
     let settings = named.share(name)?;
     if again {
-        return Ok(Call::Reload { replica, settings });
+        return Ok(Call::Load(LoadCall::Reload { replica, settings }));
     }
-    Ok(Call::Join { replica, settings })
+    Ok(Call::Load(LoadCall::Join { replica, settings }))
+}
+
+/// `REPLICA AFTER`.
+fn rewrite_of(alloc: Global, words: &str, all: bool) -> Result<Call, Wrong> {
+    let (replica, after) = two_words(words)?;
+    Ok(Call::Rewrite(RewriteCall {
+        replica: number_of(replica)?,
+        after: Text::copy(alloc, text_of(after))?,
+        all,
+    }))
 }
 
 /// The bytes of digits in hex; `-` stands for none.
@@ -146,19 +151,19 @@ pub fn bytes_of(alloc: Global, word: &str) -> Result<Vec<u8>, Wrong> {
     }
 }
 
-/// Makes the call, and prints what it answered.
-pub fn serve<A: Acts, L: Kms>(
+/// Makes a call for data, and prints what it answered.
+fn serve_object<A: Acts, L: Kms>(
     alloc: Global,
     desk: &mut Desk<A, L>,
-    call: Call,
+    call: ObjectCall,
     page: &mut Page,
 ) -> Result<(), Wrong> {
     match call {
-        Call::Read { replica, path } => {
+        ObjectCall::Read { replica, path } => {
             let done = desk.read(alloc, replica, path.as_str())?;
             page.told_read(alloc, &done)
         }
-        Call::Write {
+        ObjectCall::Write {
             replica,
             path,
             resource,
@@ -167,34 +172,66 @@ pub fn serve<A: Acts, L: Kms>(
             let done = desk.write(alloc, replica, resource.as_str(), path.as_str(), plain)?;
             page.told_write(&done)
         }
-        Call::Delete { path } => {
+        ObjectCall::Delete { path } => {
             let done = desk.delete(alloc, path.as_str())?;
             page.told_delete(&done)
         }
-        Call::Leave { replica } => {
+    }
+}
+
+/// Makes a call for a configuration, and prints what it answered.
+fn serve_load<A: Acts, L: Kms>(
+    alloc: Global,
+    desk: &mut Desk<A, L>,
+    call: LoadCall,
+    page: &mut Page,
+) -> Result<(), Wrong> {
+    match call {
+        LoadCall::Leave { replica } => {
             let done = desk.leave(replica)?;
             page.told_leave(&done)
         }
-        Call::Reload { replica, settings } => {
+        LoadCall::Reload { replica, settings } => {
             let done = desk.reload(alloc, replica, settings)?;
             page.told_load(alloc, &done)
         }
-        Call::Join { replica, settings } => {
+        LoadCall::Join { replica, settings } => {
             let done = desk.join(alloc, replica, settings)?;
             page.told_join(alloc, &done)
         }
-        Call::Refresh { replica } => {
+        LoadCall::Refresh { replica } => {
             let done = desk.refresh(alloc, replica)?;
             page.told_load(alloc, &done)
         }
-        Call::Step { replica, after } => {
-            let done = desk.step(alloc, replica, after.as_str())?;
-            page.told_step(&done)
-        }
-        Call::Drive { replica, after } => {
-            let (report, done) = desk.drive(alloc, replica, after.as_str())?;
-            page.told_drive(&report, &done)
-        }
+    }
+}
+
+/// Takes steps of the rewrite, and prints what they did.
+fn serve_rewrite<A: Acts, L: Kms>(
+    alloc: Global,
+    desk: &mut Desk<A, L>,
+    call: RewriteCall,
+    page: &mut Page,
+) -> Result<(), Wrong> {
+    if call.all {
+        let told = desk.drive(alloc, call.replica, call.after.as_str())?;
+        return page.told_drive(&told.0, &told.1);
+    }
+    let done = desk.step(alloc, call.replica, call.after.as_str())?;
+    page.told_step(&done)
+}
+
+/// Makes the call, and prints what it answered.
+fn serve<A: Acts, L: Kms>(
+    alloc: Global,
+    desk: &mut Desk<A, L>,
+    call: Call,
+    page: &mut Page,
+) -> Result<(), Wrong> {
+    match call {
+        Call::Object(call) => serve_object(alloc, desk, call, page),
+        Call::Load(call) => serve_load(alloc, desk, call, page),
+        Call::Rewrite(call) => serve_rewrite(alloc, desk, call, page),
     }
 }
 
