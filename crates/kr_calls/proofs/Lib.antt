@@ -1,0 +1,3 @@
+-- The lemmas that the answers cite.
+mod Calling
+mod Beginning
