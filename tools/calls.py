@@ -25,6 +25,9 @@ def case_answers(named, lines):
             _, name, text = line.split(" ", 2)
             named[name] = configuration.read(text.encode())
         return
+    if link == "meet":
+        yield from meeting_answers(named, lines)
+        return
     bench = Bench(link, words)
     store = Store(lines[1].split(" ")[1:])
     kind, room, reloads, first, second = lines[2].split(" ")
@@ -58,6 +61,18 @@ def case_answers(named, lines):
         yield from store.lines()
     else:
         yield plan.rival.bench.end()
+
+
+def meeting_answers(named, lines):
+    """The same of two callers that make a call each: neither keeps the other one out, and their order doesn't matter."""
+    words = lines[0].split(" ")[1:]
+    own, other = Bench("masks", words), Bench("masks", words)
+    _, room, reloads, first, _ = lines[2].split(" ")
+    core = Core(Store(lines[1].split(" ")[1:]), [own.publish(named[first]), None])
+    for bench, line in zip((own, other), lines[3:]):
+        yield Desk(named, core, bench, number_of(room) // 2, number_of(reloads)).line(line)
+    yield own.end()
+    yield other.end()
 
 
 def answers(cases):
@@ -254,25 +269,43 @@ def many_rows():
     ]
 
 
-# An object of source type 0 at /s: 12 zero bytes and, under AES-256-GCM with a key of 32 zero bytes, the tag of no data with
-# /s beside them; the key id k1; 32 bytes 9d, which the link in memory unwraps to zero bytes; the salt. Made with
-# Python's cryptography.
-TYPE_0 = (
-    "6b38733a656e633a6b6d733a76323a703a0a1c000000000000000000000000e34d2ad8cff9f3b93a6a745f749b9a0912026b"
-    "311a209d9d9d9d9d9d9d9d9d9d9d9d9d9d9d9d9d9d9d9d9d9d9d9d9d9d9d9d9d9d9d9d22160a11746573742e6b6d73726573"
-    "742f73616c74120101"
-)
+# Data sealed at a path by a key of 32 equal bytes, AES-256-GCM with 12 zero bytes as its nonce. Made with Python's
+# cryptography.
+NOTHING_AT_S_BY_0 = "e34d2ad8cff9f3b93a6a745f749b9a09"
+HELLO_AT_S_BY_1 = "d750f4b01ac0d19301197c8b4826c71d6d0067318a"
+THERE_AT_T_BY_2 = "2e1a5fbc802e5f847dcfe44494084e7079ffaffdae"
+
+
+def first_kind(sealed, data, byte):
+    """A value of source type 0: the nonce, the sealed data, and their key as the link in memory masks it for k1 and salt 1."""
+    salt = bytes.fromhex("0a11") + b"test.kmsrest/salt" + bytes.fromhex("120101")
+    fields = ((0x0A, bytes(12) + bytes.fromhex(sealed)), (0x12, b"k1"), (0x1A, bytes([byte ^ 0x9D]) * 32), (0x22, salt))
+    stored = values.prefix(("kms", "p")) + b"".join(bytes([tag, len(field)]) + field for tag, field in fields)
+    KNOWN[stored] = Sealed(("kms", "p"), data, Seed("masks", "k1", bytes([byte]) * 32, 0))
+    return stored
 
 
 def first_sources():
     """A row of source type 0 is read, is stale, and is carried over."""
     yield [
-        *begun("masks", store=f"{plain_file([(b'/s', bytes.fromhex(TYPE_0))])} 65536 -"),
+        *begun("masks", store=f"{plain_file([(b'/s', first_kind(NOTHING_AT_S_BY_0, b'', 0))])} 65536 -"),
         "read 0 /s",
         "read 0 /s",
         "drive 0 -",
         "read 0 /s",
         "drive 0 -",
+    ]
+
+
+def meetings():
+    """Two callers read rows of different sources at the same time, and neither answers before the other one unwraps."""
+    rows = [(b"/s", first_kind(HELLO_AT_S_BY_1, b"hello", 1)), (b"/t", first_kind(THERE_AT_T_BY_2, b"there", 2))]
+    yield [
+        "meet k1 - 1000 -",
+        f"store {plain_file(rows)} 65536 -",
+        "both 1000 9 kms -",
+        "read 0 /s",
+        "read 0 /t",
     ]
 
 
@@ -371,12 +404,11 @@ def limits():
 
 def cases():
     yield list(configurations())
-    for part in (changed_key, moved_on, rewrites, many_rows, first_sources, faults, limits):
+    for part in (changed_key, moved_on, rewrites, many_rows, first_sources, meetings, faults, limits):
         yield from part()
 
 
 def main():
-    KNOWN[bytes.fromhex(TYPE_0)] = Sealed(("kms", "p"), b"", Seed("masks", "k1", bytes(32), 0))
     made = list(cases())
     asked = "\n".join(line for case in made for line in [*case, ""]) + "\n"
     told = "\n".join(answers(made)) + "\n"

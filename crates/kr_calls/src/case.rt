@@ -10,18 +10,22 @@
 //!     between NUMBER CALL                  of two callers: the second one's, before the event of
 //!                                          this number of the first one, counted from here
 //!
+//! In a case of lines `meet ..` like `keys ..`, `store ..`, `both ..` like `two ..` and two calls
+//! two callers make a call each at the same time, whose links wait for each other in unwraps.
+//!
 //! A case of lines `settings NAME JSON` names settings for those behind it.
 ghost use Rattle.kr_provider.specs.Names.{names_of};
 ghost use Rattle.kr_calls.specs.Desks.{IsBench, IsCore};
 
 use crate::call::serve_line;
 use crate::desk::Desk;
-use crate::linked::{Spelled, bench_of, end_bench};
+use crate::linked::{Spelled, bench_of, end_bench, end_benches};
+use crate::meeting;
 use crate::named::Named;
 use crate::opening::{Budget, core_of, terms_of};
 use crate::page::Page;
 use crate::stored::{add_rows, load};
-use crate::two::{end_benches, play_two, seated};
+use crate::two::{play_two, seated};
 use crate::words::{Wrong, behind, two_lines, two_words};
 use kr_base::{MemDice, MemTape};
 use kr_keywrap::{ExampleRing, KeyLink};
@@ -30,9 +34,10 @@ use kr_provider::Bench;
 use kr_rollout::{Acts, Core, Solo};
 use std::alloc::Global;
 use std::sync::Wait;
+use std::thread::Threads;
 
 /// Runs a case, and prints what came of its lines.
-pub fn run<R: Wait>(
+pub fn run<R: Threads + Wait + Sync>(
     rt: &R,
     alloc: Global,
     named: &mut Named,
@@ -45,6 +50,7 @@ pub fn run<R: Wait>(
         "settings" => name_all(alloc, named, case),
         "keys" => begin::<KeyLink<ExampleRing>, R>(rt, alloc, named, words, rest, page),
         "masks" => begin::<TablePlugin, R>(rt, alloc, named, words, rest, page),
+        "meet" => meeting::run::<TablePlugin, R>(rt, alloc, named, words, rest, page),
         _ => Err(Wrong::Form),
     }
 }

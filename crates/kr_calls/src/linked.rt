@@ -56,7 +56,7 @@ impl Spelled for TablePlugin {
 }
 
 /// Links of which this, to the plugin `p`, is the only one.
-fn one_link<L: Spelled>(alloc: Global, link: L) -> Result<Links<L>, Wrong>
+fn one_link<L: Kms + Drop>(alloc: Global, link: L) -> Result<Links<L>, Wrong>
     ensures { IfOk result (λ links. names_of L.link links ≡ codes "p" ∷ []) }
 {
     if link.name() != "p" {
@@ -95,8 +95,20 @@ pub fn bench_of<L: Spelled>(alloc: Global, words: &str) -> Result<Bench<L, MemDi
 {
     let (key_id, rest) = two_words(words)?;
     let (fails, rest) = two_words(rest)?;
-    let (drawn, dice_fails) = two_words(rest)?;
     let link: L = Spelled::spelled(alloc, key_id, longs_of(alloc, fails)?)?;
+    bench_around(alloc, link, rest)
+}
+
+/// `DRAWN DICEFAILS`: a bench with this link, and so many random bytes, whose draws of these
+/// numbers fail.
+pub fn bench_around<L: Kms + Drop>(
+    alloc: Global,
+    link: L,
+    words: &str,
+) -> Result<Bench<L, MemDice>, Wrong>
+    ensures { IfOk result (λ bench. IsBench (names_of L.link bench.links) bench.pages) }
+{
+    let (drawn, dice_fails) = two_words(words)?;
     let bytes = counted_bytes(alloc, number_of(drawn)?)?;
     let dice = MemDice::new(bytes, longs_of(alloc, dice_fails)?);
     let links = one_link(alloc, link)?;
@@ -107,7 +119,7 @@ pub fn bench_of<L: Spelled>(alloc: Global, words: &str) -> Result<Bench<L, MemDi
 }
 
 /// Ends a bench, and prints how often its link and its random source failed.
-pub fn end_bench<L: Spelled>(bench: Bench<L, MemDice>, page: &mut Page) -> Result<(), Wrong> {
+pub fn end_bench<L: Kms + Drop>(bench: Bench<L, MemDice>, page: &mut Page) -> Result<(), Wrong> {
     let faults = bench.dice_faults();
     let (mut links, _dice) = bench.close();
     page.word("faults")?;
@@ -117,4 +129,16 @@ pub fn end_bench<L: Spelled>(bench: Bench<L, MemDice>, page: &mut Page) -> Resul
     }
     page.counted("dice", faults)?;
     page.end_line()
+}
+
+/// Ends both benches.
+pub fn end_benches<L: Kms + Drop>(
+    own: Bench<L, MemDice>,
+    other: Bench<L, MemDice>,
+    page: &mut Page,
+) -> Result<(), Wrong> {
+    let first = end_bench(own, page);
+    let second = end_bench(other, page);
+    first?;
+    second
 }

@@ -7,7 +7,7 @@ ghost use Rattle.kr_calls.specs.Desks.{IsBench, IsCallerOf, IsCore};
 use crate::between::{Between, Planned};
 use crate::call::{Call, serve_line};
 use crate::desk::Desk;
-use crate::linked::{Spelled, end_bench};
+use crate::linked::{Spelled, end_benches};
 use crate::named::Named;
 use crate::opening::Budget;
 use crate::page::Page;
@@ -67,18 +67,6 @@ pub fn play_two<L: Spelled, R: Wait>(
     let _second = rival.into_seat();
     end_benches(bench, other, page)?;
     done
-}
-
-/// Ends both benches.
-pub fn end_benches<L: Spelled>(
-    own: Bench<L, MemDice>,
-    other: Bench<L, MemDice>,
-    page: &mut Page,
-) -> Result<(), Wrong> {
-    let first = end_bench(own, page);
-    let second = end_bench(other, page);
-    first?;
-    second
 }
 
 /// A caller, and one that makes its calls in the midst of its own.
