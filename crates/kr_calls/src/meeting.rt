@@ -27,6 +27,7 @@ use std::thread::{Threads, join_mut};
 
 /// A caller, its call, and what that answered.
 struct Meeting<A: Acts, L: Kms> {
+    alloc: Global,
     desk: Desk<A, L>,
     call: Option<Call>,
     page: Page,
@@ -35,6 +36,7 @@ struct Meeting<A: Acts, L: Kms> {
 impl<A: Acts, L: Kms> Meeting<A, L> {
     fn new(alloc: Global, desk: Desk<A, L>, call: Call) -> Meeting<A, L> {
         Meeting {
+            alloc,
             desk,
             call: Some(call),
             page: Page::new(alloc),
@@ -42,10 +44,10 @@ impl<A: Acts, L: Kms> Meeting<A, L> {
     }
 
     /// Makes the call. What finds no memory isn't told.
-    fn make_call(&mut self, alloc: Global) {
+    fn make_call(&mut self) {
         match self.call.take() {
             Some(call) => {
-                let _ = serve_or_tell(alloc, &mut self.desk, call, &mut self.page);
+                let _ = serve_or_tell(self.alloc, &mut self.desk, call, &mut self.page);
             }
             None => {}
         }
@@ -54,6 +56,7 @@ impl<A: Acts, L: Kms> Meeting<A, L> {
     /// Gives the caller and the bench up, and prints what the call answered.
     fn end(self, page: &mut Page) -> (A, Bench<L, MemDice>, Result<(), Wrong>) {
         let Meeting {
+            alloc: _,
             desk,
             call: _,
             page: said,
@@ -67,15 +70,10 @@ impl<A: Acts, L: Kms> Meeting<A, L> {
 /// Both make their calls at the same time.
 fn make_both<A: Acts + Send, L: Kms + Send, R: Threads>(
     rt: &R,
-    alloc: Global,
     first: &mut Meeting<A, L>,
     second: &mut Meeting<A, L>,
 ) {
-    join_mut(
-        rt,
-        &mut || first.make_call(alloc),
-        &mut || second.make_call(alloc),
-    );
+    join_mut(rt, &mut || first.make_call(), &mut || second.make_call());
 }
 
 /// Both make their calls at a core.
@@ -101,7 +99,7 @@ fn meet<L: Kms + Drop + Send, R: Threads + Wait + Sync>(
     let second = Desk::new(fleet.at(rt, second), other, 2, budget.reloads);
     let mut first = Meeting::new(alloc, first, calls.0);
     let mut second = Meeting::new(alloc, second, calls.1);
-    make_both(rt, alloc, &mut first, &mut second);
+    make_both(rt, &mut first, &mut second);
     let (first, own, done) = first.end(page);
     let (second, other, done_too) = second.end(page);
     let _first = first.into_seat();

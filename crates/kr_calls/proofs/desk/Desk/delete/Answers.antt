@@ -4,7 +4,7 @@ use Rattle.kr_calls.proofs.Calling.{caller_after}
 use Rattle.kr_calls.proofs.desk.Desk.delete.Goals as goal
 
 pub delete-done-requires-clause-idle : goal.delete-done-requires-clause-idle
-delete-done-requires-clause-idle g c = c.self.invariant.0.idle c.if-ended.false
+delete-done-requires-clause-idle g c = c.self.invariant.0.idle c.if-self.false
 
 pub invariant_of-self : goal.invariant_of-self
 invariant_of-self g c = (

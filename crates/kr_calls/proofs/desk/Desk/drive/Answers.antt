@@ -30,10 +30,10 @@ invariant_of-self g c = let few = drive_few g.L.Kms.truth g.L.Kms.link
     (g.A.Acts.caller c.drive-driven.new.acts) c.drive-driven.new.bench.links c.drive-driven.new.bench.dice c.drive-driven.ensures.drives in (
       caller_after (g.A.Acts.caller c.self.inside.acts)
           (g.A.Acts.caller c.drive-driven.new.acts) c.self.inside.replicas c.self.inside.left
-          c.self.inside.left few.0 0 [] c.self.inside.ended c.is_spent.result c.self.invariant.0
+          c.self.inside.left few.0 0 [] c.self.inside.ended c.is_spent-self-inside.result c.self.invariant.0
           few.1 (omega arith)
-          (idle_at_end c.drive-driven.result (g.A.Acts.caller c.drive-driven.new.acts) c.is_spent.result c.drive-driven.ensures.idle
-          (c.is_spent.ensures ∙ ap (λ (x : Report × Result (Unit {0}) CallNo). is_spent x.1) c.parted-told.ensures)),
+          (idle_at_end c.drive-driven.result (g.A.Acts.caller c.drive-driven.new.acts) c.is_spent-self-inside.result c.drive-driven.ensures.idle
+          (c.is_spent-self-inside.ensures ∙ ap (λ (x : Report × Result (Unit {0}) CallNo). is_spent x.1) c.parted-told.ensures)),
       bench_asked g.L.Kms.link (names_of g.L.Kms.link c.self.inside.bench.links) c.self.inside.bench c.drive-driven.new.bench
           c.self.invariant.1 c.drive-driven.ensures.asked c.drive-driven.ensures.pages,
     )

@@ -22,9 +22,9 @@ pub invariant_of-self : goal.invariant_of-self
 invariant_of-self g c = (
   caller_after (g.A.Acts.caller c.self.inside.acts)
       (g.A.Acts.caller c.refresh-done.new.acts) c.self.inside.replicas c.self.inside.left
-      (c.self.inside.left - 1) 3 1 [] c.self.inside.ended c.is_spent.result c.self.invariant.0
+      (c.self.inside.left - 1) 3 1 [] c.self.inside.ended c.is_spent-self-inside.result c.self.invariant.0
       c.refresh-done.ensures.adds (omega (arith, c.may_bring.ensures c.if-not-may_bring.false))
-      (idle_after c.refresh-done.result (g.A.Acts.caller c.refresh-done.new.acts) c.is_spent.result c.refresh-done.ensures.idle c.is_spent.ensures),
+      (idle_after c.refresh-done.result (g.A.Acts.caller c.refresh-done.new.acts) c.is_spent-self-inside.result c.refresh-done.ensures.idle c.is_spent-self-inside.ensures),
   bench_kept g.L.Kms.link (names_of g.L.Kms.link c.self.inside.bench.links) c.self.inside.bench c.refresh-done.new.bench
       c.self.invariant.1 c.refresh-done.ensures.asked c.refresh-done.ensures.kept,
 )

@@ -22,9 +22,9 @@ pub invariant_of-self : goal.invariant_of-self
 invariant_of-self g c = (
   caller_after (g.A.Acts.caller c.self.inside.acts)
       (g.A.Acts.caller c.rewrite_next-done.new.acts) c.self.inside.replicas c.self.inside.left
-      c.self.inside.left 4 0 [] c.self.inside.ended c.is_spent.result c.self.invariant.0
+      c.self.inside.left 4 0 [] c.self.inside.ended c.is_spent-self-inside.result c.self.invariant.0
       c.rewrite_next-done.ensures.adds (omega arith)
-      (idle_after c.rewrite_next-done.result (g.A.Acts.caller c.rewrite_next-done.new.acts) c.is_spent.result c.rewrite_next-done.ensures.idle c.is_spent.ensures),
+      (idle_after c.rewrite_next-done.result (g.A.Acts.caller c.rewrite_next-done.new.acts) c.is_spent-self-inside.result c.rewrite_next-done.ensures.idle c.is_spent-self-inside.ensures),
   bench_asked g.L.Kms.link (names_of g.L.Kms.link c.self.inside.bench.links) c.self.inside.bench c.rewrite_next-done.new.bench
       c.self.invariant.1 c.rewrite_next-done.ensures.asked c.rewrite_next-done.ensures.pages,
 )
