@@ -1,19 +1,19 @@
 -- What is known of a new core, and of its first callers.
-use Rattle.std.proofs.Common.{◌≡◌, ℕ, zero, suc, ◌+◌, ◌<◌, ◌≤◌, false, List, [], ◌∷◌, ◌++◌, length, get_or, Option, None, Some, refl, sym, ap, subst, ◌∙◌, arith, All}
-use Rattle.std.specs.Prelude.{IfOk, IfSome, Result, Ok, Err}
-use Rattle.std.proofs.lemmas.List.Elements.{All-cons, All-head, All-nil, All-tail}
+use Rattle.std.proofs.Common.{◌≡◌, ℕ, zero, suc, ◌<◌, false, List, [], ◌∷◌, length, get_or, Contains, Option, None, Some, refl, sym, ap, subst, ◌∙◌, arith, All}
+use Rattle.std.specs.Prelude.{IfSome}
+use Rattle.std.proofs.lemmas.List.Elements.{All-cons, All-contains, All-head, All-nil, All-tail}
+use Rattle.kr_base.specs.Lines.{of_seat}
 use Rattle.kr_turn.specs.Keys.{Home}
-use Rattle.kr_turn.specs.Seats.{IsFresh, mine, number_of}
+use Rattle.kr_turn.specs.Seats.{IsFresh, number_of}
 use Rattle.kr_turn.specs.declared.seat.Place.{Place}
 use Rattle.kr_provider.specs.Publication.{Publication}
 use Rattle.kr_rollout.specs.declared.opening.Entry.{Entry}
 use Rattle.kr_rollout.specs.declared.opening.Opening.{Opening}
-use Rattle.kr_rollout.specs.declared.opening_board.StartNo.{StartNo}
 use Rattle.kr_rollout.specs.Acting.{Caller, only_caller}
 use Rattle.kr_rollout.specs.Callers.{holding, reloads_in}
 use Rattle.kr_rollout.specs.Cores.{CoreState}
+use Rattle.kr_rollout.specs.Entries.{seat_of}
 use Rattle.kr_rollout.specs.Openings.{AreAmong, NamesAmong}
-use Rattle.kr_rollout.specs.Starts.{Starts}
 use Rattle.kr_seats.specs.Fleets.{IsFleetSeat, caller_of}
 use Rattle.kr_calls.specs.declared.opening.Budget.{Budget}
 use Rattle.kr_calls.specs.Desks.{IsCallerOf, IsCore, one_name}
@@ -30,19 +30,6 @@ two_among names replicas p second n r first next =
     subst (λ ns. AreAmong ns replicas) (sym n) (subst (AreAmong one_name) (sym r)
     (All-cons Named (Some p) (second ∷ []) first (All-cons Named second [] next (All-nil Named))))
 
-pub new_core : {S : Type 0} (o : Opening) (budget : Budget)
-    (result : Result CoreState (StartNo × S)) → o.names ≡ one_name → length o.replicas ≡ 2
-    → o.reloads ≡ budget.reloads ∷ (budget.reloads ∷ []) → Starts o budget.room result
-    → IfOk result (λ core. IsCore budget core)
-new_core o budget (Err refused) n r b s = tt
-new_core o budget (Ok core) n r b s = record {
-  names = ap (λ (c : CoreState). c.opening.names) s.1 ∙ n;
-  replicas_are = ap (λ (c : CoreState). length c.opening.replicas) s.1 ∙ r;
-  reloads_are = ap (λ (c : CoreState). c.opening.reloads) s.1 ∙ b;
-  history = ap (λ (c : CoreState). c.history) s.1;
-  room_is = ap (λ (c : CoreState). c.room) s.1;
-}
-
 -- ---- an only caller
 
 pub only_begin : (core : CoreState) (budget : Budget) (solo : Caller) → IsCore budget core
@@ -55,27 +42,23 @@ only_begin core budget solo c is =
       idle = λ e. ap holding c.history;
     })
 
+pub no_other_lines : (core : CoreState) (budget : Budget) → IsCore budget core
+    → of_seat seat_of 0 core.history ≡ core.history
+no_other_lines core budget c =
+    subst (λ (h : List Entry). of_seat seat_of 0 h ≡ h) (sym c.history) refl
+
+pub some_seat : (core : CoreState) (budget : Budget) → IsCore budget core
+    → 0 < length core.opening.reloads
+some_seat core budget c =
+    let two : length core.opening.reloads ≡ 2 = ap (λ (r : List ℕ). length r) c.reloads_are in
+    omega (arith, two)
+
 -- ---- two callers
 
 same_budget : (reloads n : ℕ) → n < 2 → get_or (reloads ∷ (reloads ∷ [])) n 0 ≡ reloads
 same_budget reloads zero l = refl
 same_budget reloads (suc zero) l = refl
 same_budget reloads (suc (suc n)) l = absurd (omega (arith, l))
-
-all_split : {X : Type 0} (P : X → Type 0) (xs : List X) (x : X) → All P (xs ++ x ∷ [])
-    → All P xs × P x
-all_split P [] x a = (All-nil P, All-head P x [] a)
-all_split P (y ∷ xs) x a =
-    let rest = all_split P xs x (All-tail P y (xs ++ x ∷ []) a) in
-    (All-cons P y xs (All-head P y (xs ++ x ∷ []) a) rest.0, rest.1)
-
--- the last two
-pub both : {X : Type 0} (P : X → Type 0) (rest before all : List X) (first second : X) → All P all
-    → all ≡ before ++ second ∷ [] → before ≡ rest ++ first ∷ [] → P first × P second
-both P rest before all first second a split again =
-    let two = all_split P before second (subst (All P) split a) in
-    let one = all_split P rest first (subst (All P) again two.0) in
-    (one.1, two.1)
 
 module _ {S : Type 0} (home : Home Opening) where
   pub seat_begins : (core : CoreState) (budget : Budget) (seat : Place S Entry Opening)
@@ -97,3 +80,38 @@ module _ {S : Type 0} (home : Home Opening) where
         );
         idle = λ e. ap holding fresh.none_mine;
       }
+
+  abbrev Begins : (budget : Budget) (seat : Place S Entry Opening) → Type 0
+  Begins budget seat =
+      IsFleetSeat home seat × IsCallerOf (caller_of home seat) 2 budget.reloads false
+
+  pub all_begin : (core : CoreState) (budget : Budget) (seats : List (Place S Entry Opening))
+      → IsCore budget core → home.terms.basis ≡ core.opening → All (IsFleetSeat home) seats
+      → All (IsFresh home) seats → All (Begins budget) seats
+  all_begin core budget [] c is its fresh = All-nil (Begins budget)
+  all_begin core budget (seat ∷ seats) c is its fresh =
+      let own = All-head (IsFleetSeat home) seat seats its in
+      All-cons (Begins budget) seat seats
+      (own, seat_begins core budget seat c is own (All-head (IsFresh home) seat seats fresh))
+      (all_begin core budget seats c is (All-tail (IsFleetSeat home) seat seats its)
+      (All-tail (IsFresh home) seat seats fresh))
+
+module _ {S : Type 0} (home : Home Opening) (budget : Budget)
+    (seats : List (Place S Entry Opening)) where
+  pub two_begin : (result : Option (Home Opening × Place S Entry Opening × Place S Entry Opening))
+      → All (λ seat. IsFleetSeat home seat
+      × IsCallerOf (caller_of home seat) 2 budget.reloads false) seats
+      → IfSome result (λ two. (two.0 ≡ home) × Contains seats two.1 × Contains seats two.2)
+      → IfSome result (λ two. IsFleetSeat two.0 two.1
+      × IsCallerOf (caller_of two.0 two.1) 2 budget.reloads false)
+      × IfSome result (λ two. IsFleetSeat two.0 two.2
+      × IsCallerOf (caller_of two.0 two.2) 2 budget.reloads false)
+  two_begin None a i = (tt, tt)
+  two_begin (Some two) a i =
+      let Is : Place S Entry Opening → Type 0 = λ seat. IsFleetSeat home seat
+      × IsCallerOf (caller_of home seat) 2 budget.reloads false in
+      let At : Place S Entry Opening → Home Opening → Type 0 = λ seat h. IsFleetSeat h seat
+      × IsCallerOf (caller_of h seat) 2 budget.reloads false in (
+        subst (At two.1) (sym i.0) (All-contains Is seats two.1 a i.1),
+        subst (At two.2) (sym i.0) (All-contains Is seats two.2 a i.2),
+      )

@@ -1,62 +1,46 @@
 -- What the program keeps of a caller and of its bench holds behind each call.
-use Rattle.std.proofs.Common.{◌≡◌, ℕ, zero, suc, ◌+◌, ◌<◌, ◌≤◌, Bool, true, false, List, [], ◌∷◌, length, get_or, None, refl, sym, ap, subst, ◌∙◌, arith, inl, inr, Contains, All}
+use Rattle.std.proofs.Common.{◌≡◌, ℕ, ◌+◌, ◌≤◌, Bool, true, false, List, [], length, get_or, None, sym, ap, subst, ◌∙◌, arith, inl, inr, Contains, All}
 use Rattle.std.specs.Prelude.{◌*◌, Option, Result, Ok, Err}
-use Rattle.std.proofs.lemmas.List.Elements.{All-cons, All-contains, All-nil}
-use Rattle.kr_config.specs.Kept.{Row, plugins_in}
-use Rattle.kr_kms.specs.Cache.{CacheState}
+use Rattle.std.proofs.lemmas.List.Elements.{All-contains_itself}
+use Rattle.kr_config.specs.Kept.{plugins_in, rows_of}
+use Rattle.kr_config.specs.declared.settings.Settings.{Settings}
 use Rattle.kr_kms.specs.Calls.{Link}
 use Rattle.kr_kms.specs.Truth.{Truth}
 use Rattle.kr_provider.proofs.AskedLists.{names_stay}
 use Rattle.kr_provider.specs.AskedLinks.{AskedOnly}
 use Rattle.kr_provider.specs.BenchState.{BenchState}
-use Rattle.kr_provider.specs.KeyPages.{free_pages, size_of}
+use Rattle.kr_provider.specs.KeyPages.{size_of}
 use Rattle.kr_provider.specs.Names.{HasLinks, names_of}
 use Rattle.kr_rollout.specs.declared.call.CallNo.{CallNo}
 use Rattle.kr_rollout.specs.declared.call.CallNo.TheVariants.{Refused, PluginFailed, DiceFailed, StoreFailed, StoreFull, Unhealthy, Gone, Spent, NoMemory}
 use Rattle.kr_rollout.specs.declared.line.Did.{Did}
 use Rattle.kr_rollout.specs.Acting.{Caller}
 use Rattle.kr_rollout.specs.Callers.{holding, reloads_in}
-use Rattle.kr_rollout.specs.Calls.{AreServed, IsIdle, IsIdleAfter}
+use Rattle.kr_rollout.specs.Calls.{AreServed, IsIdle}
 use Rattle.kr_rollout.specs.Openings.{NamesAmong}
 use Rattle.kr_rollout.specs.Parts.{AddsWithin}
 use Rattle.kr_rollout.proofs.PartsAdd.{parts_add_up, same_within}
 use Rattle.kr_rewrite.specs.Drives.{IsDrive, IsIdleAtEnd}
 use Rattle.kr_rewrite.specs.declared.outcome.Report.{Report}
 use Rattle.kr_calls.specs.Desks.{IsBench, IsCallerOf, is_spent, one_name, parted}
+use Rattle.kr_calls.proofs.Lists.{from_each}
 
 -- ---- lists of names
 
-there_later : (xs : List (List ℕ)) (x y : List ℕ) → Contains xs y → Contains (x ∷ xs) y
-there_later xs x y c = (suc c.0, omega (arith, c.1), c.2)
-
--- no name is in no list
-pub not_in_none : (names : List (List ℕ)) (name : List ℕ) → names ≡ [] → Contains names name → ⊥
-not_in_none names name e c =
-    absurd (omega (arith, c.1, ap (λ (l : List (List ℕ)). length l) e))
-
-from_each : (P : List ℕ → Type 0) (xs : List (List ℕ))
-    → ((x : List ℕ) → Contains xs x → P x) → All P xs
-from_each P [] h = All-nil P
-from_each P (x ∷ xs) h = All-cons P x xs (h x (0, omega arith, refl))
-    (from_each P xs (λ y c. h y (there_later xs x y c)))
-
 -- the settings that a list of just this link serves name no other plugin
-pub one_among : (linked : List (List ℕ)) (rows : List Row) → linked ≡ one_name
-    → HasLinks linked rows → NamesAmong one_name rows
-one_among linked rows e h = from_each (λ name. Contains one_name name) (plugins_in rows)
-    (λ name c. subst (λ l. Contains l name) e (h name c))
-
--- and the link serves what names no other
-pub one_serves : (linked : List (List ℕ)) (rows : List Row) → linked ≡ one_name
-    → NamesAmong one_name rows → HasLinks linked rows
-one_serves linked rows e h = λ name c. subst (λ l. Contains l name) (sym e)
-    (All-contains (λ n. Contains one_name n) (plugins_in rows) name h c)
+pub one_among : (linked : List (List ℕ)) (asked settings : Settings) → linked ≡ one_name
+    → asked ≡ settings → HasLinks linked (rows_of asked.entries.0)
+    → NamesAmong one_name (rows_of settings.entries.0)
+one_among linked asked settings e same h = subst
+    (λ (s : Settings). NamesAmong one_name (rows_of s.entries.0)) same
+    (from_each (λ name. Contains one_name name) (plugins_in (rows_of asked.entries.0))
+    (λ name c. subst (λ l. Contains l name) e (h name c)))
 
 pub served : (names linked : List (List ℕ)) → names ≡ one_name → linked ≡ one_name
     → AreServed names linked
 served names linked n e = subst (λ l. All (λ name. Contains l name) names) (sym e)
     (subst (λ l. All (λ name. Contains one_name name) l) (sym n)
-    (from_each (λ name. Contains one_name name) one_name (λ name c. c)))
+    (All-contains_itself one_name))
 
 pub among : (names : List (List ℕ)) (rows : List Row) → names ≡ one_name
     → NamesAmong one_name rows → NamesAmong names rows
@@ -88,22 +72,6 @@ module _ {L D : Type 0} (link : L → Link) (old new : BenchState L D) where
     linked_is = ap (names_of link) l ∙ b.linked_is;
     pages_are = subst (λ n. 64 ≤ n) (sym e) b.pages_are;
   }
-
--- a new one
-pub new_bench : {L D : Type 0} (link : L → Link) (links : List L) (dice : D) (cache : CacheState)
-    (bench : BenchState L D)
-    → bench ≡ record {
-      links = links;
-      dice = dice;
-      published = None;
-      pages = free_pages 64;
-      cache = cache;
-    } → names_of link links ≡ one_name → IsBench (names_of link bench.links) bench.pages
-new_bench {L} {D} link links dice cache bench e n =
-    let sized : size_of (free_pages 64) ≡ 64 = refl in record {
-      linked_is = ap (λ (b : BenchState L D). names_of link b.links) e ∙ n;
-      pages_are = omega (arith, ap (λ (b : BenchState L D). size_of b.pages) e, sized);
-    }
 
 -- ---- the caller
 

@@ -136,7 +136,8 @@ fn play_alone<L: Spelled>(
     requires core { IsCore budget core }
     requires bench { IsBench (names_of L.link bench.links) bench.pages }
 {
-    let mut desk = Desk::new(Solo::new(core), bench, 2, budget.reloads);
+    let solo = Solo::new(core);
+    let mut desk = Desk::new(solo, bench, 2, budget.reloads);
     let done = serve_all(alloc, named, &mut desk, calls, page);
     let (solo, bench) = desk.into_parts();
     let (store, _lines) = solo.into_core().close();

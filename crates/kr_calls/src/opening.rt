@@ -1,6 +1,5 @@
 //! A core with two replicas, of which the first is in, two seats, and `p` as the only plugin.
-ghost use Rattle.std.specs.Prelude.{◌≡◌, IfOk, IfSome, codes, [], ◌∷◌};
-ghost use Rattle.kr_config.specs.Kept.{rows_of};
+ghost use Rattle.std.specs.Prelude.{◌≡◌, IfOk, IfSome, Some, codes, [], ◌∷◌};
 ghost use Rattle.kr_provider.specs.Names.{names_of};
 ghost use Rattle.kr_rollout.specs.Openings.{NamesAmong};
 ghost use Rattle.kr_calls.specs.Desks.{IsBench, IsCore};
@@ -126,6 +125,17 @@ fn one_name(alloc: Global) -> Result<List<Text>, Wrong>
     Ok(List::from_vec(vec![in alloc; Text::copy(alloc, "p")?]?))
 }
 
+/// The configurations of both replicas, in a list.
+fn replicas_of(
+    alloc: Global,
+    first: Shared<Published>,
+    second: Option<Shared<Published>>,
+) -> Result<List<Option<Shared<Published>>>, Wrong>
+    ensures { IfOk result (λ replicas. replicas.0 ≡ Some first ∷ second ∷ []) }
+{
+    Ok(List::from_vec(vec![in alloc; Some(first), second]?))
+}
+
 /// A core over the store.
 fn started(
     alloc: Global,
@@ -142,7 +152,7 @@ fn started(
     if room > 4_000_000 || reloads > room / 2 {
         return Err(Wrong::Form);
     }
-    let replicas = List::from_vec(vec![in alloc; Some(first), second]?);
+    let replicas = replicas_of(alloc, first, second)?;
     let names = one_name(alloc)?;
     let each = [reloads, reloads];
     match Core::start(alloc, store, replicas, names, 2, room as u64, &each) {

@@ -1,5 +1,5 @@
 //! Cases of two callers.
-ghost use Rattle.std.specs.Prelude.{false, IfSome};
+ghost use Rattle.std.specs.Prelude.{◌≡◌, false, Contains, IfSome};
 ghost use Rattle.kr_provider.specs.Names.{names_of};
 ghost use Rattle.kr_seats.specs.Fleets.{IsFleetSeat, caller_of};
 ghost use Rattle.kr_calls.specs.Desks.{IsBench, IsCallerOf, IsCore};
@@ -12,7 +12,7 @@ use crate::named::Named;
 use crate::opening::Budget;
 use crate::page::Page;
 use crate::words::{Wrong, number_of, two_words};
-use kr_base::{MemDice, MemTape};
+use kr_base::{List, MemDice, MemTape};
 use kr_provider::Bench;
 use kr_rollout::{Acts, Core};
 use kr_seats::{Fleet, Seat};
@@ -31,9 +31,36 @@ pub fn seated(alloc: Global, core: Core<MemTape>, budget: Budget) -> Option<Seat
         × IsCallerOf (caller_of made.0 made.2) 2 budget.reloads false) }
 {
     let half = (budget.room / 2) as u64;
-    let (fleet, mut seats) = Fleet::new(alloc, core, &[half, half]).ok()?;
-    let second = seats.pop()?;
-    let first = seats.pop()?;
+    match Fleet::new(alloc, core, &[half, half]) {
+        Ok(made) => two_of(made),
+        Err(_) => None,
+    }
+}
+
+/// A fleet with its last two seats.
+fn two_of(made: (Fleet<MemTape>, List<Seat<MemTape>>)) -> Option<Seated>
+    ensures { IfSome result (λ two. (two.0 ≡ made.0) × Contains made.1.0 two.1
+        × Contains made.1.0 two.2) }
+{
+    let (fleet, mut seats) = made;
+    let Some(second) = seats.pop() else {
+        return None;
+    };
+    with_first(fleet, seats, second)
+}
+
+/// The last seat beside these.
+fn with_first(
+    fleet: Fleet<MemTape>,
+    mut seats: List<Seat<MemTape>>,
+    second: Seat<MemTape>,
+) -> Option<Seated>
+    ensures { IfSome result (λ two. (two.0 ≡ fleet) × Contains seats.0 two.1
+        × (two.2 ≡ second)) }
+{
+    let Some(first) = seats.pop() else {
+        return None;
+    };
     Some((fleet, first, second))
 }
 
