@@ -2,7 +2,7 @@
 use Rattle.std.proofs.Common.{◌≡◌, ℕ, ◌+◌, ◌≤◌, Bool, true, false, List, [], length, get_or, None, sym, ap, subst, ◌∙◌, arith, inl, inr, Contains, All}
 use Rattle.std.specs.Prelude.{◌*◌, Option, Result, Ok, Err}
 use Rattle.std.proofs.lemmas.List.Elements.{All-contains_itself}
-use Rattle.kr_config.specs.Kept.{plugins_in, rows_of}
+use Rattle.kr_config.specs.Kept.{Row, plugins_in, rows_of}
 use Rattle.kr_config.specs.declared.settings.Settings.{Settings}
 use Rattle.kr_kms.specs.Calls.{Link}
 use Rattle.kr_kms.specs.Truth.{Truth}
