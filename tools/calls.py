@@ -25,9 +25,6 @@ def case_answers(named, lines):
             _, name, text = line.split(" ", 2)
             named[name] = configuration.read(text.encode())
         return
-    if link == "meet":
-        yield from meeting_answers(named, lines)
-        return
     bench = Bench(link, words)
     store = Store(lines[1].split(" ")[1:])
     kind, room, reloads, first, second = lines[2].split(" ")
@@ -61,18 +58,6 @@ def case_answers(named, lines):
         yield from store.lines()
     else:
         yield plan.rival.bench.end()
-
-
-def meeting_answers(named, lines):
-    """The same of two callers that make a call each: neither keeps the other one out, and their order doesn't matter."""
-    words = lines[0].split(" ")[1:]
-    own, other = Bench("masks", words), Bench("masks", words)
-    _, room, reloads, first, _ = lines[2].split(" ")
-    core = Core(Store(lines[1].split(" ")[1:]), [own.publish(named[first]), None])
-    for bench, line in zip((own, other), lines[3:]):
-        yield Desk(named, core, bench, number_of(room) // 2, number_of(reloads)).line(line)
-    yield own.end()
-    yield other.end()
 
 
 def answers(cases):
@@ -272,8 +257,6 @@ def many_rows():
 # Data sealed at a path by a key of 32 equal bytes, AES-256-GCM with 12 zero bytes as its nonce. Made with Python's
 # cryptography.
 NOTHING_AT_S_BY_0 = "e34d2ad8cff9f3b93a6a745f749b9a09"
-HELLO_AT_S_BY_1 = "d750f4b01ac0d19301197c8b4826c71d6d0067318a"
-THERE_AT_T_BY_2 = "2e1a5fbc802e5f847dcfe44494084e7079ffaffdae"
 
 
 def first_kind(sealed, data, byte):
@@ -294,18 +277,6 @@ def first_sources():
         "drive 0 -",
         "read 0 /s",
         "drive 0 -",
-    ]
-
-
-def meetings():
-    """Two callers read rows of different sources at the same time, and neither answers before the other one unwraps."""
-    rows = [(b"/s", first_kind(HELLO_AT_S_BY_1, b"hello", 1)), (b"/t", first_kind(THERE_AT_T_BY_2, b"there", 2))]
-    yield [
-        "meet k1 - 1000 -",
-        f"store {plain_file(rows)} 65536 -",
-        "both 1000 9 kms -",
-        "read 0 /s",
-        "read 0 /t",
     ]
 
 
@@ -404,7 +375,7 @@ def limits():
 
 def cases():
     yield list(configurations())
-    for part in (changed_key, moved_on, rewrites, many_rows, first_sources, meetings, faults, limits):
+    for part in (changed_key, moved_on, rewrites, many_rows, first_sources, faults, limits):
         yield from part()
 
 

@@ -1,7 +1,7 @@
 -- What the program keeps of a caller and of its bench holds behind each call.
 use Rattle.std.proofs.Common.{◌≡◌, ℕ, ◌+◌, ◌≤◌, Bool, true, false, List, [], length, get_or, None, sym, ap, subst, ◌∙◌, arith, inl, inr, Contains, All}
-use Rattle.std.specs.Prelude.{◌*◌, Option, Result, Ok, Err}
-use Rattle.std.proofs.lemmas.List.Elements.{All-contains_itself}
+use Rattle.std.specs.Prelude.{◌*◌, IfOk, Option, Result, Ok, Err}
+use Rattle.std.proofs.lemmas.List.Elements.{All-contains, All-contains_itself}
 use Rattle.kr_config.specs.Kept.{Row, plugins_in, rows_of}
 use Rattle.kr_config.specs.declared.settings.Settings.{Settings}
 use Rattle.kr_kms.specs.Calls.{Link}
@@ -11,6 +11,7 @@ use Rattle.kr_provider.specs.AskedLinks.{AskedOnly}
 use Rattle.kr_provider.specs.BenchState.{BenchState}
 use Rattle.kr_provider.specs.KeyPages.{size_of}
 use Rattle.kr_provider.specs.Names.{HasLinks, names_of}
+use Rattle.kr_provider.specs.Publication.{Publication}
 use Rattle.kr_rollout.specs.declared.call.CallNo.{CallNo}
 use Rattle.kr_rollout.specs.declared.call.CallNo.TheVariants.{Refused, PluginFailed, DiceFailed, StoreFailed, StoreFull, Unhealthy, Gone, Spent, NoMemory}
 use Rattle.kr_rollout.specs.declared.line.Did.{Did}
@@ -35,6 +36,20 @@ one_among linked asked settings e same h = subst
     (λ (s : Settings). NamesAmong one_name (rows_of s.entries.0)) same
     (from_each (λ name. Contains one_name name) (plugins_in (rows_of asked.entries.0))
     (λ name c. subst (λ l. Contains l name) e (h name c)))
+
+-- and the link serves what names no other
+pub one_serves : (linked : List (List ℕ)) (rows : List Row) → linked ≡ one_name
+    → NamesAmong one_name rows → HasLinks linked rows
+one_serves linked rows e h = λ name c. subst (λ l. Contains l name) (sym e)
+    (All-contains (λ n. Contains one_name n) (plugins_in rows) name h c)
+
+-- what is shared of a configuration names what its settings name
+pub names_shared : {E : Type 0} (shared : Result Publication E) (p : Publication)
+    (rows : List Row) → IfOk shared (λ q. q ≡ p) → p.rows ≡ rows → NamesAmong one_name rows
+    → IfOk shared (λ q. NamesAmong one_name q.rows)
+names_shared (Err why) p rows same is h = tt
+names_shared (Ok q) p rows same is h = subst (λ r. NamesAmong one_name r)
+    (sym is ∙ ap (λ (x : Publication). x.rows) (sym same)) h
 
 pub served : (names linked : List (List ℕ)) → names ≡ one_name → linked ≡ one_name
     → AreServed names linked

@@ -10,9 +10,6 @@
 //!     between NUMBER CALL                  of two callers: the second one's, before the event of
 //!                                          this number of the first one, counted from here
 //!
-//! In a case of lines `meet ..` like `keys ..`, `store ..`, `both ..` like `two ..` and two calls
-//! two callers make a call each at the same time, whose links wait for each other in unwraps.
-//!
 //! A case of lines `settings NAME JSON` names settings for those behind it.
 ghost use Rattle.kr_provider.specs.Names.{names_of};
 ghost use Rattle.kr_calls.specs.Desks.{IsBench, IsCore};
@@ -20,7 +17,6 @@ ghost use Rattle.kr_calls.specs.Desks.{IsBench, IsCore};
 use crate::call::serve_line;
 use crate::desk::Desk;
 use crate::linked::{Spelled, bench_of, end_bench, end_benches};
-use crate::meeting;
 use crate::named::Named;
 use crate::opening::{Budget, core_of, terms_of};
 use crate::page::Page;
@@ -34,10 +30,9 @@ use kr_provider::Bench;
 use kr_rollout::{Acts, Core, Solo};
 use std::alloc::Global;
 use std::sync::Wait;
-use std::thread::Threads;
 
 /// Runs a case, and prints what came of its lines.
-pub fn run<R: Threads + Wait + Sync>(
+pub fn run<R: Wait>(
     rt: &R,
     alloc: Global,
     named: &mut Named,
@@ -50,7 +45,6 @@ pub fn run<R: Threads + Wait + Sync>(
         "settings" => name_all(alloc, named, case),
         "keys" => begin::<KeyLink<ExampleRing>, R>(rt, alloc, named, words, rest, page),
         "masks" => begin::<TablePlugin, R>(rt, alloc, named, words, rest, page),
-        "meet" => meeting::run::<TablePlugin, R>(rt, alloc, named, words, rest, page),
         _ => Err(Wrong::Form),
     }
 }

@@ -7,14 +7,12 @@ mod call;
 mod case;
 mod desk;
 mod linked;
-mod meeting;
 mod named;
 mod opening;
 mod page;
 mod stored;
 mod telling;
 mod two;
-mod waiting;
 mod words;
 
 use crate::named::Named;
@@ -23,7 +21,6 @@ use crate::words::Wrong;
 use std::alloc::Global;
 use std::io::{self, BufRead, BufReader, BufWriter, Write};
 use std::sync::Wait;
-use std::thread::Threads;
 
 fn main(rt: HostRuntime) -> io::Result<()> {
     let alloc = rt.alloc();
@@ -38,7 +35,7 @@ fn main(rt: HostRuntime) -> io::Result<()> {
 }
 
 /// Adds a line to the case; the empty one ends it.
-fn add_line<R: Threads + Wait + Sync, W: Write>(
+fn add_line<R: Wait, W: Write>(
     rt: &R,
     alloc: Global,
     named: &mut Named,
