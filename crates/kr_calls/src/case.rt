@@ -18,7 +18,7 @@ use crate::call::serve_line;
 use crate::desk::Desk;
 use crate::linked::{Spelled, bench_of, end_bench, end_benches};
 use crate::named::Named;
-use crate::opening::{Budget, core_of, terms_of};
+use crate::opening::{Budget, Terms, core_of, terms_of};
 use crate::page::Page;
 use crate::stored::{add_rows, load};
 use crate::two::{play_two, seated};
@@ -28,6 +28,7 @@ use kr_keywrap::{ExampleRing, KeyLink};
 use kr_kms::TablePlugin;
 use kr_provider::Bench;
 use kr_rollout::{Acts, Core, Solo};
+use kr_store::Store;
 use std::alloc::Global;
 use std::sync::Wait;
 
@@ -56,6 +57,14 @@ fn name_all(alloc: Global, named: &mut Named, case: &str) -> Result<(), Wrong> {
     Ok(())
 }
 
+/// What a case begins with.
+#[derive(Drop)]
+struct Beginning {
+    store: Store<MemTape>,
+    terms: Terms,
+    with_rival: bool,
+}
+
 /// Starts the core, and lets its callers make their calls.
 fn begin<L: Spelled, R: Wait>(
     rt: &R,
@@ -67,22 +76,51 @@ fn begin<L: Spelled, R: Wait>(
 ) -> Result<(), Wrong> {
     let (second, rest) = two_lines(rest)?;
     let (third, calls) = two_lines(rest)?;
-    let store = load(alloc, behind("store", second)?)?;
     let (kind, third) = two_words(third)?;
     let terms = terms_of(named, third)?;
+    let store = load(alloc, behind("store", second)?)?;
+    let beginning = Beginning {
+        store,
+        terms,
+        with_rival: kind == "two",
+    };
+    match bench_of::<L>(alloc, words) {
+        Ok(bench) => play(rt, alloc, named, beginning, bench, words, calls, page),
+        Err(why) => Err(why),
+    }
+}
+
+/// Starts the core by the bench.
+fn play<L: Spelled, R: Wait>(
+    rt: &R,
+    alloc: Global,
+    named: &Named,
+    beginning: Beginning,
+    mut bench: Bench<L, MemDice>,
+    words: &str,
+    calls: &str,
+    page: &mut Page,
+) -> Result<(), Wrong>
+    requires { IsBench (names_of L.link bench.links) bench.pages }
+{
+    let Beginning {
+        store,
+        terms,
+        with_rival,
+    } = beginning;
     let budget = terms.budget;
-    let mut bench: Bench<L, MemDice> = bench_of(alloc, words)?;
-    let core = match core_of(alloc, &mut bench, store, terms) {
-        Ok(core) => core,
+    match core_of(alloc, &mut bench, store, terms) {
+        Ok(core) => {
+            if with_rival {
+                play_with_rival(rt, alloc, named, core, budget, bench, words, calls, page)
+            } else {
+                play_alone(alloc, named, core, budget, bench, calls, page)
+            }
+        }
         Err(why) => {
             end_bench(bench, page)?;
-            return Err(why);
+            Err(why)
         }
-    };
-    if kind == "two" {
-        play_with_rival(rt, alloc, named, core, budget, bench, words, calls, page)
-    } else {
-        play_alone(alloc, named, core, budget, bench, calls, page)
     }
 }
 
@@ -101,13 +139,31 @@ fn play_with_rival<L: Spelled, R: Wait>(
     requires core { IsCore budget core }
     requires bench { IsBench (names_of L.link bench.links) bench.pages }
 {
-    let other = match bench_of(alloc, words) {
-        Ok(other) => other,
+    match bench_of(alloc, words) {
+        Ok(other) => play_seated(rt, alloc, named, core, budget, bench, other, calls, page),
         Err(why) => {
             end_bench(bench, page)?;
-            return Err(why);
+            Err(why)
         }
-    };
+    }
+}
+
+/// The calls of two callers with these benches.
+fn play_seated<L: Spelled, R: Wait>(
+    rt: &R,
+    alloc: Global,
+    named: &Named,
+    core: Core<MemTape>,
+    budget: Budget,
+    bench: Bench<L, MemDice>,
+    other: Bench<L, MemDice>,
+    calls: &str,
+    page: &mut Page,
+) -> Result<(), Wrong>
+    requires core { IsCore budget core }
+    requires bench { IsBench (names_of L.link bench.links) bench.pages }
+    requires other { IsBench (names_of L.link other.links) other.pages }
+{
     match seated(alloc, core, budget) {
         Some(seats) => play_two(rt, alloc, named, seats, budget, bench, other, calls, page),
         None => {
