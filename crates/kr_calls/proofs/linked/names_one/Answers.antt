@@ -5,5 +5,5 @@ use Rattle.kr_calls.proofs.Calling.{one_among}
 use Rattle.kr_calls.proofs.linked.names_one.Goals as goal
 
 pub returns : goal.returns
-returns g c = λ is. one_among (names_of link_of c.in_ok-links.links) c.get.result.now
+returns c = λ is. one_among (names_of link_of c.in_ok-links.links) c.get.result.now
     c.args.settings.now c.in_ok-links.ensures c.get.ensures (c.serve.ensures.0 is)

@@ -5,9 +5,11 @@ use Rattle.kr_calls.proofs.Calling.{bench_kept, names_shared, one_serves}
 use Rattle.kr_calls.proofs.opening.published.Goals as goal
 
 pub publish-requires : goal.publish-requires
-publish-requires g c = one_serves (names_of g.L.Kms.link c.args.bench.now.links)
-    (rows_of c.args.settings.entries.0) c.requires.linked_is
-    (c.in_ok-known.ensures c.if-not-known.false)
+publish-requires g c = record {
+  links = one_serves (names_of g.L.Kms.link c.args.bench.now.links)
+      (rows_of c.args.settings.entries.0) c.requires.linked_is
+      (c.in_ok-known.ensures c.if-not-known.false);
+}
 
 pub returns-in-Ok-clause-named : goal.returns-in-Ok-clause-named
 returns-in-Ok-clause-named g c = names_shared c.shared.result c.in-Ok.published

@@ -4,7 +4,7 @@ use Rattle.kr_calls.proofs.Lists.{last_there}
 use Rattle.kr_calls.proofs.two.with_first.Goals as goal
 
 pub returns : goal.returns
-returns g c = (
+returns c = (
   refl,
   last_there c.pop.new.self.0 c.args.seats.0 c.in-Some.first c.in-Some.ensures.items,
   refl,
