@@ -4,7 +4,8 @@ use Rattle.kr_calls.proofs.Calling.{caller_after}
 use Rattle.kr_calls.proofs.desk.Desk.leave.Goals as goal
 
 pub leave-done-requires-clause-replica : goal.leave-done-requires-clause-replica
-leave-done-requires-clause-replica g c = omega (arith, (c.may.ensures c.if-not-may.false).1, c.self.invariant.0.replicas_are)
+leave-done-requires-clause-replica g c = omega
+    (arith, (c.may.ensures c.if-not-may.false).1, c.self.invariant.0.replicas_are)
 
 pub leave-done-requires-clause-idle : goal.leave-done-requires-clause-idle
 leave-done-requires-clause-idle g c = c.self.invariant.0.idle (c.may.ensures c.if-not-may.false).0

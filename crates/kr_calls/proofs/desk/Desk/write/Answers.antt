@@ -6,7 +6,8 @@ use Rattle.kr_calls.proofs.Calling.{bench_linked, caller_after, idle_after, serv
 use Rattle.kr_calls.proofs.desk.Desk.write.Goals as goal
 
 pub write-done-requires-clause-replica : goal.write-done-requires-clause-replica
-write-done-requires-clause-replica g c = omega (arith, (c.may.ensures c.if-not-may.false).1, c.self.invariant.0.replicas_are)
+write-done-requires-clause-replica g c = omega
+    (arith, (c.may.ensures c.if-not-may.false).1, c.self.invariant.0.replicas_are)
 
 pub write-done-requires-clause-idle : goal.write-done-requires-clause-idle
 write-done-requires-clause-idle g c = c.self.invariant.0.idle (c.may.ensures c.if-not-may.false).0
@@ -23,9 +24,11 @@ pub invariant_of-self : goal.invariant_of-self
 invariant_of-self g c = (
   caller_after (g.A.Acts.caller c.self.inside.acts)
       (g.A.Acts.caller c.write-done.new.acts) c.self.inside.replicas c.self.inside.left
-      c.self.inside.left 3 0 (Put c.args.path.now c.args.resource.now c.args.plain ∷ []) c.self.inside.ended c.is_spent-self-inside.result c.self.invariant.0
+      c.self.inside.left 3 0 (Put c.args.path.now c.args.resource.now c.args.plain ∷ [])
+      c.self.inside.ended c.is_spent-self-inside.result c.self.invariant.0
       c.write-done.ensures.adds (omega arith)
-      (idle_after c.write-done.result (g.A.Acts.caller c.write-done.new.acts) c.is_spent-self-inside.result c.write-done.ensures.idle c.is_spent-self-inside.ensures),
+      (idle_after c.write-done.result (g.A.Acts.caller c.write-done.new.acts)
+      c.is_spent-self-inside.result c.write-done.ensures.idle c.is_spent-self-inside.ensures),
   bench_linked g.L.Kms.link c.self.inside.bench c.write-done.new.bench
       c.self.invariant.1 c.write-done.ensures.links c.write-done.ensures.pages,
 )
