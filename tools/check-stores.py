@@ -1,9 +1,10 @@
 #!/usr/bin/env python3
-"""Runs the built kmsrest's `put` under a full file system, killed at random moments, fifty at once, and at the limit of a store.
+"""Runs the built kmsrest's `put` under a full file system, killed at random moments, fifty at once, and at the limit of a store,
+its `migrate` at the limits of its target, its `rewrite` at the limits of a journal and of a store, and a fleet at that of a store.
 
-    tools/check-stores.py [full] [killed] [crowd] [large] [--kmsrest PATH] [--seed N]
+    tools/check-stores.py [full] [killed] [crowd] [large] [migrates] [rewrites] [fleets] [--kmsrest PATH] [--seed N]
 
-No name of a check means all four. After each run the store is read by tools/reference, which is no part of kmsrest: every
+No name of a check means all seven. After each run the store is read by tools/reference, which is no part of kmsrest: every
 row that was answered by its revision is there, whole and at that revision. It answers 0 where that always held."""
 import argparse
 import os
@@ -29,6 +30,9 @@ FAULT_STORE = "kmsrest: fault store 1\n"
 FAULT_FILES = "kmsrest: fault files 1\n"
 LIMIT = f"kmsrest: limit store {store.MOST_STORE}\n"
 MANY = 100_000
+JOURNAL = 4_000_000
+# as many live rows as a journal has no room for: each takes four of its entries, and the end three
+JOURNALED = JOURNAL // 4
 
 
 def words(kmsrest, command, name, path=None):
@@ -267,7 +271,150 @@ def large(checks, _folder, _dice):
     checks.read_back()
 
 
-CHECKS = {"full": full, "killed": killed, "crowd": crowd, "large": large}
+# ---- rewrites
+
+REPORT = b"rewritten %d\nfresh %d\nchanged 0\nleft %d\n"
+BY_KEY = """
+resources:
+- resources:
+  - secrets
+  providers:
+  - aescbc:
+      keys:
+      - name: key1
+        secret: AAAAAAAAAAAAAAAAAAAAAA==
+  - identity: {}
+"""
+
+
+def rewrites(checks, folder, _dice):
+    """More live rows than a journal has room for are refused; where a store is full the rows before are rewritten and reported."""
+    config = Path(folder) / "config.yaml"
+    config.write_text("kind: EncryptionConfiguration\napiVersion: apiserver.config.k8s.io/v1" + BY_KEY)
+
+    def rewrite(config):
+        return run([checks.kmsrest, "rewrite", "--config", config, "--store", checks.name])
+
+    rows = [store.Row(b"/%d" % number, b"s", b"", bytes(8)) for number in range(JOURNALED)]
+    checks.name.write_bytes(store.written(2, rows))
+    before = checks.held()
+    checks.expect("rewrite of too many rows", (6, b"", f"kmsrest: limit journal {JOURNAL}\n"), rewrite(CONFIG))
+    checks.expect("the store of too many rows", True, before == checks.held())
+    plain = [store.Row(b"/%d" % number, b"secrets", b"data", bytes(8)) for number in range(3)]
+    sealed = store.Row(b"/0", b"secrets", b"k8s:enc:aescbc:v1:key1:" + bytes(32), bytes(8))
+    small, large = (len(store.row_bytes(2, 1, row)) for row in (plain[0], sealed))
+    # there is room for two rows that are sealed anew, and not for the third
+    rows = many_rows(store.MOST_STORE - 3 * large + 1 - 3 * small) + plain
+    checks.name.write_bytes(store.written(2, rows))
+    before = checks.held()
+    checks.expect("rewrite at the limit of a store", (6, REPORT % (2, 0, 0), LIMIT), rewrite(config))
+    checks.expect("its rows before", True, checks.held().startswith(before))
+    checks.expect("its length", len(before) + 2 * large, len(checks.held()))
+
+
+# ---- migrations
+
+FAULT_TARGET = "kmsrest: fault target 1\n"
+
+
+def fitting(rows, size):
+    """The file of the first rows in the second format, as many as fit into so many bytes; each is written by itself."""
+    length, count = len(store.MAGICS[2]), 0
+    for revision, row in enumerate(rows, 1):
+        length += len(store.row_bytes(2, revision, row))
+        if length > size:
+            break
+        count = revision
+    return store.written(2, rows[:count]) if count else b""
+
+
+def migrates(checks, folder, _dice):
+    """A store is copied row by row, by each limit of its target's file: the target has the rows that fit, and the source stays."""
+    source = Path(folder) / "old"
+
+    def migrate(limit=None):
+        return run([checks.kmsrest, "migrate", "--config", CONFIG, "--store", source, "--to", checks.name], limit=limit)
+
+    puts = [store.Row(b"/%d" % number, b"secrets", b"data" * number, bytes(8)) for number in range(3)]
+    rows = [*puts, store.Row(b"/1"), puts[1], store.Row(b"/0")]
+    source.write_bytes(store.written(1, rows))
+    whole = len(store.written(2, rows))
+    for size in range(whole + 1):
+        wanted = (0, b"migrated %d\n" % len(rows), "") if size == whole else (4, b"", FAULT_TARGET)
+        checks.expect(f"migrate within {size} bytes", wanted, migrate(limited(size)))
+        checks.expect(f"its target within {size} bytes", fitting(rows, size), checks.held())
+        checks.expect("its source", store.written(1, rows), source.read_bytes())
+        if size < whole:
+            checks.name.unlink()
+    checks.expect("migrate again", (3, b"", f"kmsrest: text 52 {whole}\n"), migrate())
+    # each row has eight bytes more in the second format
+    rows = many_rows(store.MOST_STORE + 8 * MANY)
+    source.write_bytes(store.written(1, rows))
+    checks.name.unlink()
+    began = time.monotonic()
+    found = migrate()
+    print(f"migrates: kmsrest copies {MANY} rows up to 64 MiB in {time.monotonic() - began:.1f} s")
+    checks.expect("migrate of a store at its limit", (6, b"", LIMIT), found)
+    checks.expect("its target", True, checks.held() == fitting(rows, store.MOST_STORE))
+    checks.expect("its source", True, source.read_bytes() == store.written(1, rows))
+    checks.name.write_bytes(b"x" * (store.MOST_STORE + 1))
+    checks.expect("migrate into it", (3, b"", f"kmsrest: text 52 {store.MOST_STORE + 1}\n"), migrate())
+
+
+# ---- fleets
+
+SCRIPT = """fleet 1
+replica a config
+worker w a
+put secrets /large/last bGFzdA==
+delete /large/0
+get /large/last
+rewrite
+"""
+AT_THE_LIMIT = b"""journal
+0 w adopt a 0
+1 w full put /large/last
+2 w letgo
+3 w delete /large/0 %d
+4 w adopt a 0
+5 w fetch /large/last 0
+6 w letgo
+7 w adopt a 0
+8 w after - 2
+9 w full replace /large/1
+10 w letgo
+replies
+w 1 full
+w 2 delete %d
+w 3 absent
+w 4 full
+end
+"""
+
+
+def fleets(checks, folder, _dice):
+    """Of a store that is nearly full a fleet is told so by each line whose row doesn't fit; a shorter row is written."""
+    (Path(folder) / "config").write_text("kind: EncryptionConfiguration\napiVersion: apiserver.config.k8s.io/v1" + BY_KEY)
+    (Path(folder) / "script").write_text(SCRIPT)
+    sealed = store.Row(b"/large/last", b"secrets", b"k8s:enc:aescbc:v1:key1:" + bytes(32), bytes(8))
+    checks.name.write_bytes(store.written(2, many_rows(store.MOST_STORE - len(store.row_bytes(2, MANY + 1, sealed)) + 1)))
+    before = checks.held()
+    words_of_fleet = [checks.kmsrest, "fleet", "--file", "script", "--store", checks.name]
+    done = subprocess.run(words_of_fleet, cwd=folder, capture_output=True, stdin=subprocess.DEVNULL, timeout=60, check=False)
+    wanted = (6, AT_THE_LIMIT % (MANY + 1, MANY + 1), b"")
+    checks.expect("a fleet at the limit of a store", wanted, (done.returncode, done.stdout, done.stderr))
+    checks.expect("its rows", before + store.row_bytes(2, MANY + 1, store.Row(b"/large/0")), checks.held())
+
+
+CHECKS = {
+    "full": full,
+    "killed": killed,
+    "crowd": crowd,
+    "large": large,
+    "migrates": migrates,
+    "rewrites": rewrites,
+    "fleets": fleets,
+}
 
 
 def main():

@@ -2,7 +2,8 @@
 """Fleets of many workers, which wait for each other in threads: each printed journal is checked against a reading of the step
 table of its own, and each reply and the store against the journal.
 
-  random_fleets.py run N SEED [PROGRAM]   runs N fleets with the built program, and judges what it prints and leaves
+  random_fleets.py run N SEED [PROGRAM]   runs N fleets with the built program, then one of 64 workers at 16 replicas and one
+                                          whose workers rewrite while others write, and judges what it prints and leaves
   random_fleets.py cases N SEED FOLDER    writes N fleets as cases of kr_cases, at most 12 a file, and their scripts beside FOLDER
   random_fleets.py judge FOLDER OUTPUT    judges the lines that kr_cases printed for them, in OUTPUT
 
@@ -66,9 +67,9 @@ def configuration_text(name):
 # ---- making fleets
 
 
-def script_line(draw, replicas):
+def script_line(draw, replicas, names=tuple(PROVIDERS)):
     kind = draw.choice(["put"] * 5 + ["get"] * 6 + ["delete", "rewrite", "refresh"] + ["reload"] * 4 + ["join", "leave"])
-    path, replica, name = draw.choice(PATHS), draw.choice(replicas), draw.choice(list(PROVIDERS))
+    path, replica, name = draw.choice(PATHS), draw.choice(replicas), draw.choice(names)
     if kind == "put":
         data = base64.b64encode(bytes(draw.randrange(97, 123) for _ in range(draw.randrange(1, 20)))).decode()
         return f"put secrets {path} {data}"
@@ -87,6 +88,29 @@ def fleet(draw, most_workers=4, most_lines=12):
     for number in range(draw.randint(2, most_workers)):
         lines.append(f"worker w{number} {draw.choice(replicas)}")
         lines += [script_line(draw, replicas) for _ in range(draw.randint(1, most_lines))]
+    return lines
+
+
+def crowd(draw):
+    """As many replicas and workers as there may be, each with lines; no file names a plugin."""
+    replicas = [f"r{number}" for number in range(16)]
+    lines = ["fleet 1", "replica r0 both"] + [f"replica {name} {draw.choice(['both', '-'])}" for name in replicas[1:]]
+    for number in range(64):
+        lines.append(f"worker w{number} r{number % 16}")
+        lines += [script_line(draw, replicas, ("old", "both", "new", "last", "bare")) for _ in range(4)]
+    return lines
+
+
+def rewriting(draw):
+    """Two workers rewrite while others write, and a third makes one key and the other the first in turn meanwhile."""
+    lines = ["fleet 1", "replica a old", "replica b old"]
+    for number in range(4):
+        lines += [f"worker w{number} {'ab'[number % 2]}"]
+        lines += [f"put secrets {draw.choice(PATHS)} {base64.b64encode(draw.randbytes(9)).decode()}" for _ in range(10)]
+        lines += [f"delete {draw.choice(PATHS)}", f"get {draw.choice(PATHS)}"]
+    for number, name in enumerate("ab", 4):
+        lines += [f"worker w{number} {name}"] + ["rewrite"] * 8
+    lines += ["worker w6 a"] + [f"reload {name} {file}" for file in ("both", "new") * 6 for name in "ab"] + ["rewrite"]
     return lines
 
 
@@ -397,7 +421,7 @@ def main(mode, *rest):
         if not is_limited(program):
             print("not so: a fleet file of 67,108,865 bytes is above the limit")
             return 1
-        scripts = [fleet(draw) for _ in range(int(rest[0]))]
+        scripts = [fleet(draw) for _ in range(int(rest[0]))] + [crowd(draw), rewriting(draw)]
         runs = [(f"fleet{number}", lines, lambda lines=lines: run_program(lines, program)) for number, lines in enumerate(scripts)]
     illegal = judge_runs(runs)
     print(f"random_fleets: {len(runs)} fleets, {illegal} of them illegal")

@@ -124,6 +124,55 @@ def add_workers(book):
         with_plugins(book, name, ["a kms"], lines, [plugin(seat=seat) for seat in links], drawn=seats, workers=("v a", "w a"))
 
 
+# ---- many workers, and each worker's own things
+
+
+def crew_of(names, at, lines):
+    """Workers at the first replica of which the one at this place has the lines: those before it, and the lines of the others."""
+    behind = [f"worker {name} a" for name in names[at + 1 :]]
+    return {"workers": tuple(f"{name} a" for name in names[: at + 1])}, [*lines, *behind]
+
+
+def add_many(book):
+    """As many workers and replicas as there may be, and each worker's random source and link."""
+    replicas = [f"r{at} {'one' if at % 3 < 2 else '-'}" for at in range(16)]
+    workers = tuple(f"w{at} r{at % 16}" for at in range(64))
+    lines = [f"put secrets /s {DATA}", "get /s", "join r14 one", "join r2 one", "leave r2", "reload r15 one", "rewrite"]
+    fleet(book, "64_workers_16_replicas", replicas, lines, drawn={seat: b"" for seat in range(63)} | {63: DRAWN}, workers=workers)
+    fleet(book, "64_workers_without_the_last_dice", replicas, lines, drawn={seat: b"" for seat in range(63)}, workers=workers)
+    by_plugin = [f"r{at} {'kms' if at in (0, 15) else '-'}" for at in range(16)]
+    links, seeds = [plugin(seat=seat) for seat in range(64)], {0: ZEROS + OTHER} | {seat: b"" for seat in range(1, 63)}
+    for name, own in {"": links, "_without_the_last_link": links[:63]}.items():
+        with_plugins(book, f"64_workers{name}", by_plugin, lines[:2], own, drawn=seeds | {63: DRAWN_TO_SEAL}, workers=workers)
+    for at in range(3):
+        crew, own = crew_of("uvw", at, [f"put secrets /s {DATA}", "get /s", f"put secrets /t {DATA}", "get /t"])
+        for number in (1, 2):
+            fleet(book, f"dice_{number}_of_worker_{at}", ["a one"], own, drawn={seat: DRAWN for seat in range(3)}, fails=((f"dice:{at}", number),), **crew)
+    add_links(book)
+
+
+def add_links(book):
+    """The links of one worker after the other fail, at its lines and before; those of the others don't."""
+    stored = written(2, [put(PATH, value(), check=bytes(8)), put("/t", b"hi", check=bytes(8))])
+    rest = OTHER + DRAWN_TO_SEAL * 3
+    seats = {0: ZEROS + rest, 1: rest, 2: rest}
+    lines = [f"get {PATH}", "refresh", "reload a kms", f"put secrets /s {DATA}", "rewrite", f"get {PATH}"]
+    for at in range(3):
+        crew, own = crew_of("uvw", at, lines)
+        more = {"content": stored, "drawn": seats, **crew}
+        # (the first worker's link is asked twice before, for what the replica publishes)
+        for number in range(1, 5) if at else range(3, 7):
+            links = [plugin(key_id="k2", seat=seat, fails=str(number) if seat == at else None) for seat in range(3)]
+            with_plugins(book, f"link_{number}_of_worker_{at}", ["a kms"], own, links, **more)
+        down = [plugin(key_id="k2", seat=seat, says=("v2", "down") if seat == at else None) for seat in range(3)]
+        with_plugins(book, f"unhealthy_link_of_worker_{at}", ["a kms"], own, down, **more)
+    crew, own = crew_of("uvw", 1, lines)
+    links = [plugin(key_id="k2", seat=seat) for seat in range(3)]
+    # each call for a random source and for a link, from the first worker's on
+    for number in range(4, 10):
+        with_plugins(book, f"outfit_fault_{number}", ["a kms"], own, links, content=stored, drawn=seats, fails=(("files", number),), **crew)
+
+
 # ---- plugins
 
 
@@ -292,6 +341,7 @@ def add_all(book):
     book.title("fleets: what they begin with")
     add_stored(book)
     add_workers(book)
+    add_many(book)
     book.title("fleets: plugins")
     add_plugins(book)
     book.title("fleets: what is refused")

@@ -1,6 +1,7 @@
 """Whole calls: the steps of the commands."""
 
 import functools
+from contextlib import suppress
 
 from . import configuration, fleet, plugins, store
 from .board import Board
@@ -10,6 +11,7 @@ from .words import Usage, WordsLimit, command_of
 
 MOST_DATA = 2_097_152
 MOST_VALUE = 2_162_688
+MOST_JOURNAL = 4_000_000
 
 
 def provider_text(provider):
@@ -40,7 +42,7 @@ class Bench:
 
     def __init__(self, world, programs):
         self.dice = world.dice_of(0)
-        self.links = {name: world.link_of(0, name, program) for name, program in programs.items()}
+        self.links = {name: plugins.Kept(world.link_of(0, name, program)) for name, program in programs.items()}
         try:
             self.published = plugins.publish(self.links, self.dice.draw)
         except plugins.Unhealthy as no:
@@ -105,6 +107,29 @@ def list_rows(options, world, output):
     return b"", 0
 
 
+def migrated(entries, row):
+    """A row as the second format has it: a put has the check of the provider that reads it."""
+    if row.value is None:
+        return row
+    provider = reader_of(configuration.list_for(entries, row.resource.decode()), row.value)
+    return store.Row(row.path, row.resource, row.value, bytes(8) if provider is None else check_of(provider))
+
+
+def migrate(options, world, output):
+    entries = load_settings(world, options["config"])
+    source = world.tape(options["store"])
+    _form, rows = source.load()
+    if source.content.startswith(store.MAGICS[2]):
+        raise Stop(3, "text 53 2")
+    target = world.tape(options["to"], make=True)
+    copied = target.load_new()
+    for row in rows:
+        target.add(2, copied, migrated(entries, row))
+        copied.append(row)
+    output.write_all(b"migrated %d\n" % len(rows))
+    return b"", 0
+
+
 def board_of(rows, replicas):
     """The board of the stored rows and of the replicas' configurations, of which each is judged beside those before it."""
     board = Board(len(replicas))
@@ -134,6 +159,46 @@ def judge(options, world, output):
     return b"", 0 if verdict == "pass" else 1
 
 
+def rewritten(bench, providers, form, rows, tape, row):
+    """What becomes of a live row; where it is written anew, that row stands behind the others."""
+    try:
+        data, is_stale = bench.unseal(providers, row.path.decode(), row.value)
+        if not is_stale:
+            return "fresh"
+        if len(data) > MOST_DATA:
+            return "left"
+        value = bench.seal(providers, row.path.decode(), data)
+    except Refused:
+        return "left"
+    new = store.Row(row.path, row.resource, value, check_of(providers[0]))
+    tape.add(form, rows, new)
+    rows.append(new)
+    return "rewritten"
+
+
+def rewrite(options, world, output):
+    entries, programs = settings_of_object(options, world)
+    tape = world.tape(options["store"])
+    form, rows = tape.load()
+    live = [row for _, (_, row) in sorted(store.live(rows).items())]
+    if 4 * len(live) + 3 > MOST_JOURNAL:
+        raise Stop(6, f"limit journal {MOST_JOURNAL}")
+    bench = Bench(world, programs)
+    board_of(rows, [entries])
+    counts = {"rewritten": 0, "fresh": 0, "changed": 0, "left": 0}
+    report = lambda: "".join(f"{what} {count}\n" for what, count in counts.items()).encode()
+    try:
+        for row in live:
+            counts[rewritten(bench, configuration.list_for(entries, row.resource.decode()), form, rows, tape, row)] += 1
+    except Stop:
+        # why it was cut short stands, whatever becomes of the report
+        with suppress(Stop):
+            output.write_all(report())
+        raise
+    output.write_all(report())
+    return b"", 1 if counts["left"] else 0
+
+
 def answer(words, world, source, output):
     """Does what the words ask for, and gives what is told on the errors, and the status."""
     try:
@@ -155,6 +220,10 @@ def answer(words, world, source, output):
             return get(options, world, output)
         if command == "fleet":
             return fleet.run(options, world, output)
+        if command == "rewrite":
+            return rewrite(options, world, output)
+        if command == "migrate":
+            return migrate(options, world, output)
         if command == "inspect":
             return inspect(source, output)
         return (encrypt if command == "encrypt" else decrypt)(options, world, source, output)

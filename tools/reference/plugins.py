@@ -55,6 +55,20 @@ class Plugin:
         return self.mask(source, key_id, annotations)
 
 
+class Kept:
+    """A plugin that is asked once for each source; only so few are unwrapped here that all are kept."""
+
+    def __init__(self, link):
+        self.status, self.wrap, self.link, self.seeds = link.status, link.wrap, link, []
+
+    def unwrap(self, *asked):
+        found = next((seed for other, seed in self.seeds if other == asked), None)
+        if found is None:
+            found = self.link.unwrap(*asked)
+            self.seeds.append((asked, found))
+        return found
+
+
 # ---- publishing
 
 

@@ -11,12 +11,13 @@ OPTIONS = {
     "put": (("config", "store", "resource", "path"), ("plugin",)),
     "get": (("config", "store", "path"), ("plugin",)),
     "list": (("store",), ()),
+    "migrate": (("config", "store", "to"), ()),
     "judge": (("store", "replica", "reload"), ()),
     "rewrite": (("config", "store"), ("plugin",)),
     "fleet": (("file", "store"), ("plugin",)),
     "gen": (("seed", "size", "store"), ()),
 }
-BUILT = ("encrypt", "decrypt", "check", "inspect", "put", "get", "list", "judge", "fleet")
+BUILT = ("encrypt", "decrypt", "check", "inspect", "put", "get", "list", "migrate", "judge", "rewrite", "fleet")
 REPEATED = ("plugin", "replica")
 MOST_REPLICAS = 16
 MOST_SIZE = 10_000
@@ -99,6 +100,8 @@ def keep_rules(command, found):
         if not is_path(path) and not (may_be_empty and path == b""):
             raise Usage
     keep_plugin_rule(found.get("plugin", ()))
+    if command == "migrate" and found["store"] == found["to"]:
+        raise Usage
     if command == "judge":
         keep_reload_rule(found["reload"][0], len(found["replica"]))
     if command == "gen":

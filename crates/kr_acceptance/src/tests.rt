@@ -17,7 +17,8 @@ const IDENTITY: &str =
 const AESCBC: &str =
     r#"{"apiVersion":"apiserver.config.k8s.io/v1","kind":"EncryptionConfiguration","resources":[{"resources":["secrets"],"providers":[{"aescbc":{"keys":[{"name":"key1","secret":"AAECAwQFBgcICQoLDA0ODxAREhMUFRYXGBkaGxwdHh8="}]}}]}]}"#;
 
-/// Secrets are stored by identity; other resources of the core group by aesgcm; all others by aescbc.
+/// Secrets are stored by identity; other resources of the core group by aesgcm; all others by
+/// aescbc.
 const THREE: &str =
     r#"{"apiVersion":"apiserver.config.k8s.io/v1","kind":"EncryptionConfiguration","resources":[{"resources":["secrets"],"providers":[{"identity":{}}]},{"resources":["*."],"providers":[{"aesgcm":{"keys":[{"name":"k","secret":"c2VjcmV0IGlzIHNlY3VyZQ=="}]}}]},{"resources":["*.*"],"providers":[{"aescbc":{"keys":[{"name":"k","secret":"dGhpcyBpcyBwYXNzd29yZA=="}]}}]}]}"#;
 

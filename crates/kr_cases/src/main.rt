@@ -1,5 +1,5 @@
-//! kr_cases: reads whole calls of `run` over the world in memory, a case in some lines, and prints what each leaves, so
-//! that many calls can be compared with another implementation.
+//! kr_cases: reads whole calls of `run` over the world in memory, a case in some lines, and prints
+//! what each leaves, so that many calls can be compared with another implementation.
 #![tactic(auto)]
 
 mod calling;

@@ -1,5 +1,6 @@
-//! Bytes as a case spells them: a text, in which a backslash begins what can't stand there. `\n`, `\r`, `\t`, `\s` and
-//! `\b` are LF, CR, a tab, a space and a backslash, `\e` is nothing; `\(HEX)` is bytes in hex, `\(N*HEX)` N times these.
+//! Bytes as a case spells them: a text, in which a backslash begins what can't stand there. `\n`,
+//! `\r`, `\t`, `\s` and `\b` are LF, CR, a tab, a space and a backslash, `\e` is nothing; `\(HEX)`
+//! is bytes in hex, `\(N*HEX)` N times these.
 use crate::case::Wrong;
 use hex::FromHexError;
 use std::alloc::{AllocError, Global};

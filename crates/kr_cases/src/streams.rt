@@ -1,5 +1,6 @@
-//! A source and a sink in memory of which one call carries only so many bytes. With one byte a call, the number of a
-//! failing call is the place of its byte, whatever the pieces are that the caller asks for.
+//! A source and a sink in memory of which one call carries only so many bytes. With one byte a
+//! call, the number of a failing call is the place of its byte, whatever the pieces are that the
+//! caller asks for.
 ghost use Rattle.std.specs.Prelude.{Some};
 
 use kr_base::{Failed, MemSink, MemSource, Sink, Source};

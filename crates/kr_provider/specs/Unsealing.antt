@@ -1,6 +1,6 @@
 -- How a bench unseals: what it may ask of plugins, and how its answer stands to the value's
 -- reading.
-use Rattle.std.specs.Prelude.{◌≡◌, ◌⊎◌, ℕ, true, List, [], ◌∷◌, Option, Some, None, IsSome, Result, Ok, Err, ⊤}
+use Rattle.std.specs.Prelude.{◌≡◌, ◌⊎◌, ℕ, true, List, [], ◌∷◌, Option, Some, None, Result, Ok, Err, ⊤}
 use Rattle.kr_config.specs.declared.who.Who.{Who}
 use Rattle.kr_config.specs.declared.who.Who.TheVariants.{Identity, Aescbc, Aesgcm, Kms}
 use Rattle.kr_config.specs.Providers.{plugin_of}
@@ -104,19 +104,14 @@ module _ {L : Type 0} (truth : Truth) (link : L → Link) where
 
 -- ---- the cache
 
--- the cache has what the source of this object opens to, by the plugin that reads the value
-abbrev pub IsCached : List (SeedKey × List ℕ) → Option Who → Result EncryptedObject ObjectNo
-    → Type 0
-IsCached rows None object = ⊥
-IsCached rows (Some Identity) object = ⊥
-IsCached rows (Some (Aescbc name secret)) object = ⊥
-IsCached rows (Some (Aesgcm name secret)) object = ⊥
-IsCached rows (Some (Kms name)) (Ok object) = IsSome (seed_at rows (seed_key name object))
-IsCached rows (Some (Kms name)) (Err why) = ⊥
-
--- where it has, no link is asked
-abbrev pub HeedsCache : {L : Type 0} → List (SeedKey × List ℕ) → List Who → (bytes : List ℕ)
-    → (old new : List L) → Type 0
-HeedsCache rows list bytes old new = (object : Result EncryptedObject ObjectNo)
-    → HasObject (reader_in list bytes) bytes object → IsCached rows (reader_in list bytes) object
-    → new ≡ old
+-- where the cache has what the source of the value's object opens to, by the plugin that reads the
+-- value, no link is asked; and that source is the envelope's, unless the published seed is the
+-- object's
+abbrev pub HeedsCache : {L : Type 0} → List (SeedKey × List ℕ) → List SeedRow → List Who
+    → (path bytes : List ℕ) → List L → Result Opened UnsealNo → List L → Type 0
+HeedsCache rows seeds list path bytes old result new = (name : List ℕ)
+    (object : EncryptedObject) (source : List ℕ)
+    → reader_in list bytes ≡ Some (Kms name) → IsObjectOf name bytes (Ok object)
+    → seed_at rows (seed_key name object) ≡ Some source
+    → (new ≡ old) × (MayAskFor seeds name object
+    → Unseals (record { object = Ok object; source = Some source }) seeds list path bytes result)

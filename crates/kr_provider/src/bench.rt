@@ -160,7 +160,8 @@ impl<L: Kms, D: Dice> Bench<L, D> {
         ensures opened { IfSome self.old.published (λ p. UnsealsBy L.truth L.link p.seeds
             (list_at p resource.now) path.now bytes.now self.old.links result self.new.links) }
         ensures cached { IfSome self.old.published (λ p. HeedsCache self.old.cache.rows
-            (list_at p resource.now) bytes.now self.old.links self.new.links) }
+            p.seeds (list_at p resource.now) path.now bytes.now self.old.links result
+            self.new.links) }
         ensures kept { self.new
             ≡ record self.old { links = self.new.links; cache = self.new.cache } }
     {

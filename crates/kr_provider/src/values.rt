@@ -2,8 +2,6 @@
 ghost use Rattle.std.specs.Prelude.{◌≡◌, ℕ, ◌≤◌, List, length, All, Contains, Some, None, IsSome, Ok, IfSome};
 ghost use Rattle.kr_base.specs.Limits.{path_limit, value_limit};
 ghost use Rattle.kr_config.specs.declared.who.Who.{Who};
-ghost use Rattle.kr_envelope.specs.Limits.{Reads};
-ghost use Rattle.kr_envelope.specs.declared.object.EncryptedObject.{EncryptedObject};
 ghost use Rattle.kr_kms.specs.Cache.{AreOpen, seed_at};
 ghost use Rattle.kr_kms.specs.Seeds.{IsSeedRow};
 ghost use Rattle.kr_kms.specs.declared.seeds.SeedRow.{SeedRow};
@@ -11,9 +9,10 @@ ghost use Rattle.kr_provider.specs.Envelopes.{seed_key};
 ghost use Rattle.kr_provider.specs.KeyPages.{secrets_in};
 ghost use Rattle.kr_provider.specs.Names.{HasAdoptedLinks, names_of};
 ghost use Rattle.kr_provider.specs.Publication.{IsProviderList, list_at, seed_of};
-ghost use Rattle.kr_provider.specs.Unsealing.{HeedsCache, UnsealsBy};
+ghost use Rattle.kr_provider.specs.Reading.{Gives, source_reading};
+ghost use Rattle.kr_provider.specs.Unsealing.{HeedsCache, IsSeedOf, UnsealsBy};
 ghost use Rattle.kr_provider.specs.inner.Scan.{AreAmong, AreNamedIn, HaveSeeds};
-ghost use Rattle.kr_provider.specs.inner.Sources.{IsReadBy, OpensSource, UnsealsObject};
+ghost use Rattle.kr_provider.specs.inner.Sources.{GivesSource, IsReadBy, OpensSource, UnsealsObject};
 
 use crate::adoption::Adoption;
 use crate::links::Links;
@@ -46,7 +45,7 @@ pub(crate) fn unseal_for<L: Kms>(
     ensures opened { IfSome adoption.now.published (λ p. UnsealsBy L.truth L.link p.seeds
         (list_at p resource.now) path.now bytes.now links.old result links.new) }
     ensures cached { IfSome adoption.now.published (λ p. HeedsCache cache.old.rows
-        (list_at p resource.now) bytes.now links.old links.new) }
+        p.seeds (list_at p resource.now) path.now bytes.now links.old result links.new) }
     ensures kept { AreOpen L.truth cache.new.rows }
 {
     let published = adoption.published();
@@ -76,7 +75,8 @@ fn unseal_in<L: Kms>(
     requires fits { length bytes.now ≤ value_limit }
     ensures opened { UnsealsBy L.truth L.link seeds.now list.now path.now bytes.now links.old result
         links.new }
-    ensures cached { HeedsCache cache.old.rows list.now bytes.now links.old links.new }
+    ensures cached { HeedsCache cache.old.rows seeds.now list.now path.now bytes.now links.old
+        result links.new }
     ensures kept { AreOpen L.truth cache.new.rows }
 {
     let Some(place) = reader_of(list, bytes) else {
@@ -125,8 +125,10 @@ fn by_plugin<L: Kms>(
         → seed_of name.now seeds ≡ Some row.now
         → IsReadBy list bytes (Who.Kms name.now) body.now first
         → UnsealsBy L.truth L.link seeds list path.now bytes links.old result links.new }
-    ensures cached { (object : EncryptedObject) → Reads body.now (Ok object)
-        → IsSome (seed_at cache.old.rows (seed_key name.now object)) → links.new ≡ links.old }
+    ensures cached { (seeds : List SeedRow) (list : List Who) (bytes : List ℕ)
+        → seed_of name.now seeds ≡ Some row.now
+        → IsReadBy list bytes (Who.Kms name.now) body.now first
+        → HeedsCache cache.old.rows seeds list path.now bytes links.old result links.new }
     ensures kept { AreOpen L.truth cache.new.rows }
 {
     let object = match read_object(alloc, body) {
@@ -158,8 +160,10 @@ fn unseal_object<L: Kms>(
     requires fits { length object.now.encrypted ≤ value_limit }
     ensures opened { UnsealsObject L.truth L.link row.now name.now object.now path.now links.old
         result links.new }
-    ensures cached { IsSome (seed_at cache.old.rows (seed_key name.now object.now))
-        → links.new ≡ links.old }
+    ensures cached { (source : List ℕ)
+        → seed_at cache.old.rows (seed_key name.now object.now) ≡ Some source
+        → (links.new ≡ links.old) × ((IsSeedOf row.now name.now object.now → ⊥)
+        → Gives (source_reading object.now.kind source path.now object.now.encrypted) result) }
     ensures kept { AreOpen L.truth cache.new.rows }
 {
     let encrypted = object.encrypted.as_slice();
@@ -184,8 +188,9 @@ fn open_source<L: Kms>(
     requires link { Contains (names_of L.link links.old) name.now }
     requires kept { AreOpen L.truth cache.old.rows }
     ensures opened { OpensSource L.truth L.link name.now object.now links.old result links.new }
-    ensures cached { IsSome (seed_at cache.old.rows (seed_key name.now object.now))
-        → links.new ≡ links.old }
+    ensures cached { (source : List ℕ)
+        → seed_at cache.old.rows (seed_key name.now object.now) ≡ Some source
+        → (links.new ≡ links.old) × GivesSource source result }
     ensures kept { AreOpen L.truth cache.new.rows }
 {
     match links.fetch(cache, name, object) {

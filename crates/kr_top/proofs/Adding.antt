@@ -1,14 +1,16 @@
 -- A row that is added to a store, whose tape is out.
 use Rattle.std.proofs.Common.{◌≡◌, ℕ, ◌+◌, ◌<◌, ◌≤◌, List, [], ◌∷◌, ◌++◌, length, Bool, false, Option, None, Some, Result, Ok, Err, refl, sym, ◌∙◌, ap, subst, inl, inr, append-nil, length-append, arith}
-use Rattle.std.specs.Prelude.{IfOk, IfSome, codes, decimal, if◌then◌else◌}
+use Rattle.std.specs.Prelude.{IfOk, IfSome, IsSome, is_some, codes, decimal, true, if◌then◌else◌}
 use Rattle.std.specs.Option.{option_map}
 use Rattle.std.proofs.lemmas.Bool.{le-ltb, lt-ltb}
 use Rattle.kr_base.specs.Limits.{store_limit}
 use Rattle.kr_kms.specs.Outside.{same_name}
 use Rattle.kr_store.specs.File.{IsFile, file_bytes, magic, row_bytes, rows_bytes}
-use Rattle.kr_store.specs.Stores.{Kept, Holds, Wrote, Fails, Puts, length_with}
+use Rattle.kr_store.specs.Rows.{delete_of, live}
+use Rattle.kr_store.specs.Stores.{Kept, Deletes, Holds, Wrote, Fails, Puts, length_with}
 use Rattle.kr_store.specs.Stores as refusal
 use Rattle.kr_store.specs.declared.answers.PutNo.{PutNo}
+use Rattle.kr_store.specs.declared.answers.PutNo.TheVariants as refused
 use Rattle.kr_store.specs.declared.format.Format.{Format}
 use Rattle.kr_store.specs.declared.rows.LogRow.{LogRow}
 use Rattle.kr_top.specs.Around.{Around, with_lent_tape, Stays, IsHome}
@@ -16,7 +18,7 @@ use Rattle.kr_top.specs.Commands.{adding, by_result, revision_line, silently, wi
 use Rattle.kr_top.specs.Steps.{Steps, write_row, give, and_then, writing, refuses, Left, Goes, Point, with_told}
 use Rattle.kr_top.specs.StoreFiles.{Stored, with_row, HoldsRows, BeginsWith}
 use Rattle.kr_top.specs.inner.Phases.{Does}
-use Rattle.kr_top.specs.inner.Tapes.{answered, grown_by, stored_of}
+use Rattle.kr_top.specs.inner.Tapes.{HasOneMore, answered, grown_by, stored_of}
 use Rattle.kr_top.specs.declared.refusal.Limit.TheVariants as limit
 use Rattle.kr_top.specs.declared.refusal.Object.{Object}
 use Rattle.kr_top.specs.declared.refusal.Refusal.TheVariants.{Limit}
@@ -89,9 +91,9 @@ module _ (object : Object) (name : List ℕ) (row : LogRow) (old new : Kept)
     input = omega arith;
   }
 
-  now_told : {left : Left} → Stays left (Out old)
+  now_told : {left : Left} → old.count ≤ new.count → Stays left (Out old)
       → Stays (with_told name new.told left) (Out new)
-  now_told {left} s = record {
+  now_told {left} later s = record {
     truth = s.truth;
     file = s.file;
     tapes = λ i other. one_of (same_name name other) (option_map Some new.told)
@@ -103,6 +105,11 @@ module _ (object : Object) (name : List ℕ) (row : LogRow) (old new : Kept)
     dice = s.dice;
     asked = s.asked;
     said = s.said;
+    counts = λ key. omega (
+      arith,
+      s.counts key,
+      no_less (same_name name key) old.count new.count (a.world.tapes.faults key) later,
+    );
   }
 
   as_before : {left : Left} → new ≡ old → Stays left (Out old) → Stays left (Out new)
@@ -137,7 +144,7 @@ module _ (object : Object) (name : List ℕ) (row : LogRow) (old new : Kept)
       new.told,
       now_holds grown new holds w.whole w.rows w.format,
       (refl, refl),
-    ))) (now_told s);
+    ))) (now_told w.later s);
   }
 
   pub row_torn : {count : ℕ} → Fails old new row → Holds new → count ≡ new.count
@@ -151,7 +158,7 @@ module _ (object : Object) (name : List ℕ) (row : LogRow) (old new : Kept)
         new.told,
         now_begins (stored_of old) new holds f.rows f.format,
         (refl, refl),
-      ))) (now_told s),
+      ))) (now_told f.later s),
       (
         refl,
         tape_rose name old.told old.count a new.count f.rose,
@@ -187,6 +194,41 @@ pub refused_so : (old new : Kept) (row : LogRow) {result : Result ℕ PutNo} {wh
     → refusal.Refusal old new row known
 refused_so old new row known put is same =
     subst (λ w. refusal.Refusal old new row w) same (subst (λ r. Puts old new row r) is put)
+
+-- what a delete comes to: its row was written, or why it wasn't, where the path has a live row
+pub deleted_so : (old new : Kept) (path : List ℕ) (revision : ℕ)
+    {result : Result (Option ℕ) PutNo} {found : Option ℕ} → Deletes old new path result
+    → result ≡ Ok found → found ≡ Some revision → Wrote old new (delete_of path) revision
+deleted_so old new path revision {result} {found} deletes is same =
+    (subst (λ f. Deletes old new path (Ok f)) same
+    (subst (λ r. Deletes old new path r) is deletes)).1
+
+pub gone : (old new : Kept) (path : List ℕ) {result : Result (Option ℕ) PutNo}
+    {found : Option ℕ} → IsSome (live old.rows path) → Deletes old new path result
+    → result ≡ Ok found → found ≡ None → ⊥
+gone old new path {result} {found} there deletes is same =
+    let none = (subst (λ f. Deletes old new path (Ok f)) same
+    (subst (λ r. Deletes old new path r) is deletes)).0 in
+    absurd (let t : true ≡ false = sym there ∙ ap is_some none in cc)
+
+pub undeleted_so : (old new : Kept) (path : List ℕ) {result : Result (Option ℕ) PutNo}
+    {why : PutNo} (known : PutNo) → Deletes old new path result → result ≡ Err why
+    → why ≡ known → refusal.Refusal old new (delete_of path) known
+undeleted_so old new path known deletes is same =
+    by_why known (subst (λ w. Deletes old new path (Err w)) same
+    (subst (λ r. Deletes old new path r) is deletes))
+  where
+    by_why : (why : PutNo) → Deletes old new path (Err why)
+        → refusal.Refusal old new (delete_of path) why
+    by_why refused.Failed d = d.1
+    by_why (refused.Full needed) d = d.1
+    by_why (refused.Changed revision) d = absurd d
+    by_why refused.NoMemory d = d
+
+-- a store that wrote a row has one more
+pub one_more : {old new : Kept} {row : LogRow} {revision : ℕ} → Wrote old new row revision
+    → HasOneMore row old new
+one_more w = record { rows = w.rows; format = w.format; within = w.limit }
 
 -- ---- what `put` answers
 

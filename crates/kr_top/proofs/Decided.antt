@@ -17,7 +17,7 @@ use Rattle.kr_top.specs.declared.refusal.Stop.{Stop}
 use Rattle.kr_top.specs.declared.refusal.Done.{Done}
 use Rattle.kr_top.specs.declared.refusal.Outcome.{Outcome}
 use Rattle.kr_top.proofs.OnePoint.{one_point}
-use Rattle.kr_top.proofs.Settled.{settled}
+use Rattle.kr_top.proofs.SettledCommands.{settled}
 
 -- words that ask for a command ask for something
 pub asks_something : {words : List (List ℕ)} {command : Command} → Asks words command
@@ -55,7 +55,7 @@ pub same_end : {words : List (List ℕ)} {old new : Around} {command : Command} 
     (point : Point Outcome) (m n : Result Done Stop)
     → Asks words command → IsTelling command old → WouldCome command old point
     → Comes words old new q → end_at point ≡ Some m → end_at q ≡ Some n → m ≡ n
-same_end {words} {old} {new} {command} {q} point m n asks tells would comes =
+same_end {words} {old} {new} {command} {q} point m n asks tells would (said, comes) =
     let goes = subst (λ c. Goes q comes.reaches.end (steps c) (left_of old))
     (one_command comes.asks asks) comes.reaches.goes in
     one_point point q would.0 comes.reaches.end (steps command) (steps command) (left_of old)

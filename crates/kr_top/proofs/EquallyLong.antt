@@ -27,7 +27,7 @@ use Rattle.kr_store.specs.declared.format.Format.{Format}
 use Rattle.kr_store.specs.declared.rows.LogRow.{LogRow}
 
 -- rows for equally long values are equally long
-same_row : (k : ℕ) (path resource v w : List ℕ) (check : Option kept.Check) → length v ≡ length w
+pub same_row : (k : ℕ) (path resource v w : List ℕ) (check : Option kept.Check) → length v ≡ length w
     → length (row_bytes k (put_of path resource v check))
     ≡ length (row_bytes k (put_of path resource w check))
 same_row k path resource v w check e = ap suc (same (to_be_bytes w64 k) (behind_it v) (behind_it w)

@@ -128,10 +128,10 @@ covers_both f g h xs ys first second = record {
 }
 
 -- the steps of a search, by the test of the first
-abbrev found_by : Bool → NamedRows → Option (List Row) → Option (List Row)
+abbrev pub found_by : Bool → NamedRows → Option (List Row) → Option (List Row)
 found_by b file behind = if b then Some file.1 else behind
 
-first_found : (file : NamedRows) (files : List NamedRows) (name : List ℕ)
+pub first_found : (file : NamedRows) (files : List NamedRows) (name : List ℕ)
     → rows_at (file ∷ files) name ≡ found_by (bytes_eq file.0 name) file (rows_at files name)
 first_found file files name = by (bytes_eq file.0 name)
   where
@@ -142,7 +142,7 @@ first_found file files name = by (bytes_eq file.0 name)
     by false = refl
 
 -- one more behind them changes nothing of those that are there
-more_stays : (files : List NamedRows) (file : NamedRows) (name : List ℕ) → IsRead files name
+pub more_stays : (files : List NamedRows) (file : NamedRows) (name : List ℕ) → IsRead files name
     → rows_at (files ++ file ∷ []) name ≡ rows_at files name
 more_stays [] file name is = absurd (let f : false ≡ true = is in cc)
 more_stays (first ∷ files) file name is = first_found first (files ++ file ∷ []) name
@@ -158,7 +158,7 @@ more_stays (first ∷ files) file name is = first_found first (files ++ file ∷
     by false is behind = behind is
 
 -- it is there itself
-last_read : (files : List NamedRows) (name : List ℕ) (rows : List Row)
+pub last_read : (files : List NamedRows) (name : List ℕ) (rows : List Row)
     → IsRead (files ++ (name, rows) ∷ []) name
 last_read [] name rows = subst IsSome
     (sym (first_found (name, rows) [] name

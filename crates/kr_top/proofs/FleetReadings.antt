@@ -8,20 +8,28 @@ use Rattle.kr_workers.specs.Endings.{status_of}
 use Rattle.kr_workers.specs.declared.ending.Ending.{Ending}
 use Rattle.kr_workers.specs.declared.ending.Ending.TheVariants as ending
 use Rattle.kr_top.specs.Around.{Around, IsHome}
-use Rattle.kr_top.specs.FleetReadings.{FleetReadings, HasEnded, HasFailed, HasRefused}
-use Rattle.kr_top.specs.Fleets.{DidFleet, RanFleet, Starts, StopsBefore, TellsFleet}
+use Rattle.kr_top.specs.FleetReadings.{FleetReadings, HasEnded, HasFailed, HasRefused, IsCompleted, IsDecidedBy, NoneRose, WouldBegin}
+use Rattle.kr_top.specs.FleetReady.{IsFleetTold, IsReady}
+use Rattle.kr_top.specs.Fleets.{Begun, DidFleet, RanFleet, Starts, StopsBefore, TellsFleet}
 use Rattle.kr_top.specs.Message.{line_of, status_of as stop_status, status_of_refusal}
 use Rattle.kr_top.specs.Ran.{IsIdle, Receipt}
-use Rattle.kr_top.specs.Steps.{Call}
+use Rattle.kr_top.specs.Steps.{Call, Point}
 use Rattle.kr_top.specs.declared.fleet_words.FleetWords.{FleetWords}
 use Rattle.kr_top.specs.declared.refusal.Refusal.{Refusal}
 use Rattle.kr_top.specs.declared.refusal.Stop.{Stop}
 use Rattle.kr_top.specs.declared.refusal.Stop.TheVariants.{Words, Refused, Fault, NoMemory}
+use Rattle.kr_top.proofs.FleetDecided.{decided_so}
+use Rattle.kr_top.proofs.FleetEndings.{completed}
 use Rattle.kr_top.proofs.Readings.{object_rose, status_in}
 
 module _ (T : Type 0) {L D : Type 0} (truth : Truth) (link : L → Link)
     (left : D → Option (List ℕ)) (count : D → ℕ) (words : FleetWords) (old new : Around)
-    (output errors : Receipt) (status : ℕ) where
+    (output errors : Receipt) (status : ℕ)
+    (decided : IsFleetTold words old → (point : Point Begun)
+    → WouldBegin T truth link left count words old new output errors point
+    → IsDecidedBy T truth link left count words old new output errors point status)
+    (complete : IsReady words old → NoneRose T truth link left count words old new output errors
+    → IsCompleted T truth link left count words old new output errors status) where
   abbrev AreRead : Type 0
   AreRead = FleetReadings T truth link left count words old new output errors status
 
@@ -39,36 +47,48 @@ module _ (T : Type 0) {L D : Type 0} (truth : Truth) (link : L → Link)
     refused = λ which. inr (ending.Done, (s, idle), sym is);
     done = λ none. (s, idle);
     usage = λ two. absurd (omega (arith, is, two));
+    decided = decided;
+    complete = complete;
   }
   ended ending.Refused s idle is = record {
     caused = λ four. absurd (omega (arith, is, four));
     refused = λ which. inr (ending.Refused, (s, idle), sym is);
     done = λ none. absurd (omega (arith, is, none));
     usage = λ two. absurd (omega (arith, is, two));
+    decided = decided;
+    complete = complete;
   }
   ended ending.Unhealthy s idle is = record {
     caused = λ four. absurd (omega (arith, is, four));
     refused = λ which. inr (ending.Unhealthy, (s, idle), sym is);
     done = λ none. absurd (omega (arith, is, none));
     usage = λ two. absurd (omega (arith, is, two));
+    decided = decided;
+    complete = complete;
   }
   ended ending.Full s idle is = record {
     caused = λ four. absurd (omega (arith, is, four));
     refused = λ which. inr (ending.Full, (s, idle), sym is);
     done = λ none. absurd (omega (arith, is, none));
     usage = λ two. absurd (omega (arith, is, two));
+    decided = decided;
+    complete = complete;
   }
   ended ending.Memory s idle is = record {
     caused = λ four. absurd (omega (arith, is, four));
     refused = λ which. inr (ending.Memory, (s, idle), sym is);
     done = λ none. absurd (omega (arith, is, none));
     usage = λ two. absurd (omega (arith, is, two));
+    decided = decided;
+    complete = complete;
   }
   ended ending.Fault s idle is = record {
     caused = λ four. inr (inr (inr (s, idle)));
     refused = λ which. inr (ending.Fault, (s, idle), sym is);
     done = λ none. absurd (omega (arith, is, none));
     usage = λ two. absurd (omega (arith, is, two));
+    decided = decided;
+    complete = complete;
   }
 
   -- ---- the call was stopped
@@ -83,6 +103,8 @@ module _ (T : Type 0) {L D : Type 0} (truth : Truth) (link : L → Link)
     refused = λ which. absurd (omega (arith, is, which));
     done = λ none. absurd (omega (arith, is, none));
     usage = λ two. absurd (omega (arith, is, two));
+    decided = decided;
+    complete = complete;
   }
 
   lacked : status ≡ 5 → AreRead
@@ -91,6 +113,8 @@ module _ (T : Type 0) {L D : Type 0} (truth : Truth) (link : L → Link)
     refused = λ which. absurd (omega (arith, is, which));
     done = λ none. absurd (omega (arith, is, none));
     usage = λ two. absurd (omega (arith, is, two));
+    decided = decided;
+    complete = complete;
   }
 
   refused_by : (why : Refusal) → HasRefused T truth link left count words old new output errors why
@@ -100,6 +124,8 @@ module _ (T : Type 0) {L D : Type 0} (truth : Truth) (link : L → Link)
     refused = λ which. inl (why, r, sym is);
     done = λ none. absurd (omega (arith, is, none, s));
     usage = λ two. absurd (omega (arith, is, two, s));
+    decided = decided;
+    complete = complete;
   }
 
   -- up to the workers
@@ -137,6 +163,14 @@ module _ (T : Type 0) {L D : Type 0} (truth : Truth) (link : L → Link)
       by (inl before) = stopped stop did.home before told.0 told.1
       by (inr s) = broke stop s told.0
 
-  pub fleet_readings : RanFleet T truth link left count words old new output errors status
-      → AreRead
-  fleet_readings ran = by_end ran.result ran.did ran.tells
+pub fleet_readings : (T : Type 0) {L D : Type 0} (truth : Truth) (link : L → Link)
+    (left : D → Option (List ℕ)) (count : D → ℕ) (words : FleetWords) (old new : Around)
+    (output errors : Receipt) (status : ℕ)
+    → RanFleet T truth link left count words old new output errors status
+    → FleetReadings T truth link left count words old new output errors status
+fleet_readings T truth link left count words old new output errors status ran =
+    by_end T truth link left count words old new output errors status
+    (λ told point would. decided_so T truth link left count words old told new output errors
+    point status would ran)
+    (λ ready none. completed words old ready new output errors none status ran)
+    ran.result ran.did ran.tells

@@ -64,6 +64,7 @@ module _ {L : Type 0} (link : L → Link) (a : Around) (names : List (List ℕ))
     dice = λ seat. still (0 == seat) old new (l.dice seat) (a.world.dice.told seat) k (s.dice seat);
     asked = s.asked;
     said = s.said;
+    counts = s.counts;
   }
 
   pub drawn : (l : Left) → Stays l Before → Stays (with_dice 0 new l) After
@@ -76,6 +77,7 @@ module _ {L : Type 0} (link : L → Link) (a : Around) (names : List (List ℕ))
     dice = λ seat. taken (0 == seat) old new (l.dice seat) (a.world.dice.told seat) (s.dice seat);
     asked = s.asked;
     said = s.said;
+    counts = s.counts;
   }
 
   -- a plugin failed, and its link has this count

@@ -15,7 +15,7 @@ use Rattle.kr_config.specs.declared.settings.Settings.{Settings}
 use Rattle.kr_top.specs.Around.{Around, with_world, with_told_input, with_lent, with_lent_dice, left_of, faults_at, Stays, Reaches, AreHome, IsHome, Ends, MayLack, count_at}
 use Rattle.kr_top.specs.Commands.{by_result, configuration, show, input_of, limit_of, long_input}
 use Rattle.kr_top.specs.Configuration.{Entries}
-use Rattle.kr_top.specs.Steps.{Steps, load, take_input, borrow_dice, borrow_tape, read_tape, write_row, draw, note, find, refuse, give, and_then, Call, loading, reading, opening, lending, scanning, writing, drawing, Point, awaits, amid, refuses, gives, Left, with_input, with_asked, IsAt, Goes, borrow_link, ask_status, wrap, unwrap, linking, asking, object_of}
+use Rattle.kr_top.specs.Steps.{Steps, load, take_input, borrow_dice, borrow_tape, read_tape, write_row, keep_rows, draw, note, find, refuse, give, and_then, Call, loading, reading, opening, lending, scanning, writing, drawing, Point, awaits, amid, refuses, gives, Left, with_input, with_asked, IsAt, Goes, borrow_link, ask_status, wrap, unwrap, linking, asking, object_of}
 use Rattle.kr_top.specs.inner.Phases.{Does, AskedUnless, AskedFor, rows_in, IsFileRead, Configures, TakesInput, Yields, shown_as, DiceLoan, DiceReturn, LendsNothing}
 use Rattle.kr_top.specs.declared.command.Direction.{Direction}
 use Rattle.kr_top.specs.declared.refusal.Object.TheVariants.{Files}
@@ -38,6 +38,7 @@ stays_refl a = record {
   dice = λ seat. Keeps-refl (a.world.dice.told seat);
   asked = refl;
   said = refl;
+  counts = λ name. omega arith;
 }
 
 -- steps that give nothing
@@ -48,7 +49,7 @@ nothing = give tt
 
 module _ {A B : Type 0} (point : Point B) (last : Left) (others : A → Steps B) where
   -- from where the first steps came to, the others went on; or all ended there
-  abbrev Further : Point A → Left → Type 0
+  abbrev pub Further : Point A → Left → Type 0
   Further (awaits call) end = IsAt point last (awaits call) end
   Further amid end = IsAt point last amid end
   Further (refuses why) end = IsAt point last (refuses why) end
@@ -59,7 +60,7 @@ module _ {A B : Type 0} (point : Point B) (last : Left) (others : A → Steps B)
   land {p} {end} {left} here at f =
       subst (λ l. Further here l) at.1 (subst (λ q. Further q end) at.0 f)
 
-  further : (p : Point A) (end : Left) → Further p end → (first : Steps A) (left : Left)
+  pub further : (p : Point A) (end : Left) → Further p end → (first : Steps A) (left : Left)
       → Goes p end first left → Goes point last (and_then first others) left
   further p end f (load name next) left (inl at) = inl (land amid at f)
   further p end f (load name next) left (inr (inl at)) =
@@ -92,6 +93,8 @@ module _ {A B : Type 0} (point : Point B) (last : Left) (others : A → Steps B)
       inl (told, begins, land (awaits (writing object name)) at f)
   further p end f (write_row object name store row next) left (inr (told, holds, goes)) =
       inr (told, holds, further p end f next _ goes)
+  further p end f (keep_rows name store next) left (told, count, later, holds, goes) =
+      (told, count, later, holds, further p end f next _ goes)
   further p end f (draw seat size next) left (inl at) = inl (land (awaits (drawing seat)) at f)
   further p end f (draw seat size next) left (inr (bytes, rest, c, fits, goes)) =
       inr (bytes, rest, c, fits, further p end f (next bytes) _ goes)
@@ -287,6 +290,7 @@ module _ (limit : ℕ) (long : Refusal) (old new : Option (List ℕ)) (before co
     dice = s.dice;
     asked = s.asked;
     said = s.said;
+    counts = s.counts;
   }
 
   takes_some : {left : Left} → Stays left (with_told_input old before a)
@@ -370,6 +374,8 @@ module _ {old new : Outside} (files : KeepsFiles old new) (objects : KeepsObject
         (s.dice seat);
     asked = made;
     said = s.said;
+    counts = λ name. subst (λ o. left.counts name ≤ o.faults name) (sym objects.tapes)
+        (s.counts name);
   }
 
   pub stays_noted : {left : Left} (call : WorldCall) → Stays left (with_world old a)
@@ -500,6 +506,7 @@ seen_stays {call} seen a l s = record {
       (s.dice seat);
   asked = seen.asked ∙ ap (with_call call) s.asked;
   said = s.said;
+  counts = λ name. omega (arith, s.counts name, seen.tapes.home.later name);
 }
 
 module _ {call : WorldCall} {old new : Outside} (seen : IsSeen call old new) (a : Around)
@@ -546,14 +553,22 @@ dice_back seat h =
     one_world h.file h.faults h.asked (back_is same_seat seats_decide h.home h.left_is) (sym h.tapes) (sym h.links)
 
 -- it is borrowed for what follows, and comes back
+pub lends_to : (seat : ℕ) {old out mid new : Outside} {given back : Option (List ℕ)}
+    {first count : ℕ} (a b : Around) {B : Type 0} {next : Steps B} {result : Result B Stop}
+    → DiceLoan seat old out given first → DiceReturn seat mid new back count
+    → Does next (with_lent_dice seat given first (with_world out a))
+    (with_lent_dice seat back count (with_world mid b)) result
+    → Does (borrow_dice seat next) (with_world old a) (with_world new b) result
+lends_to seat {old} a b {next = next} {result} lent returned works =
+    subst (λ w. Does (borrow_dice seat next) (with_world old a) (with_world w b) result)
+    (dice_back seat returned)
+    (goes_on (borrow_dice seat nothing) (λ u. next) tt
+    (borrowed (lent_dice seat lent) a (λ l. inr (inr (refl, refl)))) works)
+
 pub lends : (seat : ℕ) {old out mid new : Outside} {given back : Option (List ℕ)}
     {first count : ℕ} (a : Around) {B : Type 0} {next : Steps B} {result : Result B Stop}
     → DiceLoan seat old out given first → DiceReturn seat mid new back count
     → Does next (with_lent_dice seat given first (with_world out a))
     (with_lent_dice seat back count (with_world mid a)) result
     → Does (borrow_dice seat next) (with_world old a) (with_world new a) result
-lends seat {old} a {next = next} {result} lent returned works =
-    subst (λ w. Does (borrow_dice seat next) (with_world old a) (with_world w a) result)
-    (dice_back seat returned)
-    (goes_on (borrow_dice seat nothing) (λ u. next) tt
-    (borrowed (lent_dice seat lent) a (λ l. inr (inr (refl, refl)))) works)
+lends seat a lent returned works = lends_to seat a a lent returned works

@@ -62,7 +62,7 @@ tells_verdict verdict a result is =
 
 -- ---- there is one
 
-told_cause : (cause : StartNo) {why : Refusal} → start_refusal cause ≡ Some why
+pub told_cause : (cause : StartNo) {why : Refusal} → start_refusal cause ≡ Some why
     → cause ≢ no.NoMemory
 told_cause cause {why} is e =
     absurd (let n : None ≡ Some why = sym (ap start_refusal e) ∙ is in cc)

@@ -15,115 +15,37 @@ use Rattle.kr_store.specs.File.{file_bytes}
 use Rattle.kr_store.specs.Rows.{check_in}
 use Rattle.kr_store.specs.declared.rows.LogRow.{LogRow}
 use Rattle.kr_kms.specs.declared.world.WorldCall.TheVariants.{Tape}
-use Rattle.kr_top.specs.Afterwards.{AreLeft, IsUngrown, LeavesTapes, OneMore, OthersStay, StillBegins, ToldTape}
-use Rattle.kr_top.specs.Around.{Around, Ends, MayLack, Reaches, faults_at, left_of}
-use Rattle.kr_top.specs.Commands.{adding, bench_steps, by_result, configuration, input_of, linking_programs, new_row, putting, revision_line, silently, steps, stored_into}
+use Rattle.kr_top.specs.Afterwards.{AreLeft, IsUngrown, LeavesTapes, OneMore, OthersStay, StillBegins, ToldTape, new_store}
+use Rattle.kr_top.specs.Around.{Around, with_what_is_said, Ends, MayLack, Reaches, faults_at, left_of}
+use Rattle.kr_top.specs.Commands.{adding, bench_steps, by_result, configuration, input_of, linking_programs, migrating, new_row, putting, revision_line, rewriting, silently, steps, stored_into}
 use Rattle.kr_top.specs.Plugins.{programs_of}
 use Rattle.kr_top.specs.Message.{line_of, status_of, status_of_done}
 use Rattle.kr_top.specs.Ran.{Answers, Receipt, StopsAtOnce, Tells, Writes}
-use Rattle.kr_top.specs.Steps.{Steps, load, take_input, borrow_dice, borrow_tape, read_tape, write_row, draw, borrow_link, ask_status, wrap, unwrap, note, find, refuse, give, and_then, or_empty, tapes_with, with_asked, with_tape, Call, writing, Point, awaits, amid, refuses, gives, Left, IsAt, Goes}
-use Rattle.kr_top.specs.StoreFiles.{Stored, IsStored, with_row}
+use Rattle.kr_top.specs.Steps.{write_row, give, and_then, or_empty, tapes_with, with_asked, with_tape, Call, writing, Point, awaits, amid, refuses, gives, Left, IsAt, Goes}
+use Rattle.kr_top.specs.StoreFiles.{BeginsWith, HoldsRows, Stored, IsStored, with_row}
 use Rattle.kr_top.specs.declared.command.Command.{Command}
-use Rattle.kr_top.specs.declared.command.Command.TheVariants.{Convert, Check, Inspect, Put, Get, Rows, Judge}
+use Rattle.kr_top.specs.declared.command.Command.TheVariants.{Convert, Check, Inspect, Put, Get, Migrate, Rows, Judge, Rewrite}
 use Rattle.kr_top.specs.declared.command.Conversion.{Conversion}
+use Rattle.kr_top.specs.declared.command.Migration.{Migration}
+use Rattle.kr_top.specs.declared.command.Rewriting.{Rewriting}
 use Rattle.kr_top.specs.declared.command.Direction.TheVariants.{Encrypt}
 use Rattle.kr_top.specs.declared.programs.Program.{Program}
 use Rattle.kr_top.specs.declared.refusal.Limit.TheVariants as limit
-use Rattle.kr_top.specs.declared.refusal.Object.TheVariants.{Store}
+use Rattle.kr_top.specs.declared.refusal.Object.TheVariants.{Store, Target}
 use Rattle.kr_top.specs.declared.refusal.Refusal.TheVariants.{Limit}
 use Rattle.kr_top.specs.declared.refusal.BadWords.TheVariants.{Usage, Replicas, Size}
 use Rattle.kr_top.specs.declared.refusal.Done.{Done}
-use Rattle.kr_top.specs.declared.refusal.Done.TheVariants.{Silent}
 use Rattle.kr_top.specs.declared.refusal.Outcome.{Outcome}
 use Rattle.kr_top.specs.declared.refusal.Stop.{Stop}
 use Rattle.kr_top.specs.declared.refusal.Stop.TheVariants.{Words, Refused, Fault, NoMemory}
-use Rattle.kr_top.proofs.ReadOnly.{IsReadOnly, IsReader, command_reads, configuration_reads, leaves_tapes, result_reads, work_reads}
+use Rattle.kr_top.proofs.Copied.{IsMigrated, Migrates, migrate_leaves}
+use Rattle.kr_top.proofs.Points.{IsShort, IsSilent, IsTorn}
+use Rattle.kr_top.proofs.ReadOnly.{IsReader, command_reads, configuration_reads, leaves_tapes, result_reads, work_reads}
 use Rattle.kr_top.proofs.Readings.{status_in}
+use Rattle.kr_top.proofs.KeptRows.{MayDrive, keeps_rows, rows_kept}
+use Rattle.kr_top.proofs.OneTape.{others_stay, rewriting_is_on}
+use Rattle.kr_top.proofs.Parts.{parts}
 use Rattle.kr_top.proofs.Tapes.{own_name}
-
--- ---- points
-
--- no value
-abbrev IsShort : {A : Type 0} → Point A → Type 0
-IsShort (awaits call) = Unit {0}
-IsShort amid = Unit {0}
-IsShort (refuses why) = Unit {0}
-IsShort (gives x) = ⊥
-
--- a write to the store
-abbrev IsTorn : (store : List ℕ) → Point Outcome → Type 0
-IsTorn store (awaits call) = call ≡ writing Store store
-IsTorn store amid = ⊥
-IsTorn store (refuses why) = ⊥
-IsTorn store (gives x) = ⊥
-
--- a value with nothing beside it
-abbrev IsSilent : Point Outcome → Type 0
-IsSilent (awaits call) = ⊥
-IsSilent amid = ⊥
-IsSilent (refuses why) = ⊥
-IsSilent (gives x) = x.done ≡ Silent
-
--- ---- steps behind others that only read
-
-module _ {A B : Type 0} (others : A → Steps B) (p : Point B) (end : Left) where
-  -- the first steps ended it, or the others went on; the tapes are the same so far
-  abbrev Parts : Left → Type 0
-  Parts left = (IsShort p × (end.tapes ≡ left.tapes))
-      ⊎ ((x : A) × (mid : Left) × (mid.tapes ≡ left.tapes) × Goes p end (others x) mid)
-
-  ends_at : {here : Point B} {left : Left} → IsAt p end here left → IsShort here
-      → IsShort p × (end.tapes ≡ left.tapes)
-  ends_at at short = (subst IsShort (sym at.0) short, ap (λ l. l.tapes) at.1)
-
-  parts : (first : Steps A) (left : Left) → IsReadOnly first
-      → Goes p end (and_then first others) left → Parts left
-  parts (load name next) left r (inl at) = inl (ends_at at tt)
-  parts (load name next) left r (inr (inl at)) = inl (ends_at at tt)
-  parts (load name next) left r (inr (inr (bytes, agrees, goes))) =
-      parts (next bytes) _ (r bytes) goes
-  parts (take_input limit long next) left r (bytes, rest, c, inl (short, at)) =
-      inl (ends_at at tt)
-  parts (take_input limit long next) left r (bytes, rest, c, inr (inl (more, at))) =
-      inl (ends_at at tt)
-  parts (take_input limit long next) left r (bytes, rest, c, inr (inr (short, e, goes))) =
-      parts (next bytes) _ (r bytes) goes
-  parts (borrow_dice seat next) left r (inl at) = inl (ends_at at tt)
-  parts (borrow_dice seat next) left r (inr (inl at)) = inl (ends_at at tt)
-  parts (borrow_dice seat next) left r (inr (inr goes)) = parts next _ r goes
-  parts (borrow_tape name make absent next) left r (inl at) = inl (ends_at at tt)
-  parts (borrow_tape name make absent next) left r (inr (inl at)) = inl (ends_at at tt)
-  parts (borrow_tape name make absent next) left r (inr (inr (inl (may, agrees, at)))) =
-      inl (ends_at at tt)
-  parts (borrow_tape name true absent next) left r (inr (inr (inr (may, goes)))) =
-      absurd (let t : true ≡ false = r.0 in cc)
-  parts (borrow_tape name false absent next) left r (inr (inr (inr (may, goes)))) =
-      parts next _ r.1 goes
-  parts (read_tape object name next) left r (inl at) = inl (ends_at at tt)
-  parts (read_tape object name next) left r (inr (bytes, agrees, goes)) =
-      parts (next bytes) left (r bytes) goes
-  parts (write_row object name store row next) left r goes = absurd r
-  parts (draw seat size next) left r (inl at) = inl (ends_at at tt)
-  parts (draw seat size next) left r (inr (bytes, rest, c, fits, goes)) =
-      parts (next bytes) _ (r bytes) goes
-  parts (borrow_link seat plugin program next) left r (inl at) = inl (ends_at at tt)
-  parts (borrow_link seat plugin program next) left r (inr (inl at)) =
-      inl (ends_at at tt)
-  parts (borrow_link seat plugin program next) left r (inr (inr goes)) = parts next _ r goes
-  parts (ask_status seat plugin next) left r (inl at) = inl (ends_at at tt)
-  parts (ask_status seat plugin next) left r (inr (status, agrees, goes)) =
-      parts (next status) left (r status) goes
-  parts (wrap seat plugin plain next) left r (inl at) = inl (ends_at at tt)
-  parts (wrap seat plugin plain next) left r (inr (wrapped, tells, within, goes)) =
-      parts (next wrapped) left (r wrapped) goes
-  parts (unwrap seat key next) left r (inl at) = inl (ends_at at tt)
-  parts (unwrap seat key next) left r (inr (bytes, tells, goes)) =
-      parts (next bytes) left (r bytes) goes
-  parts (note text next) left r goes = parts next _ r goes
-  parts (find D P next) left r (inl at) = inl (ends_at at tt)
-  parts (find D P next) left r (inr (d, is, goes)) = parts (next d) _ (r d) goes
-  parts (refuse why) left r at = inl (ends_at at tt)
-  parts (give x) left r goes = inr (x, left, refl, goes)
 
 -- ---- put
 
@@ -132,7 +54,7 @@ abbrev IsGrown : Conversion → (store : List ℕ) → Point Outcome → (old ne
     → Type 0
 IsGrown words store p old new = OthersStay store old new × (
     (IsShort p × IsUngrown (old store) (new store))
-    ⊎ (IsTorn store p × StillBegins (old store) (new store))
+    ⊎ (IsTorn Store store p × StillBegins (old store) (new store))
     ⊎ (IsSilent p × OneMore words (old store) (new store)))
 
 module _ (words : Conversion) (store : List ℕ) (p : Point Outcome) (end left : Left) where
@@ -204,7 +126,7 @@ module _ (words : Conversion) (store : List ℕ) (p : Point Outcome) (end left :
             if same_name store other then option_map Some told else t other) e in (
               λ other f. ap (λ t. t other) ends ∙ told_there told other f,
               inr (inl (
-                subst (IsTorn store) (sym at.0) refl,
+                subst (IsTorn Store store) (sym at.0) refl,
                 record {
                   bytes = bytes;
                   store = read;
@@ -298,7 +220,7 @@ Fits (Err NoMemory) status = status ≢ 0
 
 module _ (words : Conversion) (store : List ℕ) (old new : Around) (status : ℕ) where
   abbrev Leaves : Type 0
-  Leaves = LeavesTapes (Put words store) status old.world.tapes new.world.tapes
+  Leaves = LeavesTapes (Put words store) status old.world new.world
 
   abbrev Grew : Point Outcome → Type 0
   Grew p = IsGrown words store p old.world.tapes.told new.world.tapes.told
@@ -347,6 +269,161 @@ module _ (words : Conversion) (store : List ℕ) (old new : Around) (status : �
       lacked (others, inr (inl (torn, begins))) = absurd torn
       lacked (others, inr (inr (silent, more))) = absurd silent
 
+-- ---- migrate
+
+module _ (words : Migration) (old new : Around) (status : ℕ) where
+  abbrev After : Type 0
+  After = LeavesTapes (Migrate words) status old.world new.world
+
+  abbrev Comes : Point Outcome → Type 0
+  Comes p = Migrates words p (left_of old) new.world.tapes.told
+
+  comes : {p : Point Outcome} → Reaches (migrating words) (left_of old) new p → Comes p
+  comes {p} r = subst (λ t. Migrates words p (left_of old) t) (sym r.stays.tapes)
+      (migrate_leaves words p r.end (left_of old) r.goes)
+
+  -- so many rows are copied
+  copied_so : {p : Point Outcome} (m : IsMigrated words p (left_of old) new.world.tapes.told)
+      → ((status ≡ 4) × Rose (old.world.tapes.faults words.to) (new.world.tapes.faults words.to)
+      × BeginsWith (new_store m.is_left.copied) m.is_left.told)
+      ⊎ (((status ≡ 0) ⊎ (status ≡ 4)) × (m.is_left.rest ≡ [])
+      × HoldsRows (new_store m.is_left.copied) m.is_left.told)
+      ⊎ ((status ≢ 0) × (m.is_left.rest ≢ [])
+      × HoldsRows (new_store m.is_left.copied) m.is_left.told)
+      → After
+  copied_so m holds = (
+    m.is_left.others,
+    inr (record {
+      copied = m.is_left.copied;
+      rest = m.is_left.rest;
+      told = m.is_left.told;
+      copies = record {
+        file = m.file;
+        rows = m.rows;
+        bytes = m.bytes;
+        source = m.source;
+        configured = m.configured;
+        means = m.means;
+        held = m.held;
+        read = m.read;
+        all = m.is_left.parts;
+      };
+      empty = m.empty;
+      is_told = m.is_left.is_told;
+      holds = holds;
+    }),
+  )
+
+  none_copied : (p : Point Outcome) → status ≢ 0 → IsShort p
+      × OthersStay words.to old.world.tapes.told new.world.tapes.told
+      × IsUngrown (old.world.tapes.told words.to) (new.world.tapes.told words.to) → After
+  none_copied p some (short, others, none) = (others, inl (some, none))
+
+  given_so : (x : Outcome) → Comes (gives x)
+      → (status ≡ status_of_done x.done) ⊎ (status ≡ 4) → After
+  given_so x (inl none) s = absurd none.0
+  given_so x (inr m) s = by_holds m.is_left.holds s
+    where
+      by_holds : (IsTorn Target words.to (gives x)
+          × BeginsWith (new_store m.is_left.copied) m.is_left.told)
+          ⊎ (IsSilent (gives x) × (m.is_left.rest ≡ [])
+          × HoldsRows (new_store m.is_left.copied) m.is_left.told)
+          ⊎ (IsShort (gives x) × (m.is_left.rest ≢ [])
+          × HoldsRows (new_store m.is_left.copied) m.is_left.told)
+          → (status ≡ status_of_done x.done) ⊎ (status ≡ 4) → After
+      by_holds (inl (torn, begins)) s = absurd torn
+      by_holds (inr (inl (silent, none, holds))) (inl e) =
+          copied_so m (inr (inl (inl (e ∙ ap status_of_done silent), none, holds)))
+      by_holds (inr (inl (silent, none, holds))) (inr e) =
+          copied_so m (inr (inl (inr e, none, holds)))
+      by_holds (inr (inr (short, some, holds))) s = absurd short
+
+  -- at a point that gives nothing, where a write failed or not
+  short_so : (p : Point Outcome) → Comes p → (IsSilent p → ⊥)
+      → (IsTorn Target words.to p → (status ≡ 4)
+      × Rose (old.world.tapes.faults words.to) (new.world.tapes.faults words.to))
+      → status ≢ 0 → After
+  short_so p (inl none) loud torn some = none_copied p some none
+  short_so p (inr m) loud torn some = by_holds m.is_left.holds
+    where
+      by_holds : (IsTorn Target words.to p
+          × BeginsWith (new_store m.is_left.copied) m.is_left.told)
+          ⊎ (IsSilent p × (m.is_left.rest ≡ [])
+          × HoldsRows (new_store m.is_left.copied) m.is_left.told)
+          ⊎ (IsShort p × (m.is_left.rest ≢ [])
+          × HoldsRows (new_store m.is_left.copied) m.is_left.told)
+          → After
+      by_holds (inl (is, begins)) =
+          let t = torn is in copied_so m (inl (t.0, t.1, begins))
+      by_holds (inr (inl (silent, none, holds))) = absurd (loud silent)
+      by_holds (inr (inr (short, more, holds))) = copied_so m (inr (inr (some, more, holds)))
+
+  migrate_left : (made : Result Outcome Stop)
+      → Ends (migrating words) (left_of old) old new made → Fits made status → After
+  migrate_left (Ok x) r s = given_so x (comes r) s
+  migrate_left (Err (Words why)) r s = absurd r
+  migrate_left (Err (Refused why)) r s =
+      short_so (refuses why) (comes r) (λ e. e) (λ e. absurd e) s
+  migrate_left (Err (Fault object count)) (call, r, f) s =
+      short_so (awaits call) (comes r) (λ e. e)
+      (λ is. (s, subst (λ c. Rose (faults_at c old) (faults_at c new)) is f.1))
+      (λ zero_is. omega (arith, s, zero_is))
+  migrate_left (Err NoMemory) (inl (call, may, r)) s = short_so (awaits call) (comes r) (λ e. e)
+      (λ is. absurd (subst MayLack is may)) s
+  migrate_left (Err NoMemory) (inr r) s =
+      short_so amid (comes r) (λ e. e) (λ e. absurd e) s
+
+-- ---- rewrite
+
+module _ (words : Rewriting) (old new : Around) (status : ℕ) where
+  abbrev Stay : Type 0
+  Stay = LeavesTapes (Rewrite words) status old.world new.world
+
+  abbrev before : ℕ
+  before = old.world.tapes.faults words.store
+
+  abbrev now : ℕ
+  now = new.world.tapes.faults words.store
+
+  -- no row, where the steps came short, and the status isn't 0; a write failed only where the
+  -- tape's count rose
+  by_point : (point : Point Outcome) (r : Reaches (rewriting words) (left_of old) new point)
+      → (IsShort point → status ≢ 0) → (IsTorn Store words.store point → Rose before now)
+      → MayDrive words.store point r.end (left_of old) → Stay
+  by_point point r some torn kept = (
+    subst (λ t. OthersStay words.store old.world.tapes.told t) (sym r.stays.tapes)
+        (others_stay words.store point r.end (rewriting words) (left_of old)
+        (rewriting_is_on words) r.goes),
+    elim kept [
+      | inl none ↦ inl (
+        some none.0,
+        ap (λ (t : List ℕ → ToldTape). t words.store) (r.stays.tapes ∙ none.1),
+      )
+      | inr drove ↦ inr (keeps_rows words.store point r.end (left_of old)
+          (new.world.tapes.told words.store) now drove
+          (ap (λ (t : List ℕ → ToldTape). t words.store) r.stays.tapes)
+          (r.stays.counts words.store) torn)
+    ],
+  )
+
+  at_point : (point : Point Outcome) → Reaches (rewriting words) (left_of old) new point
+      → (IsShort point → status ≢ 0) → (IsTorn Store words.store point → Rose before now)
+      → Stay
+  at_point point r some torn =
+      by_point point r some torn (rows_kept words point r.end (left_of old) r.goes)
+
+  rewrite_left : (made : Result Outcome Stop)
+      → Ends (rewriting words) (left_of old) old new made → Fits made status → Stay
+  rewrite_left (Ok x) r s = at_point (gives x) r (λ e. absurd e) (λ e. absurd e)
+  rewrite_left (Err (Words why)) r s = absurd r
+  rewrite_left (Err (Refused why)) r s = at_point (refuses why) r (λ u. s) (λ e. absurd e)
+  rewrite_left (Err (Fault object count)) (call, r, f) s = at_point (awaits call) r
+      (λ u zero_is. omega (arith, s, zero_is))
+      (λ is. subst (λ c. Rose (faults_at c old) (faults_at c new)) is f.1)
+  rewrite_left (Err NoMemory) (inl (call, may, r)) s = at_point (awaits call) r (λ u. s)
+      (λ is. absurd (subst MayLack is may))
+  rewrite_left (Err NoMemory) (inr r) s = at_point amid r (λ u. s) (λ e. absurd e)
+
 -- ---- commands
 
 module _ (command : Command) (is : IsReader command) (old : Around) where
@@ -368,7 +445,7 @@ module _ (command : Command) (is : IsReader command) (old : Around) where
 
 ends_left : (command : Command) (old new : Around) (status : ℕ) (made : Result Outcome Stop)
     → Ends (steps command) (left_of old) old new made → Fits made status
-    → LeavesTapes command status old.world.tapes new.world.tapes
+    → LeavesTapes command status old.world new.world
 ends_left (Convert words) old new status made r s =
     reader_left (Convert words) tt old new made r
 ends_left (Check config resource) old new status made r s =
@@ -377,8 +454,12 @@ ends_left Inspect old new status made r s = reader_left Inspect tt old new made 
 ends_left (Put words store) old new status made r s =
     put_left words store old new status made r s
 ends_left (Get words) old new status made r s = reader_left (Get words) tt old new made r
+ends_left (Migrate words) old new status made r s =
+    migrate_left words old new status made r s
 ends_left (Rows store) old new status made r s = reader_left (Rows store) tt old new made r
 ends_left (Judge words) old new status made r s = reader_left (Judge words) tt old new made r
+ends_left (Rewrite words) old new status made r s =
+    rewrite_left words old new status made r s
 
 -- ---- statuses
 
@@ -435,9 +516,9 @@ tapes_left words old new output errors status result (inl (stops, same)) t = inl
   stopped words status result stops (is_status errors status result t),
   ap (λ (a : Around). a.world.tapes.told) same.0,
 )
-tapes_left words old new output errors status result (inr (made, did, w)) t = inr (
+tapes_left words old new output errors status result (inr (said, made, did, w)) t = inr (
   did.command,
   did.asks,
-  ends_left did.command old new status made did.ends
-      (fits_made new.said output status made result w (is_status errors status result t)),
+  ends_left did.command old (with_what_is_said said new) status made did.ends
+      (fits_made said output status made result w (is_status errors status result t)),
 )

@@ -22,7 +22,7 @@ use Rattle.kr_top.specs.declared.refusal.Stop.TheVariants.{NoMemory}
 use Rattle.kr_top.specs.inner.Phases.{AskedUnless, Does, LendsNothing, LinkLoan, LinkReturn}
 use Rattle.kr_top.proofs.Frames.{Seen}
 use Rattle.kr_top.proofs.Goes.{dice_seen, home_refl, not_linked, reach}
-use Rattle.kr_top.proofs.Links.{lends_link, links_seen}
+use Rattle.kr_top.proofs.Links.{lends_link_to, links_seen}
 use Rattle.kr_top.proofs.NamedPrograms.{names_in}
 use Rattle.kr_top.proofs.Works.{lacks}
 
@@ -177,6 +177,26 @@ at_first next {old} {new} {result} programs program more plugin file is e f d =
 
 module _ {L : Type 0} (link : L → Link) {plugin program : List ℕ} (a : Around) where
   -- one more link is borrowed for what follows, and comes back
+  pub borrows_to : (b : Around) {A : Type 0} {next : Steps A} {result : Result A Stop}
+      (olds with_old news with_new : List L) (old new : L) (left back : Option (List ℕ))
+      (before count : ℕ) {first out mid last : Outside}
+      → LinkLoan 0 plugin program first out (link old) → LinkReturn 0 mid last (link new)
+      → with_old ≡ olds ++ old ∷ [] → with_new ≡ news ++ new ∷ []
+      → Does next (Seen link (with_world out a) with_old left before)
+      (Seen link (with_world mid b) with_new back count) result
+      → Does (borrow_link 0 plugin program next) (Seen link (with_world first a) olds left before)
+      (Seen link (with_world last b) news back count) result
+  borrows_to b {next = next} {result} olds with_old news with_new old new left back before count
+      {first} {out} {mid} {last} loan return old_is new_is works =
+      lends_link_to link 0 olds news old new {first = dice_seen 0 left before first}
+      {out = dice_seen 0 left before out} {mid = dice_seen 0 back count mid}
+      {back = dice_seen 0 back count last} a b (loan_within left before loan)
+      (return_within back count return)
+      (subst (λ l. Does next (Seen link (with_world out a) l left before)
+      (Seen link (with_world mid b) (news ++ new ∷ []) back count) result) old_is
+      (subst (λ l. Does next (Seen link (with_world out a) with_old left before)
+      (Seen link (with_world mid b) l back count) result) new_is works))
+
   pub borrows : {A : Type 0} {next : Steps A} {result : Result A Stop}
       (olds with_old news with_new : List L) (old new : L) (left back : Option (List ℕ))
       (before count : ℕ) {first out mid last : Outside}
@@ -186,16 +206,10 @@ module _ {L : Type 0} (link : L → Link) {plugin program : List ℕ} (a : Aroun
       (Seen link (with_world mid a) with_new back count) result
       → Does (borrow_link 0 plugin program next) (Seen link (with_world first a) olds left before)
       (Seen link (with_world last a) news back count) result
-  borrows {next = next} {result} olds with_old news with_new old new left back before count {first}
-      {out} {mid} {last} loan return old_is new_is works =
-      lends_link link 0 olds news old new {first = dice_seen 0 left before first}
-      {out = dice_seen 0 left before out} {mid = dice_seen 0 back count mid}
-      {back = dice_seen 0 back count last} a (loan_within left before loan)
-      (return_within back count return)
-      (subst (λ l. Does next (Seen link (with_world out a) l left before)
-      (Seen link (with_world mid a) (news ++ new ∷ []) back count) result) old_is
-      (subst (λ l. Does next (Seen link (with_world out a) with_old left before)
-      (Seen link (with_world mid a) l back count) result) new_is works))
+  borrows olds with_old news with_new old new left back before count loan return old_is new_is
+      works =
+      borrows_to a olds with_old news with_new old new left back before count loan return old_is
+      new_is works
 
   -- a link wasn't handed out
   pub none_borrowed : {A : Type 0} {next : Steps A} (links : List L) (left : Option (List ℕ))

@@ -73,20 +73,20 @@ module _ {L : Type 0} (link : L → Link) (seat : ℕ) where
       ∙ ap (lent_links link seat links) (back_is same_link links_decide h.home h.status_is))
 
 -- a link is borrowed behind others for what follows, and comes back
-pub lends_link : {L : Type 0} (link : L → Link) (seat : ℕ) {plugin program : List ℕ}
-    (olds news : List L) (old new : L) {first out mid back : Outside} (a : Around) {B : Type 0}
+pub lends_link_to : {L : Type 0} (link : L → Link) (seat : ℕ) {plugin program : List ℕ}
+    (olds news : List L) (old new : L) {first out mid back : Outside} (a b : Around) {B : Type 0}
     {next : Steps B} {result : Result B Stop}
     → LinkLoan seat plugin program first out (link old)
     → LinkReturn seat mid back (link new)
     → Does next (with_lent_links link seat (olds ++ old ∷ []) (with_world out a))
-    (with_lent_links link seat (news ++ new ∷ []) (with_world mid a)) result
+    (with_lent_links link seat (news ++ new ∷ []) (with_world mid b)) result
     → Does (borrow_link seat plugin program next)
     (with_lent_links link seat olds (with_world first a))
-    (with_lent_links link seat news (with_world back a)) result
-lends_link link seat {plugin} {program} olds news old new {first} a {next = next} {result} lent
-    returned works =
+    (with_lent_links link seat news (with_world back b)) result
+lends_link_to link seat {plugin} {program} olds news old new {first} a b {next = next} {result}
+    lent returned works =
     subst (λ w. Does (borrow_link seat plugin program next)
-    (with_lent_links link seat olds (with_world first a)) (with_world w a) result)
+    (with_lent_links link seat olds (with_world first a)) (with_world w b) result)
     (link_back link seat news new returned)
     (goes_on (borrow_link seat plugin program nothing) (λ u. next) tt
     (borrowed (lent_link link seat olds old lent) a (λ l. inr (inr (refl, refl)))) works)

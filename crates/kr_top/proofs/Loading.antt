@@ -31,7 +31,7 @@ pub no_less : (q : Bool) (a b n : ℕ) → a ≤ b → (if q then a else n) ≤ 
 no_less true a b n h = h
 no_less false a b n h = omega arith
 
-agrees_there : (told : Option (List ℕ)) (bytes : List ℕ) → Agrees told bytes
+pub agrees_there : (told : Option (List ℕ)) (bytes : List ℕ) → Agrees told bytes
     → Agrees (option_map Some told) (Some bytes)
 agrees_there None bytes e = tt
 agrees_there (Some held) bytes e = ap Some e
@@ -45,8 +45,9 @@ module _ (name : List ℕ) (told : Option (List ℕ)) (before : ℕ) (a : Around
   tape_here s = sym (ap (λ t. t name) s.tapes)
       ∙ ap (λ q. if q then option_map Some told else a.world.tapes.told name) (own_name name)
 
-  pub counted_tape : {left : Left} (count : ℕ) → Stays left (Lent before) → Stays left (Lent count)
-  counted_tape count s = record {
+  pub counted_tape : {left : Left} (count : ℕ) → before ≤ count → Stays left (Lent before)
+      → Stays left (Lent count)
+  counted_tape count later s = record {
     truth = s.truth;
     file = s.file;
     tapes = s.tapes;
@@ -55,6 +56,11 @@ module _ (name : List ℕ) (told : Option (List ℕ)) (before : ℕ) (a : Around
     dice = s.dice;
     asked = s.asked;
     said = s.said;
+    counts = λ key. omega (
+      arith,
+      s.counts key,
+      no_less (same_name name key) before count (a.world.tapes.faults key) later,
+    );
   }
 
   pub tape_home : (count : ℕ) → before ≤ count → IsHome (Lent before) (Lent count)
@@ -79,39 +85,46 @@ module _ (name : List ℕ) (told : Option (List ℕ)) (before : ℕ) (a : Around
 
   module _ (object : Object) where
     scans : {left : Left} (bytes : List ℕ) (count : ℕ) (read : Result Stored Refusal)
-        → Agrees told bytes → IsStored bytes read → Stays left (Lent before)
+        → before ≤ count → Agrees told bytes → IsStored bytes read → Stays left (Lent before)
         → Reaches (stored_on object name) left (Lent count) (by_point read)
-    scans {left} bytes count read is reads s = reach left (inr (
+    scans {left} bytes count read later is reads s = reach left (inr (
       bytes,
       subst (λ t. Agrees t (Some bytes)) (sym (tape_here s)) (agrees_there told bytes is),
       inr (read, reads, by_goes read left),
     ))
-        (counted_tape count s)
+        (counted_tape count later s)
 
-    not_scanned : {left : Left} (count : ℕ) → Stays left (Lent before)
+    not_scanned : {left : Left} (count : ℕ) → before ≤ count → Stays left (Lent before)
         → Reaches (stored_on object name) left (Lent count) (awaits (scanning object name))
-    not_scanned {left} count s = reach left (inl (refl, refl)) (counted_tape count s)
+    not_scanned {left} count later s =
+        reach left (inl (refl, refl)) (counted_tape count later s)
 
-    breaks : (count : ℕ) (broken : Breach) {left : Left} → Stays left (Lent before)
+    breaks : (count : ℕ) → before ≤ count → (broken : Breach) {left : Left}
+        → Stays left (Lent before)
         → HasBreach told store_limit (store_no broken)
         → Reaches (stored_on object name) left (Lent count) (Point.refuses (Broken broken))
-    breaks count broken s (bytes, is, short, first) =
-        scans bytes count (Err (Broken broken)) is (inr (short, broken, first, refl)) s
+    breaks count later broken s (bytes, is, short, first) =
+        scans bytes count (Err (Broken broken)) later is (inr (short, broken, first, refl)) s
 
     module _ {T : Type 0} (tape : T) where
-      refuses_at : (count : ℕ) (why : StoreNo) {left : Left} → Stays left (Lent before)
+      refuses_at : (count : ℕ) → before ≤ count → (why : StoreNo) {left : Left}
+          → Stays left (Lent before)
           → Loads told store_limit (Err (why, tape)) → (why ≡ no.Failed → Rose before count)
           → Ends (stored_on object name) left (Lent before) (Lent count)
           (Err (load_stop object count why))
-      refuses_at count no.Magic s h r = breaks count breach.Magic s h
-      refuses_at count (no.Torn at) s h r = breaks count (breach.Torn at) s h
-      refuses_at count (no.BadRow at) s h r = breaks count (breach.BadRow at) s h
-      refuses_at count (no.Order at) s h r = breaks count (breach.Order at) s h
-      refuses_at count no.TooLong s (bytes, is, long) r =
-          scans bytes count (Err (Limit limit.Store)) is (inl (long, refl)) s
-      refuses_at count no.Failed s h r =
-          (scanning object name, not_scanned count s, (refl, tape_rose count (r refl), sym (count_here count)))
-      refuses_at count no.NoMemory s h r = inl (scanning object name, tt, not_scanned count s)
+      refuses_at count later no.Magic s h r = breaks count later breach.Magic s h
+      refuses_at count later (no.Torn at) s h r = breaks count later (breach.Torn at) s h
+      refuses_at count later (no.BadRow at) s h r = breaks count later (breach.BadRow at) s h
+      refuses_at count later (no.Order at) s h r = breaks count later (breach.Order at) s h
+      refuses_at count later no.TooLong s (bytes, is, long) r =
+          scans bytes count (Err (Limit limit.Store)) later is (inl (long, refl)) s
+      refuses_at count later no.Failed s h r = (
+        scanning object name,
+        not_scanned count later s,
+        (refl, tape_rose count (r refl), sym (count_here count)),
+      )
+      refuses_at count later no.NoMemory s h r =
+          inl (scanning object name, tt, not_scanned count later s)
 
       pub refuses_store : (new : Option (List ℕ)) (count : ℕ) (why : StoreNo)
           → Loads told store_limit (Err (why, tape)) → new ≡ told → before ≤ count
@@ -122,7 +135,7 @@ module _ (name : List ℕ) (told : Option (List ℕ)) (before : ℕ) (a : Around
           (Lent before) (with_lent_tape name t count a) (Err (load_stop object count why)))
           (sym same) (record {
             home = tape_home count later;
-            ends = λ left s. refuses_at count why s h r;
+            ends = λ left s. refuses_at count later why s h r;
           })
 
     pub gives_store : (store : Kept) (bytes : List ℕ) → Agrees told bytes
@@ -134,7 +147,7 @@ module _ (name : List ℕ) (told : Option (List ℕ)) (before : ℕ) (a : Around
         (Lent before) (with_lent_tape name t store.count a) (Ok (stored_of store)))
         (sym same) (record {
           home = tape_home store.count later;
-          ends = λ left s. scans bytes store.count (Ok (stored_of store)) is (short, file) s;
+          ends = λ left s. scans bytes store.count (Ok (stored_of store)) later is (short, file) s;
         })
 
 -- a store that is closed gives the tape back as it is

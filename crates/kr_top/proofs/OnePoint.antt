@@ -5,7 +5,7 @@ use Rattle.std.specs.Prelude.{Bool, true, false, IsSome}
 use Rattle.std.specs.Io.KnownBytes.{Consumes, IsAtEnd}
 use Rattle.kr_base.specs.Told.{Agrees}
 use Rattle.kr_kms.specs.declared.world.WorldCall.TheVariants.{File, Tape, RandomSource, Link}
-use Rattle.kr_top.specs.Steps.{Steps, load, take_input, borrow_dice, borrow_tape, read_tape, write_row, draw, note, find, refuse, give, Point, refuses, gives, Left, with_input, with_dice, with_tape, with_told, with_asked, with_said, Goes, borrow_link, ask_status, wrap, unwrap}
+use Rattle.kr_top.specs.Steps.{Steps, load, take_input, borrow_dice, borrow_tape, read_tape, write_row, keep_rows, draw, note, find, refuse, give, Point, refuses, gives, Left, with_input, with_dice, with_tape, with_told, with_count, with_asked, with_said, Goes, borrow_link, ask_status, wrap, unwrap}
 use Rattle.kr_kms.specs.Limits.{IsWithinLimits}
 use Rattle.kr_kms.specs.declared.plugin.Status.{Status}
 use Rattle.kr_kms.specs.declared.plugin.Wrapped.{Wrapped}
@@ -55,6 +55,9 @@ IsSettled (read_tape object name next) (read_tape thing other more) left right =
     × ((bytes : List ℕ) → IsSettled (next bytes) (more bytes) left right)
 IsSettled (write_row object name store row next) (write_row thing other held line more) left right =
     (a b : Option (List ℕ)) → IsSettled next more (with_told name a left) (with_told other b right)
+IsSettled (keep_rows name store next) (keep_rows other held more) left right =
+    (a b : Option (List ℕ)) (m n : ℕ) → IsSettled next more
+    (with_count name m (with_told name a left)) (with_count other n (with_told other b right))
 IsSettled (draw seat size next) (draw other count more) left right =
     (a b : List ℕ) (ra rb : Option (List ℕ)) → length a ≡ size → length b ≡ count
     → IsSettled (next a) (more b) (with_dice seat ra left) (with_dice other rb right)
@@ -217,6 +220,9 @@ module _ (p q : Point Outcome) (end last : Left) where
   one_point (write_row object name store row next) (write_row thing other held line more) left right
       s (inr (a, x, g)) (inr (b, y, k)) =
       one_point next more _ _ (s a b) g k
+  one_point (keep_rows name store next) (keep_rows other held more) left right s
+      (a, m, l, x, g) (b, n, r, y, k) =
+      one_point next more _ _ (s a b m n) g k
   one_point (draw seat size next) (draw other count more) left right s (inl e) k =
       no_first p q _ refl e.0
   one_point (draw seat size next) (draw other count more) left right s (inr g) (inl f) =

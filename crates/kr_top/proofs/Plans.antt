@@ -33,7 +33,7 @@ use Rattle.kr_top.proofs.FleetLoads.{IsRead, same_rows}
 -- ---- files that were read
 
 -- a configuration that was read is among all of them
-rows_among : (files : List NamedRows) (name : List ℕ) (rows : List Row) (plugin : List ℕ)
+pub rows_among : (files : List NamedRows) (name : List ℕ) (rows : List Row) (plugin : List ℕ)
     → rows_at files name ≡ Some rows → Contains (plugins_in rows) plugin
     → Contains (plugins_in (all_rows files)) plugin
 rows_among [] name rows plugin e c = absurd cc
@@ -62,7 +62,7 @@ rows_among (file ∷ files) name rows plugin e c =
 -- ---- the lines
 
 -- what holds of each of two lists one behind the other
-halves : {X : Type 0} (P : X → Type 0) (xs ys : List X) → All P (xs ++ ys) → All P xs × All P ys
+pub halves : {X : Type 0} (P : X → Type 0) (xs ys : List X) → All P (xs ++ ys) → All P xs × All P ys
 halves P [] ys h = (All-nil P, h)
 halves P (x ∷ xs) ys h =
     let more = halves P xs ys (All-tail P x (xs ++ ys) h) in
@@ -135,7 +135,7 @@ module _ (files : List SettingsFile) (names : List (List ℕ)) (o : Opening) (ma
 -- ---- the replicas
 
 -- each that is in has a file that was read
-replicas_read : (files : List NamedRows) (replicas : List (List ℕ × List ℕ))
+pub replicas_read : (files : List NamedRows) (replicas : List (List ℕ × List ℕ))
     → All (IsRead files) (flat_map file_of_replica replicas)
     → All (λ replica. bytes_eq replica.1 no_file ≡ false → IsRead files replica.1) replicas
 replicas_read files [] read =

@@ -26,9 +26,9 @@ use Rattle.kr_top.specs.Command.{replica_names, reload_in, reload_number, reload
 use Rattle.kr_top.specs.Inspect.{Inspects}
 use Rattle.kr_top.specs.RowLines.{ShowsRows}
 use Rattle.kr_top.specs.Plugins.{borrow_links, make_seed, make_seeds, programs_of, unless_breach, wrap_seed}
-use Rattle.kr_top.specs.Steps.{Steps, load, take_input, borrow_dice, borrow_tape, read_tape, write_row, draw, borrow_link, ask_status, wrap, unwrap, note, find, refuse, give, and_then, Point, Left, Goes}
+use Rattle.kr_top.specs.Steps.{Steps, load, take_input, borrow_dice, borrow_tape, read_tape, write_row, keep_rows, draw, borrow_link, ask_status, wrap, unwrap, note, find, refuse, give, and_then, Point, Left, Goes}
 use Rattle.kr_top.specs.declared.command.Command.{Command}
-use Rattle.kr_top.specs.declared.command.Command.TheVariants.{Convert, Check, Inspect, Put, Get, Rows, Judge}
+use Rattle.kr_top.specs.declared.command.Command.TheVariants.{Convert, Check, Inspect, Put, Get, Migrate, Rows, Judge, Rewrite}
 use Rattle.kr_top.specs.declared.command.Direction.{Direction}
 use Rattle.kr_top.specs.declared.command.Direction.TheVariants.{Encrypt, Decrypt}
 use Rattle.kr_top.specs.declared.programs.Program.{Program}
@@ -43,6 +43,7 @@ IsReadOnly (borrow_dice seat next) = IsReadOnly next
 IsReadOnly (borrow_tape name make absent next) = (make ≡ false) × IsReadOnly next
 IsReadOnly (read_tape object name next) = (bytes : List ℕ) → IsReadOnly (next bytes)
 IsReadOnly (write_row object name store row next) = ⊥
+IsReadOnly (keep_rows name store next) = ⊥
 IsReadOnly (draw seat size next) = (bytes : List ℕ) → IsReadOnly (next bytes)
 IsReadOnly (borrow_link seat plugin program next) = IsReadOnly next
 IsReadOnly (ask_status seat plugin next) = (status : Status) → IsReadOnly (next status)
@@ -82,6 +83,7 @@ module _ {A : Type 0} (p : Point A) (end : Left) where
   leaves_tapes (read_tape object name next) left r (inr (bytes, agrees, goes)) =
       leaves_tapes (next bytes) left (r bytes) goes
   leaves_tapes (write_row object name store row next) left r goes = absurd r
+  leaves_tapes (keep_rows name store next) left r goes = absurd r
   leaves_tapes (draw seat size next) left r (inl at) = ap (λ l. l.tapes) at.1
   leaves_tapes (draw seat size next) left r (inr (bytes, rest, c, fits, goes)) =
       leaves_tapes (next bytes) _ (r bytes) goes
@@ -113,6 +115,7 @@ module _ {A B : Type 0} (others : A → Steps B) (o : (x : A) → IsReadOnly (ot
   both_read (borrow_tape name make absent next) r = (r.0, both_read next r.1)
   both_read (read_tape object name next) r = λ bytes. both_read (next bytes) (r bytes)
   both_read (write_row object name store row next) r = absurd r
+  both_read (keep_rows name store next) r = absurd r
   both_read (draw seat size next) r = λ bytes. both_read (next bytes) (r bytes)
   both_read (borrow_link seat plugin program next) r = both_read next r
   both_read (ask_status seat plugin next) r = λ status. both_read (next status) (r status)
@@ -178,7 +181,7 @@ seed_reads : (plugin : List ℕ) (breach : Option (Field × List ℕ))
 seed_reads plugin None = λ seed wrapped. tt
 seed_reads plugin (Some breach) = tt
 
-seeds_read : (plugins : List (List ℕ)) → IsReadOnly (make_seeds plugins)
+pub seeds_read : (plugins : List (List ℕ)) → IsReadOnly (make_seeds plugins)
 seeds_read [] = tt
 seeds_read (plugin ∷ plugins) = both_read
     (λ row. and_then (make_seeds plugins) (λ rows. give (row ∷ rows)))
@@ -210,9 +213,11 @@ work_reads programs direction resource path rows bytes =
 
 -- ---- commands
 
--- each command but `put`
+-- each command but `put`, `migrate` and `rewrite`
 abbrev pub IsReader : Command → Type 0
 IsReader (Put words store) = ⊥
+IsReader (Migrate words) = ⊥
+IsReader (Rewrite words) = ⊥
 IsReader command = Unit {0}
 
 programs_read : (options : List (List ℕ × List ℕ)) (rows : List Row)
@@ -265,6 +270,8 @@ command_reads (Check config resource) r = both_read
     (configuration_reads config)
 command_reads Inspect r = λ bytes. shows_read (Inspects bytes)
 command_reads (Put words store) r = absurd r
+command_reads (Migrate words) r = absurd r
+command_reads (Rewrite words) r = absurd r
 command_reads (Get words) r = both_read
     (λ rows. and_then (linking_programs words.options rows) (λ programs.
     and_then (tape_for words.store false (row_on words.store words.path)) (λ row.

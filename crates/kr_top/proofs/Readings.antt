@@ -6,19 +6,19 @@ use Rattle.kr_base.specs.Streams.{AppendsFront}
 use Rattle.kr_kms.specs.Outside.{file_faults}
 use Rattle.kr_config.specs.declared.refusal.ConfigNo.{ConfigNo}
 use Rattle.kr_config.specs.declared.refusal.ConfigNo.TheVariants as config
-use Rattle.kr_top.specs.Around.{Around, left_of, IsHome, IsFault, faults_at, count_at, Reaches}
+use Rattle.kr_top.specs.Around.{Around, with_what_is_said, left_of, IsHome, IsFault, MayLack, faults_at, count_at, Reaches}
 use Rattle.kr_top.specs.Command.{Asks, AskBadly}
 use Rattle.kr_top.specs.Commands.{steps}
 use Rattle.kr_top.specs.Message.{status_of, status_of_done, status_of_configuration, status_of_refusal, line_of, fault_line}
-use Rattle.kr_top.specs.Steps.{Call, loading, reading, opening, lending, scanning, writing, drawing, object_of, Point, refuses, gives, linking, asking}
-use Rattle.kr_top.specs.Ran.{Receipt, IsIdle, Reports, IsUntouched, StopsAtOnce, Did, Comes, Writes, Answers, Tells, FailsAt, FailsToWrite, Readings}
+use Rattle.kr_top.specs.Steps.{Call, loading, reading, opening, lending, scanning, writing, drawing, object_of, Point, awaits, amid, refuses, gives, linking, asking}
+use Rattle.kr_top.specs.Ran.{Receipt, IsIdle, Reports, IsUntouched, StopsAtOnce, Did, Comes, ComesSaying, ComesReporting, Writes, Answers, Tells, FailsAt, FailsToWrite, Readings}
 use Rattle.kr_top.specs.declared.command.Command.{Command}
 use Rattle.kr_top.specs.declared.refusal.BadWords.{BadWords}
 use Rattle.kr_top.specs.declared.refusal.BadWords.TheVariants.{Usage, Replicas, Size}
 use Rattle.kr_top.specs.declared.refusal.Object.{Object}
 use Rattle.kr_top.specs.declared.refusal.Object.TheVariants.{Output}
 use Rattle.kr_top.specs.declared.refusal.Refusal.{Refusal}
-use Rattle.kr_top.specs.declared.refusal.Refusal.TheVariants.{Absent, Configuration, Limit, Value, Placed, Broken, NoPath, NoPlugin, Unhealthy, Stray, OtherSecret, Unfit, Script}
+use Rattle.kr_top.specs.declared.refusal.Refusal.TheVariants.{Absent, Configuration, Limit, Value, Placed, Broken, NoPath, NotEmpty, NotOld, NoPlugin, Unhealthy, Stray, OtherSecret, Unfit, Script}
 use Rattle.kr_top.specs.declared.refusal.Stop.{Stop}
 use Rattle.kr_top.specs.declared.refusal.Stop.TheVariants.{Words, Refused, Fault, NoMemory}
 use Rattle.kr_top.specs.declared.refusal.Done.{Done}
@@ -47,6 +47,8 @@ status_in (Value number) = inl refl
 status_in (Placed number at) = inl refl
 status_in (Broken why) = inr (inl refl)
 status_in (NoPath path) = inl refl
+status_in (NotEmpty length) = inr (inl refl)
+status_in NotOld = inr (inl refl)
 status_in (Stray path) = inr (inl refl)
 status_in (OtherSecret path) = inr (inl refl)
 status_in (Unfit replica verdict) = inr (inl refl)
@@ -102,6 +104,30 @@ whole_front old new value a = (
   subst (λ v. Appends old new v) (sym (take_all (length value) value (omega arith))) a,
 )
 
+-- what was said is no call's
+module _ (said : List ℕ) (a : Around) where
+  same_faults : (call : Call) → faults_at call (with_what_is_said said a) ≡ faults_at call a
+  same_faults (loading name) = refl
+  same_faults reading = refl
+  same_faults (opening seat) = refl
+  same_faults (lending name) = refl
+  same_faults (scanning object name) = refl
+  same_faults (writing object name) = refl
+  same_faults (drawing seat) = refl
+  same_faults (linking seat plugin) = refl
+  same_faults (asking seat plugin) = refl
+
+  same_count : (call : Call) → count_at call (with_what_is_said said a) ≡ count_at call a
+  same_count (loading name) = refl
+  same_count reading = refl
+  same_count (opening seat) = refl
+  same_count (lending name) = refl
+  same_count (scanning object name) = refl
+  same_count (writing object name) = refl
+  same_count (drawing seat) = refl
+  same_count (linking seat plugin) = refl
+  same_count (asking seat plugin) = refl
+
 -- ---- by how the call ended
 
 module _ (words : List (List ℕ)) (old new : Around) (output errors : Receipt) (status : ℕ) where
@@ -112,6 +138,13 @@ module _ (words : List (List ℕ)) (old new : Around) (output errors : Receipt) 
   abbrev AreRead : Type 0
   AreRead = Readings words old new output errors status
 
+  -- what was written
+  abbrev Front : Type 0
+  Front = IsIdle output
+      ⊎ ((point : Point Outcome) × ComesReporting words old new output point)
+      ⊎ ((made : Outcome) × Comes words old new (gives made)
+      × AppendsFront output.old output.new made.bytes)
+
   at_words : (why : BadWords) → AskBadly why words → IsUntouched old new output
       → Told (Err (Words why)) → AreRead
   at_words Usage bad same t = record {
@@ -120,7 +153,7 @@ module _ (words : List (List ℕ)) (old new : Around) (output errors : Receipt) 
     refused = λ which. absurd (omega (arith, t.0, which));
     decided = λ command point end asks tells would at. absurd (no_stop Usage asks bad);
     done = λ zero_is. absurd (omega (arith, t.0, zero_is));
-    written = record { front = inr (inl same.1); usage = λ two. same };
+    written = record { front = inl same.1; usage = λ two. same };
   }
   at_words Replicas bad same t = record {
     usage = (λ two. absurd (omega (arith, t.0, two)), λ none. inr (inr (inl (t.0, inl bad))));
@@ -128,7 +161,7 @@ module _ (words : List (List ℕ)) (old new : Around) (output errors : Receipt) 
     refused = λ which. inr (inr (t.0, inl bad, same));
     decided = λ command point end asks tells would at. absurd (no_stop Replicas asks bad);
     done = λ zero_is. absurd (omega (arith, t.0, zero_is));
-    written = record { front = inr (inl same.1); usage = λ two. same };
+    written = record { front = inl same.1; usage = λ two. same };
   }
   at_words Size bad same t = record {
     usage = (λ two. absurd (omega (arith, t.0, two)), λ none. inr (inr (inl (t.0, inr bad))));
@@ -136,26 +169,23 @@ module _ (words : List (List ℕ)) (old new : Around) (output errors : Receipt) 
     refused = λ which. inr (inr (t.0, inr bad, same));
     decided = λ command point end asks tells would at. absurd (no_stop Size asks bad);
     done = λ zero_is. absurd (omega (arith, t.0, zero_is));
-    written = record { front = inr (inl same.1); usage = λ two. same };
+    written = record { front = inl same.1; usage = λ two. same };
   }
 
-  at_memory : Reports new.said output ⊎ IsIdle output → Told (Err NoMemory) → AreRead
-  at_memory idle t = record {
+  at_memory : Front → Told (Err NoMemory) → AreRead
+  at_memory front t = record {
     usage = (λ two. absurd (omega (arith, t.0, two)), λ none. inr (inl t.0));
     caused = λ four. absurd (omega (arith, t.0, four));
     refused = λ which. absurd (omega (arith, t.0, which));
     decided = λ command point end asks tells would at. inr (inr t.0);
     done = λ zero_is. absurd (omega (arith, t.0, zero_is));
-    written = record {
-      front = elim idle [ inl said ↦ inl said | inr none ↦ inr (inl none) ];
-      usage = λ two. absurd (omega (arith, t.0, two));
-    };
+    written = record { front = front; usage = λ two. absurd (omega (arith, t.0, two)) };
   }
 
   at_value : (made : Outcome) → Comes words old new (gives made)
       → Appends output.old output.new made.bytes → Told (Ok made.done) → AreRead
   at_value made comes whole t = let z = done_in made.done in record {
-    usage = (λ two. absurd (omega (arith, t.0, two, z)), λ none. absurd (asks_something comes.asks none));
+    usage = (λ two. absurd (omega (arith, t.0, two, z)), λ none. absurd (asks_something comes.1.asks none));
     caused = λ four. absurd (omega (arith, t.0, four, z));
     refused = λ which. inr (inl (made, comes, sym t.0, whole, t.1));
     decided = λ command point end asks tells would at.
@@ -167,17 +197,18 @@ module _ (words : List (List ℕ)) (old new : Around) (output errors : Receipt) 
     };
   }
 
-  at_refusal : (why : Refusal) → Comes words old new (refuses why) → Reports new.said output
+  at_refusal : (why : Refusal) → ComesReporting words old new output (refuses why)
       → Told (Err (Refused why)) → AreRead
-  at_refusal why comes said t = let s = status_in why in record {
-    usage = (λ two. absurd (omega (arith, t.0, two, s)), λ none. absurd (asks_something comes.asks none));
+  at_refusal why comes t = let s = status_in why in record {
+    usage = (λ two. absurd (omega (arith, t.0, two, s)), λ none. absurd (asks_something comes.1.asks none));
     caused = λ four. absurd (omega (arith, t.0, four, s));
-    refused = λ which. inl (why, comes, sym t.0, said, t.1);
+    refused = λ which. inl (why, comes, sym t.0, t.1);
     decided = λ command point end asks tells would at.
-        inl (subst Told (sym (same_end point end (Err (Refused why)) asks tells would comes at refl)) t);
+        inl (subst Told (sym (same_end point end (Err (Refused why)) asks tells would
+        (comes.0, comes.1) at refl)) t);
     done = λ zero_is. absurd (omega (arith, t.0, zero_is, s));
     written = record {
-      front = inl said;
+      front = inr (inl (refuses why, comes));
       usage = λ two. absurd (omega (arith, t.0, two, s));
     };
   }
@@ -186,25 +217,34 @@ module _ (words : List (List ℕ)) (old new : Around) (output errors : Receipt) 
   at_fault : (object : Object) (count : ℕ) (command : Command) → Asks words command
       → (((call : Call) × FailsAt words old new output errors call)
       ⊎ ((made : Outcome) × FailsToWrite words old new output errors made))
-      → Reports new.said output
-      ⊎ ((made : Outcome) × Comes words old new (gives made)
-      × AppendsFront output.old output.new made.bytes)
-      → Told (Err (Fault object count)) → AreRead
+      → Front → Told (Err (Fault object count)) → AreRead
   at_fault object count command asks why front t = record {
     usage = (λ two. absurd (omega (arith, t.0, two)), λ none. absurd (asks_something asks none));
     caused = λ four. elim why [ inl c ↦ inl c | inr c ↦ inr (inl c) ];
     refused = λ which. absurd (omega (arith, t.0, which));
     decided = λ command point end asks tells would at. inr (inl t.0);
     done = λ zero_is. absurd (omega (arith, t.0, zero_is));
-    written = record {
-      front = elim front [ inl said ↦ inl said | inr some ↦ inr (inr some) ];
-      usage = λ two. absurd (omega (arith, t.0, two));
-    };
+    written = record { front = front; usage = λ two. absurd (omega (arith, t.0, two)) };
   }
 
-  comes : {made : Result Outcome Stop} {point : Point Outcome} (did : Did words old new made)
-      → Reaches (steps did.command) (left_of old) new point → Comes words old new point
-  comes did r = record { command = did.command; asks = did.asks; reaches = r; home = did.home }
+  module _ (said : List ℕ) where
+    abbrev Now : Around
+    Now = with_what_is_said said new
+
+    comes : {made : Result Outcome Stop} {point : Point Outcome} (did : Did words old Now made)
+        → Reaches (steps did.command) (left_of old) Now point → ComesSaying words old new said point
+    comes did r = record {
+      command = did.command;
+      asks = did.asks;
+      reaches = r;
+      home = record {
+        files = did.home.files;
+        dice = did.home.dice;
+        tapes = did.home.tapes;
+        links = did.home.links;
+        input = did.home.input;
+      };
+    }
 
   -- the line has the object and the count
   line_at : {object : Object} {count : ℕ} (same : Object) (number : ℕ) → object ≡ same
@@ -214,72 +254,92 @@ module _ (words : List (List ℕ)) (old new : Around) (output errors : Receipt) 
       subst (λ c. Appends errors.old errors.new (fault_line same c)) n
       (subst (λ x. Appends errors.old errors.new (fault_line x count)) o t.1)
 
-  at_step : (stop : Stop) → Did words old new (Err stop) → Reports new.said output
-      → Told (Err stop) → AreRead
-  at_step (Words why) did said t = absurd did.ends
-  at_step (Refused why) did said t = at_refusal why (comes did did.ends) said t
-  at_step (Fault object count) did said t =
-      let call : Call = did.ends.0 in
-      let f : IsFault call object count old new = did.ends.2 in
-      at_fault object count did.command did.asks (inl (
-        call,
-        (
-          comes did did.ends.1,
-          said,
-          f.1,
-          object_rose call did.home f.1,
-          line_at (object_of call) (count_at call new) f.0 f.2 t,
-        ),
-      ))
-      (inl said) t
-  at_step NoMemory did said t = at_memory (inl said) t
-
   at_once : (r : Result Done Stop) → StopsAtOnce words r → IsUntouched old new output → Told r
       → AreRead
   at_once (Ok done) stops same t = absurd stops
   at_once (Err (Words why)) stops same t = at_words why stops same t
   at_once (Err (Refused why)) stops same t = absurd stops
   at_once (Err (Fault object count)) stops same t = absurd stops
-  at_once (Err NoMemory) stops same t = at_memory (inr same.1) t
+  at_once (Err NoMemory) stops same t = at_memory (inl same.1) t
 
-  at_output : (made : Outcome) (r : Result Done Stop) → Did words old new (Ok made)
-      → Writes new.said output (Ok made) r → Told r → AreRead
-  at_output made (Ok done) did w t =
-      at_value made (comes did did.ends) w.1 (subst (λ d. Told (Ok d)) w.0 t)
-  at_output made (Err (Words why)) did w t = absurd w
-  at_output made (Err (Refused why)) did w t = absurd w
-  at_output made (Err (Fault object count)) did w t =
-      at_fault object count did.command did.asks
-      (inr (
-        made,
-        (
-          comes did did.ends,
-          w.0,
-          w.2,
-          line_at Output output.new_faults w.1 w.3 t,
-        ),
-      ))
-      (inr (made, comes did did.ends, w.0)) t
-  at_output made (Err NoMemory) did w t = absurd w
+  module _ (said : List ℕ) where
+    -- where a step ended the command
+    stopped : (stop : Stop) (did : Did words old (Now said) (Err stop))
+        → (point : Point Outcome) × ComesSaying words old new said point
+    stopped (Words why) did = absurd did.ends
+    stopped (Refused why) did = (refuses why, comes said did did.ends)
+    stopped (Fault object count) did = (awaits did.ends.0, comes said did did.ends.1)
+    stopped NoMemory did = ended did.ends
+      where
+        ended : ((call : Call) × MayLack call
+            × Reaches (steps did.command) (left_of old) (Now said) (awaits call))
+            ⊎ Reaches (steps did.command) (left_of old) (Now said) amid
+            → (point : Point Outcome) × ComesSaying words old new said point
+        ended (inl (call, may, r)) = (awaits call, comes said did r)
+        ended (inr r) = (amid, comes said did r)
+
+    reported : (stop : Stop) (did : Did words old (Now said) (Err stop)) → Reports said output
+        → Front
+    reported stop did says = let at = stopped stop did in inr (inl (at.0, (said, at.1, says)))
+
+    at_step : (stop : Stop) → Did words old (Now said) (Err stop) → Reports said output
+        → Told (Err stop) → AreRead
+    at_step (Words why) did says t = absurd did.ends
+    at_step (Refused why) did says t = at_refusal why (said, comes said did did.ends, says) t
+    at_step (Fault object count) did says t =
+        let call : Call = did.ends.0 in
+        let f : IsFault call object count old (Now said) = did.ends.2 in
+        let rose = subst (Rose (faults_at call old)) (same_faults said new call) f.1 in
+        at_fault object count did.command did.asks (inl (
+          call,
+          (
+            (said, comes said did did.ends.1, says),
+            rose,
+            object_rose call (comes said did did.ends.1).home rose,
+            line_at (object_of call) (count_at call new) f.0 (f.2 ∙ same_count said new call) t,
+          ),
+        ))
+        (reported (Fault object count) did says) t
+    at_step NoMemory did says t = at_memory (reported NoMemory did says) t
+
+    at_output : (made : Outcome) (r : Result Done Stop) → Did words old (Now said) (Ok made)
+        → Writes said output (Ok made) r → Told r → AreRead
+    at_output made (Ok done) did w t =
+        at_value made (said, comes said did did.ends) w.1 (subst (λ d. Told (Ok d)) w.0 t)
+    at_output made (Err (Words why)) did w t = absurd w
+    at_output made (Err (Refused why)) did w t = absurd w
+    at_output made (Err (Fault object count)) did w t =
+        at_fault object count did.command did.asks
+        (inr (
+          made,
+          (
+            (said, comes said did did.ends),
+            w.0,
+            w.2,
+            line_at Output output.new_faults w.1 w.3 t,
+          ),
+        ))
+        (inr (inr (made, (said, comes said did did.ends), w.0))) t
+    at_output made (Err NoMemory) did w t = absurd w
 
   by_end : (r : Result Done Stop) → Answers words old new output r → Told r → AreRead
   by_end r (inl (stops, same)) t = at_once r stops same t
-  by_end r (inr (Ok made, did, w)) t = at_output made r did w t
-  by_end r (inr (Err stop, did, w)) t = at_step stop did w.1 (subst Told w.0 t)
+  by_end r (inr (said, Ok made, did, w)) t = at_output said made r did w t
+  by_end r (inr (said, Err stop, did, w)) t = at_step said stop did w.1 (subst Told w.0 t)
 
-  front_of : (r : Result Done Stop) → Answers words old new output r
-      → Reports new.said output ⊎ IsIdle output
-      ⊎ ((made : Outcome) × Comes words old new (gives made)
-      × AppendsFront output.old output.new made.bytes)
-  front_of r (inl (stops, same)) = inr (inl same.1)
-  front_of (Ok done) (inr (Ok made, did, w)) =
-      inr (inr (made, comes did did.ends, whole_front output.old output.new made.bytes w.1))
-  front_of (Err (Words why)) (inr (Ok made, did, w)) = absurd w
-  front_of (Err (Refused why)) (inr (Ok made, did, w)) = absurd w
-  front_of (Err (Fault object count)) (inr (Ok made, did, w)) =
-      inr (inr (made, comes did did.ends, w.0))
-  front_of (Err NoMemory) (inr (Ok made, did, w)) = absurd w
-  front_of r (inr (Err stop, did, w)) = inl w.1
+  front_of : (r : Result Done Stop) → Answers words old new output r → Front
+  front_of r (inl (stops, same)) = inl same.1
+  front_of (Ok done) (inr (said, Ok made, did, w)) = inr (inr (
+    made,
+    (said, comes said did did.ends),
+    whole_front output.old output.new made.bytes w.1,
+  ))
+  front_of (Err (Words why)) (inr (said, Ok made, did, w)) = absurd w
+  front_of (Err (Refused why)) (inr (said, Ok made, did, w)) = absurd w
+  front_of (Err (Fault object count)) (inr (said, Ok made, did, w)) =
+      inr (inr (made, (said, comes said did did.ends), w.0))
+  front_of (Err NoMemory) (inr (said, Ok made, did, w)) = absurd w
+  front_of r (inr (said, Err stop, did, w)) = reported said stop did w.1
 
 pub readings : (words : List (List ℕ)) (old new : Around) (output errors : Receipt) (status : ℕ)
     (r : Result Done Stop) → Answers words old new output r

@@ -36,7 +36,7 @@ use Rattle.kr_provider.proofs.OneReading.{IsNoPlugin, any_envelope, no_plugin}
 use Rattle.kr_provider.proofs.WithoutPlugins.{none_listed}
 use Rattle.kr_provider.specs.Sealing.{draw_size, sealed_by}
 use Rattle.kr_rollout.specs.Checks.{store_check}
-use Rattle.kr_top.specs.Commands.{by_result, value_steps, draw_some, input_of, linking_programs, opening, read_with, reading_steps, unsealing, working, working_by, converting, steps, bench_steps, configuration, getting, row_found, row_on, tape_for, with_memory, configurations, judging_at, judging_by, telling, adding, new_row, putting, revision_line, sealed_into, silently, stored_into}
+use Rattle.kr_top.specs.Commands.{by_result, value_steps, draw_some, input_of, linking_programs, opening, read_with, reading_steps, unsealing, working, working_by, converting, bench_steps, configuration, getting, row_found, row_on, tape_for, with_memory, configurations, judging_at, judging_by, telling, adding, new_row, putting, revision_line, sealed_into, silently, stored_into}
 use Rattle.kr_store.specs.Rows.{live, check_in}
 use Rattle.kr_store.specs.File.{file_bytes}
 use Rattle.kr_store.specs.declared.rows.LogRow.{LogRow}
@@ -44,11 +44,10 @@ use Rattle.kr_store.specs.declared.rows.Row as stored
 use Rattle.kr_top.specs.Configuration.{IsConfiguration}
 use Rattle.kr_top.specs.Inspect.{Inspects, ShowsBody, ShowsObject}
 use Rattle.kr_top.specs.Plugins.{borrow_links, make_seeds, programs_of, seed_row, unless_breach, wrap_seed}
-use Rattle.kr_top.specs.Steps.{Steps, load, take_input, borrow_dice, borrow_tape, read_tape, write_row, draw, borrow_link, ask_status, wrap, unwrap, note, find, refuse, give, and_then, Left, with_asked, with_dice, or_empty, tapes_with}
+use Rattle.kr_top.specs.Steps.{Steps, load, take_input, borrow_dice, borrow_tape, read_tape, write_row, keep_rows, draw, borrow_link, ask_status, wrap, unwrap, note, find, refuse, give, and_then, Left, with_asked, with_dice, or_empty, tapes_with}
 use Rattle.kr_top.specs.StoreFiles.{Stored, with_row}
 use Rattle.kr_top.specs.Texts.{line, word_and_number}
-use Rattle.kr_top.specs.declared.command.Command.{Command}
-use Rattle.kr_top.specs.declared.command.Command.TheVariants.{Convert, Check, Inspect, Put, Get, Rows, Judge}
+use Rattle.kr_top.specs.declared.command.Command.TheVariants.{Convert, Put, Get}
 use Rattle.kr_top.specs.declared.command.Conversion.{Conversion}
 use Rattle.kr_top.specs.declared.command.Lookup.{Lookup}
 use Rattle.kr_top.specs.declared.command.Direction.{Direction}
@@ -63,26 +62,26 @@ use Rattle.kr_top.specs.Around.{Around, left_of}
 use Rattle.kr_top.specs.Command.{replica_names, reload_in, reload_number, reload_file}
 use Rattle.kr_top.specs.Ran.{IsTelling, ArePluginsTold, AreTold}
 use Rattle.kr_top.proofs.EquallyLong.{AreAsLong, as_long, no_kms_writer, same_file}
-use Rattle.kr_top.proofs.Listed.{one_stored, one_shown}
+use Rattle.kr_top.proofs.Listed.{one_stored}
 use Rattle.kr_top.proofs.Judging.{one_judged, read_then}
 use Rattle.kr_top.proofs.Tapes.{own_name}
 use Rattle.kr_top.proofs.OnePoint.{IsSettled}
 
-settled_result : {A : Type 0} (left right : Left) (r : Result A Refusal) (next : A → Steps Outcome)
+pub settled_result : {A : Type 0} (left right : Left) (r : Result A Refusal) (next : A → Steps Outcome)
     → ((x : A) → IsSettled (next x) (next x) left right)
     → IsSettled (and_then (by_result r) next) (and_then (by_result r) next) left right
 settled_result left right (Ok x) next s = s x
 settled_result left right (Err why) next s = refl
 
 -- what was read is one thing
-settled_by : {A : Type 0} (left right : Left) (a b : Result A Refusal) (next : A → Steps Outcome)
+pub settled_by : {A : Type 0} (left right : Left) (a b : Result A Refusal) (next : A → Steps Outcome)
     → a ≡ b → ((x : A) → IsSettled (next x) (next x) left right)
     → IsSettled (and_then (by_result a) next) (and_then (by_result b) next) left right
 settled_by left right a b next e s =
     subst (λ r. IsSettled (and_then (by_result a) next) (and_then (by_result r) next) left right) e
     (settled_result left right a next s)
 
-one_configuration : (name : List ℕ) (file : Option (List ℕ)) (a b : Result (List Row) Refusal)
+pub one_configuration : (name : List ℕ) (file : Option (List ℕ)) (a b : Result (List Row) Refusal)
     → IsConfiguration name file a → IsConfiguration name file b → a ≡ b
 one_configuration name None a b h k = h ∙ sym k
 one_configuration name (Some bytes) a b (inl h) (inl k) = h.1 ∙ sym k.1
@@ -146,7 +145,7 @@ settled_judgement options stored replicas left told = (
       (λ verdict. λ u v t w. refl)),
 )
 
-settled_judging : (options : List (List ℕ × List ℕ)) (stored : List LogRow) (left : Left)
+pub settled_judging : (options : List (List ℕ × List ℕ)) (stored : List LogRow) (left : Left)
     → AreTold left.file (replica_names options)
     → IsSome (left.file (reload_file (reload_in options)))
     → IsSettled (judging_by options stored) (judging_by options stored) left left
@@ -184,7 +183,7 @@ one_body Kms name body a b (r, x, h) (s, y, k) = elim (one_reading body r s x y)
   ]
 ]
 
-one_inspection : (bytes : List ℕ) (a b : Result (List ℕ) Refusal) → Inspects bytes a
+pub one_inspection : (bytes : List ℕ) (a b : Result (List ℕ) Refusal) → Inspects bytes a
     → Inspects bytes b → a ≡ b
 one_inspection bytes a b (Plain c, s, h) (Plain d, t, k) =
     h ∙ ap (λ x. Ok (line (word_and_number (codes "plain") (length x)))) (s.1 ∙ sym t.1) ∙ sym k
@@ -286,7 +285,7 @@ no_opening seeds (Some (who.Aesgcm name secret)) object next n = refl
 no_opening seeds (Some (who.Kms name)) object next n = absurd (cc)
 
 -- without seeds a plugin's value is rotated, whatever it is
-rotated_alike : (a b : Envelope) (writer : Who) → is_rotated a [] writer ≡ is_rotated b [] writer
+pub rotated_alike : (a b : Envelope) (writer : Who) → is_rotated a [] writer ≡ is_rotated b [] writer
 rotated_alike a b who.Identity = refl
 rotated_alike a b (who.Aescbc name secret) = refl
 rotated_alike a b (who.Aesgcm name secret) = refl
@@ -315,7 +314,7 @@ settled_unsealing left right list path bytes none = λ a b h k.
 
 -- ---- links and seeds
 
-settled_links : (programs : List Program) (next : Steps Outcome) (left right : Left)
+pub settled_links : (programs : List Program) (next : Steps Outcome) (left right : Left)
     → right.links ≡ left.links
     → ((l r : Left) → l.links ≡ left.links → r.links ≡ left.links → IsSettled next next l r)
     → IsSettled (borrow_links programs next) (borrow_links programs next) left right
@@ -324,7 +323,7 @@ settled_links (program ∷ programs) next left right same f =
     settled_links programs next _ _ same f
 
 -- what follows the first two follows the second of them
-regroup : {A B C : Type 0} (first : Steps A) (f : A → Steps B) (g : B → Steps C)
+pub regroup : {A B C : Type 0} (first : Steps A) (f : A → Steps B) (g : B → Steps C)
     → and_then (and_then first f) g ≡ and_then first (λ x. and_then (f x) g)
 regroup (load name next) f g = λ i. load name (λ bytes. regroup (next bytes) f g i)
 regroup (take_input limit long next) f g =
@@ -336,6 +335,7 @@ regroup (read_tape object name next) f g =
     λ i. read_tape object name (λ bytes. regroup (next bytes) f g i)
 regroup (write_row object name store row next) f g =
     λ i. write_row object name store row (regroup next f g i)
+regroup (keep_rows name store next) f g = λ i. keep_rows name store (regroup next f g i)
 regroup (draw seat size next) f g = λ i. draw seat size (λ bytes. regroup (next bytes) f g i)
 regroup (borrow_link seat plugin program next) f g =
     λ i. borrow_link seat plugin program (regroup next f g i)
@@ -352,21 +352,21 @@ regroup (give x) f g = refl
 abbrev more_seeds : List (List ℕ) → SeedRow → Steps (List SeedRow)
 more_seeds names row = and_then (make_seeds names) (λ rows. give (row ∷ rows))
 
-settled_seeds : (names : List (List ℕ)) (left right : Left) → right.links ≡ left.links
+pub settled_seeds : (names : List (List ℕ)) (left right : Left) → right.links ≡ left.links
     → ((plugin : List ℕ) → Contains names plugin → IsSome (left.links (0, plugin)))
     → (next more : List SeedRow → Steps Outcome)
     → ((a b : List SeedRow) (l r : Left) → names_made a ≡ names → names_made b ≡ names
-    → IsSettled (next a) (more b) l r)
+    → l.links ≡ left.links → r.links ≡ left.links → IsSettled (next a) (more b) l r)
     → IsSettled (and_then (make_seeds names) next) (and_then (make_seeds names) more) left right
-settled_seeds [] left right same told next more f = f [] [] left right refl refl
+settled_seeds [] left right same told next more f = f [] [] left right refl refl refl same
 settled_seeds (name ∷ names) left right same told next more f = (
   told name (0, omega arith, refl),
   ap (λ t. t (0, name)) same,
   λ status. by_breach (λ x y rx ry u v. settled_seeds names _ _ same
       (λ plugin c. told plugin (suc c.0, omega (arith, c.1), c.2))
       (λ rows. next (seed_row name x u ∷ rows)) (λ rows. more (seed_row name y v ∷ rows))
-      (λ a b l r g h. f (seed_row name x u ∷ a) (seed_row name y v ∷ b) l r
-      (ap (λ n. name ∷ n) g) (ap (λ n. name ∷ n) h))) (breach_in status),
+      (λ a b l r g h. λ s t. f (seed_row name x u ∷ a) (seed_row name y v ∷ b) l r
+      (ap (λ n. name ∷ n) g) (ap (λ n. name ∷ n) h) s t)) (breach_in status),
 )
   where
     after : (a b : SeedRow) (l r : Left)
@@ -403,7 +403,7 @@ settled_working left right old Encrypt resource path bytes rows x y told = λ u 
     settled_seeds (plugin_order rows) left right (y ∙ sym x)
     (λ plugin c. subst (λ t. IsSome (t (0, plugin))) (sym x) (told plugin c))
     (working_by Encrypt resource path rows bytes) (working_by Encrypt resource path rows bytes)
-    (λ a b l r e f. λ u v h k. settled_draw l r (draw_size (writer_of (list_of rows resource)))
+    (λ a b l r e f. λ s t. λ u v h k. settled_draw l r (draw_size (writer_of (list_of rows resource)))
     (sealed_by a (writer_of (list_of rows resource)) path bytes)
     (sealed_by b (writer_of (list_of rows resource)) path bytes)
     (λ p q. one_seal (writer_of (list_of rows resource)) a b path bytes p q (e ∙ sym f)))
@@ -451,7 +451,7 @@ module _ (old : Around) (words : Conversion) (input : IsSome old.input) where
   by_rows (Ok rows) told = settled_rows rows (told rows refl)
   by_rows (Err why) told = refl
 
-settled_converting : (old : Around) (words : Conversion) → IsTelling (Convert words) old
+pub settled_converting : (old : Around) (words : Conversion) → IsTelling (Convert words) old
     → IsSettled (converting words) (converting words) (left_of old) (left_of old)
 settled_converting old words (told, input, plugins) = (
   told,
@@ -466,7 +466,7 @@ settled_converting old words (told, input, plugins) = (
 -- ---- get
 
 -- what was read is one thing, from which the first steps go on, and then the others
-settled_pair : {A B : Type 0} (left right : Left) (a b : Result A Refusal) (f : A → Steps B)
+pub settled_pair : {A B : Type 0} (left right : Left) (a b : Result A Refusal) (f : A → Steps B)
     (g : B → Steps Outcome) → a ≡ b
     → ((x : A) → IsSettled (and_then (f x) g) (and_then (f x) g) left right)
     → IsSettled (and_then (and_then (by_result a) f) g) (and_then (and_then (by_result b) f) g)
@@ -481,7 +481,7 @@ settled_pair {A} left right a b f g e s =
     by_cases (Err why) = refl
 
 -- the entries of a told configuration are one thing
-settled_configuration : (old : Around) (name : List ℕ) (next : List Row → Steps Outcome)
+pub settled_configuration : (old : Around) (name : List ℕ) (next : List Row → Steps Outcome)
     → IsSome (old.world.file name)
     → ((file : Option (List ℕ)) (rows : List Row) → IsConfiguration name file (Ok rows)
     → Agrees (old.world.file name) file
@@ -523,7 +523,7 @@ settled_row old words rows programs left right at same none row =
     (λ l r x y. settled_working l r old Decrypt row.resource words.path row.stored rows (x ∙ at)
     (y ∙ at) none)
 
-settled_getting : (old : Around) (words : Lookup) → IsTelling (Get words) old
+pub settled_getting : (old : Around) (words : Lookup) → IsTelling (Get words) old
     → IsSettled (getting words) (getting words) (left_of old) (left_of old)
 settled_getting old words (file, tape, plugins) = settled_configuration old words.config
     (λ rows. and_then (linking_programs words.options rows) (looked_up words rows)) file
@@ -644,12 +644,12 @@ module _ (words : Conversion) (name : List ℕ) (rows : List Row) (read : Stored
       _ _ same (λ l r x y. settled_sealing l r bytes none)))
 
 -- a tape that is told is told when it may be made
-told_or_empty : (told : Option (Option (List ℕ))) → IsSome told → IsSome (or_empty told)
+pub told_or_empty : (told : Option (Option (List ℕ))) → IsSome told → IsSome (or_empty told)
 told_or_empty None t = absurd cc
 told_or_empty (Some None) t = refl
 told_or_empty (Some (Some bytes)) t = refl
 
-settled_putting : (old : Around) (words : Conversion) (store : List ℕ)
+pub settled_putting : (old : Around) (words : Conversion) (store : List ℕ)
     → IsTelling (Put words store) old
     → IsSettled (putting words store) (putting words store) (left_of old) (left_of old)
 settled_putting old words store (file, tape, input, plugins) = settled_configuration old words.config
@@ -682,46 +682,3 @@ settled_putting old words store (file, tape, input, plugins) = settled_configura
     there = subst (λ q. IsSome (if q then or_empty (old.world.tapes.told store)
         else old.world.tapes.told store)) (sym (own_name store))
         (told_or_empty (old.world.tapes.told store) tape)
-
-pub settled : (command : Command) (old : Around) → IsTelling command old
-    → IsSettled (steps command) (steps command) (left_of old) (left_of old)
-settled (Convert words) old tells = settled_converting old words tells
-settled (Check config resource) old told = (
-  told,
-  refl,
-  λ file agrees a b x y. settled_by _ _ a b _ (one_configuration config file a b x y) (λ rows.
-      λ c d h k. settled_by _ _ c d _ (h ∙ sym k) (λ text. refl)),
-)
-settled (Put words store) old tells = settled_putting old words store tells
-settled (Get words) old tells = settled_getting old words tells
-settled (Rows store) old told = (
-  told,
-  refl,
-  refl,
-  refl,
-  (
-    told,
-    refl,
-    λ bytes a b x y. settled_by _ _ a b _ (one_stored bytes a b x y) (λ stored.
-        λ c d h k. settled_by _ _ c d _ (one_shown stored.rows c d h k) (λ text. refl)),
-  ),
-)
-settled (Judge words) old (tape, names, file) = (
-  tape,
-  refl,
-  refl,
-  refl,
-  (
-    tape,
-    refl,
-    λ bytes a b x y. settled_by _ _ a b _ (one_stored bytes a b x y)
-        (λ stored. settled_judging words.options stored.rows _ names file),
-  ),
-)
-settled Inspect old input = (
-  refl,
-  refl,
-  input,
-  refl,
-  λ bytes rest c d h k. settled_by _ _ c d _ (one_inspection bytes c d h k) (λ text. refl),
-)

@@ -147,6 +147,11 @@ lent name make absent {old} {out} {held} {count} h a = record {
         dice = λ seat. subst (λ d. Keeps (l.dice seat) (d.told seat)) (sym h.dice) (s.dice seat);
         asked = h.asked ∙ ap (with_call (Tape name make)) s.asked;
         said = s.said;
+        counts = λ key. omega (
+          arith,
+          s.counts key,
+          (lent_home same_name names_decide (option_map Some held) h.out).later key,
+        );
       });
 }
 
@@ -165,17 +170,24 @@ came_back name h a = λ i. record a {
 }
 
 -- it is borrowed for what follows, and comes back
-pub lends_tape : (name : List ℕ) (make : Bool) {old out mid new : Outside}
-    {given back : Option (List ℕ)} {first count : ℕ} (a : Around) {B : Type 0} {next : Steps B}
-    {result : Result B Stop} → LentTape name make old out given first
-    → ReturnedTape name mid new back count
-    → Does next (with_lent_tape name given first (with_world out a))
-    (with_lent_tape name back count (with_world mid a)) result
-    → Does (tape_for name make next) (with_world old a) (with_world new a) result
-lends_tape name make {old} a {next = next} {result} h returned works =
-    subst (λ b. Does (tape_for name make next) (with_world old a) b result)
-    (came_back name returned a)
-    (goes_on (tape_for name make nothing) (λ u. next) tt (lent name make _ h a) works)
+module _ (name : List ℕ) (make : Bool) {old out mid new : Outside}
+    {given back : Option (List ℕ)} {first count : ℕ} where
+  pub lends_tape_to : (a b : Around) {B : Type 0} {next : Steps B} {result : Result B Stop}
+      → LentTape name make old out given first → ReturnedTape name mid new back count
+      → Does next (with_lent_tape name given first (with_world out a))
+      (with_lent_tape name back count (with_world mid b)) result
+      → Does (tape_for name make next) (with_world old a) (with_world new b) result
+  lends_tape_to a b {next = next} {result} h returned works =
+      subst (λ c. Does (tape_for name make next) (with_world old a) c result)
+      (came_back name returned b)
+      (goes_on (tape_for name make nothing) (λ u. next) tt (lent name make _ h a) works)
+
+  pub lends_tape : (a : Around) {B : Type 0} {next : Steps B} {result : Result B Stop}
+      → LentTape name make old out given first → ReturnedTape name mid new back count
+      → Does next (with_lent_tape name given first (with_world out a))
+      (with_lent_tape name back count (with_world mid a)) result
+      → Does (tape_for name make next) (with_world old a) (with_world new a) result
+  lends_tape a h returned works = lends_tape_to a a h returned works
 
 -- what leaves the tapes, done while this one is out
 pub behind_tape : (name : List ℕ) (told : Option (List ℕ)) (count : ℕ) {old new : Outside}

@@ -18,7 +18,7 @@ use Rattle.kr_provider.specs.Envelopes.{Envelope, HasEnvelope, HasObject, seed_k
 use Rattle.kr_provider.specs.Names.{AreDistinct, names_of}
 use Rattle.kr_provider.specs.Publication.{Publication, list_at, seed_of}
 use Rattle.kr_provider.specs.Readers.{is_reader, reader_in, writer_of}
-use Rattle.kr_provider.specs.Reading.{data_of, refused, unopened, is_rotated, is_stale, reader_reading, value_reading}
+use Rattle.kr_provider.specs.Reading.{Reading, data_of, refused, unopened, is_rotated, is_stale, reader_reading, value_reading}
 use Rattle.kr_provider.specs.Unsealing.{IsReading, IsSeedOf, MayAskFor, TakesSeed, UnsealsBy, plugin_reading}
 use Rattle.kr_provider.specs.declared.refusal.Opened.{Opened}
 use Rattle.kr_provider.specs.declared.refusal.UnsealNo.{UnsealNo}
@@ -46,11 +46,11 @@ one_key a b t = (same_key a b).0 t
 abbrev envelope_of : Result EncryptedObject ObjectNo → Option (List ℕ) → Envelope
 envelope_of object source = record { object = object; source = source }
 
-module _ (seeds : List SeedRow) (path bytes : List ℕ) (stale : Option (List ℕ) → Bool)
-    (point : Point Outcome) (l : Left) where
+module _ {A : Type 0} (read_so : Reading → Bool → Steps A) (seeds : List SeedRow)
+    (path bytes : List ℕ) (stale : Option (List ℕ) → Bool) (point : Point A) (l : Left) where
   -- the value, once its source is there
-  abbrev With : Option Who → Result EncryptedObject ObjectNo → Option (List ℕ) → Steps Outcome
-  With reader object source = reading_steps
+  abbrev With : Option Who → Result EncryptedObject ObjectNo → Option (List ℕ) → Steps A
+  With reader object source = read_so
       (reader_reading (envelope_of object source) reader path bytes) (stale source)
 
   -- the steps come to the point, whatever the source is
@@ -60,8 +60,8 @@ module _ (seeds : List SeedRow) (path bytes : List ℕ) (stale : Option (List �
       ≡ reader_reading (envelope_of object None) reader path bytes
       → Goes point l (With reader object source) l → Goes point l (With reader object None) l
   passes reader object source same reads goes = subst (λ b. Goes point l
-      (reading_steps (reader_reading (envelope_of object None) reader path bytes) b) l) (sym same)
-      (subst (λ r. Goes point l (reading_steps r (stale source)) l) reads goes)
+      (read_so (reader_reading (envelope_of object None) reader path bytes) b) l) (sym same)
+      (subst (λ r. Goes point l (read_so r (stale source)) l) reads goes)
 
   module _ (name : List ℕ) (object : EncryptedObject) (source : Option (List ℕ))
       (told : l.truth.told ≡ true → source ≡ l.truth.opens (seed_key name object))
@@ -99,7 +99,7 @@ module _ (seeds : List SeedRow) (path bytes : List ℕ) (stale : Option (List �
         by_seed row (key_eq (key_of row) key) refl (λ same. takes row refl same)
 
   -- the published seed, or the plugin's answer
-  opens_to : (reader : Option Who) (object : Result EncryptedObject ObjectNo)
+  pub opens_to : (reader : Option Who) (object : Result EncryptedObject ObjectNo)
       (source : Option (List ℕ)) → TakesSeed seeds reader (envelope_of object source)
       → (l.truth.told ≡ true → HasEnvelope l.truth.opens reader bytes (envelope_of object source))
       → ((s : Option (List ℕ)) → stale s ≡ stale source)
@@ -129,7 +129,7 @@ one_staleness seeds (Aescbc name secret) object s t = refl
 one_staleness seeds (Aesgcm name secret) object s t = refl
 one_staleness seeds (Kms name) object s t = refl
 
-as_stale : (seeds : List SeedRow) (list : List Who) (bytes : List ℕ)
+pub as_stale : (seeds : List SeedRow) (list : List Who) (bytes : List ℕ)
     (object : Result EncryptedObject ObjectNo) (s t : Option (List ℕ))
     → is_stale (envelope_of object s) seeds list bytes
     ≡ is_stale (envelope_of object t) seeds list bytes
@@ -140,10 +140,10 @@ as_stale seeds list bytes object s t =
 -- ---- a value
 
 -- a plugin is asked only where the published seed is another
-asks_plugin : (seeds : List SeedRow) (name : List ℕ) (object : EncryptedObject)
-    (next : Option (List ℕ) → Steps Outcome) (l : Left) → MayAskFor seeds name object
+pub asks_plugin : {A : Type 0} (seeds : List SeedRow) (name : List ℕ) (object : EncryptedObject)
+    (next : Option (List ℕ) → Steps A) (l : Left) → MayAskFor seeds name object
     → Goes (awaits (asking 0 name)) l (opening seeds (Some (Kms name)) (Ok object) next) l
-asks_plugin seeds name object next l asked = at (seed_of name seeds) asked
+asks_plugin {A} seeds name object next l asked = at (seed_of name seeds) asked
   where
     key : SeedKey
     key = seed_key name object
@@ -161,7 +161,7 @@ asks_plugin seeds name object next l asked = at (seed_of name seeds) asked
     at None other = inl (refl, refl)
     at (Some row) other = by_test row (key_eq (key_of row) key) refl (λ same. other row refl same)
 
-open_all : (truth : Truth) (seeds : List SeedRow)
+pub open_all : (truth : Truth) (seeds : List SeedRow)
     → All (λ row. TellsOf truth (key_of row) row.seed) seeds → truth.told ≡ true
     → OpenAll truth.opens seeds
 open_all truth [] tells told = All-nil (λ row. truth.opens (key_of row) ≡ Some row.seed)
@@ -171,7 +171,7 @@ open_all truth (row ∷ seeds) tells told =
     (open_all truth seeds (All-tail (λ r. TellsOf truth (key_of r) r.seed) row seeds tells) told)
 
 -- links that a value's reading asks
-asks_reader : {L : Type 0} (truth : Truth) (link : L → Link) (seeds : List SeedRow)
+pub asks_reader : {L : Type 0} (truth : Truth) (link : L → Link) (seeds : List SeedRow)
     (list : List Who) (path bytes : List ℕ) (olds news : List L) (result : Result Opened UnsealNo)
     → UnsealsBy truth link seeds list path bytes olds result news
     → AskedOnly link (plugin_reading (reader_in list bytes)) olds news
@@ -212,7 +212,7 @@ module _ {L : Type 0} (truth : Truth) (link : L → Link) (seeds : List SeedRow)
       reach l (inr (
         object,
         u.object,
-        opens_to seeds path bytes
+        opens_to reading_steps seeds path bytes
             (λ q. is_stale (envelope_of object q) seeds list bytes) point l (reader_in list bytes) object
             source u.published
             (subst (λ (t : Truth). t.told ≡ true

@@ -31,11 +31,11 @@ use Rattle.kr_top.specs.declared.refusal.Stop.TheVariants.{NoMemory}
 use Rattle.kr_top.proofs.Frames.{Seen, drawn, home, keeps_none, kept}
 use Rattle.kr_top.proofs.Goes.{consumes_by, home_refl, reach}
 
-no_bytes : (bytes : List ℕ) → length bytes ≡ 0 → bytes ≡ []
+pub no_bytes : (bytes : List ℕ) → length bytes ≡ 0 → bytes ≡ []
 no_bytes [] e = refl
 no_bytes (byte ∷ bytes) e = absurd (omega (arith, e))
 
-enough : {A : Type 0} {next : Steps A} {left : Left} {new : Around} {point : Point A}
+pub enough : {A : Type 0} {next : Steps A} {left : Left} {new : Around} {point : Point A}
     → Reaches next left new point → Reaches (with_memory next) left new point
 enough r = reach r.end (inr (tt, tt, r.goes)) r.stays
 
@@ -44,7 +44,7 @@ pub lacks : {A : Type 0} (next : Steps A) (a : Around) → Does (with_memory nex
 lacks next a =
     record { home = home_refl a; ends = λ left s. inr (reach left (inl (refl, refl)) s) }
 
-none_marked : (long marked : Bool) (plain : List ℕ) → marked ≡ true
+pub none_marked : (long marked : Bool) (plain : List ℕ) → marked ≡ true
     → (if long then None else (if marked then None else Some plain)) ≡ None
 none_marked true marked plain m = refl
 none_marked false true plain m = refl
@@ -62,15 +62,15 @@ module _ {L D : Type 0} (link : L → Link) (left : D → Option (List ℕ)) (co
   unasked : AskedOnly link [] links links
   unasked = asked_none link [] links
 
-  still_there : Keeps (left old) (left new) → (l : Left) → Stays l Before → Stays l After
+  pub still_there : Keeps (left old) (left new) → (l : Left) → Stays l Before → Stays l After
   still_there k l s =
       kept link a [] links links unasked (left old) (left new) (count old) (count new) k l s
 
-  was_drawn : (l : Left) → Stays l Before → Stays (with_dice 0 (left new) l) After
+  pub was_drawn : (l : Left) → Stays l Before → Stays (with_dice 0 (left new) l) After
   was_drawn l s =
       drawn link a [] links links unasked (left old) (left new) (count old) (count new) l s
 
-  unchanged : (l : Left) → new ≡ old → Stays l Before → Stays l After
+  pub unchanged : (l : Left) → new ≡ old → Stays l Before → Stays l After
   unchanged l same s =
       still_there (subst (λ d. Keeps (left old) (left d)) (sym same) (Keeps-refl (left old))) l s
 

@@ -28,6 +28,9 @@ around truth world input faults =
 
 -- ---- its parts
 
+abbrev pub with_what_is_said : List ℕ → Around → Around
+with_what_is_said said a = record a { said = said }
+
 abbrev pub with_world : Outside → Around → Around
 with_world world a = record a { world = world }
 
@@ -128,7 +131,7 @@ MayLack (asking seat plugin) = ⊤
 
 -- ---- what steps did
 
--- nothing was consumed, said, or asked of the world but what is left of
+-- nothing was consumed, said, or asked of the world but what is left of, and no tape's count fell
 pub record Stays (left : Left) (new : Around) : Type 0 where
   pub truth : new.truth ≡ left.truth
   pub file : new.world.file ≡ left.file
@@ -138,6 +141,7 @@ pub record Stays (left : Left) (new : Around) : Type 0 where
   pub dice : (seat : ℕ) → Keeps (left.dice seat) (new.world.dice.told seat)
   pub asked : new.world.asked ≡ left.asked
   pub said : new.said ≡ left.said
+  pub counts : (name : List ℕ) → left.counts name ≤ new.world.tapes.faults name
 
 abbrev pub left_of : Around → Left
 left_of around = record {
@@ -149,6 +153,7 @@ left_of around = record {
   dice = around.world.dice.told;
   asked = around.world.asked;
   said = around.said;
+  counts = around.world.tapes.faults;
 }
 
 -- from what is left the steps come to this point, and nothing was done but by them

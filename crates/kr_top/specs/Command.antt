@@ -1,5 +1,6 @@
 -- The commands that are built, and the words that mean them.
-use Rattle.std.specs.Prelude.{◌≡◌, ℕ, ◌≤◌, ◌<◌, List, [], codes, Option, Some, None}
+use Rattle.std.specs.Prelude.{◌≡◌, ℕ, ◌≤◌, ◌<◌, List, [], codes, Option, Some, None, if◌then◌else◌}
+use Rattle.std.specs.Str.{bytes_eq}
 use Rattle.kr_words.specs.Grammar.{Means, replica_limit, replicas_of, IsAboveSize, IsWithinSize}
 use Rattle.std.specs.Str.Parse.{digits_value}
 use Rattle.kr_words.specs.Options.{value_of, values_of}
@@ -7,7 +8,7 @@ use Rattle.kr_words.specs.Rules.{before_equals, after_equals}
 use Rattle.kr_words.specs.declared.command.Verb.{Verb}
 use Rattle.kr_words.specs.declared.command.Verb.TheVariants as verbs
 use Rattle.kr_top.specs.declared.command.Command.{Command}
-use Rattle.kr_top.specs.declared.command.Command.TheVariants.{Convert, Check, Inspect, Put, Get, Rows, Judge}
+use Rattle.kr_top.specs.declared.command.Command.TheVariants.{Convert, Check, Inspect, Put, Get, Migrate, Rows, Judge, Rewrite}
 use Rattle.kr_top.specs.declared.command.Direction.{Direction}
 use Rattle.kr_top.specs.declared.command.Direction.TheVariants.{Encrypt, Decrypt}
 use Rattle.kr_top.specs.declared.refusal.BadWords.{BadWords}
@@ -55,6 +56,14 @@ lookup_of options (Some config) (Some store) None = None
 lookup_of options (Some config) (Some store) (Some path) =
     Some (Get (record { config = config; store = store; path = path; options = options }))
 
+-- a store isn't migrated into itself
+abbrev pub migration_of : (config store to : Option (List ℕ)) → Option Command
+migration_of None store to = None
+migration_of (Some config) None to = None
+migration_of (Some config) (Some store) None = None
+migration_of (Some config) (Some store) (Some to) = if bytes_eq store to then None
+    else Some (Migrate (record { config = config; store = store; to = to }))
+
 abbrev pub listing_of : (store : Option (List ℕ)) → Option Command
 listing_of None = None
 listing_of (Some store) = Some (Rows store)
@@ -82,6 +91,13 @@ abbrev pub judgement_of : (options : List (List ℕ × List ℕ)) → (store : O
 judgement_of options None = None
 judgement_of options (Some store) = Some (Judge (record { store = store; options = options }))
 
+abbrev pub rewriting_of : (options : List (List ℕ × List ℕ)) → (config store : Option (List ℕ))
+    → Option Command
+rewriting_of options None store = None
+rewriting_of options (Some config) None = None
+rewriting_of options (Some config) (Some store) =
+    Some (Rewrite (record { config = config; store = store; options = options }))
+
 -- the command of a verb with its options, where it is built
 abbrev pub command_of : Verb → List (List ℕ × List ℕ) → Option Command
 command_of verbs.Encrypt options =
@@ -99,8 +115,13 @@ command_of verbs.Put options =
 command_of verbs.Get options =
     lookup_of options (value_of options (codes "config")) (value_of options (codes "store"))
     (value_of options (codes "path"))
+command_of verbs.Migrate options =
+    migration_of (value_of options (codes "config")) (value_of options (codes "store"))
+    (value_of options (codes "to"))
 command_of verbs.Rows options = listing_of (value_of options (codes "store"))
 command_of verbs.Judge options = judgement_of options (value_of options (codes "store"))
+command_of verbs.Rewrite options =
+    rewriting_of options (value_of options (codes "config")) (value_of options (codes "store"))
 command_of other options = None
 
 -- the words mean the command, and no limit of the command line is passed

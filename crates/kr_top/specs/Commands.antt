@@ -1,5 +1,5 @@
 -- The steps of each command, and the phases that they are made of.
-use Rattle.std.specs.Prelude.{◌≡◌, ℕ, zero, suc, Bool, false, List, [], ◌∷◌, ◌++◌, Option, Some, None, Result, Ok, Err, ⊤, if◌then◌else◌, true, length, codes, decimal, nat_lt}
+use Rattle.std.specs.Prelude.{◌≡◌, ◌+◌, ◌*◌, ℕ, zero, suc, Bool, false, List, [], ◌∷◌, ◌++◌, map, Option, Some, None, Result, Ok, Err, ⊤, if◌then◌else◌, true, length, codes, decimal, nat_lt}
 use Rattle.kr_base.specs.Limits.{data_limit, value_limit, store_limit}
 use Rattle.kr_config.specs.Kept.{Row}
 use Rattle.kr_config.specs.Lists.{list_of}
@@ -13,15 +13,24 @@ use Rattle.kr_kms.specs.declared.seeds.SeedKey.{SeedKey}
 use Rattle.kr_kms.specs.declared.seeds.SeedRow.{SeedRow}
 use Rattle.kr_provider.specs.Envelopes.{Envelope, HasObject, seed_key}
 use Rattle.kr_provider.specs.PluginOrder.{plugin_order}
-use Rattle.kr_provider.specs.Publication.{seed_of}
+use Rattle.kr_provider.specs.Publication.{Publication, seed_of}
 use Rattle.kr_provider.specs.Reading.{Reading, data_of, refused, unopened, value_reading, is_stale}
 use Rattle.kr_provider.specs.Readers.{reader_in, writer_of}
 use Rattle.kr_provider.specs.Sealing.{draw_size, sealed_by}
+use Rattle.kr_provider.specs.declared.refusal.Opened.{Opened}
+use Rattle.kr_provider.specs.declared.refusal.ValueNo.{ValueNo}
 use Rattle.kr_provider.specs.declared.refusal.ValueNo.TheVariants.{LooksEncrypted}
 use Rattle.kr_rollout.specs.Checks.{store_check}
 use Rattle.kr_store.specs.File.{file_bytes}
+use Rattle.kr_rollout.specs.Checks.{written_check}
+use Rattle.kr_rollout.specs.Starts.{MayStart, IsNoStart}
+use Rattle.kr_rollout.specs.declared.opening_board.StartNo.{StartNo}
 use Rattle.kr_store.specs.Rows.{check_in, live, put_of}
+use Rattle.kr_store.specs.Stores.{IsListing}
+use Rattle.kr_store.specs.declared.format.Check as kept
 use Rattle.kr_store.specs.declared.format.Format.{Format}
+use Rattle.kr_store.specs.declared.rows.Change.{Change}
+use Rattle.kr_store.specs.declared.rows.Change.TheVariants as change
 use Rattle.kr_store.specs.declared.rows.LogRow.{LogRow}
 use Rattle.kr_store.specs.declared.rows.Row as stored
 use Rattle.kr_judge.specs.declared.verdict.Verdict.{Verdict}
@@ -29,21 +38,25 @@ use Rattle.kr_top.specs.Check.{listing}
 use Rattle.kr_top.specs.Command.{replica_names, reload_in, reload_number, reload_file}
 use Rattle.kr_top.specs.Configuration.{Entries, IsConfiguration}
 use Rattle.kr_top.specs.Inspect.{Inspects}
-use Rattle.kr_top.specs.Judgements.{IsJudged, verdict_outcome}
+use Rattle.kr_top.specs.Judgements.{IsJudged, start_refusal, verdict_outcome}
+use Rattle.kr_top.specs.Limits.{journal_limit}
+use Rattle.kr_top.specs.Reports.{report_text, report_outcome}
 use Rattle.kr_top.specs.RowLines.{ShowsRows}
-use Rattle.kr_top.specs.StoreFiles.{Stored, IsStored, with_row}
-use Rattle.kr_top.specs.Steps.{Steps, load, take_input, borrow_dice, borrow_tape, read_tape, write_row, draw, find, refuse, give, and_then, unwrap}
+use Rattle.kr_top.specs.StoreFiles.{Stored, IsSource, IsStored, IsTarget, none_there, with_row}
+use Rattle.kr_top.specs.Steps.{Steps, load, take_input, borrow_dice, borrow_tape, read_tape, write_row, keep_rows, draw, find, refuse, give, and_then, unwrap, note}
 use Rattle.kr_top.specs.Plugins.{borrow_links, make_seeds, programs_of}
 use Rattle.kr_top.specs.declared.command.Command.{Command}
-use Rattle.kr_top.specs.declared.command.Command.TheVariants.{Convert, Check, Inspect, Put, Get, Rows, Judge}
+use Rattle.kr_top.specs.declared.command.Command.TheVariants.{Convert, Check, Inspect, Put, Get, Migrate, Rows, Judge, Rewrite}
 use Rattle.kr_top.specs.declared.command.Conversion.{Conversion}
 use Rattle.kr_top.specs.declared.command.Lookup.{Lookup}
 use Rattle.kr_top.specs.declared.command.Judgement.{Judgement}
+use Rattle.kr_top.specs.declared.command.Migration.{Migration}
+use Rattle.kr_top.specs.declared.command.Rewriting.{Rewriting}
 use Rattle.kr_top.specs.declared.command.Direction.{Direction}
 use Rattle.kr_top.specs.declared.command.Direction.TheVariants.{Encrypt, Decrypt}
 use Rattle.kr_top.specs.Texts.{visible}
 use Rattle.kr_top.specs.declared.refusal.Object.{Object}
-use Rattle.kr_top.specs.declared.refusal.Object.TheVariants.{Store}
+use Rattle.kr_top.specs.declared.refusal.Object.TheVariants.{Store, Target}
 use Rattle.kr_top.specs.declared.programs.Program.{Program}
 use Rattle.kr_top.specs.declared.refusal.Refusal.{Refusal}
 use Rattle.kr_top.specs.declared.refusal.Refusal.TheVariants.{Absent, Limit, NoPath, Value}
@@ -51,6 +64,7 @@ use Rattle.kr_top.specs.declared.refusal.Limit.TheVariants as limit
 use Rattle.kr_top.specs.declared.refusal.Done.{Done}
 use Rattle.kr_top.specs.declared.refusal.Done.TheVariants.{Silent, Fresh, Stale}
 use Rattle.kr_top.specs.declared.refusal.Outcome.{Outcome}
+use Rattle.kr_top.specs.declared.report.Counts.{Counts}
 
 -- ---- phases
 
@@ -96,7 +110,7 @@ value_steps (Some value) = give (silently value)
 value_steps None = refuse (Value LooksEncrypted)
 
 -- so many bytes of the random source of seat 0; none are no draw
-abbrev pub draw_some : ℕ → (List ℕ → Steps Outcome) → Steps Outcome
+abbrev pub draw_some : {A : Type 0} → ℕ → (List ℕ → Steps A) → Steps A
 draw_some zero next = next []
 draw_some (suc more) next = draw 0 (suc more) next
 
@@ -121,14 +135,14 @@ published_source None key = None
 published_source (Some row) key = if key_eq (key_of row) key then Some row.seed else None
 
 -- else the plugin unwraps the source
-abbrev pub source_steps : Option (List ℕ) → SeedKey → (Option (List ℕ) → Steps Outcome)
-    → Steps Outcome
+abbrev pub source_steps : {A : Type 0} → Option (List ℕ) → SeedKey
+    → (Option (List ℕ) → Steps A) → Steps A
 source_steps (Some seed) key next = next (Some seed)
 source_steps None key next = unwrap 0 key (λ source. next (Some source))
 
 -- only the object of a plugin's value has a source
-abbrev pub opening : List SeedRow → Option Who → Result EncryptedObject ObjectNo
-    → (Option (List ℕ) → Steps Outcome) → Steps Outcome
+abbrev pub opening : {A : Type 0} → List SeedRow → Option Who → Result EncryptedObject ObjectNo
+    → (Option (List ℕ) → Steps A) → Steps A
 opening seeds (Some (Kms name)) (Ok object) next =
     source_steps (published_source (seed_of name seeds) (seed_key name object))
     (seed_key name object) next
@@ -251,6 +265,63 @@ getting words =
     and_then (tape_for words.store false (row_on words.store words.path)) (λ row.
     bench_steps programs Decrypt row.resource words.path rows row.stored)))
 
+-- ---- migrate
+
+-- the check of the provider that reads a value; zeros where none does
+abbrev pub reader_check : Option Who → kept.Check
+reader_check None = record { value = 0 }
+reader_check (Some who) = store_check who
+
+-- a row as the second format has it: a put has the check of its value's reader
+abbrev pub migrated_change : List Row → Change → Change
+migrated_change rows (change.Put resource value check) = change.Put resource value
+    (Some (reader_check (reader_in (list_of rows resource) value)))
+migrated_change rows change.Delete = change.Delete
+
+abbrev pub migrated_row : List Row → LogRow → LogRow
+migrated_row rows row = record { path = row.path; change = migrated_change rows row.change }
+
+-- the store that is migrated, on a tape that is lent
+abbrev pub source_on : (name : List ℕ) → Steps Stored
+source_on name =
+    read_tape Store name (λ bytes. find (Result Stored Refusal) (IsSource bytes) by_result)
+
+-- the store that is written, on a tape that is lent: its length is asked, then it is read
+abbrev pub target_read : (name : List ℕ) → Steps Stored
+target_read name =
+    read_tape Target name (λ bytes. find (Result Stored Refusal) (IsTarget bytes) by_result)
+
+abbrev pub target_on : (name : List ℕ) → Steps Stored
+target_on name = read_tape Target name
+    (λ bytes. and_then (by_result (none_there bytes)) (λ u. target_read name))
+
+-- these rows behind those of the store, one by one
+abbrev pub copying : (name : List ℕ) → Stored → List LogRow → Steps Stored
+copying name store [] = give store
+copying name store (row ∷ rows) =
+    and_then (adding Target name store row) (λ grown. copying name grown rows)
+
+abbrev pub migrated_line : List LogRow → List ℕ
+migrated_line rows = codes "migrated " ++ (decimal (length rows) ++ codes "\n")
+
+-- the rows of the source are copied; what is then written is made before
+abbrev pub copied_into : (to : List ℕ) → List Row → (source target : Stored) → Steps Outcome
+copied_into to rows source target =
+    with_memory (and_then (copying to target (map (migrated_row rows) source.rows))
+    (λ copied. give (silently (migrated_line source.rows))))
+
+-- the target's tape, which is made where it is absent, once the source was read
+abbrev pub migrating_into : (to : List ℕ) → List Row → (source : Stored) → Steps Outcome
+migrating_into to rows source =
+    tape_for to true (and_then (target_on to) (copied_into to rows source))
+
+-- the source's tape is out until the target's is back
+abbrev pub migrating : Migration → Steps Outcome
+migrating words =
+    and_then (configuration words.config) (λ rows.
+    tape_for words.store false
+    (and_then (source_on words.store) (migrating_into words.to rows)))
+
 -- ---- list
 
 abbrev pub listing_on : List ℕ → Steps Outcome
@@ -292,6 +363,149 @@ judging_on name options =
 abbrev pub judging : Judgement → Steps Outcome
 judging words = tape_for words.store false (judging_on words.store words.options)
 
+-- ---- rewrite
+
+-- the store, and what became of the rows so far
+pub record Progress : Type 0 where
+  pub store : Stored
+  pub counts : Counts
+
+-- none yet
+abbrev pub begun : Stored → Progress
+begun store = record {
+  store = store;
+  counts = record { rewritten = 0; fresh = 0; changed = 0; left = 0 };
+}
+
+abbrev pub one_rewritten : LogRow → Progress → Progress
+one_rewritten row at = record {
+  store = with_row row at.store;
+  counts = record at.counts { rewritten = at.counts.rewritten + 1 };
+}
+
+abbrev pub one_fresh : Progress → Progress
+one_fresh at = record at { counts = record at.counts { fresh = at.counts.fresh + 1 } }
+
+abbrev pub one_left : Progress → Progress
+one_left at = record at { counts = record at.counts { left = at.counts.left + 1 } }
+
+-- ---- a row that is stale: its data are sealed by the writer of its resource, in its place
+
+-- a value has its row's path and resource, and the check of its writer
+abbrev pub row_anew : Format → Publication → stored.Row → (value : List ℕ) → LogRow
+row_anew format p row value =
+    put_of row.path row.resource value (written_check format p row.resource)
+
+-- data that the writer can't seal leave their row as it is
+abbrev pub replacing : (name : List ℕ) → Publication → stored.Row → Progress → Option (List ℕ)
+    → Steps Progress
+replacing name p row at None = give (one_left at)
+replacing name p row at (Some value) =
+    and_then (adding Store name at.store (row_anew at.store.format p row value))
+    (λ grown. give (one_rewritten (row_anew at.store.format p row value) at))
+
+-- the value of the data, where the writer seals them
+abbrev pub value_sealed : List SeedRow → Who → (path plain : List ℕ) → Steps (Option (List ℕ))
+value_sealed seeds who path plain = with_memory
+    (draw_some (draw_size who) (λ drawn. give (sealed_by seeds who path plain drawn)))
+
+-- for data above their limit nothing is drawn
+abbrev pub resealing : (long : Bool) → (name : List ℕ) → Publication → stored.Row → (plain : List ℕ)
+    → Progress → Steps Progress
+resealing true name p row plain at = give (one_left at)
+resealing false name p row plain at =
+    and_then (value_sealed p.seeds (writer_of (list_of p.rows row.resource)) row.path plain)
+    (replacing name p row at)
+
+-- ---- a row
+
+-- what a value reads as: data, and whether it is stale; or why it isn't read
+abbrev pub reading_given : Reading → Bool → Steps (Result Opened ValueNo)
+reading_given (data_of plain) stale = give (Ok (record { plain = plain; stale = stale }))
+reading_given (refused why) stale = give (Err why)
+reading_given unopened stale = never
+
+-- the value with this object, once its source is there
+abbrev pub value_with : List SeedRow → List Who → (path bytes : List ℕ)
+    → Result EncryptedObject ObjectNo → Option (List ℕ) → Steps (Result Opened ValueNo)
+value_with seeds list path bytes object source =
+    let envelope : Envelope = record { object = object; source = source } in
+    reading_given (value_reading envelope list path bytes) (is_stale envelope seeds list bytes)
+
+abbrev pub value_read : List SeedRow → List Who → (path bytes : List ℕ)
+    → Steps (Result Opened ValueNo)
+value_read seeds list path bytes =
+    find (Result EncryptedObject ObjectNo) (HasObject (reader_in list bytes) bytes)
+    (λ object. opening seeds (reader_in list bytes) object
+    (value_with seeds list path bytes object))
+
+-- data are sealed anew where their value is stale
+abbrev pub row_data : (name : List ℕ) → Publication → stored.Row → Progress → (plain : List ℕ)
+    → (stale : Bool) → Steps Progress
+row_data name p row at plain false = give (one_fresh at)
+row_data name p row at plain true =
+    with_memory (resealing (nat_lt data_limit (length plain)) name p row plain at)
+
+-- a value that isn't read leaves its row as it is
+abbrev pub row_by : (name : List ℕ) → Publication → stored.Row → Progress → Result Opened ValueNo
+    → Steps Progress
+row_by name p row at (Ok opened) = row_data name p row at opened.plain opened.stale
+row_by name p row at (Err why) = give (one_left at)
+
+abbrev pub row_steps : (name : List ℕ) → Publication → stored.Row → Progress → Steps Progress
+row_steps name p row at =
+    and_then (value_read p.seeds (list_of p.rows row.resource) row.path row.stored)
+    (row_by name p row at)
+
+-- ---- all of them
+
+-- where a step ends the command, what became of the rows before is reported; the tape has the rows
+-- so far
+abbrev pub reporting : {A : Type 0} → (name : List ℕ) → Progress → Steps A → Steps A
+reporting name at next = keep_rows name at.store (note (report_text at.counts) next)
+
+abbrev pub driving : (name : List ℕ) → Publication → List stored.Row → Progress → Steps Outcome
+driving name p [] at = reporting name at (with_memory (give (report_outcome at.counts)))
+driving name p (row ∷ rows) at =
+    reporting name at (and_then (row_steps name p row at) (driving name p rows))
+
+-- the configuration goes with what is stored, or why it doesn't
+abbrev pub IsStarted : List LogRow → List Row → Result ⊤ Refusal → Type 0
+IsStarted stored rows (Ok u) = MayStart stored (Some rows ∷ [])
+IsStarted stored rows (Err why) = (cause : StartNo)
+    × IsNoStart stored (Some rows ∷ []) cause × (start_refusal cause ≡ Some why)
+
+abbrev pub starting : List LogRow → List Row → Steps ⊤
+starting stored rows = find (Result ⊤ Refusal) (IsStarted stored rows) by_result
+
+abbrev pub rewriting_by : (name : List ℕ) → List Row → Stored → (live : List stored.Row)
+    → Steps Outcome
+rewriting_by name rows store live = with_memory
+    (and_then (make_seeds (plugin_order rows)) (λ seeds.
+    and_then (starting store.rows rows) (λ u.
+    driving name (record { rows = rows; seeds = seeds }) live (begun store))))
+
+-- each row may take four entries of a journal, and the end three
+abbrev pub within_journal : (live : List stored.Row) → Result ⊤ Refusal
+within_journal live =
+    if nat_lt journal_limit (4 * length live + 3) then Err (Limit limit.Journal) else Ok tt
+
+abbrev pub rewriting_live : (name : List ℕ) → List Row → List Program → Stored
+    → (live : List stored.Row) → Steps Outcome
+rewriting_live name rows programs store live =
+    and_then (by_result (within_journal live)) (λ u.
+    borrow_dice 0 (borrow_links programs (rewriting_by name rows store live)))
+
+abbrev pub rewriting_on : (name : List ℕ) → List Row → List Program → Steps Outcome
+rewriting_on name rows programs = and_then (stored_on Store name) (λ store.
+    find (List stored.Row) (IsListing store.rows) (rewriting_live name rows programs store))
+
+abbrev pub rewriting : Rewriting → Steps Outcome
+rewriting words =
+    and_then (configuration words.config) (λ rows.
+    and_then (linking_programs words.options rows) (λ programs.
+    tape_for words.store false (rewriting_on words.store rows programs)))
+
 -- ---- the commands
 
 abbrev pub steps : Command → Steps Outcome
@@ -300,6 +514,8 @@ steps (Check config resource) =
     and_then (configuration config) (λ rows. show (λ shown. shown ≡ Ok (listing rows resource)))
 steps (Put words store) = putting words store
 steps (Get words) = getting words
+steps (Migrate words) = migrating words
 steps (Rows store) = tape_for store false (listing_on store)
 steps (Judge words) = judging words
+steps (Rewrite words) = rewriting words
 steps Inspect = and_then (input_of Decrypt) (λ bytes. show (Inspects bytes))

@@ -184,8 +184,8 @@ AreEquipped {T} {L} {D} link left count programs around workers = (seat : ℕ)
     → IsEquipped link left count programs seat around (get_or workers seat d).bench.links
     (get_or workers seat d).bench.dice
 
--- the tape begins with the file of the store's rows, if it tells, and is no more than that where its
--- count of faults didn't rise
+-- the tape begins with the file of the store's rows, if it tells, and is no more than that where
+-- its count of faults didn't rise
 abbrev pub HasRows : Option (Option (List ℕ)) → Begun → List LogRow → (before now : ℕ) → Type 0
 HasRows (Some (Some bytes)) begun rows before now = (file : List ℕ) × (rest : List ℕ)
     × IsFile begun.stored.format rows file × (bytes ≡ file ++ rest)
@@ -318,7 +318,8 @@ pub record RanFleet (T : Type 0) {L D : Type 0} (truth : Truth) (link : L → Li
   pub written : output.old_faults ≤ output.new_faults
   pub told : errors.old_faults ≤ errors.new_faults
 
--- what a call did where no one may wait: for a fleet nothing, unless memory lacked to read its words
+-- what a call did where no one may wait: for a fleet nothing, unless memory lacked to read its
+-- words
 abbrev pub RanAlone : (words : List (List ℕ)) → (old new : Around) → (output errors : Receipt)
     → Option ℕ → Type 0
 RanAlone words old new output errors (Some status) =

@@ -7,13 +7,16 @@ pub mod Commands
 pub mod FleetAsked
 pub mod FleetFiles
 pub mod FleetReadings
+pub mod FleetReady
 pub mod Fleets
 pub mod Configuration
 pub mod Inspect
 pub mod Judgements
+pub mod Limits
 pub mod Message
 pub mod Plugins
 pub mod Ran
+pub mod Reports
 pub mod RowLines
 pub mod Steps
 pub mod StoreFiles

@@ -11,10 +11,11 @@ use Rattle.kr_judge.specs.Texts.{verdict_text}
 use Rattle.kr_kms.specs.declared.health.Field.{Field}
 use Rattle.kr_kms.specs.declared.health.Field.TheVariants.{Version, Healthz, KeyId}
 use Rattle.kr_provider.specs.Refusals.{number_of, name_of}
+use Rattle.kr_top.specs.Limits.{journal_limit}
 use Rattle.kr_top.specs.declared.refusal.Object.{Object}
-use Rattle.kr_top.specs.declared.refusal.Object.TheVariants.{Input, Output, Files, Dice, Store, Plugin}
+use Rattle.kr_top.specs.declared.refusal.Object.TheVariants.{Input, Output, Files, Dice, Store, Target, Plugin}
 use Rattle.kr_top.specs.declared.refusal.Refusal.{Refusal}
-use Rattle.kr_top.specs.declared.refusal.Refusal.TheVariants.{Absent, Configuration, Limit, Value, Placed, Broken, NoPath, NoPlugin, Unhealthy, Stray, OtherSecret, Unfit, Script}
+use Rattle.kr_top.specs.declared.refusal.Refusal.TheVariants.{Absent, Configuration, Limit, Value, Placed, Broken, NoPath, NotEmpty, NotOld, NoPlugin, Unhealthy, Stray, OtherSecret, Unfit, Script}
 use Rattle.kr_top.specs.declared.refusal.Limit as limits
 use Rattle.kr_top.specs.declared.refusal.Limit.TheVariants as limit
 use Rattle.kr_top.specs.declared.refusal.Breach.{Breach}
@@ -53,6 +54,8 @@ status_of_refusal (Value why) = 1
 status_of_refusal (Placed why at) = 1
 status_of_refusal (Broken why) = 3
 status_of_refusal (NoPath path) = 1
+status_of_refusal (NotEmpty length) = 3
+status_of_refusal NotOld = 3
 status_of_refusal (Stray path) = 3
 status_of_refusal (OtherSecret path) = 3
 status_of_refusal (Unfit replica verdict) = 3
@@ -112,7 +115,7 @@ limit_size limit.Store = store_limit
 limit_size limit.Script = store_limit
 limit_size limit.Replicas = replica_limit
 limit_size limit.Workers = 64
-limit_size limit.Journal = 4000000
+limit_size limit.Journal = journal_limit
 
 -- the code of what a store's file breaks, and its place
 abbrev pub broken_code : Breach → List ℕ
@@ -150,6 +153,8 @@ refusal_line (Placed why at) =
     ++ (codes " " ++ (name_of why ++ (codes " " ++ (decimal at ++ codes "\n")))))
 refusal_line (Broken why) = counted_line (codes "kmsrest: text ") (broken_code why) (place_of why)
 refusal_line (NoPath path) = codes "kmsrest: absent " ++ (path ++ codes "\n")
+refusal_line (NotEmpty length) = counted_line (codes "kmsrest: text ") (codes "52") length
+refusal_line NotOld = codes "kmsrest: text 53 2\n"
 refusal_line (Stray path) = codes "kmsrest: text 48 " ++ (path ++ codes "\n")
 refusal_line (OtherSecret path) = codes "kmsrest: text 51 " ++ (path ++ codes "\n")
 refusal_line (Unfit replica verdict) = codes "kmsrest: text 49 " ++ (decimal replica
@@ -161,13 +166,14 @@ object_text Input = codes "input"
 object_text Output = codes "output"
 object_text Files = codes "files"
 object_text Store = codes "store"
+object_text Target = codes "target"
 object_text (Dice seat) = codes "dice " ++ decimal seat
 object_text (Plugin name) = codes "plugin " ++ name
 
 abbrev pub fault_line : Object → ℕ → List ℕ
 fault_line object count = counted_line (codes "kmsrest: fault ") (object_text object) count
 
--- decrypt says whether the value is one that the resource's writer would write today
+-- `decrypt` and `get` say whether the value is one that the resource's writer would write today
 abbrev pub done_line : Done → List ℕ
 done_line Silent = []
 done_line Fresh = codes "fresh\n"

@@ -7,14 +7,14 @@ use Rattle.kr_base.specs.Told.{Agrees}
 use Rattle.kr_config.specs.Kept.{Row}
 use Rattle.kr_provider.specs.PluginOrder.{plugin_order}
 use Rattle.kr_provider.specs.Publication.{names_plugin}
-use Rattle.kr_top.specs.Around.{Around, left_of, faults_at, count_at, Reaches, IsHome, Ends}
+use Rattle.kr_top.specs.Around.{Around, with_what_is_said, left_of, faults_at, count_at, Reaches, IsHome, Ends}
 use Rattle.kr_top.specs.Command.{replica_names, reload_in, reload_file, Asks, AskNothing, AskReplicas, AskSize, AskBadly}
 use Rattle.kr_top.specs.Commands.{steps}
 use Rattle.kr_top.specs.Configuration.{IsConfiguration}
 use Rattle.kr_top.specs.Message.{status_of, status_of_done, status_of_refusal, line_of, refusal_line, fault_line, done_line}
 use Rattle.kr_top.specs.Steps.{Call, object_of, Point, awaits, refuses, gives, Left, Goes}
 use Rattle.kr_top.specs.declared.command.Command.{Command}
-use Rattle.kr_top.specs.declared.command.Command.TheVariants.{Convert, Check, Inspect, Put, Get, Rows, Judge}
+use Rattle.kr_top.specs.declared.command.Command.TheVariants.{Convert, Check, Inspect, Put, Get, Migrate, Rows, Judge, Rewrite}
 use Rattle.kr_top.specs.declared.command.Direction.{Direction}
 use Rattle.kr_top.specs.declared.command.Direction.TheVariants.{Encrypt, Decrypt}
 use Rattle.kr_top.specs.declared.refusal.Object.TheVariants.{Output}
@@ -39,10 +39,12 @@ receipt old new old_faults new_faults =
 abbrev pub IsIdle : Receipt → Type 0
 IsIdle sink = (sink.new ≡ sink.old) × (sink.new_faults ≡ sink.old_faults)
 
--- just what was said was written
+-- just what was said was written, or a prefix of it before the output failed
 abbrev pub Reports : List ℕ → Receipt → Type 0
 Reports [] output = IsIdle output
 Reports (byte ∷ bytes) output = Appends output.old output.new (byte ∷ bytes)
+    ⊎ (AppendsFront output.old output.new (byte ∷ bytes)
+    × Rose output.old_faults output.new_faults)
 
 -- nothing around was touched
 abbrev pub IsUntouched : Around → Around → Receipt → Type 0
@@ -58,8 +60,8 @@ pub record Did (words : List (List ℕ)) (old new : Around) (made : Result Outco
   pub home : IsHome old new
   pub ends : Ends (steps command) (left_of old) old new made
 
--- the value of a command was written; where the output fails, a prefix of it; and where a step
--- ended the command, what was said
+-- the value of a command was written; where the output fails, a prefix of it; where a step ended
+-- the command, that stands, and what was said was written
 abbrev pub Writes : List ℕ → Receipt → Result Outcome Stop → Result Done Stop → Type 0
 Writes said output (Ok made) (Ok done) =
     (done ≡ made.done) × Appends output.old output.new made.bytes
@@ -78,8 +80,8 @@ StopsAtOnce words result = ⊥
 abbrev pub Answers : List (List ℕ) → Around → Around → Receipt → Result Done Stop → Type 0
 Answers words old new output result =
     (StopsAtOnce words result × IsUntouched old new output)
-    ⊎ ((made : Result Outcome Stop) × Did words old new made
-    × Writes new.said output made result)
+    ⊎ ((said : List ℕ) × (made : Result Outcome Stop)
+    × Did words old (with_what_is_said said new) made × Writes said output made result)
 
 -- the line was written to the sink and the status answered; where it can't be written, the status
 -- is 4
@@ -99,12 +101,22 @@ pub record Ran (words : List (List ℕ)) (old new : Around) (output errors : Rec
 
 -- ---- what follows from it, for readers
 
--- the words ask for a command whose steps come to this point
-pub record Comes (words : List (List ℕ)) (old new : Around) (point : Point Outcome) : Type 0 where
+-- the words ask for a command whose steps come to this point, where this was said
+pub record ComesSaying (words : List (List ℕ)) (old new : Around) (said : List ℕ)
+    (point : Point Outcome) : Type 0 where
   pub command : Command
   pub asks : Asks words command
-  pub reaches : Reaches (steps command) (left_of old) new point
+  pub reaches : Reaches (steps command) (left_of old) (with_what_is_said said new) point
   pub home : IsHome old new
+
+-- whatever was said
+abbrev pub Comes : List (List ℕ) → (old new : Around) → Point Outcome → Type 0
+Comes words old new point = (said : List ℕ) × ComesSaying words old new said point
+
+-- and nothing else was written
+abbrev pub ComesReporting : List (List ℕ) → (old new : Around) → Receipt → Point Outcome → Type 0
+ComesReporting words old new output point =
+    (said : List ℕ) × ComesSaying words old new said point × Reports said output
 
 -- status 2 comes only where the words ask for nothing; and where they do, 2 comes, but for a limit
 -- that they pass, want of memory, and a line that couldn't be written
@@ -121,7 +133,7 @@ IsUsage words errors status =
 -- written but what was said, and the line, which has the object and its count
 abbrev pub FailsAt : List (List ℕ) → Around → Around → Receipt → Receipt → Call → Type 0
 FailsAt words old new output errors call =
-    Comes words old new (awaits call) × Reports new.said output
+    ComesReporting words old new output (awaits call)
     × Rose (faults_at call old) (faults_at call new)
     × Rose (count_at call old) (count_at call new)
     × Appends errors.old errors.new (fault_line (object_of call) (count_at call new))
@@ -145,8 +157,8 @@ IsCaused words old new output errors status =
 -- the steps refuse so, with this status, and nothing was written but what was said, and the line
 abbrev pub RefusesWith : List (List ℕ) → Around → Around → Receipt → Receipt → ℕ → Type 0
 RefusesWith words old new output errors status =
-    (why : Refusal) × Comes words old new (refuses why) × (status_of_refusal why ≡ status)
-    × Reports new.said output × Appends errors.old errors.new (refusal_line why)
+    (why : Refusal) × ComesReporting words old new output (refuses why)
+    × (status_of_refusal why ≡ status) × Appends errors.old errors.new (refusal_line why)
 
 -- the steps give a value with this status, and just that was written, and its line
 abbrev pub GivesWith : List (List ℕ) → Around → Around → Receipt → Receipt → ℕ → Type 0
@@ -191,11 +203,17 @@ IsTelling (Get words) old = IsSome (old.world.file words.config)
     × IsSome (old.world.tapes.told words.store)
     × ((file : Option (List ℕ)) (rows : List Row) → IsConfiguration words.config file (Ok rows)
     → Agrees (old.world.file words.config) file → ArePluginsTold Decrypt old rows)
+IsTelling (Migrate words) old = IsSome (old.world.file words.config)
+    × IsSome (old.world.tapes.told words.store) × IsSome (old.world.tapes.told words.to)
 IsTelling (Rows store) old = IsSome (old.world.tapes.told store)
 IsTelling (Judge words) old =
     IsSome (old.world.tapes.told words.store)
     × AreTold old.world.file (replica_names words.options)
     × IsSome (old.world.file (reload_file (reload_in words.options)))
+IsTelling (Rewrite words) old = IsSome (old.world.file words.config)
+    × IsSome (old.world.tapes.told words.store)
+    × ((file : Option (List ℕ)) (rows : List Row) → IsConfiguration words.config file (Ok rows)
+    → Agrees (old.world.file words.config) file → names_plugin rows ≡ false)
 
 -- the steps of a command over the told files, tapes and input, and some drawn bytes, come to this
 -- point
@@ -222,7 +240,8 @@ IsDecided words old errors status =
 -- a prefix of the value that the steps give; at status 2 nothing was touched
 pub record IsWritten (words : List (List ℕ)) (old new : Around) (output : Receipt)
     (status : ℕ) : Type 0 where
-  pub front : Reports new.said output ⊎ IsIdle output
+  pub front : IsIdle output
+      ⊎ ((point : Point Outcome) × ComesReporting words old new output point)
       ⊎ ((made : Outcome) × Comes words old new (gives made)
       × AppendsFront output.old output.new made.bytes)
   pub usage : status ≡ 2 → IsUntouched old new output

@@ -13,7 +13,7 @@ use Rattle.kr_kms.specs.declared.seeds.SeedKey.{SeedKey}
 use Rattle.kr_kms.specs.declared.world.WorldCall.{WorldCall}
 use Rattle.kr_kms.specs.declared.world.WorldCall.TheVariants.{File, Tape, RandomSource, Link}
 use Rattle.kr_store.specs.declared.rows.LogRow.{LogRow}
-use Rattle.kr_top.specs.StoreFiles.{Stored, with_row, HoldsRows, BeginsWith}
+use Rattle.kr_top.specs.StoreFiles.{Stored, with_row, HoldsRows, BeginsWith, StillHolds}
 use Rattle.kr_top.specs.declared.refusal.Object.{Object}
 use Rattle.kr_top.specs.declared.refusal.Object.TheVariants.{Input, Files, Dice, Plugin}
 use Rattle.kr_top.specs.declared.refusal.Refusal.{Refusal}
@@ -32,6 +32,9 @@ pub data Steps (A : Type 0) : Type 1 where
   read_tape : Object → (name : List ℕ) → (List ℕ → Steps A) → Steps A
   -- a row behind the rows of a store, on a tape that is lent; a fault's line names the object
   write_row : Object → (name : List ℕ) → Stored → LogRow → Steps A → Steps A
+  -- nothing is asked: the tape that is lent begins with the file of these rows, and is no more than
+  -- that where its count of faults didn't rise
+  keep_rows : (name : List ℕ) → Stored → Steps A → Steps A
   -- so many bytes of the random source of a seat
   draw : (seat size : ℕ) → (List ℕ → Steps A) → Steps A
   -- the link of a seat to a plugin, which a program is
@@ -61,6 +64,7 @@ and_then (read_tape object name next) others =
     read_tape object name (λ bytes. and_then (next bytes) others)
 and_then (write_row object name store row next) others =
     write_row object name store row (and_then next others)
+and_then (keep_rows name store next) others = keep_rows name store (and_then next others)
 and_then (draw seat size next) others = draw seat size (λ bytes. and_then (next bytes) others)
 and_then (borrow_link seat plugin program next) others =
     borrow_link seat plugin program (and_then next others)
@@ -129,7 +133,8 @@ MayBorrow tape make = tape ≡ Some None → make ≡ true
 
 -- the truth of plugins, the files by their names and the statuses of links, which stay; what the
 -- steps so far left of the tapes, of the input and of the random source of each seat, and the calls
--- that they made on the world, all this where it is told; and what they said last
+-- that they made on the world, all this where it is told; what they said last; and the tapes'
+-- counts of faults, which are no less in the end
 pub record Left : Type 0 where
   pub truth : Truth
   pub file : List ℕ → Option (Option (List ℕ))
@@ -139,6 +144,7 @@ pub record Left : Type 0 where
   pub dice : ℕ → Option (List ℕ)
   pub asked : Option (List WorldCall)
   pub said : List ℕ
+  pub counts : List ℕ → ℕ
 
 abbrev pub with_input : Option (List ℕ) → Left → Left
 with_input rest left = record left { input = rest }
@@ -153,6 +159,12 @@ with_tape make name left = record left { tapes = tapes_with make name left.tapes
 abbrev pub with_told : (name : List ℕ) → Option (List ℕ) → Left → Left
 with_told name told left = record left {
   tapes = λ other. if same_name name other then option_map Some told else left.tapes other;
+}
+
+-- a tape that is lent has this count of faults
+abbrev pub with_count : (name : List ℕ) → ℕ → Left → Left
+with_count name count left = record left {
+  counts = λ other. if same_name name other then count else left.counts other;
 }
 
 abbrev pub with_asked : WorldCall → Left → Left
@@ -197,6 +209,10 @@ module _ {A : Type 0} (point : Point A) (end : Left) where
       × IsAt (awaits (writing object name)) (with_told name told left))
       ⊎ ((told : Option (List ℕ)) × HoldsRows (with_row row store) told
       × Goes next (with_told name told left))
+  Goes (keep_rows name store next) left =
+      (told : Option (List ℕ)) × (count : ℕ) × (left.counts name ≤ count)
+      × StillHolds store told (left.counts name) count
+      × Goes next (with_count name count (with_told name told left))
   Goes (draw seat size next) left =
       IsAt (awaits (drawing seat)) left
       ⊎ ((bytes : List ℕ) × (rest : Option (List ℕ)) × Consumes (left.dice seat) rest bytes

@@ -1,8 +1,11 @@
 -- The definitions of inner contracts.
 pub mod Beginnings
 pub mod Phases
+pub mod Reporting
+pub mod Rewriting
 pub mod Tapes
 pub mod Judging
+pub mod Migrating
 pub mod Outfits
 pub mod Crews
 pub mod FleetFiles

@@ -1,5 +1,5 @@
 //! The call that does a command.
-ghost use Rattle.std.specs.Prelude.{◌≡◌, ◌≤◌, Some};
+ghost use Rattle.std.specs.Prelude.{◌≡◌, ◌≤◌, Some, None};
 ghost use Rattle.kr_words.specs.Grammar.{texts};
 ghost use Rattle.kr_top.specs.Afterwards.{AreLeft};
 ghost use Rattle.kr_top.specs.Around.{Around, around, with_world};
@@ -10,6 +10,7 @@ ghost use Rattle.kr_top.specs.Fleets.{RanAlone, RanFleet};
 ghost use Rattle.kr_top.specs.Ran.{receipt, Answers, Ran, Readings};
 ghost use Rattle.kr_top.specs.declared.fleet_words.FleetWords.{FleetWords};
 ghost use Rattle.kr_top.specs.inner.Phases.{Does, KeepsRules};
+ghost use Rattle.kr_top.specs.inner.Reporting.{saying};
 
 use crate::check::check;
 use crate::command::{Command, read_command};
@@ -20,8 +21,10 @@ use crate::inspect::inspect;
 use crate::judge::judge;
 use crate::lookup::get;
 use crate::message::tell;
+use crate::migration::migrate;
 use crate::phases::write_output;
-use crate::refusal::{Done, Outcome, Stop};
+use crate::refusal::{Done, Ended, Outcome, Stop};
+use crate::rewriting::rewrite;
 use crate::rows::list;
 use crate::storing::put;
 use kr_base::{Sink, Source};
@@ -31,13 +34,14 @@ use std::sync::Wait;
 use std::thread::Threads;
 
 /// Does the command that the words mean, and answers its status: 0 done, 1 a value or a reload was
-/// refused, 2 the words mean no command, 3 a configuration or a store is not read, or they don't go
-/// together, 4 an object of the outside failed, 5 want of memory, 6 a limit was passed. Each status
-/// other than 0 has one line on `errors`, but for a reload that was refused and for those that a
-/// fleet's replies decide, of which the output says why; where the line can't be written the status
-/// is 4. A fleet's workers wait for each other by `rt`. `readings` is what follows from `ran`, for
-/// readers; `tapes` is what is left of the tapes, by the status. For words that ask for a fleet
-/// `fleet` says what was done, and `fleet_readings` what the status comes from.
+/// refused, or a rewrite left some objects, 2 the words mean no command, 3 a configuration or a
+/// store is not read, or they don't go together, 4 an object of the outside failed, 5 want of
+/// memory, 6 a limit was passed. Each status other than 0 has one line on `errors`, but for a
+/// reload that was refused, for a rewrite that left some and for those that a fleet's replies
+/// decide, of which the output says why; where the line can't be written the status is 4. A fleet's
+/// workers wait for each other by `rt`. `readings` is what follows from `ran`, for readers; `tapes`
+/// is what is left of the tapes, by the status. For words that ask for a fleet `fleet` says what
+/// was done, and `fleet_readings` what the status comes from.
 pub fn run<R: Threads + Wait + Sync, W: World, I: Source, O: Sink, E: Sink>(
     rt: &R,
     alloc: Global,
@@ -198,8 +202,8 @@ fn answer<W: World, I: Source, O: Sink>(
         Ok(command) => command,
         Err(stop) => return Err(stop),
     };
-    let made = perform(alloc, &command, world, input);
-    write_output(output, made)
+    let ended = perform(alloc, &command, world, input);
+    write_output(output, ended)
 }
 
 /// Does a command up to its value.
@@ -208,22 +212,34 @@ fn perform<W: World, I: Source>(
     command: &Command,
     world: &mut W,
     input: &mut I,
-) -> Result<Outcome, Stop>
+) -> Ended
     requires path { KeepsRules (Some command.now) }
     ensures { Does (steps command.now)
         (around W.Link.truth (W.told world.old) (I.left input.old)
         (I.count input.old))
+        (saying result.said
         (around W.Link.truth (W.told world.new) (I.left input.new)
-        (I.count input.new))
-        result }
+        (I.count input.new)))
+        result.made }
 {
     match command {
-        Command::Convert(words) => convert(alloc, words, world, input),
-        Command::Check { config, resource } => check(alloc, config.as_str(), resource, world),
-        Command::Inspect => inspect(alloc, input),
-        Command::Put { object, store } => put(alloc, object, store, world, input),
-        Command::Get(words) => get(alloc, words, world),
-        Command::Rows { store } => list(alloc, store.as_str(), world),
-        Command::Judge(words) => judge(alloc, words, world),
+        Command::Convert(words) => silent(convert(alloc, words, world, input)),
+        Command::Check { config, resource } => {
+            silent(check(alloc, config.as_str(), resource, world))
+        }
+        Command::Inspect => silent(inspect(alloc, input)),
+        Command::Put { object, store } => silent(put(alloc, object, store, world, input)),
+        Command::Get(words) => silent(get(alloc, words, world)),
+        Command::Migrate(words) => silent(migrate(alloc, words, world)),
+        Command::Rows { store } => silent(list(alloc, store.as_str(), world)),
+        Command::Judge(words) => silent(judge(alloc, words, world)),
+        Command::Rewrite(words) => rewrite(alloc, words, world),
     }
+}
+
+/// A command that reports nothing where it stopped.
+fn silent(made: Result<Outcome, Stop>) -> Ended
+    ensures { result ≡ record { made = made; said = None } }
+{
+    Ended { made, said: None }
 }

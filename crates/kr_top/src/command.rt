@@ -1,11 +1,12 @@
 //! The commands that are built.
 ghost use Rattle.std.specs.Prelude.{◌≡◌, ◌≤◌, Some, IfOk, IfSome, codes, length};
 ghost use Rattle.kr_base.specs.Limits.{path_limit};
+ghost use Rattle.kr_kms.specs.Outside.{same_name};
 ghost use Rattle.kr_words.specs.Grammar.{texts, replicas_of, replica_limit};
 ghost use Rattle.kr_words.specs.declared.command.Verb.{Verb};
 ghost use Rattle.kr_words.specs.Options.{value_of};
 ghost use Rattle.kr_words.specs.Rules.{IsCommand};
-ghost use Rattle.kr_top.specs.Command.{command_of, conversion_of, check_of, lookup_of, listing_of, judgement_of, put_of};
+ghost use Rattle.kr_top.specs.Command.{command_of, conversion_of, check_of, lookup_of, migration_of, listing_of, judgement_of, put_of, rewriting_of};
 ghost use Rattle.kr_base.specs.Rules.{IsPath, IsResource};
 ghost use Rattle.kr_top.specs.inner.Phases.{IsReadAs, KeepsRules};
 
@@ -52,12 +53,34 @@ pub struct Lookup {
     pub options: Options,
 }
 
+/// Which store is to be migrated.
+#[derive(Debug, Drop)]
+pub struct Migration {
+    /// The name of the configuration file, of whose providers the checks are.
+    pub config: Text,
+    /// The name of the store's file.
+    pub store: Text,
+    /// The name of the file of the store that is written.
+    pub to: Text,
+}
+
 /// Which reload is to be judged.
 #[derive(Debug, Drop)]
 pub struct Judgement {
     /// The name of the store's file.
     pub store: Text,
     /// All options of the words, which name the replicas' files and the reload.
+    pub options: Options,
+}
+
+/// Which store is to be rewritten.
+#[derive(Debug, Drop)]
+pub struct Rewriting {
+    /// The name of the configuration file.
+    pub config: Text,
+    /// The name of the store's file.
+    pub store: Text,
+    /// All options of the words, which give the programs of plugins.
     pub options: Options,
 }
 
@@ -84,6 +107,8 @@ pub enum Command {
     },
     /// Reads a value of a store.
     Get(Lookup),
+    /// Copies a store of the first format into a new one of the second.
+    Migrate(Migration),
     /// Lists the rows of a store.
     Rows {
         /// The name of the store's file.
@@ -91,6 +116,8 @@ pub enum Command {
     },
     /// Judges a reload.
     Judge(Judgement),
+    /// Writes the stale rows of a store anew.
+    Rewrite(Rewriting),
 }
 
 /// Reads the words as a command.
@@ -128,8 +155,10 @@ fn command_of(alloc: Global, words: kr_words::Command) -> Result<Option<Command>
         Verb::Inspect => Ok(Some(Command::Inspect)),
         Verb::Put => put_of(alloc, words),
         Verb::Get => lookup_of(alloc, words),
+        Verb::Migrate => migration_of(alloc, &words),
         Verb::Rows => listing_of(alloc, &words),
         Verb::Judge => judgement_of(alloc, words),
+        Verb::Rewrite => rewriting_of(alloc, words),
         _ => Ok(None),
     }
 }
@@ -300,6 +329,47 @@ fn lookup_at(config: Text, store: Text, path: Option<Text>, options: Options) ->
     }
 }
 
+/// The words of `migrate`.
+fn migration_of(alloc: Global, words: &kr_words::Command) -> Result<Option<Command>, NoMemory>
+    ensures command { IfOk result (λ command. command ≡ migration_of
+        (value_of words.now.options.0 (codes "config"))
+        (value_of words.now.options.0 (codes "store"))
+        (value_of words.now.options.0 (codes "to"))) }
+    ensures path { IfOk result KeepsRules }
+{
+    let config = value_of(alloc, words, "config")?;
+    let store = value_of(alloc, words, "store")?;
+    let to = value_of(alloc, words, "to")?;
+    let Some(config) = config else {
+        return Ok(None);
+    };
+    let Some(store) = store else {
+        return Ok(None);
+    };
+    Ok(migration_at(config, store, to))
+}
+
+/// A migration into another store, where there is one.
+fn migration_at(config: Text, store: Text, to: Option<Text>) -> Option<Command>
+    ensures command { result ≡ migration_of (Some config) (Some store) to }
+    ensures path { KeepsRules result }
+{
+    let Some(to) = to else {
+        return None;
+    };
+    if is_same(&store, &to) {
+        return None;
+    }
+    Some(Command::Migrate(Migration { config, store, to }))
+}
+
+/// Whether two names are the same.
+fn is_same(name: &Text, other: &Text) -> bool
+    ensures { result ≡ same_name name.now other.now }
+{
+    name.as_str() == other.as_str()
+}
+
 /// The words of `list`.
 fn listing_of(alloc: Global, words: &kr_words::Command) -> Result<Option<Command>, NoMemory>
     ensures command { IfOk result (λ command. command ≡ listing_of
@@ -331,6 +401,28 @@ fn judgement_of(alloc: Global, words: kr_words::Command) -> Result<Option<Comman
         }))),
         None => Ok(None),
     }
+}
+
+/// The words of `rewrite`.
+fn rewriting_of(alloc: Global, words: kr_words::Command) -> Result<Option<Command>, NoMemory>
+    ensures command { IfOk result (λ command. command ≡ rewriting_of words.options.0
+        (value_of words.options.0 (codes "config"))
+        (value_of words.options.0 (codes "store"))) }
+    ensures path { IfOk result KeepsRules }
+{
+    let config = value_of(alloc, &words, "config")?;
+    let store = value_of(alloc, &words, "store")?;
+    let Some(config) = config else {
+        return Ok(None);
+    };
+    let Some(store) = store else {
+        return Ok(None);
+    };
+    Ok(Some(Command::Rewrite(Rewriting {
+        config,
+        store,
+        options: Options::new(words),
+    })))
 }
 
 /// A copy of the first value at the name.

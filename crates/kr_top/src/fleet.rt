@@ -418,7 +418,7 @@ fn start<T: Tape>(
 }
 
 /// Why a core didn't start, as a command says it.
-fn start_stop(why: StartNo) -> Stop
+pub fn start_stop(why: StartNo) -> Stop
     ensures { result ≡ start_stop why }
 {
     match why {
@@ -430,7 +430,7 @@ fn start_stop(why: StartNo) -> Stop
 }
 
 /// The names of the programs' plugins.
-fn names_of(alloc: Global, programs: &[Program]) -> Result<List<Text>, NoMemory>
+pub fn names_of(alloc: Global, programs: &[Program]) -> Result<List<Text>, NoMemory>
     ensures { IfOk result (λ names. names.0 ≡ names_in programs.now) }
 {
     let mut names = List::new(alloc);

@@ -51,6 +51,8 @@ fn status_of_refusal(why: &Refusal) -> u8
         Refusal::Value(_) => 1,
         Refusal::Placed(_, _) => 1,
         Refusal::NoPath(_) => 1,
+        Refusal::NotEmpty(_) => 3,
+        Refusal::NotOld => 3,
         Refusal::Absent(_) => 3,
         Refusal::Broken(_) => 3,
         Refusal::Stray(_) => 3,
@@ -145,6 +147,8 @@ fn write_refusal<E: Sink>(errors: &mut E, why: &Refusal) -> Result<(), Failed>
         Refusal::Placed(why, at) => write_placed(errors, *why, *at),
         Refusal::Broken(why) => write_broken(errors, *why),
         Refusal::NoPath(path) => write_each(errors, &["kmsrest: absent ", path.as_str(), "\n"]),
+        Refusal::NotEmpty(length) => write_counted(errors, "kmsrest: text ", "52", *length),
+        Refusal::NotOld => write_text(errors, "kmsrest: text 53 2\n"),
         Refusal::Stray(path) => write_each(errors, &["kmsrest: text 48 ", path.as_str(), "\n"]),
         Refusal::OtherSecret(path) => {
             write_each(errors, &["kmsrest: text 51 ", path.as_str(), "\n"])
@@ -366,6 +370,7 @@ fn write_fault<E: Sink>(errors: &mut E, object: &Object, count: u64) -> Result<(
         Object::Output => write_counted(errors, "kmsrest: fault ", "output", count),
         Object::Files => write_counted(errors, "kmsrest: fault ", "files", count),
         Object::Store => write_counted(errors, "kmsrest: fault ", "store", count),
+        Object::Target => write_counted(errors, "kmsrest: fault ", "target", count),
         Object::Dice(seat) => write_dice_fault(errors, *seat, count),
         Object::Plugin(name) => write_plugin_fault(errors, name, count),
     }
@@ -415,7 +420,7 @@ fn write_text<E: Sink>(errors: &mut E, text: &str) -> Result<(), Failed>
 }
 
 /// Writes the pieces, one behind another.
-fn write_each<E: Sink>(errors: &mut E, pieces: &[&str]) -> Result<(), Failed>
+pub fn write_each<E: Sink>(errors: &mut E, pieces: &[&str]) -> Result<(), Failed>
     ensures { Says (receipt (E.held errors.old) (E.held errors.new)
         (E.count errors.old) (E.count errors.new))
         (whole pieces.now) result }

@@ -1,14 +1,16 @@
 //! The phases that commands are made of.
-ghost use Rattle.std.specs.Prelude.{◌≡◌, ◌<◌, ◌≤◌, length, [], IfOk, IfErr, OnErr};
+ghost use Rattle.std.specs.Prelude.{◌≡◌, ◌<◌, ◌≤◌, ℕ, List, Ok, Err, length, IfOk, IfErr, OnErr};
 ghost use Rattle.kr_kms.specs.Outside.{KeepsFiles, KeepsObjects, file_faults};
 ghost use Rattle.kr_kms.specs.declared.world.WorldCall.{WorldCall};
 ghost use Rattle.kr_top.specs.Around.{Around, with_told_input, with_world};
 ghost use Rattle.kr_top.specs.Commands.{configuration, input_of, limit_of};
-ghost use Rattle.kr_top.specs.Ran.{receipt, Writes};
+ghost use Rattle.kr_top.specs.Ran.{receipt, Reports, Writes};
+ghost use Rattle.kr_top.specs.Reports.{said_text};
 ghost use Rattle.kr_top.specs.inner.Phases.{Does, DiceLoan, DiceReturn, LinkLoan, LinkReturn, AskedFor, Configures, ReadsRows, TakesInput, LendsNothing, rows_in, shown_as};
 
 use crate::command::Direction;
-use crate::refusal::{Done, Limit, Object, Outcome, Refusal, Stop};
+use crate::refusal::{Done, Ended, Limit, Object, Outcome, Refusal, Stop};
+use crate::report::{Counts, write_report};
 use crate::text::visible;
 use kr_base::{
     Bytes, CONFIG_LIMIT, DATA_LIMIT, Failed, ReadNo, Sink, Source, VALUE_LIMIT, read_all, write_all,
@@ -167,18 +169,44 @@ pub fn show(text: Result<Bytes, Stop>) -> Result<Outcome, Stop>
     }
 }
 
-/// Writes what a command made to the output.
-pub fn write_output<O: Sink>(output: &mut O, made: Result<Outcome, Stop>) -> Result<Done, Stop>
-    ensures written { Writes [] (receipt (O.held output.old) (O.held output.new)
-        (O.count output.old) (O.count output.new)) made result }
+/// Writes what a command made to the output, or what it reports where it stopped.
+pub fn write_output<O: Sink>(output: &mut O, ended: Ended) -> Result<Done, Stop>
+    ensures written { Writes (said_text ended.said) (receipt (O.held output.old) (O.held output.new)
+        (O.count output.old) (O.count output.new)) ended.made result }
     ensures later { O.count output.old ≤ O.count output.new }
 {
-    let Outcome { bytes, done } = match made {
-        Ok(made) => made,
-        Err(stop) => return Err(stop),
-    };
+    let Ended { made, said } = ended;
+    match made {
+        Ok(made) => write_value(output, made),
+        Err(stop) => {
+            write_said(output, said);
+            Err(stop)
+        }
+    }
+}
+
+/// Writes what a command made.
+fn write_value<O: Sink>(output: &mut O, made: Outcome) -> Result<Done, Stop>
+    ensures written { (said : List ℕ) → Writes said (receipt (O.held output.old) (O.held output.new)
+        (O.count output.old) (O.count output.new)) (Ok made) result }
+    ensures later { O.count output.old ≤ O.count output.new }
+{
+    let Outcome { bytes, done } = made;
     match write_all(output, bytes.as_slice()) {
         Ok(()) => Ok(done),
         Err(Failed) => Err(Stop::Fault(Object::Output, output.faults())),
     }
+}
+
+/// Writes the report of a command that stopped, where there is one. Where it can't be written the
+/// stop is told all the same.
+fn write_said<O: Sink>(output: &mut O, said: Option<Counts>)
+    ensures said { Reports (said_text said) (receipt (O.held output.old) (O.held output.new)
+        (O.count output.old) (O.count output.new)) }
+    ensures later { O.count output.old ≤ O.count output.new }
+{
+    let Some(counts) = said else {
+        return;
+    };
+    let _told = write_report(output, counts);
 }

@@ -1,5 +1,6 @@
 //! How a command ends: done, refused by what it saw, or cut short.
 
+use crate::report::Counts;
 use kr_base::{Bytes, Text};
 use kr_config::ConfigNo;
 use kr_judge::Verdict;
@@ -17,6 +18,8 @@ pub enum Object {
     Files,
     /// The tape of the store.
     Store,
+    /// The tape of the store that a migration writes.
+    Target,
     /// The random source of a seat.
     Dice(u32),
     /// The plugin of a name.
@@ -89,6 +92,10 @@ pub enum Refusal {
     Broken(Breach),
     /// The store has no value at this path.
     NoPath(Text),
+    /// The store that a migration writes has bytes already, so many.
+    NotEmpty(u64),
+    /// The store that is to be migrated has the second format.
+    NotOld,
     /// No provider of the first replica reads what is stored at this path.
     Stray(Text),
     /// What is stored at this path was sealed with another secret of the same name.
@@ -121,7 +128,7 @@ pub enum Done {
     Fresh,
     /// The value is of another provider than the writer.
     Stale,
-    /// The verdict isn't `pass`.
+    /// The verdict isn't `pass`, or rows were left as they are.
     Blocked,
 }
 
@@ -130,4 +137,13 @@ pub enum Done {
 pub struct Outcome {
     pub bytes: Bytes,
     pub done: Done,
+}
+
+/// How a command ended.
+#[derive(Debug, Drop)]
+pub struct Ended {
+    /// What it makes, or why it stopped.
+    pub made: Result<Outcome, Stop>,
+    /// What it reports where it stopped.
+    pub said: Option<Counts>,
 }

@@ -1,14 +1,14 @@
 //! The phases over tapes and the stores that they hold.
-ghost use Rattle.std.specs.Prelude.{◌≡◌, ◌<◌, ◌≤◌, List, ℕ, Ok, Err, IfOk, IfErr, OnErr, false, length};
+ghost use Rattle.std.specs.Prelude.{◌≡◌, ◌<◌, ◌≤◌, List, ℕ, Ok, Err, IfOk, IfErr, OnErr, IsSome, false, length};
 ghost use Rattle.kr_base.specs.Limits.{store_limit, value_limit};
 ghost use Rattle.kr_base.specs.Rules.{IsPath, IsResource};
-ghost use Rattle.kr_store.specs.Rows.{check_in, put_of};
+ghost use Rattle.kr_store.specs.Rows.{check_in, delete_of, live, put_of};
 ghost use Rattle.kr_kms.specs.Outside.{KeepsFiles, KeepsObjects};
 ghost use Rattle.kr_kms.specs.declared.world.WorldCall.{WorldCall};
 ghost use Rattle.kr_top.specs.Around.{Around, with_lent_tape};
 ghost use Rattle.kr_top.specs.Commands.{adding, stored_on};
 ghost use Rattle.kr_top.specs.inner.Phases.{Does, AskedFor};
-ghost use Rattle.kr_top.specs.inner.Tapes.{LentTape, ReturnedTape, NoTape, grown_by, load_stop, stored_of};
+ghost use Rattle.kr_top.specs.inner.Tapes.{HasOneMore, IsLoaded, LentTape, ReturnedTape, NoTape, grown_by, load_stop, stored_of};
 
 use crate::refusal::{Breach, Limit, Object, Refusal, Stop};
 use crate::text::visible;
@@ -65,6 +65,7 @@ pub fn load_store<T: Tape>(alloc: Global, tape: T, object: Object) -> Result<Sto
         (with_lent_tape name (T.told tape) (T.count tape) a)
         (with_lent_tape name (T.told refused.1) (T.count refused.1) a) (Err refused.0)) }
     ensures limit { IfOk result (λ store. (store.limit ≡ store_limit) × (store.torn ≡ false)) }
+    ensures loaded { IfOk result (IsLoaded (T.told tape) (T.count tape)) }
 {
     match Store::load(alloc, tape, STORE_LIMIT) {
         Ok(store) => Ok(store),
@@ -88,12 +89,15 @@ pub fn add_put<T: Tape>(
     requires resource { IsResource resource.now }
     requires stored { length stored ≤ value_limit }
     requires within { store.old.limit ≡ store_limit }
-    ensures { (name : List ℕ) (a : Around) →
+    ensures does { (name : List ℕ) (a : Around) →
         let row = put_of path.now resource.now stored (check_in store.old.format check) in Does
         (adding object name (stored_of store.old) row)
         (with_lent_tape name store.old.told store.old.count a)
         (with_lent_tape name store.new.told store.new.count a)
         (grown_by row (stored_of store.old) result) }
+    ensures grown { IfOk result (λ done. HasOneMore
+        (put_of path.now resource.now stored (check_in store.old.format check))
+        store.old store.new) }
 {
     let written = store.put(path, resource, stored, check);
     store.known();
@@ -101,6 +105,35 @@ pub fn add_put<T: Tape>(
         Ok(_revision) => Ok(()),
         Err(PutNo::Failed) => Err(Stop::Fault(object, store.faults())),
         Err(PutNo::Full { needed: _needed }) => Err(Stop::Refused(Refusal::Limit(Limit::Store))),
+        Err(
+            PutNo::Changed {
+                revision: _revision,
+            },
+        ) => unreachable!(),
+        Err(PutNo::NoMemory) => Err(Stop::NoMemory),
+    }
+}
+
+/// Writes a delete of a live row behind the rows of a store. Nothing is wanted of memory once the
+/// tape is touched.
+pub fn add_delete<T: Tape>(store: &mut Store<T>, object: Object, path: &str) -> Result<(), Stop>
+    requires path { IsPath path.now }
+    requires live { IsSome (live store.old.rows path.now) }
+    requires within { store.old.limit ≡ store_limit }
+    ensures does { (name : List ℕ) (a : Around) →
+        let row = delete_of path.now in Does (adding object name (stored_of store.old) row)
+        (with_lent_tape name store.old.told store.old.count a)
+        (with_lent_tape name store.new.told store.new.count a)
+        (grown_by row (stored_of store.old) result) }
+    ensures grown { IfOk result (λ done. HasOneMore (delete_of path.now) store.old store.new) }
+{
+    let written = store.delete(path);
+    store.known();
+    match written {
+        Ok(Some(_revision)) => Ok(()),
+        Ok(None) => unreachable!(),
+        Err(PutNo::Failed) => Err(Stop::Fault(object, store.faults())),
+        Err(PutNo::Full { needed: _length }) => Err(Stop::Refused(Refusal::Limit(Limit::Store))),
         Err(
             PutNo::Changed {
                 revision: _revision,

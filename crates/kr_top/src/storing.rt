@@ -151,8 +151,8 @@ fn put_on<W: World>(
     (answer_of(added, line), store.close())
 }
 
-/// What `put` answers, once its row was added.
-fn answer_of(added: Result<(), Stop>, line: Bytes) -> Result<Outcome, Stop>
+/// What a command answers, once its rows were added.
+pub fn answer_of(added: Result<(), Stop>, line: Bytes) -> Result<Outcome, Stop>
     ensures { result ≡ answered added line }
 {
     match added {
@@ -175,7 +175,7 @@ fn writer_check(list: &[Who]) -> Check
 }
 
 /// The provider's check, as a store keeps it.
-fn store_check(who: &Who) -> Check
+pub fn store_check(who: &Who) -> Check
     ensures { result ≡ store_check who.now }
 {
     Check {

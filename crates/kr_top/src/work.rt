@@ -128,7 +128,7 @@ fn make_linked<W: World>(
 }
 
 /// The last of some links.
-fn take_last<L: Kms>(links: &mut Links<L>) -> L
+pub fn take_last<L: Kms>(links: &mut Links<L>) -> L
     requires { names_of L.link links.old ≢ [] }
     ensures { links.old ≡ links.new ++ result ∷ [] }
 {
@@ -138,7 +138,7 @@ fn take_last<L: Kms>(links: &mut Links<L>) -> L
 }
 
 /// The first of programs, and the others.
-fn first_of(programs: &[Program]) -> Option<(&Program, &[Program])>
+pub fn first_of(programs: &[Program]) -> Option<(&Program, &[Program])>
     ensures { MatchOption result (programs.now ≡ [])
         (λ parts. programs.now ≡ parts.0.now ∷ parts.1.now) }
 {

@@ -9,10 +9,11 @@ use Rattle.kr_words.specs.Rules.{IsOption, HaveTwoNames, IsCommand}
 use Rattle.kr_words.specs.declared.name.OptionName.{OptionName}
 use Rattle.kr_words.specs.declared.name.OptionName.TheVariants.{Config, Resource, Path, Plugin}
 use Rattle.kr_words.specs.declared.name.OptionName.TheVariants.{Store, Replica, Reload, File, Seed}
-use Rattle.kr_words.specs.declared.name.OptionName.TheVariants.{Size}
+use Rattle.kr_words.specs.declared.name.OptionName.TheVariants.{Size, To}
 
 abbrev pub all_names : List OptionName
-all_names = Config ∷ Resource ∷ Path ∷ Plugin ∷ Store ∷ Replica ∷ Reload ∷ File ∷ Seed ∷ Size ∷ []
+all_names = Config ∷ Resource ∷ Path ∷ Plugin ∷ Store ∷ Replica ∷ Reload ∷ File ∷ Seed ∷ Size
+    ∷ To ∷ []
 
 -- what holds of each name of the list holds of each name
 pub each_name : (P : OptionName → Type 0) → All P all_names → (name : OptionName) → P name
@@ -26,6 +27,7 @@ each_name P h Reload = h 6 Config (omega arith)
 each_name P h File = h 7 Config (omega arith)
 each_name P h Seed = h 8 Config (omega arith)
 each_name P h Size = h 9 Config (omega arith)
+each_name P h To = h 10 Config (omega arith)
 
 pub or_few : (P : Type 0) (b : Bool) (n m : ℕ) → IsTrue b ↔ P → b ≡ false → n ≡ m
     → IsTrue (leb n 1) ↔ (P ⊎ (m ≤ 1))

@@ -5,11 +5,11 @@ use Rattle.std.specs.Str.{bytes_eq}
 use Rattle.std.proofs.lemmas.List.Elements.{All-weaker, recursion_from_All}
 use Rattle.kr_words.specs.declared.command.Verb.{Verb}
 use Rattle.kr_words.specs.declared.command.Verb.TheVariants.{Encrypt, Decrypt, Check, Inspect, Put}
-use Rattle.kr_words.specs.declared.command.Verb.TheVariants.{Get, Rows, Judge, Rewrite, Fleet, Gen}
+use Rattle.kr_words.specs.declared.command.Verb.TheVariants.{Get, Rows, Migrate, Judge, Rewrite, Fleet, Gen}
 use Rattle.kr_words.specs.declared.name.OptionName.{OptionName}
 use Rattle.kr_words.specs.declared.name.OptionName.TheVariants.{Config, Resource, Path, Plugin}
 use Rattle.kr_words.specs.declared.name.OptionName.TheVariants.{Store, Replica, Reload, File, Seed}
-use Rattle.kr_words.specs.declared.name.OptionName.TheVariants.{Size}
+use Rattle.kr_words.specs.declared.name.OptionName.TheVariants.{Size, To}
 use Rattle.kr_words.specs.Names.{word_of, text_of}
 use Rattle.kr_words.specs.Options.{value_of, count_of}
 use Rattle.kr_words.specs.Numerals.{IsDecimal}
@@ -30,7 +30,8 @@ verb_at word =
     if bytes_eq word (codes "list") then Rows else (
     if bytes_eq word (codes "judge") then Judge else (
     if bytes_eq word (codes "rewrite") then Rewrite else (
-    if bytes_eq word (codes "fleet") then Fleet else Gen)))))))))
+    if bytes_eq word (codes "fleet") then Fleet else (
+    if bytes_eq word (codes "migrate") then Migrate else Gen))))))))))
 
 verb_at-word : (verb : Verb) → verb_at (word_of verb) ≡ verb
 unfolding verb_at
@@ -45,6 +46,7 @@ verb_at-word Judge = refl
 verb_at-word Rewrite = refl
 verb_at-word Fleet = refl
 verb_at-word Gen = refl
+verb_at-word Migrate = refl
 
 -- two commands have two words
 word_once : (verb verb' : Verb) → word_of verb ≡ word_of verb' → verb ≡ verb'
@@ -61,6 +63,7 @@ plain_text Reload = grind arith
 plain_text File = grind arith
 plain_text Seed = grind arith
 plain_text Size = grind arith
+plain_text To = grind arith
 
 -- the options of a command have plain names
 plain_options : {verb : Verb} {options : List (List ℕ × List ℕ)} → IsCommand verb options

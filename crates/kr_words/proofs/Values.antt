@@ -12,7 +12,7 @@ use Rattle.kr_words.specs.declared.command.Verb.{Verb}
 use Rattle.kr_words.specs.declared.name.OptionName.{OptionName}
 use Rattle.kr_words.specs.declared.name.OptionName.TheVariants.{Config, Resource, Path, Plugin}
 use Rattle.kr_words.specs.declared.name.OptionName.TheVariants.{Store, Replica, Reload, File, Seed}
-use Rattle.kr_words.specs.declared.name.OptionName.TheVariants.{Size}
+use Rattle.kr_words.specs.declared.name.OptionName.TheVariants.{Size, To}
 use Rattle.kr_words.specs.Names.{text_of, required_options}
 use Rattle.kr_words.specs.Options.{is_named, value_of, count_of}
 use Rattle.kr_words.specs.Rules.{IsValue, IsOption, IsCommand}
@@ -27,7 +27,8 @@ name_at text =
     if bytes_eq text (codes "replica") then Replica else (
     if bytes_eq text (codes "reload") then Reload else (
     if bytes_eq text (codes "file") then File else (
-    if bytes_eq text (codes "seed") then Seed else Size))))))))
+    if bytes_eq text (codes "seed") then Seed else (
+    if bytes_eq text (codes "to") then To else Size)))))))))
 
 name_at-text : (name : OptionName) → name_at (text_of name) ≡ name
 unfolding name_at
@@ -41,6 +42,7 @@ name_at-text Reload = refl
 name_at-text File = refl
 name_at-text Seed = refl
 name_at-text Size = refl
+name_at-text To = refl
 
 -- two names have two texts
 pub name_once : (a b : OptionName) → text_of a ≡ text_of b → a ≡ b

@@ -2,11 +2,11 @@
 use Rattle.std.specs.Prelude.{◌≡◌, ◌⊎◌, ℕ, List, [], ◌∷◌, codes}
 use Rattle.kr_words.specs.declared.command.Verb.{Verb}
 use Rattle.kr_words.specs.declared.command.Verb.TheVariants.{Encrypt, Decrypt, Check, Inspect, Put}
-use Rattle.kr_words.specs.declared.command.Verb.TheVariants.{Get, Rows, Judge, Rewrite, Fleet, Gen}
+use Rattle.kr_words.specs.declared.command.Verb.TheVariants.{Get, Rows, Migrate, Judge, Rewrite, Fleet, Gen}
 use Rattle.kr_words.specs.declared.name.OptionName.{OptionName}
 use Rattle.kr_words.specs.declared.name.OptionName.TheVariants.{Config, Resource, Path, Plugin}
 use Rattle.kr_words.specs.declared.name.OptionName.TheVariants.{Store, Replica, Reload, File, Seed}
-use Rattle.kr_words.specs.declared.name.OptionName.TheVariants.{Size}
+use Rattle.kr_words.specs.declared.name.OptionName.TheVariants.{Size, To}
 
 -- the word of a command
 abbrev pub word_of : Verb → List ℕ
@@ -17,6 +17,7 @@ word_of Inspect = codes "inspect"
 word_of Put = codes "put"
 word_of Get = codes "get"
 word_of Rows = codes "list"
+word_of Migrate = codes "migrate"
 word_of Judge = codes "judge"
 word_of Rewrite = codes "rewrite"
 word_of Fleet = codes "fleet"
@@ -34,6 +35,7 @@ text_of Reload = codes "reload"
 text_of File = codes "file"
 text_of Seed = codes "seed"
 text_of Size = codes "size"
+text_of To = codes "to"
 
 -- the options that a command must have
 abbrev pub required_options : Verb → List OptionName
@@ -44,6 +46,7 @@ required_options Inspect = []
 required_options Put = Config ∷ Store ∷ Resource ∷ Path ∷ []
 required_options Get = Config ∷ Store ∷ Path ∷ []
 required_options Rows = Store ∷ []
+required_options Migrate = Config ∷ Store ∷ To ∷ []
 required_options Judge = Store ∷ Replica ∷ Reload ∷ []
 required_options Rewrite = Config ∷ Store ∷ []
 required_options Fleet = File ∷ Store ∷ []
@@ -58,6 +61,7 @@ optional Inspect = []
 optional Put = Plugin ∷ []
 optional Get = Plugin ∷ []
 optional Rows = []
+optional Migrate = []
 optional Judge = []
 optional Rewrite = Plugin ∷ []
 optional Fleet = Plugin ∷ []

@@ -8,7 +8,7 @@ use Rattle.kr_words.specs.declared.command.Verb.TheVariants.{Encrypt, Decrypt}
 use Rattle.kr_words.specs.declared.name.OptionName.{OptionName}
 use Rattle.kr_words.specs.declared.name.OptionName.TheVariants.{Config, Resource, Path, Plugin}
 use Rattle.kr_words.specs.declared.name.OptionName.TheVariants.{Store, Replica, Reload, File, Seed}
-use Rattle.kr_words.specs.declared.name.OptionName.TheVariants.{Size}
+use Rattle.kr_words.specs.declared.name.OptionName.TheVariants.{Size, To}
 use Rattle.kr_words.specs.Names.{text_of, required_options, optional, IsRepeatable}
 use Rattle.kr_words.specs.Options.{count_of}
 use Rattle.kr_words.specs.Numerals.{IsDecimal}
@@ -46,6 +46,7 @@ IsValue verb replicas Reload value = IsReload replicas value
 IsValue verb replicas File value = ⊤
 IsValue verb replicas Seed value = (n : ℕ) × IsDecimal value n × (n ≤ 18446744073709551615)
 IsValue verb replicas Size value = (n : ℕ) × IsDecimal value n × (1 ≤ n)
+IsValue verb replicas To value = ⊤
 
 -- an option of the command, with a value that it may have
 abbrev pub IsOption : Verb → ℕ → List ℕ × List ℕ → Type 0

@@ -22,9 +22,11 @@ pub enum Verb {
     Get,
     /// Lists the rows of a store; its word is `list`.
     Rows,
+    /// Copies a store of the first format into a new one of the second.
+    Migrate,
     /// Judges a reload of one replica of many.
     Judge,
-    /// Encrypts all stale rows of a store anew.
+    /// Writes the stale rows of a store anew.
     Rewrite,
     /// Runs the replicas of a fleet file.
     Fleet,

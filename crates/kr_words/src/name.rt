@@ -27,6 +27,8 @@ pub enum OptionName {
     Seed,
     /// The size of a load.
     Size,
+    /// The file of the store that is written.
+    To,
 }
 
 /// The command of a word.
@@ -43,6 +45,7 @@ pub fn verb_of(word: &str) -> Option<Verb>
         "put" => Some(Verb::Put),
         "get" => Some(Verb::Get),
         "list" => Some(Verb::Rows),
+        "migrate" => Some(Verb::Migrate),
         "judge" => Some(Verb::Judge),
         "rewrite" => Some(Verb::Rewrite),
         "fleet" => Some(Verb::Fleet),
@@ -53,7 +56,7 @@ pub fn verb_of(word: &str) -> Option<Verb>
 
 impl OptionName {
     /// Each name once.
-    pub const ALL: [OptionName; 10] = [
+    pub const ALL: [OptionName; 11] = [
         OptionName::Config,
         OptionName::Resource,
         OptionName::Path,
@@ -64,6 +67,7 @@ impl OptionName {
         OptionName::File,
         OptionName::Seed,
         OptionName::Size,
+        OptionName::To,
     ];
 
     /// The option of that name, without its dashes.
@@ -83,6 +87,7 @@ impl OptionName {
             "file" => Some(OptionName::File),
             "seed" => Some(OptionName::Seed),
             "size" => Some(OptionName::Size),
+            "to" => Some(OptionName::To),
             _ => None,
         }
     }
@@ -102,6 +107,7 @@ impl OptionName {
             OptionName::File => "file",
             OptionName::Seed => "seed",
             OptionName::Size => "size",
+            OptionName::To => "to",
         }
     }
 
@@ -132,6 +138,7 @@ impl Verb {
             ],
             Verb::Get => &[OptionName::Config, OptionName::Store, OptionName::Path],
             Verb::Rows => &[OptionName::Store],
+            Verb::Migrate => &[OptionName::Config, OptionName::Store, OptionName::To],
             Verb::Judge => &[OptionName::Store, OptionName::Replica, OptionName::Reload],
             Verb::Rewrite => &[OptionName::Config, OptionName::Store],
             Verb::Fleet => &[OptionName::File, OptionName::Store],
@@ -147,7 +154,7 @@ impl Verb {
             Verb::Encrypt | Verb::Decrypt | Verb::Put | Verb::Get | Verb::Rewrite | Verb::Fleet =>
                 &[OptionName::Plugin],
             Verb::Check => &[OptionName::Resource],
-            Verb::Inspect | Verb::Rows | Verb::Judge | Verb::Gen => &[],
+            Verb::Inspect | Verb::Rows | Verb::Migrate | Verb::Judge | Verb::Gen => &[],
         }
     }
 

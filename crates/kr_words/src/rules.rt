@@ -51,7 +51,11 @@ fn is_value(verb: Verb, replicas: usize, name: OptionName, value: &str) -> bool
     ensures { IsTrue result ↔ IsValue verb replicas name value.now }
 {
     match name {
-        OptionName::Config | OptionName::Store | OptionName::Replica | OptionName::File => true,
+        OptionName::Config
+        | OptionName::Store
+        | OptionName::Replica
+        | OptionName::File
+        | OptionName::To => true,
         OptionName::Resource => resource_ok(value),
         OptionName::Path => path_ok(value) || (may_have_empty_path(verb) && value.is_empty()),
         OptionName::Plugin => is_plugin(value),

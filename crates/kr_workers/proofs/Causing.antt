@@ -38,7 +38,7 @@ use Rattle.kr_script.specs.declared.script.ScriptLine.{ScriptLine}
 use Rattle.kr_script.specs.declared.script.ScriptLine.TheVariants as line
 use Rattle.kr_script.specs.declared.told.Told.{Told}
 use Rattle.kr_script.specs.declared.told.Told.TheVariants as told
-use Rattle.kr_workers.specs.Causes.{AsksPlugins, DrawsBytes, HasCause, IsDefined, OwnGave, StoreFails, TakesMemory, TellsAnswer, WritesRows}
+use Rattle.kr_workers.specs.Causes.{AsksPlugins, DrawsBytes, HasCause, IsDefined, OwnAdopted, OwnGave, StoreFails, TakesMemory, TellsAnswer, WritesRows}
 use Rattle.kr_workers.specs.Replies.{Reply, told_of_delete, told_of_leave, told_of_read, told_of_refusal, told_of_write}
 use Rattle.kr_workers.specs.ScriptLines.{Workplace}
 
@@ -121,6 +121,24 @@ gave_within a b p seen rest all Is x g is =
           ∙ append_assoc (a.seen ++ (x.more ++ g.before)) (g.entry ∷ g.behind) rest;
       own = g.own ∙ ap (λ (c : Caller). c.seat) x.new_is;
       says = g.says;
+    }
+
+-- so is one that adopted a configuration
+pub adopted_within : (a b : Caller) (part seen rest all : List Entry) (p : Publication)
+    → Adds a part b → OwnAdopted b seen p → all ≡ seen ++ rest → OwnAdopted a all p
+adopted_within a b part seen rest all p x g is =
+    let starts : b.seen ++ g.before ≡ a.seen ++ (x.more ++ g.before) =
+    ap (λ l. l ++ g.before) (ap (λ (c : Caller). c.seen) x.new_is)
+    ∙ append_assoc a.seen x.more g.before in record {
+      before = x.more ++ g.before;
+      entry = g.entry;
+      behind = g.behind ++ rest;
+      there = is ∙ ap (λ l. l ++ rest) (g.there ∙ ap (λ l. l ++ g.entry ∷ g.behind) starts)
+          ∙ append_assoc (a.seen ++ (x.more ++ g.before)) (g.entry ∷ g.behind) rest;
+      own = g.own ∙ ap (λ (c : Caller). c.seat) x.new_is;
+      number = g.number;
+      says = g.says;
+      published = g.published;
     }
 
 -- and of what is done while a generation is held
@@ -324,9 +342,9 @@ module _ {L D : Type 0} (truth : Truth) (link : L → Link) (left : D → Option
   puts_caused resource path plain p old new olds news dice after
       (refusal.Refused value.NoProvider) d = absurd d
   puts_caused resource path plain p old new olds news dice after
-      (refusal.Refused value.LooksEncrypted) d = tt
+      (refusal.Refused value.LooksEncrypted) d = d.0.2
   puts_caused resource path plain p old new olds news dice after (refusal.Refused value.TooLarge)
-      d = tt
+      d = d.0.1
   puts_caused resource path plain p old new olds news dice after (refusal.PluginFailed name) d =
       absurd d
   puts_caused resource path plain p old new olds news dice after refusal.DiceFailed d = (tt, d.0.2)

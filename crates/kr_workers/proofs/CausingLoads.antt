@@ -1,6 +1,7 @@
 -- Each reply has its cause, by the relation of its line's call: of calls that publish settings.
-use Rattle.std.proofs.Common.{◌≡◌, ℕ, List, Option, None, Some, Result, Ok, Err, inl, inr, refl, ap, sym, subst, arith}
+use Rattle.std.proofs.Common.{◌≡◌, ℕ, List, [], ◌∷◌, ◌++◌, Option, None, Some, Result, Ok, Err, inl, inr, refl, ap, sym, subst, ◌∙◌, arith}
 use Rattle.std.proofs.lemmas.Bool.{false≢true}
+use Rattle.std.proofs.lemmas.List.{append_assoc}
 use Rattle.kr_config.specs.Kept.{Row}
 use Rattle.kr_kms.specs.Calls.{Link}
 use Rattle.kr_kms.specs.Truth.{Truth}
@@ -13,6 +14,7 @@ use Rattle.kr_rollout.specs.declared.answer.Answer.TheVariants as answer
 use Rattle.kr_rollout.specs.declared.event.Event.{Event}
 use Rattle.kr_rollout.specs.declared.event.Event.TheVariants as event
 use Rattle.kr_rollout.specs.declared.line.Gave.{Gave}
+use Rattle.kr_rollout.specs.declared.opening.Entry.{Entry}
 use Rattle.kr_rollout.specs.Acting.{Caller}
 use Rattle.kr_rollout.specs.Callers.{gave_of}
 use Rattle.kr_rollout.specs.Calls.{LetsGo}
@@ -20,13 +22,13 @@ use Rattle.kr_fleet.specs.declared.outcome.Joining.{Joining}
 use Rattle.kr_fleet.specs.declared.outcome.Joining.TheVariants as joining
 use Rattle.kr_fleet.specs.declared.outcome.Loaded.{Loaded}
 use Rattle.kr_fleet.specs.declared.outcome.Loaded.TheVariants as loaded
-use Rattle.kr_fleet.specs.LoadCalls.{AsksInVain, BringsBy, IsJoin, IsRefresh, IsReload, Refreshes, RenewsBy, plugin_names, reload_of}
+use Rattle.kr_fleet.specs.LoadCalls.{AreKeysSame, AsksInVain, BringsBy, IsJoin, IsRefresh, IsReload, Refreshes, RenewsBy, plugin_names, reload_of}
 use Rattle.kr_provider.specs.AskedLinks.{AskedOnly}
 use Rattle.kr_script.specs.declared.script.ScriptLine.{ScriptLine}
 use Rattle.kr_script.specs.declared.script.ScriptLine.TheVariants as line
 use Rattle.kr_script.specs.declared.told.Told.{Told}
 use Rattle.kr_script.specs.declared.told.Told.TheVariants as told
-use Rattle.kr_workers.specs.Causes.{AsksPlugins, DrawsBytes, IsDefined, OwnGave, TakesMemory, TellsAnswer}
+use Rattle.kr_workers.specs.Causes.{AsksPlugins, DrawsBytes, IsDefined, OwnAdopted, OwnGave, TakesMemory, TellsAnswer}
 use Rattle.kr_workers.specs.Replies.{told_of_join, told_of_refresh, told_of_reload}
 use Rattle.kr_workers.specs.ScriptLines.{DoesJoin, DoesReload, IfRead, Workplace}
 use Rattle.kr_workers.proofs.Causing.{Causes, HasCauseAt, caused_later, early_caused, held_caused, held_gave, is_done, own_gave, refused_caused, told_caused}
@@ -233,6 +235,40 @@ module _ {L D : Type 0} (truth : Truth) (link : L → Link) (left : D → Option
       let r = renews number p from to d.0 in
       own_gave from to (reload_of replica (Some number) r.brought.p) given Is r.brought.brought is)
 
+  -- no key has changed, by the configuration that was adopted
+  unchanged_caused : (replica : ℕ) (old new : Caller) (olds news : List L) (dice after : D)
+      (number : ℕ) → IsRefresh truth link left count replica old olds dice
+      (Ok (loaded.Unchanged number)) new news after
+      → (p : Publication) × OwnAdopted old new.seen p × AreKeysSame link olds p.seeds
+  unchanged_caused replica old new olds news dice after number (inl e) = absurd e
+  unchanged_caused replica old new olds news dice after number (inr h) = go h.lets_go
+    where
+      go : LetsGo h.acted h.done (Ok (loaded.Unchanged number)) new
+          → (p : Publication) × OwnAdopted old new.seen p × AreKeysSame link olds p.seeds
+      go (inl g) =
+          let d = subst (λ (d : Result Loaded CallNo). Refreshes truth link left count replica
+          h.number h.p h.adopted olds dice d h.acted news after
+          × AskedOnly link (plugin_names h.p.seeds) olds news) (sym g.1) h.does in
+          let tail : List Entry = g.0.others ++ g.0.entry ∷ [] in (
+            h.p,
+            record {
+              before = h.adopts.others;
+              entry = h.adopts.entry;
+              behind = tail;
+              there = ap (λ (c : Caller). c.seen) g.0.new_is
+                  ∙ append_assoc h.acted.seen g.0.others (g.0.entry ∷ [])
+                  ∙ ap (λ l. l ++ tail) (ap (λ (c : Caller). c.seen) d.0.2
+                  ∙ ap (λ (c : Caller). c.seen) h.adopts.new_is)
+                  ∙ append_assoc (old.seen ++ h.adopts.others) (h.adopts.entry ∷ []) tail;
+              own = h.adopts.records.seat_is;
+              number = h.number;
+              says = h.adopts.records.gave_is;
+              published = h.adopts.records.shows;
+            },
+            d.0.1,
+          )
+      go (inr n) = absurd (false≢true (sym (ap is_done n.1)))
+
   pub refresh_caused : (replica : ℕ) (old new : Workplace L D) (reply : Told)
       (result : Result Loaded CallNo) → Ok reply ≡ told_of_refresh old.caller.seat result
       → IsRefresh truth link left count replica old.caller old.links old.dice result new.caller
@@ -261,7 +297,9 @@ module _ {L D : Type 0} (truth : Truth) (link : L → Link) (left : D → Option
             (λ n p from to d. d) r,
       )
   refresh_caused replica old new reply (Ok (loaded.Unchanged number)) is r = told_caused
-      link count line.Refresh old new reply told.Unchanged is tt
+      link count line.Refresh old new reply told.Unchanged is
+      (let u = unchanged_caused replica old.caller new.caller old.links new.links old.dice
+      new.dice number r in (tt, u.0, u.1, u.2))
   refresh_caused replica old new reply (Err why) is r =
       refused_caused link count line.Refresh old new reply why is
       (refresh_ends replica old.caller new.caller old.links new.links old.dice new.dice why r)

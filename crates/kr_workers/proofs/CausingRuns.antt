@@ -1,12 +1,14 @@
 -- The cause of a reply, by the whole of its worker's run.
-use Rattle.std.proofs.Common.{◌≡◌, ℕ, zero, suc, ◌≤◌, List, [], ◌∷◌, ◌++◌, Contains, Option, Some, inl, inr, refl, ap, sym, subst, ◌∙◌, arith}
+use Rattle.std.proofs.Common.{◌≡◌, ℕ, zero, suc, ◌≤◌, List, [], ◌∷◌, ◌++◌, get_or, Contains, Option, Some, inl, inr, refl, ap, sym, subst, ◌∙◌, arith}
 use Rattle.std.proofs.Math.Nat.{eq-or-lt_of_le}
 use Rattle.std.proofs.lemmas.List.{append_assoc}
 use Rattle.kr_base.proofs.Counting.{Rose-later}
 use Rattle.kr_base.specs.Faults.{Rose}
+use Rattle.kr_base.specs.Told.{Agrees}
 use Rattle.kr_kms.specs.Calls.{IsSameLink, Link}
 use Rattle.kr_kms.specs.Health.{HasBreach}
 use Rattle.kr_kms.specs.Truth.{Truth}
+use Rattle.kr_kms.specs.declared.seeds.SeedRow.{SeedRow}
 use Rattle.kr_provider.specs.AskedLinks.{AskedOnly, FaultRose}
 use Rattle.kr_provider.specs.BenchState.{BenchState}
 use Rattle.kr_provider.specs.Names.{names_of}
@@ -15,6 +17,7 @@ use Rattle.kr_rollout.specs.declared.opening.Entry.{Entry}
 use Rattle.kr_rollout.specs.Acting.{Caller}
 use Rattle.kr_rollout.specs.Parts.{Adds}
 use Rattle.kr_rollout.proofs.PartsAdd.{parts_follow}
+use Rattle.kr_fleet.specs.LoadCalls.{AreKeysSame, MayTellKey}
 use Rattle.kr_script.specs.declared.script.Part.{Part}
 use Rattle.kr_script.specs.declared.script.ScriptLine.{ScriptLine}
 use Rattle.kr_script.specs.declared.told.Told.{Told}
@@ -24,7 +27,7 @@ use Rattle.kr_workers.specs.Causes.{HasCause, OwnGave, RepliesHaveCauses, TellsA
 use Rattle.kr_workers.specs.Histories.{StandsIn}
 use Rattle.kr_workers.specs.Runs.{DoesAll, IsDone, LineDone}
 use Rattle.kr_workers.specs.ScriptLines.{Workplace}
-use Rattle.kr_workers.proofs.Causing.{HasCauseAt, gave_within, store_within}
+use Rattle.kr_workers.proofs.Causing.{HasCauseAt, adopted_within, gave_within, store_within}
 use Rattle.kr_workers.proofs.CausingRewrites.{line_caused}
 use Rattle.kr_workers.proofs.CausingCounts.{often_caused}
 
@@ -62,6 +65,17 @@ fault_still link names name xs ys zs f a = let t = became link names ys zs f.new
       new_named = t.2.name ∙ f.new_named;
       rose = rose_still (link f.old).count (link f.new).count (link t.0).count f.rose t.2.later;
     }
+
+-- the key ids that plugins may tell stay
+tells_back : (key_id : List ℕ) (a b : Link) → IsSameLink a b → MayTellKey key_id b
+    → MayTellKey key_id a
+tells_back key_id a b s h = (h.0, subst (λ told. Agrees told h.0) s.status h.1, h.2, h.3)
+
+keys_back : {L : Type 0} (link : L → Link) (names : List (List ℕ)) (xs ys : List L)
+    (seeds : List SeedRow) → AskedOnly link names xs ys → AreKeysSame link ys seeds
+    → AreKeysSame link xs seeds
+keys_back link names xs ys seeds a same k d l = let row = get_or seeds k d in
+    had link names row.name (MayTellKey row.key_id) xs ys (tells_back row.key_id) a (same k d l)
 
 -- ---- a workplace later on
 
@@ -152,7 +166,12 @@ module _ {L D : Type 0} (link : L → Link) (count : D → ℕ) where
   cause_within asked a b c told.Full seen links dice s t h =
       (h.0, own_within a b c told.Full seen links dice s t h.1)
   cause_within asked a b c (told.Rewritten rewritten fresh changed left) seen links dice s t h = h
-  cause_within asked a b c told.Unchanged seen links dice s t h = h
+  cause_within asked a b c told.Unchanged seen links dice s t h = (
+    h.0,
+    h.1,
+    adopted_within a.caller b.caller s.part c.caller.seen t.rest seen h.1 s.adds h.2 t.seen_is,
+    keys_back link (names_of link a.links) a.links b.links h.1.seeds s.asked h.3,
+  )
   cause_within asked a b c (told.Value why) seen links dice s t h = h
   cause_within asked a b c told.Memory seen links dice s t h = h
   cause_within asked a b c (told.Unhealthy name field text) seen links dice s t h = (

@@ -12,6 +12,8 @@ pub mod CausingCounts
 pub mod CausingRuns
 pub mod Ends
 pub mod Resting
+pub mod Resealing
+pub mod HonestPlugins
 pub mod Sentencing
 pub mod Budgeting
 pub mod Assembling

@@ -22,6 +22,7 @@ use Rattle.kr_workers.specs.Runs.{LineDone, lines_in, replies_in}
 use Rattle.kr_workers.specs.Sentences.{HistoriesTell, Replies, RepliesAreTrue}
 use Rattle.kr_workers.proofs.CausingRuns.{replies_have_causes}
 use Rattle.kr_workers.proofs.Getting.{gets_tell_content}
+use Rattle.kr_workers.proofs.HonestPlugins.{honest_of_plugins}
 use Rattle.kr_workers.proofs.Resting.{ending_rests}
 
 -- ---- what stands at a place
@@ -159,6 +160,8 @@ module _ {L D : Type 0} (truth : Truth) (link : L → Link) (left : D → Option
           };
       honest = λ told begun front rest is. honest_by_entries.front truth.opens o front rest
           (subst (λ (l : List Entry). IsHonest truth.opens o l) is (one.honest told begun));
+      plugins = honest_of_plugins T truth link left count files history o parts budgets old new
+          one;
       causes = all_caused;
       often = λ number part before after part_is before_is after_is.
           (replies_have_causes truth link left count files).often history part

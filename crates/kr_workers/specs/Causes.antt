@@ -1,17 +1,20 @@
--- Why a line has its reply: each line has its defined replies, each of which an own entry or a
--- plugin's status bears out; and a reply that names an object as its fault is told only where the
--- line may use that object, and the count of that very object rose.
-use Rattle.std.specs.Prelude.{◌≡◌, ◌<◌, ◌≤◌, ◌+◌, ◌-◌, ◌^◌, ℕ, Bool, true, false, List, ◌∷◌, ◌++◌, count_by, Contains, Option, Some, ⊤}
+-- Why a line has its reply: each line has its defined replies; those that tell an answer an own
+-- entry bears out, and an unhealthy plugin its status; and a reply that names an object as its
+-- fault is told only where the line may use that object, and the count of that very object rose.
+use Rattle.std.specs.Prelude.{◌≡◌, ◌<◌, ◌≤◌, ◌+◌, ◌-◌, ◌^◌, ℕ, Bool, true, false, List, ◌∷◌, ◌++◌, count_by, length, Contains, Option, Some, ⊤}
 use Rattle.std.specs.List.{slice_get}
 use Rattle.std.specs.Str.{bytes_eq}
 use Rattle.kr_base.specs.Faults.{Rose}
+use Rattle.kr_base.specs.Limits.{data_limit}
 use Rattle.kr_base.specs.Lines.{of_seat}
+use Rattle.kr_envelope.specs.Prefixes.{is_marked}
 use Rattle.kr_kms.specs.Calls.{Link}
 use Rattle.kr_kms.specs.Health.{HasBreach}
 use Rattle.kr_kms.specs.Truth.{Truth}
 use Rattle.kr_provider.specs.AskedLinks.{FaultRose, HasLinkWith}
 use Rattle.kr_provider.specs.BenchState.{BenchState}
 use Rattle.kr_provider.specs.Names.{AreDistinct}
+use Rattle.kr_provider.specs.Publication.{Publication}
 use Rattle.kr_provider.specs.declared.refusal.ValueNo.{ValueNo}
 use Rattle.kr_provider.specs.declared.refusal.ValueNo.TheVariants.{LooksEncrypted, TooLarge}
 use Rattle.kr_rollout.specs.declared.line.Gave.{Gave}
@@ -20,6 +23,7 @@ use Rattle.kr_rollout.specs.declared.opening.Entry.{Entry}
 use Rattle.kr_rollout.specs.Acting.{Caller}
 use Rattle.kr_rollout.specs.Entries.{seat_of}
 use Rattle.kr_rollout.specs.Histories.{state_of}
+use Rattle.kr_fleet.specs.LoadCalls.{AreKeysSame}
 use Rattle.kr_fleet.specs.ReadCalls.{IsOfValue}
 use Rattle.kr_script.specs.declared.script.Part.{Part}
 use Rattle.kr_script.specs.declared.script.ScriptLine.{ScriptLine}
@@ -33,15 +37,15 @@ use Rattle.kr_workers.specs.ScriptLines.{Workplace}
 
 -- ---- the defined replies of a line; faults and want of memory stand beside them
 
--- data that aren't sealed
-abbrev pub IsOfData : ValueNo → Type 0
-IsOfData LooksEncrypted = ⊤
-IsOfData TooLarge = ⊤
-IsOfData why = ⊥
+-- data that aren't sealed: they begin as sealed values do, or are too large
+abbrev pub IsOfData : (plain : List ℕ) → ValueNo → Type 0
+IsOfData plain LooksEncrypted = is_marked plain ≡ true
+IsOfData plain TooLarge = data_limit < length plain
+IsOfData plain why = ⊥
 
 abbrev pub IsDefined : ScriptLine → Told → Type 0
 IsDefined (line.Put resource path plain) (told.Put revision) = ⊤
-IsDefined (line.Put resource path plain) (told.Value why) = IsOfData why
+IsDefined (line.Put resource path plain) (told.Value why) = IsOfData plain why
 IsDefined (line.Put resource path plain) told.Full = ⊤
 IsDefined (line.Put resource path plain) told.Gone = ⊤
 IsDefined (line.Get path) (told.Got revision plain) = ⊤
@@ -99,6 +103,17 @@ pub record OwnGave (old : Caller) (seen : List Entry) (Is : Gave → Type 0) : T
   pub own : entry.line.seat ≡ old.seat
   pub says : Is entry.line.gave
 
+-- an own entry adopted this configuration; it is one of those that are seen now and weren't before
+pub record OwnAdopted (old : Caller) (seen : List Entry) (p : Publication) : Type 0 where
+  pub before : List Entry
+  pub entry : Entry
+  pub behind : List Entry
+  pub there : seen ≡ (old.seen ++ before) ++ entry ∷ behind
+  pub own : entry.line.seat ≡ old.seat
+  pub number : ℕ
+  pub says : entry.line.gave ≡ gave.Adopted number
+  pub published : entry.published ≡ Some p
+
 -- ---- faults, and want of memory
 
 -- the line may ask plugins
@@ -147,8 +162,9 @@ module _ {L D : Type 0} (link : L → Link) (count : D → ℕ) (asked : ScriptL
   -- from a workplace on up to such a history, such links and such a random source: the reply is
   -- want of memory at a line that may want it; or names the plugin, the seat's own random source
   -- or the store, which the line may use and whose count rose meanwhile; or it is one of the line's
-  -- defined replies. A plugin is unhealthy where its status may break that rule, and each other
-  -- reply that tells an answer tells that of an own entry
+  -- defined replies. A plugin is unhealthy where its status may break that rule; nothing has
+  -- changed where no plugin tells another key id than that of its seed in a configuration that the
+  -- worker adopted; and each other reply that tells an answer tells that of an own entry
   abbrev pub HasCause : Told → (seen : List Entry) → List L → D → Type 0
   HasCause told.Memory seen links dice = TakesMemory asked
   HasCause (told.FaultPlugin name) seen links dice =
@@ -163,6 +179,7 @@ module _ {L D : Type 0} (link : L → Link) (count : D → ℕ) (asked : ScriptL
   HasCause (told.Rewritten rewritten fresh changed left) seen links dice =
       IsDefined asked (told.Rewritten rewritten fresh changed left)
   HasCause told.Unchanged seen links dice = IsDefined asked told.Unchanged
+      × (p : Publication) × OwnAdopted old.caller seen p × AreKeysSame link old.links p.seeds
   HasCause reply seen links dice =
       IsDefined asked reply × OwnGave old.caller seen (TellsAnswer reply)
 

@@ -7,6 +7,7 @@ pub mod Runs
 pub mod Workers
 pub mod Budgets
 pub mod Histories
+pub mod Plugins
 pub mod Gets
 pub mod Causes
 pub mod Endings

@@ -25,6 +25,7 @@ use Rattle.kr_workers.specs.Causes.{AreCounted, HasCause}
 use Rattle.kr_workers.specs.Endings.{ending_of}
 use Rattle.kr_workers.specs.Gets.{TellContents}
 use Rattle.kr_workers.specs.Histories.{IsOneHistory, StandsIn, first_place}
+use Rattle.kr_workers.specs.Plugins.{FollowsPlugins}
 use Rattle.kr_workers.specs.ScriptLines.{Workplace}
 
 module _ {T L D : Type 0} (parts : List Part) (workers : List (Worker T L D)) where
@@ -89,8 +90,9 @@ module _ {T L D : Type 0} (truth : Truth) (link : L → Link) (left : D → Opti
     (count : D → ℕ) (files : List SettingsFile) (history : List Entry) (o : Opening) where
   -- each line has a reply, and one to a `get` tells the content of its path before the line's own
   -- Fetch; that what stands there is honest, which this asks for, follows where the truth is told
-  -- and the opening is honest by it. Each reply has its cause, no worker's replies name an object
-  -- as failed more often than its count rose, and the ending has its cause too
+  -- and the opening is honest by it, and else by any truth by which plugins unwrap what they
+  -- wrapped. Each reply has its cause, no worker's replies name an object as failed more often than
+  -- its count rose, and the ending has its cause too
   pub record RepliesAreTrue (parts : List Part) (budgets : List ℕ) (old new : List (Worker T L D))
       : Type 0 where
     pub each : (number : ℕ) (part : Part) (worker : Worker T L D)
@@ -103,6 +105,7 @@ module _ {T L D : Type 0} (truth : Truth) (link : L → Link) (left : D → Opti
         (first_place o number (slice_index budgets number) before.bench) after.told.0 after.bench
     pub honest : truth.told ≡ true → IsHonest truth.opens o [] → (front rest : List Entry)
         → history ≡ front ++ rest → IsHonest truth.opens o front
+    pub plugins : FollowsPlugins truth link o history
     pub causes : (number at : ℕ) (asked : ScriptLine) (reply : Told) (before : Worker T L D)
         → slice_get old number ≡ Some before → (replies : Replies parts new number at asked reply)
         → HasCause link count asked

@@ -4,6 +4,7 @@ ghost use Rattle.kr_workers.specs.declared.files.SettingsFile.{SettingsFile};
 ghost use Rattle.kr_workers.specs.Causes.{RepliesHaveCauses};
 ghost use Rattle.kr_workers.specs.Endings.{EndingsAreTold};
 ghost use Rattle.kr_workers.specs.Gets.{GetsTellContent};
+ghost use Rattle.kr_workers.specs.Plugins.{HonestOfPlugins};
 ghost use Rattle.kr_workers.specs.Sentences.{HistoriesTell};
 
 use kr_base::{Dice, Tape};
@@ -16,9 +17,10 @@ pub fn gets_tell_content<L: Kms, D: Dice>()
         → GetsTellContent L.truth L.link D.left D.count files }
 {}
 
-/// No line is answered otherwise than by one of its defined replies, which an own entry or a
-/// plugin's status bears out, but with want of memory, or where the line may use the plugin, random
-/// source or store that its reply names and the count of that rose.
+/// No line is answered otherwise than by one of its defined replies, of which those that tell an
+/// answer an own entry bears out and an unhealthy plugin its status, but with want of memory, or
+/// where the line may use the plugin, random source or store that its reply names and the count of
+/// that rose.
 pub fn replies_have_causes<L: Kms, D: Dice>()
     ensures { (files : List SettingsFile)
         → RepliesHaveCauses L.truth L.link D.left D.count files }
@@ -28,6 +30,12 @@ pub fn replies_have_causes<L: Kms, D: Dice>()
 /// `get` it tells the content before its line's own Fetch, and each has its cause.
 pub fn replies_are_true<T: Tape, L: Kms, D: Dice>()
     ensures { HistoriesTell T L.truth L.link D.left D.count }
+{}
+
+/// Where the workers' lines stand in one history, it is honest by any truth by which plugins unwrap
+/// what they wrapped, whether or not a link tells it.
+pub fn honest_of_plugins<T: Tape, L: Kms, D: Dice>()
+    ensures { HonestOfPlugins T L.truth L.link D.left D.count }
 {}
 
 /// Where not all was done, some reply is of the kind that the ending tells; where all was, each

@@ -16,7 +16,9 @@ mod workers;
 pub use budget::{BudgetNo, Budgets, budgets_of};
 pub use ending::{Ending, ending_of};
 pub use files::{SettingsFile, settings_at};
-pub use laws::{endings_are_told, gets_tell_content, replies_are_true, replies_have_causes};
+pub use laws::{
+    endings_are_told, gets_tell_content, honest_of_plugins, replies_are_true, replies_have_causes,
+};
 pub use line::serve_line;
 pub use lines::serve_lines;
 pub use team::run_fleet;

@@ -1,4 +1,5 @@
-//! Tests of kr_config: the calls on settings that were read. The program of cases has what is read and refused.
+//! Tests of kr_config: the calls on settings that were read. The program of cases has what is read
+//! and refused.
 use kr_config::{Class, ClassTable, Who, read};
 use std::alloc::{AllocError, Global};
 use std::test::Fail;

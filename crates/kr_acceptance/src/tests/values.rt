@@ -4,7 +4,8 @@ use kr_base::{Bytes, NoMemory};
 use std::alloc::Global;
 use std::test::Fail;
 
-/// Providers, as a configuration names them: identity, aescbc under the bytes 0 to 15, and aesgcm under 16 zeros.
+/// Providers, as a configuration names them: identity, aescbc under the bytes 0 to 15, and aesgcm
+/// under 16 zeros.
 const BARE: &str = r#"{"identity":{}}"#;
 
 const K16: &str = r#"{"aescbc":{"keys":[{"name":"key1","secret":"AAECAwQFBgcICQoLDA0ODw=="}]}}"#;
@@ -32,11 +33,13 @@ fn bytes(alloc: Global, text: &str) -> Result<Bytes, NoMemory> {
     }
 }
 
-/// A value under `key1` whose IV makes the padded `hello` the plain text of FIPS 197's example for 16 bytes of key.
+/// A value under `key1` whose IV makes the padded `hello` the plain text of FIPS 197's example for
+/// 16 bytes of key.
 const HELLO: &str =
     "k8s:enc:aescbc:v1:key1:|68744e5f2b5e6d7c8392a1b0c7d6e5f469c4e0d86a7b0430d8cdb78070b4c55a";
 
-/// Sixteen zero bytes, and as they are sealed under zeros: the GCM specification's second test case.
+/// Sixteen zero bytes, and as they are sealed under zeros: the GCM specification's second test
+/// case.
 const ZEROS: &str = "|00000000000000000000000000000000";
 
 const SEALED_ZEROS: &str =

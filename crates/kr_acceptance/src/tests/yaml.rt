@@ -8,7 +8,8 @@ use std::test::Fail;
 /// What stands before the first member of the example.
 const HEAD: &str = "---\n# an example\n";
 
-/// The example from its first member on: a key list at each of two entries, and a rest in the clear.
+/// The example from its first member on: a key list at each of two entries, and a rest in the
+/// clear.
 const MEMBERS: &str = "apiVersion: apiserver.config.k8s.io/v1
 kind: EncryptionConfiguration
 resources:

@@ -68,6 +68,13 @@ module _ {L : Type 0} (truth : Truth) (link : L → Link) (name : List ℕ)
       × FaultRose link name old new × AskedOnly link (name ∷ []) old new
   OpensSource old (Err NoMemory) new = AskedOnly link (name ∷ []) old new
 
+-- this source is given, as far as there is memory for it
+abbrev pub GivesSource : List ℕ → Result (List ℕ) UnsealNo → Type 0
+GivesSource source (Ok bytes) = bytes ≡ source
+GivesSource source (Err (Refused why)) = ⊥
+GivesSource source (Err (PluginFailed name)) = ⊥
+GivesSource source (Err NoMemory) = ⊤
+
 module _ {L : Type 0} (truth : Truth) (link : L → Link) (row : SeedRow) (name : List ℕ)
     (found : EncryptedObject) where
   abbrev pub UnsealsObject : (path : List ℕ) → List L → Result (List ℕ) UnsealNo → List L → Type 0

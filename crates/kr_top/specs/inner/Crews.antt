@@ -68,8 +68,8 @@ pub record IsReadyCore (plan : Plan) (budgets : List ℕ) (core : CoreState) : T
   pub replicas : length core.opening.replicas ≡ length plan.script.replicas.0
   pub room : core.room ≡ sum budgets
 
--- the store's file is one of these rows, in the opening's format; no count fell, and it is torn only
--- where it was so or its count rose
+-- the store's file is one of these rows, in the opening's format; no count fell, and it is torn
+-- only where it was so or its count rose
 pub record KeepsStore (o : Opening) (rows : List LogRow) (store : Kept) : Type 0 where
   pub rows_are : store.rows ≡ rows
   pub format : store.format ≡ o.format

@@ -1,6 +1,6 @@
 -- What the phases of a command give to it: each result is said by cases, and want of memory alone
 -- is free.
-use Rattle.std.specs.Prelude.{◌≡◌, ℕ, ◌+◌, ◌≤◌, ◌⊎◌, List, [], ◌∷◌, ◌++◌, length, Option, Some, None, Result, Ok, Err, OnOk, OnErr, ⊤}
+use Rattle.std.specs.Prelude.{◌≡◌, ℕ, ◌+◌, ◌≤◌, ◌⊎◌, false, List, [], ◌∷◌, ◌++◌, length, Option, Some, None, Result, Ok, Err, OnOk, OnErr, ⊤}
 use Rattle.std.specs.Borrow.{Bor}
 use Rattle.std.specs.Io.KnownBytes.{Appends, Consumes, IsAtEnd}
 use Rattle.kr_base.specs.Faults.{Rose, IsCounted}
@@ -9,7 +9,7 @@ use Rattle.kr_base.specs.Rules.{IsPath, IsResource}
 use Rattle.kr_base.specs.Told.{Agrees}
 use Rattle.kr_base.specs.Streams.{AppendsFront, TakesAtMost}
 use Rattle.kr_kms.specs.Calls.{Link}
-use Rattle.kr_kms.specs.Outside.{Outside, with_call, file_faults, same_seat, same_link, link_at, KeepsFiles, HandsOut, TakesBack}
+use Rattle.kr_kms.specs.Outside.{Outside, with_call, file_faults, same_name, same_seat, same_link, link_at, KeepsFiles, HandsOut, TakesBack}
 use Rattle.kr_kms.specs.declared.world.WorldCall.{WorldCall}
 use Rattle.kr_kms.specs.declared.world.WorldCall.TheVariants as calls
 use Rattle.kr_kms.specs.declared.world.WorldCall.TheVariants.{RandomSource}
@@ -25,7 +25,7 @@ use Rattle.kr_top.specs.Ran.{Receipt}
 use Rattle.kr_top.specs.inner.Judging.{HasReplicas}
 use Rattle.kr_top.specs.Steps.{Steps, Left}
 use Rattle.kr_top.specs.declared.command.Command.{Command}
-use Rattle.kr_top.specs.declared.command.Command.TheVariants.{Convert, Check, Inspect, Put, Get, Rows, Judge}
+use Rattle.kr_top.specs.declared.command.Command.TheVariants.{Convert, Check, Inspect, Put, Get, Migrate, Rows, Judge, Rewrite}
 use Rattle.kr_top.specs.declared.refusal.Object.TheVariants.{Input, Files}
 use Rattle.kr_top.specs.declared.refusal.Outcome.{Outcome}
 use Rattle.kr_top.specs.declared.refusal.Refusal.{Refusal}
@@ -51,8 +51,10 @@ KeepsRules (Some (Check config resource)) = ⊤
 KeepsRules (Some Inspect) = ⊤
 KeepsRules (Some (Put words store)) = IsPath words.path × IsResource words.resource
 KeepsRules (Some (Get words)) = length words.path ≤ path_limit
+KeepsRules (Some (Migrate words)) = same_name words.store words.to ≡ false
 KeepsRules (Some (Rows store)) = ⊤
 KeepsRules (Some (Judge words)) = HasReplicas words.options
+KeepsRules (Some (Rewrite words)) = ⊤
 
 -- the words ask for the command, or stop the call
 abbrev pub IsReadAs : List (List ℕ) → Result Command Stop → Type 0

@@ -1,10 +1,12 @@
 -- What the phases over a lent tape give to a command.
-use Rattle.std.specs.Prelude.{◌≡◌, ℕ, Bool, false, List, [], Option, None, Some, Result, Ok, Err, ⊤}
+use Rattle.std.specs.Prelude.{◌≡◌, ◌≤◌, ℕ, Bool, false, List, [], ◌∷◌, ◌++◌, length, Option, None, Some, Result, Ok, Err, ⊤}
 use Rattle.std.specs.Option.{option_map}
 use Rattle.kr_base.specs.Faults.{Rose}
+use Rattle.kr_base.specs.Limits.{store_limit}
 use Rattle.kr_base.specs.Told.{Agrees}
 use Rattle.kr_kms.specs.Outside.{Outside, with_call, file_faults, same_name, KeepsFiles, HandsOut, TakesBack, IsTape}
 use Rattle.kr_kms.specs.declared.world.WorldCall.TheVariants.{Tape}
+use Rattle.kr_store.specs.File.{IsFile}
 use Rattle.kr_store.specs.Stores.{Kept}
 use Rattle.kr_store.specs.Rows.{live}
 use Rattle.kr_store.specs.declared.rows.LogRow.{LogRow}
@@ -65,6 +67,23 @@ load_stop object faults no.NoMemory = NoMemory
 
 abbrev pub stored_of : Kept → Stored
 stored_of store = record { format = store.format; rows = store.rows }
+
+-- the tape's file was read: the store has its format, its rows and its length, and the tape tells
+-- as it did
+pub record IsLoaded (told : Option (List ℕ)) (before : ℕ) (store : Kept) : Type 0 where
+  pub bytes : List ℕ
+  pub agrees : Agrees told bytes
+  pub within : length bytes ≤ store_limit
+  pub file : IsFile store.format store.rows bytes
+  pub length_is : store.length ≡ length bytes
+  pub told_is : store.told ≡ told
+  pub later : before ≤ store.count
+
+-- a store has one more row
+pub record HasOneMore (row : LogRow) (old new : Kept) : Type 0 where
+  pub rows : new.rows ≡ old.rows ++ row ∷ []
+  pub format : new.format ≡ old.format
+  pub within : new.limit ≡ old.limit
 
 -- the live row of the path was found, or there is none
 abbrev pub IsLookedUp : List LogRow → (path : List ℕ) → Result Row Stop → Type 0

@@ -1,7 +1,7 @@
 -- `by_plugin`: the answer is that of the value that the plugin reads.
 use Rattle.std.proofs.Common.{refl, sym, subst, Ok}
 use Rattle.kr_provider.specs.Unsealing.{UnsealsBy}
-use Rattle.kr_provider.proofs.Cached.{object_stays}
+use Rattle.kr_provider.proofs.Cached.{failed_heeds, object_heeds, opened_heeds}
 use Rattle.kr_provider.proofs.Unsealings.{object_fails, object_opens, object_refuses}
 use Rattle.kr_provider.proofs.values.by_plugin.Goals as goal
 
@@ -28,14 +28,19 @@ returns-clause-opened g c = λ seeds list bytes is_row r.
     c.in-Ok-unseal_object.plain c.in-Ok-unseal_object.ensures.opened)
 
 pub returns-in-Err-clause-cached : goal.returns-in-Err-clause-cached
-returns-in-Err-clause-cached g c = λ object reads is. refl
+returns-in-Err-clause-cached g c = λ seeds list bytes is_row r.
+    object_heeds c.args.cache.now.rows seeds list c.args.path.now bytes c.args.links.now
+    c.args.links.now c.args.name.now c.args.body.now c.args.first r _ refl c.in-Err.ensures.is
 
 pub returns-in-Err-unseal_object-clause-cached : goal.returns-in-Err-unseal_object-clause-cached
-returns-in-Err-unseal_object-clause-cached g c = object_stays c.args.cache.now.rows
-    c.args.name.now c.args.body.now c.args.links.now c.unseal_object.new.links c.in-Ok.object
-    c.in-Ok.ensures.is c.in-Err-unseal_object.ensures.cached
+returns-in-Err-unseal_object-clause-cached g c = λ seeds list bytes is_row r.
+    failed_heeds c.args.cache.now.rows seeds list c.args.path.now bytes c.args.links.now
+    c.unseal_object.new.links c.args.name.now c.args.body.now c.args.first r c.args.row.now is_row
+    c.in-Ok.object c.in-Ok.ensures.is _ c.in-Err-unseal_object.ensures.cached _ refl
 
 pub returns-clause-cached : goal.returns-clause-cached
-returns-clause-cached g c = object_stays c.args.cache.now.rows
-    c.args.name.now c.args.body.now c.args.links.now c.unseal_object.new.links c.in-Ok.object
-    c.in-Ok.ensures.is c.in-Ok-unseal_object.ensures.cached
+returns-clause-cached g c = λ seeds list bytes is_row r.
+    opened_heeds c.args.cache.now.rows seeds list c.args.path.now bytes c.args.links.now
+    c.unseal_object.new.links c.args.name.now c.args.body.now c.args.first r c.args.row.now is_row
+    c.in-Ok.object c.in-Ok.ensures.is _ c.in-Ok-unseal_object.ensures.cached
+    c.in-Ok-unseal_object.plain _ refl c.is_stale-stale.ensures

@@ -1,6 +1,7 @@
 -- `open_source`: what a fetch through the cache tells.
-use Rattle.std.proofs.Common.{Err, subst}
-use Rattle.kr_provider.proofs.Cached.{fetched_stays}
+use Rattle.std.proofs.Common.{Ok, Err, subst}
+use Rattle.kr_kms.specs.declared.plugin.KmsNo.TheVariants as kms
+use Rattle.kr_provider.proofs.Cached.{fetched_kept}
 use Rattle.kr_provider.proofs.ObjectSources.{IsFetched, fetched_asks, fetched_fails, fetched_opens}
 use Rattle.kr_provider.proofs.values.open_source.Goals as goal
 
@@ -40,21 +41,30 @@ pub returns-in-Err-clause-kept : goal.returns-in-Err-clause-kept
 returns-in-Err-clause-kept g c = c.fetch.ensures.asks.still_open c.requires.kept
 
 pub returns-in-Ok-clause-cached : goal.returns-in-Ok-clause-cached
-returns-in-Ok-clause-cached g c = fetched_stays g.L.Kms.truth g.L.Kms.link c.args.name.now
-    c.args.object.now c.args.links.now c.fetch.new.self c.args.cache.now c.fetch.new.cache
-    c.fetch.result c.fetch.ensures
+returns-in-Ok-clause-cached g c = fetched_kept g.L.Kms.truth g.L.Kms.link
+    c.args.name.now c.args.object.now c.args.links.now c.fetch.new.self c.args.cache.now
+    c.fetch.new.cache (Ok c.in-Ok.source) c.in-Ok.ensures
 
 pub returns-in-Err-NoMemory-clause-cached : goal.returns-in-Err-NoMemory-clause-cached
-returns-in-Err-NoMemory-clause-cached g c = fetched_stays g.L.Kms.truth g.L.Kms.link c.args.name.now
-    c.args.object.now c.args.links.now c.fetch.new.self c.args.cache.now c.fetch.new.cache
-    c.fetch.result c.fetch.ensures
+returns-in-Err-NoMemory-clause-cached g c = λ source is. (
+  (fetched_kept g.L.Kms.truth g.L.Kms.link
+      c.args.name.now c.args.object.now c.args.links.now c.fetch.new.self c.args.cache.now
+      c.fetch.new.cache c.fetch.result c.fetch.ensures source is).0,
+  tt,
+)
 
 pub returns-in-Ok-copy-clause-cached : goal.returns-in-Ok-copy-clause-cached
-returns-in-Ok-copy-clause-cached g c = fetched_stays g.L.Kms.truth g.L.Kms.link c.args.name.now
-    c.args.object.now c.args.links.now c.fetch.new.self c.args.cache.now c.fetch.new.cache
-    c.fetch.result c.fetch.ensures
+returns-in-Ok-copy-clause-cached g c = λ source is. absurd ((fetched_kept g.L.Kms.truth g.L.Kms.link
+    c.args.name.now c.args.object.now c.args.links.now c.fetch.new.self c.args.cache.now
+    c.fetch.new.cache (Err kms.Failed)
+    (subst (λ w. IsFetched g.L.Kms.truth g.L.Kms.link c.args.name.now c.args.object.now
+    c.args.links.now c.fetch.new.self c.args.cache.now c.fetch.new.cache (Err w))
+    c.in-Err-Failed.field-0-is c.in-Err-Failed.ensures) source is).1)
 
 pub returns-in-Err-clause-cached : goal.returns-in-Err-clause-cached
-returns-in-Err-clause-cached g c = fetched_stays g.L.Kms.truth g.L.Kms.link c.args.name.now
-    c.args.object.now c.args.links.now c.fetch.new.self c.args.cache.now c.fetch.new.cache
-    c.fetch.result c.fetch.ensures
+returns-in-Err-clause-cached g c = λ source is. (
+  (fetched_kept g.L.Kms.truth g.L.Kms.link
+      c.args.name.now c.args.object.now c.args.links.now c.fetch.new.self c.args.cache.now
+      c.fetch.new.cache c.fetch.result c.fetch.ensures source is).0,
+  tt,
+)

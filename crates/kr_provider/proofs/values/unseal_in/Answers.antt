@@ -1,9 +1,12 @@
 -- `unseal_in`: the reader is the first whose prefix the value begins with.
-use Rattle.std.proofs.Common.{refl, sym, ap, nat_eq, ◌∙◌}
+use Rattle.std.proofs.Common.{Ok, Err, sym, ap, nat_eq, ◌∙◌}
+use Rattle.std.specs.Prelude.{not}
 use Rattle.kr_provider.specs.Envelopes.{unknown}
 use Rattle.kr_provider.specs.Names.{names_of}
 use Rattle.kr_provider.specs.Publication.{seed_of}
-use Rattle.kr_provider.proofs.Cached.{plugin_heeds}
+use Rattle.kr_provider.specs.declared.refusal.UnsealNo.TheVariants.{Refused}
+use Rattle.kr_provider.specs.declared.refusal.ValueNo.TheVariants as value
+use Rattle.kr_provider.proofs.Cached.{key_heeds, unread_heeds}
 use Rattle.kr_provider.proofs.Keys.{adopted_among}
 use Rattle.kr_provider.proofs.Places.{no_plugin, read_by, read_by_plugin, reader_reads, reader_within, unread}
 use Rattle.kr_provider.proofs.PluginNames.{linked, unseeded}
@@ -65,7 +68,14 @@ returns-in-Ok g c = record {
       c.index-list-place.result c.requires.list.some (sym c.in-Some.ensures)
       c.index-list-place.is c.in-Some-body_of.ensures.1) (c.in-Ok.ensures unknown);
   kept = c.requires.kept;
-  cached = λ object has is. refl;
+  cached = key_heeds c.args.cache.now.rows c.args.seeds.now c.args.list.now c.args.path.now
+      c.args.bytes.now c.args.links.now c.args.links.now c.index-list-place.result
+      c.in-Some-body_of.body.now (nat_eq c.in-Some.place 0)
+      (Ok (record { plain = c.in-Ok.plain; stale = not (nat_eq c.in-Some.place 0) }))
+      (no_plugin c.index-list-place.result c.in_default-reader.not-Kms)
+      (read_by c.args.list.now c.args.bytes.now c.in-Some-body_of.body.now c.in-Some.place
+      c.index-list-place.result c.requires.list.some (sym c.in-Some.ensures)
+      c.index-list-place.is c.in-Some-body_of.ensures.1);
 }
 
 pub returns-in-Err : goal.returns-in-Err
@@ -78,17 +88,27 @@ returns-in-Err g c = record {
       c.index-list-place.result c.requires.list.some (sym c.in-Some.ensures)
       c.index-list-place.is c.in-Some-body_of.ensures.1) (c.in-Err.ensures unknown);
   kept = c.requires.kept;
-  cached = λ object has is. refl;
+  cached = key_heeds c.args.cache.now.rows c.args.seeds.now c.args.list.now c.args.path.now
+      c.args.bytes.now c.args.links.now c.args.links.now c.index-list-place.result
+      c.in-Some-body_of.body.now (nat_eq c.in-Some.place 0) (Err c.in-Err.why)
+      (no_plugin c.index-list-place.result c.in_default-reader.not-Kms)
+      (read_by c.args.list.now c.args.bytes.now c.in-Some-body_of.body.now c.in-Some.place
+      c.index-list-place.result c.requires.list.some (sym c.in-Some.ensures)
+      c.index-list-place.is c.in-Some-body_of.ensures.1);
 }
 
 pub returns-in_default-clause-cached : goal.returns-in_default-clause-cached
-returns-in_default-clause-cached g c = λ object has is. refl
+returns-in_default-clause-cached g c = unread_heeds c.args.cache.now.rows c.args.seeds.now
+    c.args.list.now c.args.path.now c.args.bytes.now c.args.links.now c.args.links.now
+    (Err (Refused value.NoProvider))
+    (unread c.args.list.now c.args.bytes.now (sym c.in_default.ensures))
 
 pub returns-in-Some-seed_of-clause-cached : goal.returns-in-Some-seed_of-clause-cached
-returns-in-Some-seed_of-clause-cached g c = plugin_heeds c.args.cache.now.rows c.args.list.now
-    c.args.bytes.now c.as_str-in-Kms.result.now c.in-Some-body_of.body.now
-    (nat_eq c.in-Some.place 0) c.args.links.now c.by_plugin.new.links
+returns-in-Some-seed_of-clause-cached g c = c.by_plugin.ensures.cached c.args.seeds.now
+    c.args.list.now c.args.bytes.now
+    (ap (λ n. seed_of n c.args.seeds.now) (c.as_str-in-Kms.ensures ∙ sym c.as_str.ensures)
+    ∙ c.in-Some-seed_of.ensures)
     (read_by_plugin c.args.list.now c.args.bytes.now c.in-Some-body_of.body.now c.in-Some.place
     c.index-list-place.result c.in-Kms.name c.as_str-in-Kms.result.now c.requires.list.some
     (sym c.in-Some.ensures) c.index-list-place.is c.in-Some-body_of.ensures.1 c.in-Kms.is
-    c.as_str-in-Kms.ensures) c.by_plugin.ensures.cached
+    c.as_str-in-Kms.ensures)

@@ -1,9 +1,10 @@
 -- `unseal_object`: the source is the published seed, or what the plugin unwraps.
-use Rattle.std.proofs.Common.{◌∙◌, sym, subst}
+use Rattle.std.proofs.Common.{◌∙◌, refl, sym, subst}
 use Rattle.kr_kms.specs.Truth.{key_of}
 use Rattle.kr_kms.proofs.Keys.{same_key}
 use Rattle.kr_provider.specs.Envelopes.{seed_key}
 use Rattle.kr_provider.specs.Reading.{Gives, source_reading}
+use Rattle.kr_provider.proofs.Cached.{source_lacks, source_serves}
 use Rattle.kr_provider.proofs.ObjectSources.{another_seed, seed_taken, source_fails, source_opened}
 use Rattle.kr_provider.proofs.values.unseal_object.Goals as goal
 
@@ -31,3 +32,27 @@ returns-clause-opened g c = source_opened g.L.Kms.truth g.L.Kms.link c.args.row.
     (subst (λ r. Gives r c.by_source-2.result) (λ i. source_reading c.args.object.now.kind
     (c.as_slice-2.ensures i) c.args.path.now (c.as_slice-encrypted.ensures i))
     c.by_source-2.ensures)
+
+pub returns-then-is_seed_of-clause-cached : goal.returns-then-is_seed_of-clause-cached
+returns-then-is_seed_of-clause-cached g c = λ source is. (
+  refl,
+  λ other. absurd (other ((same_key (key_of c.args.row.now)
+      (seed_key c.args.name.now c.args.object.now)).0
+      (sym c.is_seed_of.ensures ∙ c.if-is_seed_of.true))),
+)
+
+pub returns-in-Err-clause-cached : goal.returns-in-Err-clause-cached
+returns-in-Err-clause-cached g c = λ source is.
+    let kept = c.in-Err.ensures.cached source is in
+    (kept.0, λ other. source_lacks c.args.object.now c.args.path.now source c.in-Err.why kept.1)
+
+pub returns-clause-cached : goal.returns-clause-cached
+returns-clause-cached g c = λ source is.
+    let kept = c.in-Ok.ensures.cached source is in (
+      kept.0,
+      λ other. source_serves c.args.object.now c.args.path.now source c.in-Ok.source
+          c.by_source-2.result kept.1
+          (subst (λ r. Gives r c.by_source-2.result) (λ i. source_reading c.args.object.now.kind
+          (c.as_slice-2.ensures i) c.args.path.now (c.as_slice-encrypted.ensures i))
+          c.by_source-2.ensures),
+    )

@@ -1,9 +1,11 @@
-use Rattle.std.proofs.Common.{◌≡◌, Result, Some, refl, sym, ◌∙◌, ap, subst}
+use Rattle.std.proofs.Common.{◌≡◌, Result, None, Some, refl, sym, ◌∙◌, ap, subst}
 use Rattle.kr_top.specs.Around.{Around, around}
 use Rattle.kr_top.specs.Commands.{steps}
 use Rattle.kr_top.specs.inner.Phases.{Does, KeepsRules}
+use Rattle.kr_top.specs.inner.Reporting.{saying}
 use Rattle.kr_top.specs.declared.command.Command.{Command}
 use Rattle.kr_top.specs.declared.command.Command.TheVariants.{Check, Rows}
+use Rattle.kr_top.specs.declared.refusal.Ended.{Ended}
 use Rattle.kr_top.specs.declared.refusal.Outcome.{Outcome}
 use Rattle.kr_top.specs.declared.refusal.Stop.{Stop}
 use Rattle.kr_top.proofs.call.perform.Goals as goal
@@ -12,21 +14,32 @@ does_by : {a b : Command} {old new : Around} {result : Result Outcome Stop} → 
     → Does (steps a) old new result → Does (steps b) old new result
 does_by {old = old} {new} {result} e d = subst (λ c. Does (steps c) old new result) e d
 
+-- a command that reports nothing
+silently_by : {a b : Command} {old new : Around} {made : Result Outcome Stop} (ended : Ended)
+    → a ≡ b → ended ≡ record { made = made; said = None } → Does (steps a) old new made
+    → Does (steps b) old (saying ended.said new) ended.made
+silently_by {b = b} {old} {new} ended e is d =
+    subst (λ (n : Ended). Does (steps b) old (saying n.said new) n.made) (sym is) (does_by e d)
+
 pub convert-requires-clause-path : goal.convert-requires-clause-path
 convert-requires-clause-path g c = λ κs lives.
     subst (λ k. KeepsRules (Some k)) c.in-Convert.is c.requires.path
 
 pub returns-in-Convert : goal.returns-in-Convert
-returns-in-Convert g c = does_by (sym c.in-Convert.is) c.convert.ensures
+returns-in-Convert g c = silently_by c.silent.result (sym c.in-Convert.is)
+    c.silent.ensures c.convert.ensures
 
 pub returns-in-Check : goal.returns-in-Check
-returns-in-Check g c = does_by
+returns-in-Check g c = silently_by c.silent-in-Check.result
     (ap (λ name. Check name c.in-Check.resource) c.as_str.ensures ∙ sym c.in-Check.is)
+    c.silent-in-Check.ensures
     (c.check.ensures (around g.W.Link.Kms.truth (g.W.World.told c.args.world.now)
-    (g.I.Source.left c.args.input.now) (g.I.Source.count c.args.input.now)))
+    (g.I.Source.left c.args.input.now)
+    (g.I.Source.count c.args.input.now)))
 
 pub returns-in-Inspect : goal.returns-in-Inspect
-returns-in-Inspect g c = does_by (sym c.in-Inspect.is)
+returns-in-Inspect g c = silently_by c.silent-in-Inspect.result (sym c.in-Inspect.is)
+    c.silent-in-Inspect.ensures
     (c.inspect.ensures (around g.W.Link.Kms.truth (g.W.World.told c.args.world.now)
     (g.I.Source.left c.args.input.now) (g.I.Source.count c.args.input.now)))
 
@@ -39,20 +52,33 @@ put-requires-clause-resource g c = λ κs lives.
     (subst (λ k. KeepsRules (Some k)) c.in-Put.is c.requires.path).1
 
 pub returns-in-Put : goal.returns-in-Put
-returns-in-Put g c = does_by (sym c.in-Put.is) c.put.ensures
+returns-in-Put g c = silently_by c.silent-in-Put.result (sym c.in-Put.is) c.silent-in-Put.ensures
+    c.put.ensures
 
 pub get-requires-clause-path : goal.get-requires-clause-path
 get-requires-clause-path g c = λ κs lives.
     subst (λ k. KeepsRules (Some k)) c.in-Get.is c.requires.path
 
 pub returns-in-Get : goal.returns-in-Get
-returns-in-Get g c = does_by (sym c.in-Get.is)
+returns-in-Get g c = silently_by c.silent-in-Get.result (sym c.in-Get.is)
+    c.silent-in-Get.ensures
     (c.get.ensures (around g.W.Link.Kms.truth (g.W.World.told c.args.world.now)
-    (g.I.Source.left c.args.input.now) (g.I.Source.count c.args.input.now)) refl)
+    (g.I.Source.left c.args.input.now)
+    (g.I.Source.count c.args.input.now)) refl)
+
+pub migrate-requires-clause-apart : goal.migrate-requires-clause-apart
+migrate-requires-clause-apart g c = λ κs lives.
+    subst (λ k. KeepsRules (Some k)) c.in-Migrate.is c.requires.path
+
+pub returns-in-Migrate : goal.returns-in-Migrate
+returns-in-Migrate g c = silently_by c.silent-in-Migrate.result (sym c.in-Migrate.is)
+    c.silent-in-Migrate.ensures
+    (c.migrate.ensures (around g.W.Link.Kms.truth (g.W.World.told c.args.world.now)
+    (g.I.Source.left c.args.input.now) (g.I.Source.count c.args.input.now)))
 
 pub returns-in-Rows : goal.returns-in-Rows
-returns-in-Rows g c = does_by
-    (ap (λ name. Rows name) c.as_str-in-Rows.ensures ∙ sym c.in-Rows.is)
+returns-in-Rows g c = silently_by c.silent-in-Rows.result
+    (ap (λ name. Rows name) c.as_str-in-Rows.ensures ∙ sym c.in-Rows.is) c.silent-in-Rows.ensures
     (c.list.ensures (around g.W.Link.Kms.truth (g.W.World.told c.args.world.now)
     (g.I.Source.left c.args.input.now) (g.I.Source.count c.args.input.now)))
 
@@ -61,6 +87,12 @@ judge-requires-clause-replicas g c = λ κs lives.
     subst (λ k. KeepsRules (Some k)) c.in-Judge.is c.requires.path
 
 pub returns-in-Judge : goal.returns-in-Judge
-returns-in-Judge g c = does_by (sym c.in-Judge.is)
+returns-in-Judge g c = silently_by c.silent-in-Judge.result (sym c.in-Judge.is)
+    c.silent-in-Judge.ensures
     (c.judge.ensures (around g.W.Link.Kms.truth (g.W.World.told c.args.world.now)
     (g.I.Source.left c.args.input.now) (g.I.Source.count c.args.input.now)))
+
+pub returns-in-Rewrite : goal.returns-in-Rewrite
+returns-in-Rewrite g c = does_by (sym c.in-Rewrite.is)
+    (c.rewrite.ensures (around g.W.Link.Kms.truth (g.W.World.told c.args.world.now)
+    (g.I.Source.left c.args.input.now) (g.I.Source.count c.args.input.now)) refl)

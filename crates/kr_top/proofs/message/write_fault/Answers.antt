@@ -19,6 +19,10 @@ pub returns-in-Store : goal.returns-in-Store
 returns-in-Store g c = says_by (ap (λ o. fault_line o c.args.count) (sym c.in-Store.is))
     c.write_counted-in-Store.ensures
 
+pub returns-in-Target : goal.returns-in-Target
+returns-in-Target g c = says_by (ap (λ o. fault_line o c.args.count) (sym c.in-Target.is))
+    c.write_counted-in-Target.ensures
+
 pub returns-in-Plugin : goal.returns-in-Plugin
 returns-in-Plugin g c = says_by (ap (λ o. fault_line o c.args.count) (sym c.in-Plugin.is))
     c.write_plugin_fault.ensures

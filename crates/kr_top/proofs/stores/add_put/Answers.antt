@@ -2,26 +2,30 @@
 use Rattle.std.proofs.Common.{arith}
 use Rattle.kr_store.specs.Rows.{check_in, put_of}
 use Rattle.kr_store.specs.declared.answers.PutNo.TheVariants as refused
-use Rattle.kr_top.proofs.Adding.{refused_so, row_added, row_torn, row_above, row_lacking}
+use Rattle.kr_top.proofs.Adding.{one_more, refused_so, row_added, row_torn, row_above, row_lacking}
 use Rattle.kr_top.proofs.stores.add_put.Goals as goal
 
-pub returns-in-Ok : goal.returns-in-Ok
-returns-in-Ok g c name a = row_added c.args.object name (put_of c.args.path.now c.args.resource.now
-    c.args.stored (check_in c.args.store.now.format c.args.check)) c.args.store.now
+pub returns-in-Ok-clause-does : goal.returns-in-Ok-clause-does
+returns-in-Ok-clause-does g c name a = row_added c.args.object name
+    (put_of c.args.path.now c.args.resource.now c.args.stored (check_in c.args.store.now.format c.args.check)) c.args.store.now
     c.put-written.new.self c.requires.within a c.in-Ok.ensures c.known.ensures
 
-pub returns-in-Err-Failed : goal.returns-in-Err-Failed
-returns-in-Err-Failed g c name a =
+pub returns-in-Ok-clause-grown : goal.returns-in-Ok-clause-grown
+returns-in-Ok-clause-grown g c = one_more c.in-Ok.ensures
+
+pub returns-in-Err-Failed-clause-does : goal.returns-in-Err-Failed-clause-does
+returns-in-Err-Failed-clause-does g c name a =
     let row = put_of c.args.path.now c.args.resource.now c.args.stored
     (check_in c.args.store.now.format c.args.check) in
     let new = c.put-written.new.self in
     let why = rw c.in-Err-Failed.is at c.in-Err-Failed.field-0-is in
     row_torn c.args.object name row c.args.store.now new c.requires.within a
-    (refused_so c.args.store.now new row refused.Failed c.put-written.ensures c.in-Err-Failed.is why)
+    (refused_so c.args.store.now new row refused.Failed c.put-written.ensures
+    c.in-Err-Failed.is why)
     c.known.ensures c.faults.ensures
 
-pub returns-in-Err-Full : goal.returns-in-Err-Full
-returns-in-Err-Full g c name a =
+pub returns-in-Err-Full-clause-does : goal.returns-in-Err-Full-clause-does
+returns-in-Err-Full-clause-does g c name a =
     let row = put_of c.args.path.now c.args.resource.now c.args.stored
     (check_in c.args.store.now.format c.args.check) in
     let new = c.put-written.new.self in
@@ -31,8 +35,8 @@ returns-in-Err-Full g c name a =
     row_above c.args.object name row c.args.store.now new c.requires.within a full.0
     (omega (arith, full.1, full.2))
 
-pub returns-in-Err-NoMemory : goal.returns-in-Err-NoMemory
-returns-in-Err-NoMemory g c name a =
+pub returns-in-Err-NoMemory-clause-does : goal.returns-in-Err-NoMemory-clause-does
+returns-in-Err-NoMemory-clause-does g c name a =
     let row = put_of c.args.path.now c.args.resource.now c.args.stored
     (check_in c.args.store.now.format c.args.check) in
     let new = c.put-written.new.self in

@@ -14,6 +14,17 @@ returns-in-Ok-clause-ok g c name a = let loads = c.in-Ok.ensures.loads in
 pub returns-in-Ok-clause-limit : goal.returns-in-Ok-clause-limit
 returns-in-Ok-clause-limit g c = (c.in-Ok.ensures.kept.0, c.in-Ok.ensures.kept.2)
 
+pub returns-in-Ok-clause-loaded : goal.returns-in-Ok-clause-loaded
+returns-in-Ok-clause-loaded g c = let loads = c.in-Ok.ensures.loads in record {
+  bytes = loads.0;
+  agrees = loads.1;
+  within = loads.2;
+  file = loads.3;
+  length_is = loads.4;
+  told_is = c.in-Ok.ensures.kept.1;
+  later = c.in-Ok.ensures.kept.3;
+}
+
 pub returns-in-Err-clause-err : goal.returns-in-Err-clause-err
 returns-in-Err-clause-err g c name a =
     let told = g.T.Tape.told c.args.tape in

@@ -134,4 +134,4 @@ returns-clause-made g c name a t =
     (λ i. put_of (c.as_str-4.ensures i) (c.as_str-5.ensures i) sealed.bytes
     (check_in read.format (check_is i)))
     (c.in-Ok-next_line.ensures row)
-    (c.add_put-added.ensures name later)))))
+    (c.add_put-added.ensures.does name later)))))

@@ -16,5 +16,6 @@ invariant_of-self g c = (
 
 pub returns-clause-cached : goal.returns-clause-cached
 returns-clause-cached g c = subst (λ b. IfSome b.published (λ p. HeedsCache b.cache.rows
-    (list_at p c.args.resource.now) c.args.bytes.now b.links c.unseal_for.new.links))
+    p.seeds (list_at p c.args.resource.now) c.args.path.now c.args.bytes.now b.links
+    c.unseal_for.result c.unseal_for.new.links))
     c.self.view_is c.unseal_for.ensures.cached

@@ -1,0 +1,4 @@
+-- The lemmas that the answers cite.
+mod Lists
+mod Calling
+mod Beginning

@@ -1,0 +1,211 @@
+//! Cases, each of a few lines.
+//!
+//!     keys KEYID FAILS DRAWN DICEFAILS     a bench with a link over keys; `masks` with one in
+//!                                          memory
+//!     store HEX LIMIT FAILS                a store of these bytes
+//!     solo ROOM RELOADS NAME NAME          a core with one caller; `two`: with a second one, with
+//!                                          a bench of its own like the first one's
+//!     CALL                                 prints its answer
+//!     bench KEYID FAILS DRAWN DICEFAILS    another bench
+//!     between NUMBER CALL                  of two callers: the second one's, before the event of
+//!                                          this number of the first one, counted from here
+//!
+//! A case of lines `settings NAME JSON` names settings for those behind it.
+ghost use Rattle.kr_provider.specs.Names.{names_of};
+ghost use Rattle.kr_calls.specs.Desks.{IsBench, IsCore};
+
+use crate::call::serve_line;
+use crate::desk::Desk;
+use crate::linked::{Spelled, bench_of, end_bench, end_benches};
+use crate::named::Named;
+use crate::opening::{Budget, Terms, core_of, terms_of};
+use crate::page::Page;
+use crate::stored::{add_rows, load};
+use crate::two::{play_two, seated};
+use crate::words::{Wrong, behind, two_lines, two_words};
+use kr_base::{MemDice, MemTape};
+use kr_keywrap::{ExampleRing, KeyLink};
+use kr_kms::TablePlugin;
+use kr_provider::Bench;
+use kr_rollout::{Acts, Core, Solo};
+use kr_store::Store;
+use std::alloc::Global;
+use std::sync::Wait;
+
+/// Runs a case, and prints what came of its lines.
+pub fn run<R: Wait>(
+    rt: &R,
+    alloc: Global,
+    named: &mut Named,
+    case: &str,
+    page: &mut Page,
+) -> Result<(), Wrong> {
+    let (first, rest) = two_lines(case)?;
+    let (key, words) = two_words(first)?;
+    match key {
+        "settings" => name_all(alloc, named, case),
+        "keys" => begin::<KeyLink<ExampleRing>, R>(rt, alloc, named, words, rest, page),
+        "masks" => begin::<TablePlugin, R>(rt, alloc, named, words, rest, page),
+        _ => Err(Wrong::Form),
+    }
+}
+
+fn name_all(alloc: Global, named: &mut Named, case: &str) -> Result<(), Wrong> {
+    for line in case.lines() {
+        named.add(alloc, behind("settings", line)?)?;
+    }
+    Ok(())
+}
+
+/// What a case begins with.
+#[derive(Drop)]
+struct Beginning {
+    store: Store<MemTape>,
+    terms: Terms,
+    with_rival: bool,
+}
+
+/// Starts the core, and lets its callers make their calls.
+fn begin<L: Spelled, R: Wait>(
+    rt: &R,
+    alloc: Global,
+    named: &Named,
+    words: &str,
+    rest: &str,
+    page: &mut Page,
+) -> Result<(), Wrong> {
+    let (second, rest) = two_lines(rest)?;
+    let (third, calls) = two_lines(rest)?;
+    let (kind, third) = two_words(third)?;
+    let terms = terms_of(named, third)?;
+    let store = load(alloc, behind("store", second)?)?;
+    let beginning = Beginning {
+        store,
+        terms,
+        with_rival: kind == "two",
+    };
+    match bench_of::<L>(alloc, words) {
+        Ok(bench) => play(rt, alloc, named, beginning, bench, words, calls, page),
+        Err(why) => Err(why),
+    }
+}
+
+/// Starts the core by the bench.
+fn play<L: Spelled, R: Wait>(
+    rt: &R,
+    alloc: Global,
+    named: &Named,
+    beginning: Beginning,
+    mut bench: Bench<L, MemDice>,
+    words: &str,
+    calls: &str,
+    page: &mut Page,
+) -> Result<(), Wrong>
+    requires { IsBench (names_of L.link bench.links) bench.pages }
+{
+    let Beginning {
+        store,
+        terms,
+        with_rival,
+    } = beginning;
+    let budget = terms.budget;
+    match core_of(alloc, &mut bench, store, terms) {
+        Ok(core) => {
+            if with_rival {
+                play_with_rival(rt, alloc, named, core, budget, bench, words, calls, page)
+            } else {
+                play_alone(alloc, named, core, budget, bench, calls, page)
+            }
+        }
+        Err(why) => {
+            end_bench(bench, page)?;
+            Err(why)
+        }
+    }
+}
+
+/// The calls of two callers, of which the second one has a bench like the first one's.
+fn play_with_rival<L: Spelled, R: Wait>(
+    rt: &R,
+    alloc: Global,
+    named: &Named,
+    core: Core<MemTape>,
+    budget: Budget,
+    bench: Bench<L, MemDice>,
+    words: &str,
+    calls: &str,
+    page: &mut Page,
+) -> Result<(), Wrong>
+    requires core { IsCore budget core }
+    requires bench { IsBench (names_of L.link bench.links) bench.pages }
+{
+    match bench_of(alloc, words) {
+        Ok(other) => play_seated(rt, alloc, named, core, budget, bench, other, calls, page),
+        Err(why) => {
+            end_bench(bench, page)?;
+            Err(why)
+        }
+    }
+}
+
+/// The calls of two callers with these benches.
+fn play_seated<L: Spelled, R: Wait>(
+    rt: &R,
+    alloc: Global,
+    named: &Named,
+    core: Core<MemTape>,
+    budget: Budget,
+    bench: Bench<L, MemDice>,
+    other: Bench<L, MemDice>,
+    calls: &str,
+    page: &mut Page,
+) -> Result<(), Wrong>
+    requires core { IsCore budget core }
+    requires bench { IsBench (names_of L.link bench.links) bench.pages }
+    requires other { IsBench (names_of L.link other.links) other.pages }
+{
+    match seated(alloc, core, budget) {
+        Some(seats) => play_two(rt, alloc, named, seats, budget, bench, other, calls, page),
+        None => {
+            end_benches(bench, other, page)?;
+            Err(Wrong::Memory)
+        }
+    }
+}
+
+/// The calls of an only caller.
+fn play_alone<L: Spelled>(
+    alloc: Global,
+    named: &Named,
+    core: Core<MemTape>,
+    budget: Budget,
+    bench: Bench<L, MemDice>,
+    calls: &str,
+    page: &mut Page,
+) -> Result<(), Wrong>
+    requires core { IsCore budget core }
+    requires bench { IsBench (names_of L.link bench.links) bench.pages }
+{
+    let solo = Solo::new(core);
+    let mut desk = Desk::new(solo, bench, 2, budget.reloads);
+    let done = serve_all(alloc, named, &mut desk, calls, page);
+    let (solo, bench) = desk.into_parts();
+    let (store, _lines) = solo.into_core().close();
+    end_bench(bench, page)?;
+    done?;
+    add_rows(page, &store)
+}
+
+/// Makes the calls, one behind another.
+fn serve_all<A: Acts, L: Spelled>(
+    alloc: Global,
+    named: &Named,
+    desk: &mut Desk<A, L>,
+    calls: &str,
+    page: &mut Page,
+) -> Result<(), Wrong> {
+    for line in calls.lines() {
+        serve_line(alloc, named, desk, line, page)?;
+    }
+    Ok(())
+}

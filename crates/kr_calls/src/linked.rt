@@ -1,0 +1,144 @@
+//! Benches with one link, to the plugin `p`.
+ghost use Rattle.std.specs.Prelude.{◌≡◌, IfOk, IsTrue, codes, [], ◌∷◌};
+ghost use Rattle.kr_config.specs.Kept.{rows_of};
+ghost use Rattle.kr_provider.specs.Names.{names_of};
+ghost use Rattle.kr_rollout.specs.Openings.{NamesAmong};
+ghost use Rattle.kr_calls.specs.Desks.{IsBench};
+
+use crate::page::Page;
+use crate::words::{Wrong, longs_of, number_of, two_words};
+use kr_base::{Bytes, List, MemDice, Shared, Text};
+use kr_config::Settings;
+use kr_keywrap::{ExampleRing, KeyLink};
+use kr_kms::{Kms, TablePlugin};
+use kr_provider::{Bench, Links};
+use std::alloc::Global;
+
+/// How many keys a bench holds expanded.
+const PAGES: u32 = 64;
+
+/// How many unwrapped seeds it keeps.
+const SEEDS: u32 = 8;
+
+/// A link to the plugin `p` that a line spells.
+pub trait Spelled: Kms + Drop {
+    /// `KEYID`, and the numbers of its calls that fail.
+    fn spelled(alloc: Global, word: &str, fails: List<u64>) -> Result<Self, Wrong>;
+}
+
+impl Spelled for KeyLink<ExampleRing> {
+    fn spelled(alloc: Global, word: &str, fails: List<u64>) -> Result<Self, Wrong> {
+        let name = Text::copy(alloc, "p")?;
+        match word {
+            "k1" => Ok(KeyLink::new(ExampleRing, name, Text::copy(alloc, "k1")?, fails)),
+            "k2" => Ok(KeyLink::new(ExampleRing, name, Text::copy(alloc, "k2")?, fails)),
+            _ => Err(Wrong::Form),
+        }
+    }
+}
+
+impl Spelled for TablePlugin {
+    /// `KEYID` or `KEYID/HEALTHZ`.
+    fn spelled(alloc: Global, word: &str, fails: List<u64>) -> Result<Self, Wrong> {
+        let (key_id, healthz) = match word.split_once('/') {
+            Some(parts) => parts,
+            None => (word, "ok"),
+        };
+        Ok(TablePlugin::new(
+            Text::copy(alloc, "p")?,
+            Text::copy(alloc, key_id)?,
+            1,
+            Text::copy(alloc, "v2")?,
+            Text::copy(alloc, healthz)?,
+            fails,
+        ))
+    }
+}
+
+/// Links of which this, to the plugin `p`, is the only one.
+fn one_link<L: Kms + Drop>(alloc: Global, link: L) -> Result<Links<L>, Wrong>
+    ensures { IfOk result (λ links. names_of L.link links ≡ codes "p" ∷ []) }
+{
+    if link.name() != "p" {
+        return Err(Wrong::Form);
+    }
+    let mut links = Links::new(alloc);
+    match links.add(link) {
+        Ok(()) => Ok(links),
+        Err(_) => Err(Wrong::Memory),
+    }
+}
+
+/// Whether the settings name no other plugin.
+pub fn names_one(alloc: Global, settings: &Shared<Settings>) -> Result<bool, Wrong>
+    ensures { IfOk result (λ one. IsTrue one
+        → NamesAmong (codes "p" ∷ []) (rows_of settings.now.entries.0)) }
+{
+    let link = TablePlugin::spelled(alloc, "k1", List::new(alloc))?;
+    let links = one_link(alloc, link)?;
+    Ok(links.serve(settings.get()))
+}
+
+/// So many bytes, which count up from 00 and begin again behind ff.
+fn counted_bytes(alloc: Global, size: u32) -> Result<Bytes, Wrong> {
+    let mut bytes = Vec::new(alloc);
+    for place in 0..size {
+        bytes.push((place % 256) as u8)?;
+    }
+    Ok(Bytes::from_vec(bytes))
+}
+
+/// `KEYID FAILS DRAWN DICEFAILS`: a bench with a link whose calls of these numbers fail, and so
+/// many random bytes, whose draws of these numbers fail.
+pub fn bench_of<L: Spelled>(alloc: Global, words: &str) -> Result<Bench<L, MemDice>, Wrong>
+    ensures { IfOk result (λ bench. IsBench (names_of L.link bench.links) bench.pages) }
+{
+    let (key_id, rest) = two_words(words)?;
+    let (fails, rest) = two_words(rest)?;
+    let link: L = Spelled::spelled(alloc, key_id, longs_of(alloc, fails)?)?;
+    bench_around(alloc, link, rest)
+}
+
+/// `DRAWN DICEFAILS`: a bench with this link, and so many random bytes, whose draws of these
+/// numbers fail.
+pub fn bench_around<L: Kms + Drop>(
+    alloc: Global,
+    link: L,
+    words: &str,
+) -> Result<Bench<L, MemDice>, Wrong>
+    ensures { IfOk result (λ bench. IsBench (names_of L.link bench.links) bench.pages) }
+{
+    let (drawn, dice_fails) = two_words(words)?;
+    let bytes = counted_bytes(alloc, number_of(drawn)?)?;
+    let dice = MemDice::new(bytes, longs_of(alloc, dice_fails)?);
+    let links = one_link(alloc, link)?;
+    match Bench::new(alloc, links, dice, PAGES, SEEDS) {
+        Ok(bench) => Ok(bench),
+        Err(_) => Err(Wrong::Memory),
+    }
+}
+
+/// Ends a bench, and prints how often its link and its random source failed.
+pub fn end_bench<L: Kms + Drop>(bench: Bench<L, MemDice>, page: &mut Page) -> Result<(), Wrong> {
+    let faults = bench.dice_faults();
+    let (mut links, _dice) = bench.close();
+    page.word("faults")?;
+    match links.take() {
+        Some(link) => page.counted("link", link.faults())?,
+        None => {}
+    }
+    page.counted("dice", faults)?;
+    page.end_line()
+}
+
+/// Ends both benches.
+pub fn end_benches<L: Kms + Drop>(
+    own: Bench<L, MemDice>,
+    other: Bench<L, MemDice>,
+    page: &mut Page,
+) -> Result<(), Wrong> {
+    let first = end_bench(own, page);
+    let second = end_bench(other, page);
+    first?;
+    second
+}

@@ -1,0 +1,162 @@
+//! A core with two replicas, of which the first is in, two seats, and `p` as the only plugin.
+ghost use Rattle.std.specs.Prelude.{◌≡◌, IfOk, IfSome, Some, codes, [], ◌∷◌};
+ghost use Rattle.kr_provider.specs.Names.{names_of};
+ghost use Rattle.kr_rollout.specs.Openings.{NamesAmong};
+ghost use Rattle.kr_calls.specs.Desks.{IsBench, IsCore};
+
+use crate::linked::names_one;
+use crate::named::Named;
+use crate::words::{Wrong, number_of, two_words};
+use kr_base::{List, MemDice, MemTape, Shared, Text};
+use kr_config::Settings;
+use kr_kms::Kms;
+use kr_provider::{Bench, Published};
+use kr_rollout::Core;
+use kr_store::Store;
+use std::alloc::Global;
+
+/// How many configurations each seat may bring, and how many lines the journal may have.
+#[derive(Clone, Copy)]
+pub struct Budget {
+    pub reloads: u32,
+    pub room: u32,
+}
+
+/// What a core is started with.
+#[derive(Drop)]
+pub struct Terms {
+    pub first: Shared<Settings>,
+    pub second: Option<Shared<Settings>>,
+    pub budget: Budget,
+}
+
+/// `ROOM RELOADS NAME NAME`: the journal's room, how many configurations each seat may bring, and
+/// each replica's settings, `-` for one that is out.
+pub fn terms_of(named: &Named, words: &str) -> Result<Terms, Wrong> {
+    let (room, rest) = two_words(words)?;
+    let (reloads, names) = two_words(rest)?;
+    let (first, second) = two_words(names)?;
+    let second = if second == "-" {
+        None
+    } else {
+        Some(named.share(second)?)
+    };
+    Ok(Terms {
+        first: named.share(first)?,
+        second,
+        budget: Budget {
+            reloads: number_of(reloads)?,
+            room: number_of(room)?,
+        },
+    })
+}
+
+/// A configuration to be shared.
+fn shared(alloc: Global, published: Published) -> Result<Shared<Published>, Wrong>
+    ensures { IfOk result (λ p. p ≡ published) }
+{
+    match Shared::new(alloc, published) {
+        Ok(shared) => Ok(shared),
+        Err(_) => Err(Wrong::Memory),
+    }
+}
+
+/// Publishes settings.
+fn published<L: Kms>(
+    alloc: Global,
+    bench: &mut Bench<L, MemDice>,
+    settings: Shared<Settings>,
+) -> Result<Shared<Published>, Wrong>
+    requires { IsBench (names_of L.link bench.old.links) bench.old.pages }
+    ensures named { IfOk result (λ p. NamesAmong (codes "p" ∷ []) p.rows) }
+    ensures bench { IsBench (names_of L.link bench.new.links) bench.new.pages }
+{
+    let known = names_one(alloc, &settings)?;
+    if !known {
+        return Err(Wrong::Form);
+    }
+    match bench.publish(alloc, settings) {
+        Ok(published) => shared(alloc, published),
+        Err(_) => Err(Wrong::Form),
+    }
+}
+
+/// The same where there are some.
+fn published_some<L: Kms>(
+    alloc: Global,
+    bench: &mut Bench<L, MemDice>,
+    settings: Option<Shared<Settings>>,
+) -> Result<Option<Shared<Published>>, Wrong>
+    requires { IsBench (names_of L.link bench.old.links) bench.old.pages }
+    ensures named { IfOk result (λ some. IfSome some (λ p. NamesAmong (codes "p" ∷ []) p.rows)) }
+    ensures bench { IsBench (names_of L.link bench.new.links) bench.new.pages }
+{
+    match settings {
+        Some(settings) => Ok(Some(published(alloc, bench, settings)?)),
+        None => Ok(None),
+    }
+}
+
+/// A core over the store.
+pub fn core_of<L: Kms>(
+    alloc: Global,
+    bench: &mut Bench<L, MemDice>,
+    store: Store<MemTape>,
+    terms: Terms,
+) -> Result<Core<MemTape>, Wrong>
+    requires { IsBench (names_of L.link bench.old.links) bench.old.pages }
+    ensures core { IfOk result (λ core. IsCore terms.budget core) }
+    ensures bench { IsBench (names_of L.link bench.new.links) bench.new.pages }
+{
+    let Terms {
+        first,
+        second,
+        budget,
+    } = terms;
+    let first = published(alloc, bench, first)?;
+    let second = published_some(alloc, bench, second)?;
+    started(alloc, store, first, second, budget)
+}
+
+/// The name of the plugin, in a list.
+fn one_name(alloc: Global) -> Result<List<Text>, Wrong>
+    ensures { IfOk result (λ names. names.0 ≡ codes "p" ∷ []) }
+{
+    Ok(List::from_vec(vec![in alloc; Text::copy(alloc, "p")?]?))
+}
+
+/// The configurations of both replicas, in a list.
+fn replicas_of(
+    alloc: Global,
+    first: Shared<Published>,
+    second: Option<Shared<Published>>,
+) -> Result<List<Option<Shared<Published>>>, Wrong>
+    ensures { IfOk result (λ replicas. replicas.0 ≡ Some first ∷ second ∷ []) }
+{
+    Ok(List::from_vec(vec![in alloc; Some(first), second]?))
+}
+
+/// A core over the store.
+fn started(
+    alloc: Global,
+    store: Store<MemTape>,
+    first: Shared<Published>,
+    second: Option<Shared<Published>>,
+    budget: Budget,
+) -> Result<Core<MemTape>, Wrong>
+    requires first { NamesAmong (codes "p" ∷ []) first.rows }
+    requires second { IfSome second (λ p. NamesAmong (codes "p" ∷ []) p.rows) }
+    ensures { IfOk result (λ core. IsCore budget core) }
+{
+    let Budget { reloads, room } = budget;
+    if room > 4_000_000 || reloads > room / 2 {
+        return Err(Wrong::Form);
+    }
+    let replicas = replicas_of(alloc, first, second)?;
+    let names = one_name(alloc)?;
+    let each = [reloads, reloads];
+    match Core::start(alloc, store, replicas, names, 2, room as u64, &each) {
+        Ok(core) => Ok(core),
+        Err(_) => Err(Wrong::Form),
+    }
+}

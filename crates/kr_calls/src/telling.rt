@@ -1,0 +1,129 @@
+//! What calls answered, as words of a line.
+use crate::desk::Done;
+use crate::page::Page;
+use crate::words::Wrong;
+use kr_base::{Bytes, List, MemSink};
+use kr_fleet::{Joining, Loaded, Read};
+use kr_judge::Verdict;
+use kr_rewrite::{Report, Step};
+use kr_rollout::CallNo;
+use std::alloc::Global;
+
+/// How many bytes a verdict has at most.
+const ROOM: usize = 4096;
+
+impl Page {
+    /// Adds why a call was cut short.
+    fn refusal(&mut self, why: &CallNo) -> Result<(), Wrong> {
+        match why {
+            CallNo::Refused(why) => self.counted("refused", why.number() as u64),
+            CallNo::PluginFailed { name } => self.named("plugin", name.as_str()),
+            CallNo::DiceFailed => self.word("dice"),
+            CallNo::StoreFailed => self.word("store"),
+            CallNo::StoreFull { needed } => self.counted("full", *needed),
+            CallNo::Unhealthy { name, text, .. } => {
+                self.named("unhealthy", name.as_str())?;
+                self.word(text.as_str())
+            }
+            CallNo::Gone => self.word("gone"),
+            CallNo::Spent => self.word("spent"),
+            CallNo::NoMemory => self.word("memory"),
+        }
+    }
+
+    fn verdict(&mut self, alloc: Global, verdict: &Verdict) -> Result<(), Wrong> {
+        let mut sink = MemSink::new(Bytes::new(alloc), ROOM, List::new(alloc))?;
+        if verdict.write(&mut sink).is_err() {
+            return Err(Wrong::Memory);
+        }
+        match str::from_utf8(sink.bytes()) {
+            Ok(text) => self.named("verdict", text),
+            Err(_) => Err(Wrong::Form),
+        }
+    }
+
+    pub fn told_read(&mut self, alloc: Global, done: &Done<Read>) -> Result<(), Wrong> {
+        match done {
+            Ok(Read::Absent) => self.word("absent"),
+            Ok(
+                Read::Value {
+                    revision,
+                    plain,
+                    stale,
+                },
+            ) => {
+                self.counted("value", *revision)?;
+                let digits = hex::encode(alloc, plain.as_slice())?;
+                self.word(digits.as_str())?;
+                self.word(if *stale { "stale" } else { "fresh" })
+            }
+            Err(why) => self.refusal(why),
+        }
+    }
+
+    pub fn told_write(&mut self, done: &Done<u64>) -> Result<(), Wrong> {
+        match done {
+            Ok(revision) => self.counted("written", *revision),
+            Err(why) => self.refusal(why),
+        }
+    }
+
+    pub fn told_delete(&mut self, done: &Done<Option<u64>>) -> Result<(), Wrong> {
+        match done {
+            Ok(Some(revision)) => self.counted("deleted", *revision),
+            Ok(None) => self.word("absent"),
+            Err(why) => self.refusal(why),
+        }
+    }
+
+    pub fn told_leave(&mut self, done: &Done<Option<u32>>) -> Result<(), Wrong> {
+        match done {
+            Ok(Some(generation)) => self.counted("departed", *generation as u64),
+            Ok(None) => self.word("absent"),
+            Err(why) => self.refusal(why),
+        }
+    }
+
+    pub fn told_load(&mut self, alloc: Global, done: &Done<Loaded>) -> Result<(), Wrong> {
+        match done {
+            Ok(Loaded::Generation(number)) => self.counted("generation", *number as u64),
+            Ok(Loaded::Refused(verdict)) => self.verdict(alloc, verdict),
+            Ok(Loaded::Moved(number)) => self.counted("moved", *number as u64),
+            Ok(Loaded::Unchanged(number)) => self.counted("unchanged", *number as u64),
+            Err(why) => self.refusal(why),
+        }
+    }
+
+    pub fn told_join(&mut self, alloc: Global, done: &Done<Joining>) -> Result<(), Wrong> {
+        match done {
+            Ok(Joining::Generation(number)) => self.counted("generation", *number as u64),
+            Ok(Joining::Refused(verdict)) => self.verdict(alloc, verdict),
+            Ok(Joining::Present(number)) => self.counted("present", *number as u64),
+            Err(why) => self.refusal(why),
+        }
+    }
+
+    pub fn told_step(&mut self, done: &Done<Step>) -> Result<(), Wrong> {
+        match done {
+            Ok(Step::End) => self.word("end"),
+            Ok(Step::Rewritten(path)) => self.named("rewritten", path.as_str()),
+            Ok(Step::Fresh(path)) => self.named("fresh", path.as_str()),
+            Ok(Step::Changed(path)) => self.named("changed", path.as_str()),
+            Ok(Step::Left(path)) => self.named("left", path.as_str()),
+            Err(why) => self.refusal(why),
+        }
+    }
+
+    /// Adds the counts and the last path, and why the drive was cut short, if it was.
+    pub fn told_drive(&mut self, report: &Report, done: &Done<()>) -> Result<(), Wrong> {
+        self.counted("rewritten", report.rewritten)?;
+        self.counted("fresh", report.fresh)?;
+        self.counted("changed", report.changed)?;
+        self.counted("left", report.left)?;
+        self.named("last", report.last.as_str())?;
+        match done {
+            Ok(()) => Ok(()),
+            Err(why) => self.refusal(why),
+        }
+    }
+}

@@ -1,0 +1,128 @@
+//! Cases of two callers.
+ghost use Rattle.std.specs.Prelude.{◌≡◌, false, Contains, IfSome};
+ghost use Rattle.kr_provider.specs.Names.{names_of};
+ghost use Rattle.kr_seats.specs.Fleets.{IsFleetSeat, caller_of};
+ghost use Rattle.kr_calls.specs.Desks.{IsBench, IsCallerOf, IsCore};
+
+use crate::between::{Between, Planned};
+use crate::call::{Call, serve_line};
+use crate::desk::Desk;
+use crate::linked::{Spelled, end_benches};
+use crate::named::Named;
+use crate::opening::Budget;
+use crate::page::Page;
+use crate::words::{Wrong, number_of, two_words};
+use kr_base::{List, MemDice, MemTape};
+use kr_provider::Bench;
+use kr_rollout::{Acts, Core};
+use kr_seats::{Fleet, Seat};
+use std::alloc::Global;
+use std::sync::Wait;
+
+/// A fleet of the core, and its two seats.
+pub type Seated = (Fleet<MemTape>, Seat<MemTape>, Seat<MemTape>);
+
+/// Takes the core up; each seat may add half of its lines.
+pub fn seated(alloc: Global, core: Core<MemTape>, budget: Budget) -> Option<Seated>
+    requires { IsCore budget core }
+    ensures first { IfSome result (λ made. IsFleetSeat made.0 made.1
+        × IsCallerOf (caller_of made.0 made.1) 2 budget.reloads false) }
+    ensures second { IfSome result (λ made. IsFleetSeat made.0 made.2
+        × IsCallerOf (caller_of made.0 made.2) 2 budget.reloads false) }
+{
+    let half = (budget.room / 2) as u64;
+    match Fleet::new(alloc, core, &[half, half]) {
+        Ok(made) => two_of(made),
+        Err(_) => None,
+    }
+}
+
+/// A fleet with its last two seats.
+fn two_of(made: (Fleet<MemTape>, List<Seat<MemTape>>)) -> Option<Seated>
+    ensures { IfSome result (λ two. (two.0 ≡ made.0) × Contains made.1.0 two.1
+        × Contains made.1.0 two.2) }
+{
+    let (fleet, mut seats) = made;
+    let Some(second) = seats.pop() else {
+        return None;
+    };
+    with_first(fleet, seats, second)
+}
+
+/// The last seat beside these.
+fn with_first(
+    fleet: Fleet<MemTape>,
+    mut seats: List<Seat<MemTape>>,
+    second: Seat<MemTape>,
+) -> Option<Seated>
+    ensures { IfSome result (λ two. (two.0 ≡ fleet) × Contains seats.0 two.1
+        × (two.2 ≡ second)) }
+{
+    let Some(first) = seats.pop() else {
+        return None;
+    };
+    Some((fleet, first, second))
+}
+
+/// The calls of a caller, in whose midst another one makes its own.
+pub fn play_two<L: Spelled, R: Wait>(
+    rt: &R,
+    alloc: Global,
+    named: &Named,
+    seats: Seated,
+    budget: Budget,
+    own: Bench<L, MemDice>,
+    other: Bench<L, MemDice>,
+    calls: &str,
+    page: &mut Page,
+) -> Result<(), Wrong>
+    requires first { IsFleetSeat seats.0 seats.1
+        × IsCallerOf (caller_of seats.0 seats.1) 2 budget.reloads false }
+    requires second { IsFleetSeat seats.0 seats.2
+        × IsCallerOf (caller_of seats.0 seats.2) 2 budget.reloads false }
+    requires own { IsBench (names_of L.link own.links) own.pages }
+    requires other { IsBench (names_of L.link other.links) other.pages }
+{
+    let (fleet, first, second) = seats;
+    let rival = Desk::new(fleet.at(rt, second), other, 2, budget.reloads);
+    let between = Between::new(alloc, fleet.at(rt, first), rival);
+    let mut desk = Desk::new(between, own, 2, budget.reloads);
+    let done = serve_both(alloc, named, &mut desk, calls, page);
+    let (between, bench) = desk.into_parts();
+    let (own, rival, other) = between.into_parts();
+    let _first = own.into_seat();
+    let _second = rival.into_seat();
+    end_benches(bench, other, page)?;
+    done
+}
+
+/// A caller, and one that makes its calls in the midst of its own.
+type Both<A: Acts, B: Acts, L: Spelled> = Desk<Between<A, B, L>, L>;
+
+/// Makes the calls, one behind another.
+fn serve_both<A: Acts, B: Acts, L: Spelled>(
+    alloc: Global,
+    named: &Named,
+    desk: &mut Both<A, B, L>,
+    calls: &str,
+    page: &mut Page,
+) -> Result<(), Wrong> {
+    for line in calls.lines() {
+        match line.split_once(' ') {
+            Some(("between", words)) => desk.plan(planned(alloc, named, words)?),
+            _ => {
+                serve_line(alloc, named, desk, line, page)?;
+                desk.tell(page)?;
+            }
+        }
+    }
+    Ok(())
+}
+
+/// `NUMBER CALL`.
+fn planned(alloc: Global, named: &Named, words: &str) -> Result<Planned, Wrong> {
+    let (number, line) = two_words(words)?;
+    let number = number_of(number)?;
+    let call = Call::spelled(alloc, named, line)?;
+    Ok(Planned { number, call })
+}

@@ -1,0 +1,92 @@
+//! Why a line has no answer, and the words of a line.
+use kr_base::{List, NoMemory};
+use std::alloc::{AllocError, AllocFailed, Global};
+
+/// Why a line has no answer.
+#[derive(Drop)]
+pub enum Wrong {
+    /// It isn't of the form, or it asks for what a call doesn't allow.
+    Form,
+    Memory,
+}
+
+impl From<AllocError> for Wrong {
+    fn from(_error: AllocError) -> Wrong {
+        Wrong::Memory
+    }
+}
+
+impl<T: Drop> From<AllocFailed<T>> for Wrong {
+    fn from(_error: AllocFailed<T>) -> Wrong {
+        Wrong::Memory
+    }
+}
+
+impl<T: Drop> From<(NoMemory, T)> for Wrong {
+    fn from(_error: (NoMemory, T)) -> Wrong {
+        Wrong::Memory
+    }
+}
+
+impl From<NoMemory> for Wrong {
+    fn from(_error: NoMemory) -> Wrong {
+        Wrong::Memory
+    }
+}
+
+/// The first word, and what stands behind the space.
+pub fn two_words(text: &str) -> Result<(&str, &str), Wrong> {
+    match text.split_once(' ') {
+        Some(words) => Ok(words),
+        None => Err(Wrong::Form),
+    }
+}
+
+/// The first line, and those behind it.
+pub fn two_lines(text: &str) -> Result<(&str, &str), Wrong> {
+    match text.split_once('\n') {
+        Some(lines) => Ok(lines),
+        None => Err(Wrong::Form),
+    }
+}
+
+/// What stands behind the key.
+pub fn behind<'a>(key: &str, line: &'a str) -> Result<&'a str, Wrong> {
+    let (word, rest) = two_words(line)?;
+    if word == key {
+        Ok(rest)
+    } else {
+        Err(Wrong::Form)
+    }
+}
+
+pub fn number_of(text: &str) -> Result<u32, Wrong> {
+    match text.parse::<u32>() {
+        Ok(number) => Ok(number),
+        Err(_) => Err(Wrong::Form),
+    }
+}
+
+fn long_of(text: &str) -> Result<u64, Wrong> {
+    match text.parse::<u64>() {
+        Ok(number) => Ok(number),
+        Err(_) => Err(Wrong::Form),
+    }
+}
+
+/// Numbers parted by commas; `-` stands for none.
+pub fn longs_of(alloc: Global, word: &str) -> Result<List<u64>, Wrong> {
+    let mut numbers = List::new(alloc);
+    if word == "-" {
+        return Ok(numbers);
+    }
+    for part in word.split(',') {
+        numbers.push(long_of(part)?)?;
+    }
+    Ok(numbers)
+}
+
+/// The text of a word; `-` stands for the empty one.
+pub fn text_of(word: &str) -> &str {
+    if word == "-" { "" } else { word }
+}

@@ -1,0 +1,141 @@
+//! What seats ask, by words.
+//!
+//!     adopt REPLICA, leave REPLICA, letgo
+//!     fetch PATH, after PATH, delete PATH
+//!     put PATH RESOURCE HEX            sealed by what the seat holds
+//!     replace                          the row that the seat found last, sealed anew by that
+//!     reload REPLICA NAME EXPECTED, join REPLICA NAME
+use crate::configuration::Named;
+use crate::line_text::add_line;
+use crate::page::Page;
+use crate::play::{Play, Stage};
+use crate::request::Request;
+use crate::stored::add_parts;
+use crate::table::Table;
+use crate::words::{Wrong, bytes_of, number_of, option_of, text_of, two_words};
+use kr_base::{Bytes, Text};
+use kr_rollout::{Event, Gave};
+use std::alloc::Global;
+
+impl Play {
+    /// `SEAT EVENT`: makes the event, and prints its line; of a core with one caller at its close.
+    pub fn once(&mut self, alloc: Global, page: &mut Page, rest: &str) -> Result<(), Wrong> {
+        let (seat, event) = two_words(rest)?;
+        let seat = number_of(seat)?;
+        let request = request_of(alloc, &self.named, event)?;
+        match &mut self.stage {
+            Stage::Running(table) => {
+                table.ask(alloc, seat, request)?;
+                add_last(alloc, page, table, seat)
+            }
+            Stage::Alone(alone) => match seat {
+                0 => alone.ask(alloc, request),
+                _ => Err(Wrong::Form),
+            },
+            _ => Err(Wrong::Form),
+        }
+    }
+
+    /// `TIMES SEAT REPLICA NAME NAME`: reloads the replica as often with the two configurations in
+    /// turn, and prints the last line and how many there are.
+    pub fn turns(&mut self, alloc: Global, page: &mut Page, rest: &str) -> Result<(), Wrong> {
+        let (times, rest) = two_words(rest)?;
+        let (seat, rest) = two_words(rest)?;
+        let (replica, names) = two_words(rest)?;
+        let (first, second) = two_words(names)?;
+        let seat = number_of(seat)?;
+        let replica = number_of(replica)?;
+        for turn in 0..number_of(times)? {
+            let name = if turn % 2 == 0 { first } else { second };
+            let request = reload_of(&self.named, replica, name, None)?;
+            self.table()?.ask(alloc, seat, request)?;
+        }
+        let table = self.table()?;
+        add_last(alloc, page, table, seat)?;
+        page.counted(b"lines", table.journal().len() as u64)?;
+        page.end_line()
+    }
+}
+
+fn request_of(alloc: Global, named: &Named, event: &str) -> Result<Request, Wrong> {
+    let (key, rest) = match event.split_once(' ') {
+        Some(parts) => parts,
+        None => (event, ""),
+    };
+    match key {
+        "put" => putting(alloc, rest),
+        "replace" => Ok(Request::Replace),
+        "letgo" => Ok(Request::Plain(Event::LetGo)),
+        "fetch" | "after" | "delete" => Ok(about_path(key, text_of(alloc, rest)?)),
+        "reload" | "join" => bringing(named, key, rest),
+        _ => about_replica(key, number_of(rest)?),
+    }
+}
+
+/// `PATH RESOURCE HEX`.
+fn putting(alloc: Global, rest: &str) -> Result<Request, Wrong> {
+    let (path, rest) = two_words(rest)?;
+    let (resource, plain) = two_words(rest)?;
+    let plain = Bytes::from_vec(bytes_of(alloc, plain)?);
+    let path = text_of(alloc, path)?;
+    let resource = text_of(alloc, resource)?;
+    Ok(Request::Put {
+        path,
+        resource,
+        plain,
+    })
+}
+
+fn about_path(key: &str, path: Text) -> Request {
+    match key {
+        "fetch" => Request::Plain(Event::Fetch { path }),
+        "after" => Request::Plain(Event::After { path }),
+        _ => Request::Plain(Event::Delete { path }),
+    }
+}
+
+fn about_replica(key: &str, replica: u32) -> Result<Request, Wrong> {
+    match key {
+        "adopt" => Ok(Request::Plain(Event::Adopt { replica })),
+        "leave" => Ok(Request::Plain(Event::Leave { replica })),
+        _ => Err(Wrong::Form),
+    }
+}
+
+/// `REPLICA NAME`, and for a reload `EXPECTED` behind it.
+fn bringing(named: &Named, key: &str, rest: &str) -> Result<Request, Wrong> {
+    let (replica, rest) = two_words(rest)?;
+    let replica = number_of(replica)?;
+    if key == "join" {
+        let published = named.at(rest)?.share()?;
+        return Ok(Request::Plain(Event::Join { replica, published }));
+    }
+    let (name, expect) = two_words(rest)?;
+    reload_of(named, replica, name, option_of(expect)?)
+}
+
+fn reload_of(
+    named: &Named,
+    replica: u32,
+    name: &str,
+    expect: Option<u32>,
+) -> Result<Request, Wrong> {
+    let published = named.at(name)?.share()?;
+    Ok(Request::Plain(Event::Reload {
+        replica,
+        published,
+        expect,
+    }))
+}
+
+/// The last line of the journal; behind a row that was found its parts.
+fn add_last(alloc: Global, page: &mut Page, table: &Table, seat: u32) -> Result<(), Wrong> {
+    let Some(line) = table.journal().last() else {
+        return Err(Wrong::Form);
+    };
+    add_line(alloc, page, line)?;
+    if let Gave::Found { .. } = &line.gave {
+        add_parts(page, table.found(seat)?)?;
+    }
+    page.end_line()
+}

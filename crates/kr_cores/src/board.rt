@@ -1,0 +1,50 @@
+//! The board of a store's rows and of replicas' settings, without a core.
+ghost use Rattle.std.specs.Prelude.{IsTrue};
+ghost use Rattle.kr_rollout.specs.Openings.{IsFirstIn};
+
+use crate::line_text::add_refusal;
+use crate::page::Page;
+use crate::words::Wrong;
+use kr_base::{List, MemTape, Shared};
+use kr_config::Settings;
+use kr_rollout::board_of;
+use kr_store::Store;
+use std::alloc::Global;
+
+/// Prints the numbers of the board's live generations, or why there is none. It has room for so
+/// many generations.
+pub fn add_board(
+    alloc: Global,
+    page: &mut Page,
+    store: &Store<MemTape>,
+    replicas: &List<Option<Shared<Settings>>>,
+    room: u32,
+) -> Result<(), Wrong> {
+    let all = replicas.as_slice();
+    if !is_first_in(all) || all.len() > 16 || all.len() as u64 > room as u64 {
+        return Err(Wrong::Form);
+    }
+    match board_of(alloc, store, replicas, room) {
+        Ok(board) => add_live(page, board.live()),
+        Err(why) => add_refusal(alloc, page, &why),
+    }
+}
+
+/// Whether the first replica is in.
+fn is_first_in(replicas: &[Option<Shared<Settings>>]) -> bool
+    ensures { IsTrue result → IsFirstIn replicas.now }
+{
+    match replicas {
+        [Some(_), ..] => true,
+        _ => false,
+    }
+}
+
+/// A line with the numbers of live generations.
+pub fn add_live(page: &mut Page, numbers: &[u32]) -> Result<(), Wrong> {
+    page.word(b"live")?;
+    for number in numbers {
+        page.number(*number as u64)?;
+    }
+    page.end_line()
+}

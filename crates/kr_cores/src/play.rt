@@ -1,0 +1,219 @@
+//! What there is between two lines: configurations, and a store or a core over it.
+ghost use Rattle.kr_cores.specs.Hands.{AreTerms};
+
+use crate::alone::Alone;
+use crate::board::{add_board, add_live};
+use crate::configuration::Named;
+use crate::line_text::{add_line, add_refusal};
+use crate::page::Page;
+use crate::stored::add_rows;
+use crate::table::Table;
+use crate::terms::Terms;
+use crate::words::{Wrong, long_of, number_of, numbers_of, two_words};
+use kr_base::{List, MemTape};
+use kr_rollout::{Line, StartNo};
+use kr_store::Store;
+use std::alloc::Global;
+use std::mem;
+
+/// A store, or a core over it.
+#[derive(Drop)]
+pub enum Stage {
+    Empty,
+    Stored(Store<MemTape>),
+    Running(Table),
+    Alone(Alone),
+}
+
+/// The configurations that were named, and the stage.
+#[derive(Drop)]
+pub struct Play {
+    pub named: Named,
+    pub stage: Stage,
+}
+
+impl Play {
+    pub fn new(alloc: Global) -> Play {
+        Play {
+            named: Named::new(alloc),
+            stage: Stage::Empty,
+        }
+    }
+
+    /// Ends what is on the stage.
+    pub fn finish(self) {
+        let Play {
+            named: _named,
+            stage,
+        } = self;
+        end_stage(stage);
+    }
+
+    /// A store in the place of what is there.
+    pub fn begin(&mut self, store: Store<MemTape>) {
+        self.put(Stage::Stored(store));
+    }
+
+    fn put(&mut self, stage: Stage) {
+        end_stage(self.exchange(stage));
+    }
+
+    /// Takes the store, while no core has it.
+    fn take_store(&mut self) -> Result<Store<MemTape>, Wrong> {
+        match self.exchange(Stage::Empty) {
+            Stage::Stored(store) => Ok(store),
+            other => {
+                self.put(other);
+                Err(Wrong::Form)
+            }
+        }
+    }
+
+    /// Puts this stage in the place of the one that is there, which it gives back.
+    fn exchange(&mut self, stage: Stage) -> Stage {
+        mem::replace(&mut self.stage, stage)
+    }
+
+    /// The store, while no core has it.
+    pub fn store(&mut self) -> Result<&mut Store<MemTape>, Wrong> {
+        match &mut self.stage {
+            Stage::Stored(store) => Ok(store),
+            _ => Err(Wrong::Form),
+        }
+    }
+
+    /// The core of several seats.
+    pub fn table(&mut self) -> Result<&mut Table, Wrong> {
+        match &mut self.stage {
+            Stage::Running(table) => Ok(table),
+            _ => Err(Wrong::Form),
+        }
+    }
+
+    /// `ROOM NAMES`: prints the board of the store and these settings.
+    pub fn board(&mut self, alloc: Global, page: &mut Page, rest: &str) -> Result<(), Wrong> {
+        let (room, names) = two_words(rest)?;
+        let room = number_of(room)?;
+        let replicas = self.named.settings(alloc, names)?;
+        add_board(alloc, page, self.store()?, &replicas, room)
+    }
+
+    /// `ROOM RELOADS NAMES`: starts a core over the store, for all its seats or for seat 0 alone.
+    pub fn start(
+        &mut self,
+        alloc: Global,
+        page: &mut Page,
+        is_alone: bool,
+        rest: &str,
+    ) -> Result<(), Wrong> {
+        let (room, rest) = two_words(rest)?;
+        let (reloads, names) = two_words(rest)?;
+        let room = long_of(room)?;
+        let reloads = numbers_of(alloc, reloads)?;
+        let replicas = self.named.replicas(alloc, names)?;
+        let terms = Terms::new(replicas, reloads, room)?;
+        match started(alloc, self.take_store()?, terms, is_alone) {
+            Ok(stage) => {
+                self.put(stage);
+                page.word(b"started")?;
+                page.end_line()
+            }
+            Err((why, store)) => {
+                self.begin(store);
+                add_refusal(alloc, page, &why)
+            }
+        }
+    }
+
+    /// The numbers of the live generations.
+    pub fn live(&mut self, page: &mut Page) -> Result<(), Wrong> {
+        add_live(page, self.table()?.live())
+    }
+
+    /// Ends the core, and prints its store's rows; before them, of a core with one caller, all
+    /// lines.
+    pub fn close(&mut self, alloc: Global, page: &mut Page) -> Result<(), Wrong> {
+        match self.exchange(Stage::Empty) {
+            Stage::Running(table) => self.end(alloc, page, table.close(), List::new(alloc)),
+            Stage::Alone(alone) => {
+                let (store, lines) = alone.close();
+                self.end(alloc, page, store, lines)
+            }
+            other => {
+                self.put(other);
+                Err(Wrong::Form)
+            }
+        }
+    }
+
+    /// Prints what a core leaves, whose store takes its place.
+    fn end(
+        &mut self,
+        alloc: Global,
+        page: &mut Page,
+        store: Store<MemTape>,
+        lines: List<Line>,
+    ) -> Result<(), Wrong> {
+        let printed = add_ending(alloc, page, &store, lines.as_slice());
+        self.begin(store);
+        printed
+    }
+}
+
+/// Ends what is on the stage.
+fn end_stage(stage: Stage) {
+    match stage {
+        Stage::Empty => {}
+        Stage::Stored(store) => end_store(store),
+        Stage::Running(table) => end_store(table.close()),
+        Stage::Alone(alone) => {
+            let (store, _lines) = alone.close();
+            end_store(store)
+        }
+    }
+}
+
+/// Lets a store go with its tape.
+fn end_store(store: Store<MemTape>) {
+    let _tape = store.close();
+}
+
+/// A core over the store.
+fn started(
+    alloc: Global,
+    store: Store<MemTape>,
+    terms: Terms,
+    is_alone: bool,
+) -> Result<Stage, (StartNo, Store<MemTape>)>
+    requires { AreTerms terms.replicas.0 terms.reloads.items terms.room }
+{
+    if is_alone {
+        return match Alone::start(alloc, store, terms) {
+            Ok(alone) => Ok(Stage::Alone(alone)),
+            Err(refused) => Err(refused),
+        };
+    }
+    match Table::start(alloc, store, terms) {
+        Ok(table) => Ok(Stage::Running(table)),
+        Err(refused) => Err(refused),
+    }
+}
+
+/// Adds the lines, and the store's rows.
+fn add_ending(
+    alloc: Global,
+    page: &mut Page,
+    store: &Store<MemTape>,
+    lines: &[Line],
+) -> Result<(), Wrong> {
+    add_lines(alloc, page, lines)?;
+    add_rows(page, store)
+}
+
+fn add_lines(alloc: Global, page: &mut Page, lines: &[Line]) -> Result<(), Wrong> {
+    for line in lines {
+        add_line(alloc, page, line)?;
+        page.end_line()?;
+    }
+    Ok(())
+}

@@ -1,0 +1,4 @@
+-- Lemmas of the tests.
+pub mod Bare
+pub mod Leaving
+pub mod Pairs

@@ -1,0 +1,644 @@
+-- Each row that a worker's lines replaced stands on an unsealing: by the relation of each call.
+use Rattle.std.specs.Prelude.{All}
+use Rattle.std.proofs.Common.{◌≡◌, ℕ, Bool, true, false, List, [], ◌∷◌, ◌++◌, Option, None, Some, Result, Ok, Err, inl, inr, refl, ap, sym, subst, ◌∙◌}
+use Rattle.std.specs.Option.{option_map}
+use Rattle.std.proofs.lemmas.Bool.{false≢true}
+use Rattle.std.proofs.lemmas.List.Elements.{All-append, All-cons, All-nil}
+use Rattle.std.proofs.lemmas.Option.{same_Some}
+use Rattle.kr_config.specs.Kept.{Row as setting}
+use Rattle.kr_kms.specs.Calls.{Link}
+use Rattle.kr_kms.specs.Truth.{Truth}
+use Rattle.kr_provider.specs.Publication.{Publication, list_at}
+use Rattle.kr_provider.specs.Sealing.{IsSealing}
+use Rattle.kr_provider.specs.Unsealing.{UnsealsBy}
+use Rattle.kr_provider.specs.declared.refusal.Opened.{Opened}
+use Rattle.kr_provider.specs.declared.refusal.SealNo.{SealNo}
+use Rattle.kr_provider.specs.declared.refusal.UnsealNo.{UnsealNo}
+use Rattle.kr_provider.specs.declared.refusal.ValueNo.TheVariants as value
+use Rattle.kr_store.specs.declared.rows.Row.{Row}
+use Rattle.kr_rollout.specs.declared.answer.Answer.{Answer}
+use Rattle.kr_rollout.specs.declared.answer.Answer.TheVariants as answer
+use Rattle.kr_rollout.specs.declared.call.CallNo.{CallNo}
+use Rattle.kr_rollout.specs.declared.call.CallNo.TheVariants as refusal
+use Rattle.kr_rollout.specs.declared.event.Event.{Event}
+use Rattle.kr_rollout.specs.declared.event.Event.TheVariants as event
+use Rattle.kr_rollout.specs.declared.line.Did.{Did}
+use Rattle.kr_rollout.specs.declared.line.Did.TheVariants as did
+use Rattle.kr_rollout.specs.declared.line.Gave.{Gave}
+use Rattle.kr_rollout.specs.declared.line.Gave.TheVariants as gave
+use Rattle.kr_rollout.specs.declared.opening.Entry.{Entry}
+use Rattle.kr_rollout.specs.Acting.{AddsEntry, Caller, IsCaller}
+use Rattle.kr_rollout.specs.Callers.{did_of, found_in, gave_of, holding}
+use Rattle.kr_rollout.specs.Calls.{AddsNothing, AdoptsNothing, HoldsMeanwhile, LetsGo}
+use Rattle.kr_rollout.proofs.Following.{adopted_law, next_law, stays_law}
+use Rattle.kr_rollout.proofs.FoundRows.{replaced_is_live}
+use Rattle.kr_rollout.proofs.HeldFacts.{found_is_named, held_is_named}
+use Rattle.kr_rollout.proofs.Nexts.{caller_next, legal_now}
+use Rattle.kr_fleet.specs.declared.outcome.Joining.{Joining}
+use Rattle.kr_fleet.specs.declared.outcome.Joining.TheVariants as joining
+use Rattle.kr_fleet.specs.declared.outcome.Loaded.{Loaded}
+use Rattle.kr_fleet.specs.declared.outcome.Loaded.TheVariants as loaded
+use Rattle.kr_fleet.specs.declared.outcome.Read.{Read}
+use Rattle.kr_fleet.specs.declared.outcome.Read.TheVariants as read
+use Rattle.kr_fleet.specs.LoadCalls.{BringsBy, IsJoin, IsRefresh, IsReload, Refreshes, plugin_names, reload_of}
+use Rattle.kr_fleet.specs.ReadCalls.{Finds, IsRead}
+use Rattle.kr_fleet.specs.SingleCalls.{IsDelete, IsLeave}
+use Rattle.kr_fleet.specs.WriteCalls.{IsWrite, Puts}
+use Rattle.kr_provider.specs.AskedLinks.{AskedOnly}
+use Rattle.kr_rewrite.specs.declared.outcome.Report.{Report}
+use Rattle.kr_rewrite.specs.declared.outcome.Step.{Step}
+use Rattle.kr_rewrite.specs.declared.outcome.Step.TheVariants as step
+use Rattle.kr_rewrite.specs.Drives.{EndsBy, IsDrive, Walks, last_of, path_of}
+use Rattle.kr_rewrite.specs.Rewrites.{FindsNone, IsStep, ResealsBy, Rewrites, RewritesBy, RewritesData, Steps}
+use Rattle.kr_script.specs.declared.script.ScriptLine.{ScriptLine}
+use Rattle.kr_script.specs.declared.script.ScriptLine.TheVariants as line
+use Rattle.kr_workers.specs.declared.files.SettingsFile.{SettingsFile}
+use Rattle.kr_workers.specs.Files.{rows_at}
+use Rattle.kr_workers.specs.Plugins.{IsReplaced, Reseals}
+use Rattle.kr_workers.specs.Replies.{Reply}
+use Rattle.kr_workers.specs.Runs.{DoesAll, LineDone}
+use Rattle.kr_workers.specs.ScriptLines.{Does, DoesJoin, DoesReload, IfRead, Workplace}
+
+-- ---- entries that replace nothing
+
+abbrev is_replace : Did → Bool
+is_replace (did.Replace path from) = true
+is_replace other = false
+
+abbrev replaced_path : List ℕ → Did → List ℕ
+replaced_path other (did.Replace path from) = path
+replaced_path other done = other
+
+abbrev is_written : Gave → Bool
+is_written (gave.Written revision) = true
+is_written other = false
+
+module _ {L D : Type 0} (truth : Truth) (link : L → Link) (left : D → Option (List ℕ))
+    (count : D → ℕ) where
+  abbrev pub IsKnown : Entry → Type 0
+  IsKnown e = (path : List ℕ) → IsReplaced path e → Reseals truth link path e
+
+  -- a caller stays one, and each own entry that replaced a row stands on an unsealing still
+  pub record Keeps (old new : Caller) : Type 0 where
+    pub caller : IsCaller old → IsCaller new
+    pub all : IsCaller old → All IsKnown old.mine → All IsKnown new.mine
+
+  same_keeps : (old new : Caller) → new ≡ old → Keeps old new
+  same_keeps old new same = subst (λ c. Keeps old c) (sym same)
+      (record { caller = λ k. k; all = λ k h. h })
+
+  none_keeps : (old new : Caller) → AddsNothing old new → Keeps old new
+  none_keeps old new n = same_keeps old new n.same
+
+  then_keeps : (a b c : Caller) → Keeps a b → Keeps b c → Keeps a c
+  then_keeps a b c s t = record {
+    caller = λ k. t.caller (s.caller k);
+    all = λ k h. t.all (s.caller k) (s.all k h);
+  }
+
+  when_keeps : (old new : Caller) → (IsCaller old → Keeps old new) → Keeps old new
+  when_keeps old new f = record { caller = λ k. (f k).caller k; all = λ k h. (f k).all k h }
+
+  adds_keeps : (old new : Caller) (asked : Event) (given : Answer)
+      → (a : AddsEntry old asked given new) → (IsCaller old → IsKnown a.entry) → Keeps old new
+  adds_keeps old new asked given a own = record {
+    caller = caller_next old new asked given a;
+    all = λ k h. subst (λ (entries : List Entry). All IsKnown entries)
+        (sym (ap (λ (c : Caller). c.mine) a.new_is))
+        (All-append IsKnown old.mine (a.entry ∷ []) h
+        (All-cons IsKnown a.entry [] (own k) (All-nil IsKnown)));
+  }
+
+  quiet_keeps : (old new : Caller) (asked : Event) (given : Answer)
+      → is_replace (did_of asked) ≡ false → AddsEntry old asked given new → Keeps old new
+  quiet_keeps old new asked given quiet a = adds_keeps old new asked given a
+      (λ k path r. absurd (false≢true (sym quiet
+      ∙ ap is_replace (sym a.records.did_is ∙ r.did_is))))
+
+  -- ---- calls that hold a generation meanwhile
+
+  early_keeps : (replica : ℕ) (old new : Caller) (why : CallNo)
+      → AdoptsNothing replica old why new → Keeps old new
+  early_keeps replica old new (refusal.Refused why) e = absurd e
+  early_keeps replica old new (refusal.PluginFailed name) e = absurd e
+  early_keeps replica old new refusal.DiceFailed e = absurd e
+  early_keeps replica old new refusal.StoreFailed e = absurd e
+  early_keeps replica old new (refusal.StoreFull needed) e = absurd e
+  early_keeps replica old new (refusal.Unhealthy name field text) e = absurd e
+  early_keeps replica old new refusal.Gone e =
+      quiet_keeps old new (event.Adopt replica) (answer.Gone replica) refl e
+  early_keeps replica old new refusal.Spent e = none_keeps old new e
+  early_keeps replica old new refusal.NoMemory (inl e) = same_keeps old new e
+  early_keeps replica old new refusal.NoMemory (inr e) =
+      quiet_keeps old new (event.Adopt replica) answer.NoMemory refl e
+
+  let_go_keeps : {T : Type 0} → (old new : Caller) (done result : Result T CallNo)
+      → LetsGo old done result new → Keeps old new
+  let_go_keeps old new done result (inl g) =
+      quiet_keeps old new event.LetGo answer.Released refl g.0
+  let_go_keeps old new done result (inr n) = none_keeps old new n.0
+
+  held_keeps : {T : Type 0}
+      → (Does : (number : ℕ) → Publication → Caller → Result T CallNo → Caller → Type 0)
+      (replica : ℕ) (old new : Caller) (result : Result T CallNo)
+      → HoldsMeanwhile Does replica old result new
+      → ((number : ℕ) (p : Publication) (from : Caller) (done : Result T CallNo) (to : Caller)
+      → IsCaller from → holding from.mine ≡ Some (number, p) → Does number p from done to
+      → Keeps from to)
+      → Keeps old new
+  held_keeps {T} Does replica old new result h by =
+      let first = quiet_keeps old h.adopted (event.Adopt replica) (answer.Adopted h.number h.p)
+      refl h.adopts in
+      when_keeps old new (λ k. then_keeps old h.adopted new first
+      (then_keeps h.adopted h.acted new
+      (by h.number h.p h.adopted h.done h.acted (first.caller k)
+      (adopted_law old h.adopted replica h.number h.p h.adopts) h.does)
+      (let_go_keeps {T = T} h.acted new h.done result h.lets_go)))
+
+  -- ---- a put, a get, a delete, a leave
+
+  puts_keep : (resource path plain : List ℕ) (p : Publication) (old new : Caller)
+      (dice after : D) (result : Result ℕ CallNo)
+      → Puts left count resource path plain p old dice result new after → Keeps old new
+  puts_keep resource path plain p old new dice after (Ok revision) d =
+      quiet_keeps old new (event.Put path resource plain d.stored) (answer.Written revision) refl
+      d.put
+  puts_keep resource path plain p old new dice after (Err (refusal.Refused value.Short)) d =
+      absurd d
+  puts_keep resource path plain p old new dice after (Err (refusal.Refused value.BadBlock)) d =
+      absurd d
+  puts_keep resource path plain p old new dice after (Err (refusal.Refused value.BadPadding)) d =
+      absurd d
+  puts_keep resource path plain p old new dice after (Err (refusal.Refused value.BadTag)) d =
+      absurd d
+  puts_keep resource path plain p old new dice after (Err (refusal.Refused value.Wire)) d =
+      absurd d
+  puts_keep resource path plain p old new dice after (Err (refusal.Refused value.KeyId)) d =
+      absurd d
+  puts_keep resource path plain p old new dice after (Err (refusal.Refused value.Source)) d =
+      absurd d
+  puts_keep resource path plain p old new dice after (Err (refusal.Refused value.Annotations)) d =
+      absurd d
+  puts_keep resource path plain p old new dice after (Err (refusal.Refused value.SourceType)) d =
+      absurd d
+  puts_keep resource path plain p old new dice after (Err (refusal.Refused value.NoData)) d =
+      absurd d
+  puts_keep resource path plain p old new dice after (Err (refusal.Refused value.NotUtf8)) d =
+      absurd d
+  puts_keep resource path plain p old new dice after (Err (refusal.Refused value.SeedLength)) d =
+      absurd d
+  puts_keep resource path plain p old new dice after (Err (refusal.Refused value.NoProvider)) d =
+      absurd d
+  puts_keep resource path plain p old new dice after
+      (Err (refusal.Refused value.LooksEncrypted)) d = same_keeps old new d.1
+  puts_keep resource path plain p old new dice after (Err (refusal.Refused value.TooLarge)) d =
+      same_keeps old new d.1
+  puts_keep resource path plain p old new dice after (Err (refusal.PluginFailed name)) d =
+      absurd d
+  puts_keep resource path plain p old new dice after (Err refusal.DiceFailed) d =
+      same_keeps old new d.1
+  puts_keep resource path plain p old new dice after (Err refusal.StoreFailed) d =
+      quiet_keeps old new (event.Put path resource plain d.stored) answer.StoreFailed refl d.put
+  puts_keep resource path plain p old new dice after (Err (refusal.StoreFull needed)) d =
+      quiet_keeps old new (event.Put path resource plain d.stored) (answer.StoreFull needed) refl
+      d.put
+  puts_keep resource path plain p old new dice after
+      (Err (refusal.Unhealthy name field text)) d = absurd d
+  puts_keep resource path plain p old new dice after (Err refusal.Gone) d = absurd d
+  puts_keep resource path plain p old new dice after (Err refusal.Spent) d =
+      none_keeps old new d.nothing
+  puts_keep resource path plain p old new dice after (Err refusal.NoMemory) (inl d) =
+      same_keeps old new d.1
+  puts_keep resource path plain p old new dice after (Err refusal.NoMemory) (inr d) =
+      quiet_keeps old new (event.Put path resource plain d.stored) answer.NoMemory refl d.put
+
+  write_keeps : (resource path plain : List ℕ) (replica : ℕ) (old new : Caller)
+      (dice after : D) (result : Result ℕ CallNo)
+      → IsWrite left count resource path plain replica old dice result new after → Keeps old new
+  write_keeps resource path plain replica old new dice after (Ok revision) (inl e) = absurd e
+  write_keeps resource path plain replica old new dice after (Err why) (inl e) =
+      early_keeps replica old new why e.0
+  write_keeps resource path plain replica old new dice after result (inr h) = held_keeps
+      (λ (number : ℕ) (p : Publication) (from : Caller) (done : Result ℕ CallNo) (to : Caller).
+      Puts left count resource path plain p from dice done to after) replica old new result h
+      (λ number p from done to k held d.
+      puts_keep resource path plain p from to dice after done d)
+
+  finds_keep : (path : List ℕ) (p : Publication) (old new : Caller) (olds news : List L)
+      (result : Result Read CallNo) → Finds truth link path p old olds result new news
+      → Keeps old new
+  finds_keep path p old new olds news (Ok read.Absent) d =
+      quiet_keeps old new (event.Fetch path) answer.Absent refl d.0.absent
+  finds_keep path p old new olds news (Ok (read.Value revision plain stale)) d =
+      quiet_keeps old new (event.Fetch path) (answer.Found d.0) refl d.1.found
+  finds_keep path p old new olds news (Err (refusal.Refused why)) d =
+      quiet_keeps old new (event.Fetch path) (answer.Found d.0) refl d.1.found
+  finds_keep path p old new olds news (Err (refusal.PluginFailed name)) d =
+      quiet_keeps old new (event.Fetch path) (answer.Found d.0) refl d.1.found
+  finds_keep path p old new olds news (Err refusal.DiceFailed) d = absurd d
+  finds_keep path p old new olds news (Err refusal.StoreFailed) d = absurd d
+  finds_keep path p old new olds news (Err (refusal.StoreFull needed)) d = absurd d
+  finds_keep path p old new olds news (Err (refusal.Unhealthy name field text)) d = absurd d
+  finds_keep path p old new olds news (Err refusal.Gone) d = absurd d
+  finds_keep path p old new olds news (Err refusal.Spent) d = none_keeps old new d.0
+  finds_keep path p old new olds news (Err refusal.NoMemory) (inl d) =
+      quiet_keeps old new (event.Fetch path) (answer.Found d.0) refl d.1.found
+  finds_keep path p old new olds news (Err refusal.NoMemory) (inr d) =
+      quiet_keeps old new (event.Fetch path) answer.NoMemory refl d.0
+
+  read_keeps : (path : List ℕ) (replica : ℕ) (old new : Caller) (olds news : List L)
+      (result : Result Read CallNo) → IsRead truth link path replica old olds result new news
+      → Keeps old new
+  read_keeps path replica old new olds news (Ok found) (inl e) = absurd e
+  read_keeps path replica old new olds news (Err why) (inl e) =
+      early_keeps replica old new why e.0
+  read_keeps path replica old new olds news result (inr h) = held_keeps
+      (λ (number : ℕ) (p : Publication) (from : Caller) (done : Result Read CallNo) (to : Caller).
+      Finds truth link path p from olds done to news) replica old new result h
+      (λ number p from done to k held d. finds_keep path p from to olds news done d)
+
+  delete_keeps : (path : List ℕ) (old new : Caller) (result : Result (Option ℕ) CallNo)
+      → IsDelete path old result new → Keeps old new
+  delete_keeps path old new (Ok (Some revision)) d =
+      quiet_keeps old new (event.Delete path) (answer.Written revision) refl d
+  delete_keeps path old new (Ok None) d =
+      quiet_keeps old new (event.Delete path) answer.Absent refl d
+  delete_keeps path old new (Err (refusal.Refused why)) d = absurd d
+  delete_keeps path old new (Err (refusal.PluginFailed name)) d = absurd d
+  delete_keeps path old new (Err refusal.DiceFailed) d = absurd d
+  delete_keeps path old new (Err refusal.StoreFailed) d =
+      quiet_keeps old new (event.Delete path) answer.StoreFailed refl d
+  delete_keeps path old new (Err (refusal.StoreFull needed)) d =
+      quiet_keeps old new (event.Delete path) (answer.StoreFull needed) refl d
+  delete_keeps path old new (Err (refusal.Unhealthy name field text)) d = absurd d
+  delete_keeps path old new (Err refusal.Gone) d = absurd d
+  delete_keeps path old new (Err refusal.Spent) d = none_keeps old new d
+  delete_keeps path old new (Err refusal.NoMemory) (inl d) = same_keeps old new d
+  delete_keeps path old new (Err refusal.NoMemory) (inr d) =
+      quiet_keeps old new (event.Delete path) answer.NoMemory refl d
+
+  leave_keeps : (named : ℕ) (old new : Caller) (result : Result (Option ℕ) CallNo)
+      → IsLeave named old result new → Keeps old new
+  leave_keeps named old new (Ok (Some number)) d =
+      quiet_keeps old new (event.Leave named) (answer.Departed number) refl d
+  leave_keeps named old new (Ok None) d =
+      quiet_keeps old new (event.Leave named) (answer.Gone named) refl d
+  leave_keeps named old new (Err (refusal.Refused why)) d = absurd d
+  leave_keeps named old new (Err (refusal.PluginFailed name)) d = absurd d
+  leave_keeps named old new (Err refusal.DiceFailed) d = absurd d
+  leave_keeps named old new (Err refusal.StoreFailed) d = absurd d
+  leave_keeps named old new (Err (refusal.StoreFull needed)) d = absurd d
+  leave_keeps named old new (Err (refusal.Unhealthy name field text)) d = absurd d
+  leave_keeps named old new (Err refusal.Gone) d = absurd d
+  leave_keeps named old new (Err refusal.Spent) d = none_keeps old new d
+  leave_keeps named old new (Err refusal.NoMemory) d = absurd d
+
+  -- ---- a reload, a join, a refresh
+
+  brings_keep : (rows : List setting) (brings : Publication → Event)
+      → ((p : Publication) → is_replace (did_of (brings p)) ≡ false) → (replica : ℕ)
+      (old new : Caller) (olds news : List L) (dice after : D) (why : CallNo)
+      → BringsBy truth link left count rows brings replica old olds dice why new news after
+      → Keeps old new
+  brings_keep rows brings quiet replica old new olds news dice after (refusal.Refused why) b =
+      absurd b
+  brings_keep rows brings quiet replica old new olds news dice after (refusal.PluginFailed name)
+      b = same_keeps old new b.1
+  brings_keep rows brings quiet replica old new olds news dice after refusal.DiceFailed b =
+      same_keeps old new b.1
+  brings_keep rows brings quiet replica old new olds news dice after refusal.StoreFailed b =
+      absurd b
+  brings_keep rows brings quiet replica old new olds news dice after (refusal.StoreFull needed)
+      b = absurd b
+  brings_keep rows brings quiet replica old new olds news dice after
+      (refusal.Unhealthy name field text) b = same_keeps old new b.1
+  brings_keep rows brings quiet replica old new olds news dice after refusal.Gone b =
+      quiet_keeps old new (brings b.p) (answer.Gone replica) (quiet b.p) b.brought
+  brings_keep rows brings quiet replica old new olds news dice after refusal.Spent b =
+      none_keeps old new b.1
+  brings_keep rows brings quiet replica old new olds news dice after refusal.NoMemory (inl b) =
+      same_keeps old new b.1
+  brings_keep rows brings quiet replica old new olds news dice after refusal.NoMemory
+      (inr (inl b)) = same_keeps old new b.1
+  brings_keep rows brings quiet replica old new olds news dice after refusal.NoMemory
+      (inr (inr b)) =
+      quiet_keeps old new (brings b.p) answer.NoMemory (quiet b.p) b.brought
+
+  reload_keeps : (rows : List setting) (replica : ℕ) (old new : Caller) (olds news : List L)
+      (dice after : D) (result : Result Loaded CallNo)
+      → IsReload truth link left count rows replica old olds dice result new news after
+      → Keeps old new
+  reload_keeps rows replica old new olds news dice after (Ok (loaded.Generation number)) b =
+      quiet_keeps old new (reload_of replica None b.p) (answer.Reloaded number) refl b.brought
+  reload_keeps rows replica old new olds news dice after (Ok (loaded.Refused verdict)) b =
+      quiet_keeps old new (reload_of replica None b.p) (answer.Refused verdict) refl b.brought
+  reload_keeps rows replica old new olds news dice after (Ok (loaded.Moved number)) b = absurd b
+  reload_keeps rows replica old new olds news dice after (Ok (loaded.Unchanged number)) b =
+      absurd b
+  reload_keeps rows replica old new olds news dice after (Err why) b = brings_keep rows
+      (reload_of replica None) (λ p. refl) replica old new olds news dice after why b
+
+  joins_keep : (rows : List setting) (replica : ℕ) (old new : Caller) (olds news : List L)
+      (dice after : D) (why : CallNo)
+      → IsJoin truth link left count rows replica old olds dice (Err why) new news after
+      → Keeps old new
+  joins_keep rows replica old new olds news dice after (refusal.Refused why) b = absurd b
+  joins_keep rows replica old new olds news dice after (refusal.PluginFailed name) b = brings_keep
+      rows (event.Join replica) (λ p. refl) replica old new olds news dice after
+      (refusal.PluginFailed name) b
+  joins_keep rows replica old new olds news dice after refusal.DiceFailed b = brings_keep rows
+      (event.Join replica) (λ p. refl) replica old new olds news dice after refusal.DiceFailed b
+  joins_keep rows replica old new olds news dice after refusal.StoreFailed b = absurd b
+  joins_keep rows replica old new olds news dice after (refusal.StoreFull needed) b = absurd b
+  joins_keep rows replica old new olds news dice after (refusal.Unhealthy name field text) b =
+      brings_keep rows (event.Join replica) (λ p. refl) replica old new olds news dice after
+      (refusal.Unhealthy name field text) b
+  joins_keep rows replica old new olds news dice after refusal.Gone b = absurd b
+  joins_keep rows replica old new olds news dice after refusal.Spent b = brings_keep rows
+      (event.Join replica) (λ p. refl) replica old new olds news dice after refusal.Spent b
+  joins_keep rows replica old new olds news dice after refusal.NoMemory b = brings_keep rows
+      (event.Join replica) (λ p. refl) replica old new olds news dice after refusal.NoMemory b
+
+  join_keeps : (rows : List setting) (replica : ℕ) (old new : Caller) (olds news : List L)
+      (dice after : D) (result : Result Joining CallNo)
+      → IsJoin truth link left count rows replica old olds dice result new news after
+      → Keeps old new
+  join_keeps rows replica old new olds news dice after (Ok (joining.Generation number)) b =
+      quiet_keeps old new (event.Join replica b.p) (answer.Joined number) refl b.brought
+  join_keeps rows replica old new olds news dice after (Ok (joining.Refused verdict)) b =
+      quiet_keeps old new (event.Join replica b.p) (answer.Refused verdict) refl b.brought
+  join_keeps rows replica old new olds news dice after (Ok (joining.Present number)) b =
+      quiet_keeps old new (event.Join replica b.p) (answer.Present number) refl b.brought
+  join_keeps rows replica old new olds news dice after (Err why) b =
+      joins_keep rows replica old new olds news dice after why b
+
+  refreshes_keep : (replica number : ℕ) (p : Publication) (old new : Caller)
+      (olds news : List L) (dice after : D) (result : Result Loaded CallNo)
+      → Refreshes truth link left count replica number p old olds dice result new news after
+      → Keeps old new
+  refreshes_keep replica number p old new olds news dice after (Ok (loaded.Unchanged same)) r =
+      same_keeps old new r.2
+  refreshes_keep replica number p old new olds news dice after (Ok (loaded.Generation made)) r =
+      quiet_keeps old new (reload_of replica (Some number) r.brought.p) (answer.Reloaded made)
+      refl r.brought.brought
+  refreshes_keep replica number p old new olds news dice after (Ok (loaded.Moved current)) r =
+      quiet_keeps old new (reload_of replica (Some number) r.brought.p) (answer.Moved current)
+      refl r.brought.brought
+  refreshes_keep replica number p old new olds news dice after (Ok (loaded.Refused verdict)) r =
+      absurd r
+  refreshes_keep replica number p old new olds news dice after (Err why) (inl r) =
+      same_keeps old new r.1
+  refreshes_keep replica number p old new olds news dice after (Err why) (inr r) =
+      brings_keep p.rows (reload_of replica (Some number)) (λ q. refl) replica old new r.asked
+      news dice after why r.brought
+
+  refresh_keeps : (replica : ℕ) (old new : Caller) (olds news : List L) (dice after : D)
+      (result : Result Loaded CallNo)
+      → IsRefresh truth link left count replica old olds dice result new news after
+      → Keeps old new
+  refresh_keeps replica old new olds news dice after (Ok found) (inl e) = absurd e
+  refresh_keeps replica old new olds news dice after (Err why) (inl e) =
+      early_keeps replica old new why e.0
+  refresh_keeps replica old new olds news dice after result (inr h) = held_keeps
+      (λ (number : ℕ) (p : Publication) (from : Caller) (done : Result Loaded CallNo)
+      (to : Caller). Refreshes truth link left count replica number p from olds dice done to news
+      after × AskedOnly link (plugin_names p.seeds) olds news) replica old new result h
+      (λ number p from done to k held d.
+      refreshes_keep replica number p from to olds news dice after done d.0)
+
+  -- ---- a rewrite
+
+  module _ (number : ℕ) (p : Publication) (row : Row) (opened : Opened) (olds news : List L)
+      (old new : Caller) (k : IsCaller old) (held : holding old.mine ≡ Some (number, p))
+      (found : found_in old.mine ≡ Some row)
+      (unseals : UnsealsBy truth link p.seeds (list_at p row.resource) row.path row.stored olds
+      (Ok opened) news) where
+    resealed : (stored : List ℕ) (revision : ℕ)
+        → IsSealing p row.resource row.path opened.plain stored
+        → (a : AddsEntry old (event.Replace row.path row.revision stored)
+        (answer.Written revision) new)
+        → Reseals truth link row.path a.entry
+    resealed stored revision sealing a =
+        let asked = event.Replace row.path row.revision stored in
+        let given = answer.Written revision in
+        let s = replaced_is_live old.opening (old.seen ++ a.others) a.entry row.path row.revision
+        revision (legal_now old new asked given a) a.records.did_is a.records.gave_is in
+        let same = same_Some s.new.stored stored
+        (sym (ap (option_map (λ (r : Row). r.stored)) s.written) ∙ a.records.stores) in record {
+          p = p;
+          old = row;
+          new = s.new;
+          opened = opened;
+          olds = olds;
+          news = news;
+          held = (held_is_named old new asked given number p k a held).published;
+          replaced = found_is_named old new row.path row.revision stored given row k a found refl;
+          written = s.written;
+          unseals = unseals;
+          sealing = subst (λ v. IsSealing p row.resource row.path opened.plain v) (sym same)
+              sealing;
+        }
+
+    unwritten : (stored : List ℕ) (given : Answer) → is_written (gave_of given) ≡ false
+        → (a : AddsEntry old (event.Replace row.path row.revision stored) given new)
+        → IsKnown a.entry
+    unwritten stored given other a path r = absurd (false≢true (sym other
+        ∙ ap is_written (sym a.records.gave_is ∙ r.gave_is)))
+
+    replaced_known : (stored : List ℕ) (given : Answer)
+        → IsSealing p row.resource row.path opened.plain stored
+        → (a : AddsEntry old (event.Replace row.path row.revision stored) given new)
+        → IsKnown a.entry
+    replaced_known stored (answer.Written revision) sealing a = λ path r.
+        subst (λ q. Reseals truth link q a.entry)
+        (ap (replaced_path path) (sym a.records.did_is ∙ r.did_is))
+        (resealed stored revision sealing a)
+    replaced_known stored (answer.Adopted n q) sealing a =
+        unwritten stored (answer.Adopted n q) refl a
+    replaced_known stored (answer.Gone other) sealing a =
+        unwritten stored (answer.Gone other) refl a
+    replaced_known stored (answer.Found x) sealing a = unwritten stored (answer.Found x) refl a
+    replaced_known stored answer.Absent sealing a = unwritten stored answer.Absent refl a
+    replaced_known stored (answer.Changed last) sealing a =
+        unwritten stored (answer.Changed last) refl a
+    replaced_known stored answer.StoreFailed sealing a =
+        unwritten stored answer.StoreFailed refl a
+    replaced_known stored (answer.StoreFull needed) sealing a =
+        unwritten stored (answer.StoreFull needed) refl a
+    replaced_known stored answer.Released sealing a = unwritten stored answer.Released refl a
+    replaced_known stored (answer.Reloaded n) sealing a =
+        unwritten stored (answer.Reloaded n) refl a
+    replaced_known stored (answer.Joined n) sealing a = unwritten stored (answer.Joined n) refl a
+    replaced_known stored (answer.Refused verdict) sealing a =
+        unwritten stored (answer.Refused verdict) refl a
+    replaced_known stored (answer.Moved n) sealing a = unwritten stored (answer.Moved n) refl a
+    replaced_known stored (answer.Present n) sealing a =
+        unwritten stored (answer.Present n) refl a
+    replaced_known stored (answer.Departed n) sealing a =
+        unwritten stored (answer.Departed n) refl a
+    replaced_known stored answer.NoMemory sealing a = unwritten stored answer.NoMemory refl a
+
+    reseals_keep : (sealed : Result (List ℕ) SealNo) (result : Result Step CallNo)
+        → ResealsBy p row opened.plain sealed old result new → Keeps old new
+    reseals_keep (Ok stored) result (inl r) =
+        adds_keeps old new (event.Replace row.path row.revision stored) r.given r.replaces
+        (λ k. replaced_known stored r.given r.sealing r.replaces)
+    reseals_keep (Ok stored) result (inr n) = none_keeps old new n.0
+    reseals_keep (Err why) result r = same_keeps old new r.1
+
+    data_keeps : (stale : Bool) (dice after : D) (result : Result Step CallNo)
+        → RewritesData left count p row opened.plain stale old dice result new after
+        → Keeps old new
+    data_keeps false dice after result r = same_keeps old new r.1
+    data_keeps true dice after result (inl r) = reseals_keep r.sealed result r.reseals
+    data_keeps true dice after result (inr c) = same_keeps old new c.1
+
+  opens_keep : (number : ℕ) (p : Publication) (row : Row) (old new : Caller) (olds news : List L)
+      (dice after : D) (result : Result Step CallNo) (opened : Result Opened UnsealNo)
+      → IsCaller old → holding old.mine ≡ Some (number, p) → found_in old.mine ≡ Some row
+      → UnsealsBy truth link p.seeds (list_at p row.resource) row.path row.stored olds opened news
+      → RewritesBy left count p row opened old dice result new after → Keeps old new
+  opens_keep number p row old new olds news dice after result (Ok opened) k held found u r =
+      data_keeps number p row opened olds news old new k held found u opened.stale dice after
+      result r
+  opens_keep number p row old new olds news dice after result (Err why) k held found u r =
+      same_keeps old new r.1
+
+  rewrites_keep : (number : ℕ) (p : Publication) (row : Row) (old new : Caller)
+      (olds news : List L) (dice after : D) (result : Result Step CallNo)
+      → IsCaller old → holding old.mine ≡ Some (number, p) → found_in old.mine ≡ Some row
+      → Rewrites truth link left count p row old olds dice result new news after → Keeps old new
+  rewrites_keep number p row old new olds news dice after result k held found (inl o) =
+      opens_keep number p row old new olds news dice after result o.opened k held found o.unseals
+      o.rewrites
+  rewrites_keep number p row old new olds news dice after result k held found (inr c) =
+      same_keeps old new c.0.1
+
+  none_found : (above : List ℕ) (old new : Caller) (result : Result Step CallNo)
+      → FindsNone above old result new → Keeps old new
+  none_found above old new (Ok step.End) n =
+      quiet_keeps old new (event.After above) answer.Absent refl n
+  none_found above old new (Ok (step.Rewritten path)) n = absurd n
+  none_found above old new (Ok (step.Fresh path)) n = absurd n
+  none_found above old new (Ok (step.Changed path)) n = absurd n
+  none_found above old new (Ok (step.Left path)) n = absurd n
+  none_found above old new (Err (refusal.Refused why)) n = absurd n
+  none_found above old new (Err (refusal.PluginFailed name)) n = absurd n
+  none_found above old new (Err refusal.DiceFailed) n = absurd n
+  none_found above old new (Err refusal.StoreFailed) n = absurd n
+  none_found above old new (Err (refusal.StoreFull needed)) n = absurd n
+  none_found above old new (Err (refusal.Unhealthy name field text)) n = absurd n
+  none_found above old new (Err refusal.Gone) n = absurd n
+  none_found above old new (Err refusal.Spent) n = none_keeps old new n
+  none_found above old new (Err refusal.NoMemory) n =
+      quiet_keeps old new (event.After above) answer.NoMemory refl n
+
+  steps_keep : (number : ℕ) (p : Publication) (above : List ℕ) (old new : Caller)
+      (olds news : List L) (dice after : D) (result : Result Step CallNo)
+      → IsCaller old → holding old.mine ≡ Some (number, p)
+      → Steps truth link left count p above old olds dice result new news after → Keeps old new
+  steps_keep number p above old new olds news dice after result k held (inl n) =
+      none_found above old new result n.0
+  steps_keep number p above old new olds news dice after result k held (inr f) =
+      let first = quiet_keeps old f.found (event.After above) (answer.Found f.row) refl f.finds in
+      then_keeps old f.found new first
+      (rewrites_keep number p f.row f.found new olds news dice after result (first.caller k)
+      (stays_law old f.found (event.After above) (answer.Found f.row) tt f.finds ∙ held)
+      (next_law old f.found above f.row f.finds) f.rewrites)
+
+  step_keeps : (replica : ℕ) (above : List ℕ) (old new : Caller) (olds news : List L)
+      (dice after : D) (result : Result Step CallNo)
+      → IsStep truth link left count replica above old olds dice result new news after
+      → Keeps old new
+  step_keeps replica above old new olds news dice after (Ok taken) (inl e) = absurd e
+  step_keeps replica above old new olds news dice after (Err why) (inl e) =
+      early_keeps replica old new why e.0
+  step_keeps replica above old new olds news dice after result (inr h) = held_keeps
+      (λ (number : ℕ) (p : Publication) (from : Caller) (done : Result Step CallNo) (to : Caller).
+      Steps truth link left count p above from olds dice done to news after) replica old new
+      result h (λ number p from done to k held d.
+      steps_keep number p above from to olds news dice after done k held d)
+
+  walks_keep : (replica : ℕ) (above : List ℕ) (steps : List Step) (old new : Caller)
+      (olds news : List L) (dice after : D)
+      → Walks truth link left count replica above steps old olds dice new news after
+      → Keeps old new
+  walks_keep replica above [] old new olds news dice after w = same_keeps old new w.0
+  walks_keep replica above (taken ∷ steps) old new olds news dice after w =
+      then_keeps old w.middle new
+      (step_keeps replica above old w.middle olds w.mids dice w.between (Ok taken) w.goes)
+      (walks_keep replica (path_of above taken) steps w.middle new w.mids news w.between after
+      w.behind)
+
+  ends_keep : (replica : ℕ) (above : List ℕ) (steps : List Step) (old new : Caller)
+      (olds news : List L) (dice after : D) (ended : Result Step CallNo) (report : Report)
+      → EndsBy truth link left count replica above steps old olds dice ended report new news after
+      → Keeps old new
+  ends_keep replica above steps old new olds news dice after ended report e =
+      then_keeps old e.middle new
+      (walks_keep replica above steps old e.middle olds e.mids dice e.between e.walks)
+      (step_keeps replica (last_of above steps) e.middle new e.mids news e.between after ended
+      e.ends)
+
+  drive_keeps : (replica : ℕ) (above : List ℕ) (old new : Caller) (olds news : List L)
+      (dice after : D) (result : Result Report (Report × CallNo))
+      → IsDrive truth link left count replica above old olds dice result new news after
+      → Keeps old new
+  drive_keeps replica above old new olds news dice after (Ok report) d =
+      ends_keep replica above d.steps old new olds news dice after (Ok step.End) report d.ends
+  drive_keeps replica above old new olds news dice after (Err cut) (inl d) =
+      ends_keep replica above d.steps old new olds news dice after (Err cut.1) cut.0 d.ends
+  drive_keeps replica above old new olds news dice after (Err cut) (inr n) =
+      same_keeps old new n.same
+
+  -- ---- each line
+
+  reloaded_keeps : (named : ℕ) (rows : Option (List setting)) (old new : Workplace L D)
+      (reply : Reply) → IfRead rows (λ rows. DoesReload truth link left count named rows old reply
+      new) → Keeps old.caller new.caller
+  reloaded_keeps named None old new reply d = absurd d
+  reloaded_keeps named (Some rows) old new reply (inl none) =
+      same_keeps old.caller new.caller (ap (λ (w : Workplace L D). w.caller) none.1)
+  reloaded_keeps named (Some rows) old new reply (inr d) = reload_keeps rows named old.caller
+      new.caller old.links new.links old.dice new.dice d.0 d.2
+
+  joined_keeps : (named : ℕ) (rows : Option (List setting)) (old new : Workplace L D)
+      (reply : Reply) → IfRead rows (λ rows. DoesJoin truth link left count named rows old reply
+      new) → Keeps old.caller new.caller
+  joined_keeps named None old new reply d = absurd d
+  joined_keeps named (Some rows) old new reply (inl none) =
+      same_keeps old.caller new.caller (ap (λ (w : Workplace L D). w.caller) none.1)
+  joined_keeps named (Some rows) old new reply (inr d) = join_keeps rows named old.caller
+      new.caller old.links new.links old.dice new.dice d.0 d.2
+
+  line_keeps : (files : List SettingsFile) (replica : ℕ) (asked : ScriptLine)
+      (old new : Workplace L D) (reply : Reply)
+      → Does truth link left count files replica asked old reply new
+      → Keeps old.caller new.caller
+  line_keeps files replica (line.Put resource path plain) old new reply d = write_keeps resource
+      path plain replica old.caller new.caller old.dice new.dice d.0 d.2
+  line_keeps files replica (line.Get path) old new reply d = read_keeps path replica old.caller
+      new.caller old.links new.links d.0 d.2
+  line_keeps files replica (line.Delete path) old new reply d =
+      delete_keeps path old.caller new.caller d.0 d.2
+  line_keeps files replica line.Rewrite old new reply d = drive_keeps replica [] old.caller
+      new.caller old.links new.links old.dice new.dice d.0 d.2
+  line_keeps files replica (line.Reload named file) old new reply d =
+      reloaded_keeps named (rows_at files file) old new reply d
+  line_keeps files replica line.Refresh old new reply d = refresh_keeps replica old.caller
+      new.caller old.links new.links old.dice new.dice d.0 d.2
+  line_keeps files replica (line.Join named file) old new reply d =
+      joined_keeps named (rows_at files file) old new reply d
+  line_keeps files replica (line.Leave named) old new reply d =
+      leave_keeps named old.caller new.caller d.0 d.2
+
+  pub run_keeps : (files : List SettingsFile) (replica : ℕ) (first : Workplace L D)
+      (run : List LineDone) (last : Workplace L D)
+      → DoesAll truth link left count files replica first run last
+      → Keeps first.caller last.caller
+  run_keeps files replica first [] last same =
+      same_keeps first.caller last.caller (ap (λ (w : Workplace L D). w.caller) same)
+  run_keeps files replica first (done ∷ run) last all =
+      then_keeps first.caller all.0.caller last.caller
+      (line_keeps files replica done.line first all.0 (Ok done.reply) all.1.does)
+      (run_keeps files replica all.0 run last all.2)

@@ -1,0 +1,77 @@
+-- Honest histories over plugins whose truth no link tells: what has to be supposed of the plugins.
+use Rattle.std.specs.Prelude.{◌≡◌, ℕ, List, ◌∷◌, ◌++◌, All, Option, Some, Ok}
+use Rattle.kr_kms.specs.Calls.{Link}
+use Rattle.kr_kms.specs.Truth.{Opens, Truth}
+use Rattle.kr_provider.specs.Envelopes.{IsEnvelopeOf}
+use Rattle.kr_provider.specs.Publication.{Publication, list_at}
+use Rattle.kr_provider.specs.Readers.{reader_in}
+use Rattle.kr_provider.specs.Sealing.{IsSealing}
+use Rattle.kr_provider.specs.Unsealing.{MayAsk, UnsealsBy}
+use Rattle.kr_provider.specs.declared.refusal.Opened.{Opened}
+use Rattle.kr_store.specs.declared.rows.Row.{Row}
+use Rattle.kr_rollout.specs.declared.line.Did.TheVariants as did
+use Rattle.kr_rollout.specs.declared.line.Gave.TheVariants as gave
+use Rattle.kr_rollout.specs.declared.opening.Entry.{Entry}
+use Rattle.kr_rollout.specs.declared.opening.Opening.{Opening}
+use Rattle.kr_rollout.specs.Histories.{state_of}
+use Rattle.kr_rollout.specs.Honesty.{IsHonest, SeedsOpen}
+use Rattle.kr_script.specs.declared.script.Part.{Part}
+use Rattle.kr_workers.specs.declared.files.SettingsFile.{SettingsFile}
+use Rattle.kr_workers.specs.declared.worker.Worker.{Worker}
+use Rattle.kr_workers.specs.Histories.{IsOneHistory}
+
+-- the entry replaced the row of the path
+pub record IsReplaced (path : List ℕ) (e : Entry) : Type 0 where
+  pub from : ℕ
+  pub revision : ℕ
+  pub did_is : e.line.did ≡ did.Replace path from
+  pub gave_is : e.line.gave ≡ gave.Written revision
+
+-- it stands on an unsealing: the bench unsealed the row that was replaced, by the configuration
+-- that the seat held, and the row in its place is a sealing of the data that this gave
+pub record Reseals {L : Type 0} (truth : Truth) (link : L → Link) (path : List ℕ) (e : Entry)
+    : Type 0 where
+  pub p : Publication
+  pub old : Row
+  pub new : Row
+  pub opened : Opened
+  pub olds : List L
+  pub news : List L
+  pub held : e.published ≡ Some p
+  pub replaced : e.replaced ≡ Some old
+  pub written : e.row ≡ Some new
+  pub unseals : UnsealsBy truth link p.seeds (list_at p old.resource) path old.stored olds
+      (Ok opened) news
+  pub sealing : IsSealing p old.resource path opened.plain new.stored
+
+-- by this truth the source of the replaced row opens to what it was unwrapped to: the source that
+-- the bench read by, which is the plugin's answer as far as links tell the truth. That is asked
+-- only where a plugin read the row and may have been asked for its source
+abbrev pub UnwrappedBy : {L : Type 0} → {truth : Truth} → {link : L → Link} → {path : List ℕ}
+    → {e : Entry} → Opens → Reseals truth link path e → Type 0
+UnwrappedBy opens r =
+    MayAsk r.p.seeds (reader_in (list_at r.p r.old.resource) r.old.stored) r.unseals.envelope.object
+    → IsEnvelopeOf opens (list_at r.p r.old.resource) r.old.stored r.unseals.envelope
+
+-- By any truth by which plugins unwrap what they wrapped the history is honest: by which each seed
+-- of each configuration is what its source opens to, and each source that was unwrapped for a row
+-- that was replaced opens to what it was unwrapped to. That rewrites keep their data follows
+pub record FollowsPlugins {L : Type 0} (truth : Truth) (link : L → Link) (o : Opening)
+    (history : List Entry) : Type 0 where
+  pub reseals : (front : List Entry) (e : Entry) (rest : List Entry) (path : List ℕ)
+      → history ≡ front ++ e ∷ rest → IsReplaced path e → Reseals truth link path e
+  pub honest : (opens : Opens)
+      → All (λ g. SeedsOpen opens g.published) (state_of o history).generations
+      → ((front : List Entry) (e : Entry) (rest : List Entry) (path : List ℕ)
+      → (is : history ≡ front ++ e ∷ rest) → (replaced : IsReplaced path e)
+      → UnwrappedBy opens (reseals front e rest path is replaced))
+      → IsHonest opens o history
+
+-- so is that of workers whose lines stand in it
+abbrev pub HonestOfPlugins : (T : Type 0) → {L D : Type 0} → Truth → (L → Link)
+    → (D → Option (List ℕ)) → (D → ℕ) → Type 0
+HonestOfPlugins T {L} {D} truth link left count = (files : List SettingsFile)
+    (history : List Entry) (o : Opening) (parts : List Part) (budgets : List ℕ)
+    (old new : List (Worker T L D))
+    → IsOneHistory truth link left count files history o parts budgets old new
+    → FollowsPlugins truth link o history
