@@ -17,8 +17,10 @@ use crate::command::{Command, read_command};
 use crate::convert::convert;
 use crate::fleet::fleet;
 use crate::fleet_words::{FleetWords, read_fleet};
+use crate::generated::generated;
 use crate::inspect::inspect;
 use crate::judge::judge;
+use crate::load_words::{LoadWords, read_load};
 use crate::lookup::get;
 use crate::message::tell;
 use crate::phases::write_output;
@@ -91,7 +93,39 @@ pub fn run<R: Threads + Wait + Sync, W: World, I: Source, O: Sink, E: Sink>(
 {
     match read_fleet(alloc, words) {
         Ok(Some(asked)) => run_fleet(rt, alloc, &asked, world, output, errors),
+        Ok(None) => run_other(rt, alloc, words, world, input, output, errors),
+        Err(stop) => tell(errors, &Err(stop)),
+    }
+}
+
+/// The same for words that ask for no fleet.
+fn run_other<R: Threads + Wait + Sync, W: World, I: Source, O: Sink, E: Sink>(
+    rt: &R,
+    alloc: Global,
+    words: &[String],
+    world: &mut W,
+    input: &mut I,
+    output: &mut O,
+    errors: &mut E,
+) -> u8 {
+    match read_load(alloc, words) {
+        Ok(Some(asked)) => run_load(rt, alloc, &asked, world, output, errors),
         Ok(None) => alone(alloc, words, world, input, output, errors),
+        Err(stop) => tell(errors, &Err(stop)),
+    }
+}
+
+/// Runs a load, and tells how it ended where its replies don't.
+fn run_load<R: Threads + Wait + Sync, W: World, O: Sink, E: Sink>(
+    rt: &R,
+    alloc: Global,
+    asked: &LoadWords,
+    world: &mut W,
+    output: &mut O,
+    errors: &mut E,
+) -> u8 {
+    match generated(rt, alloc, asked, world, output) {
+        Ok(ending) => ending.status(),
         Err(stop) => tell(errors, &Err(stop)),
     }
 }
@@ -116,6 +150,22 @@ pub fn run_alone<W: World, I: Source, O: Sink, E: Sink>(
         result }
 {
     match read_fleet(alloc, words) {
+        Ok(Some(_asked)) => None,
+        Ok(None) => other_alone(alloc, words, world, input, output, errors),
+        Err(stop) => Some(tell(errors, &Err(stop))),
+    }
+}
+
+/// The same for words that ask for no fleet.
+fn other_alone<W: World, I: Source, O: Sink, E: Sink>(
+    alloc: Global,
+    words: &[String],
+    world: &mut W,
+    input: &mut I,
+    output: &mut O,
+    errors: &mut E,
+) -> Option<u8> {
+    match read_load(alloc, words) {
         Ok(Some(_asked)) => None,
         Ok(None) => Some(alone(alloc, words, world, input, output, errors)),
         Err(stop) => Some(tell(errors, &Err(stop))),

@@ -48,9 +48,9 @@ use std::thread::Threads;
 
 /// What a fleet leaves: the journal, and each worker's replies.
 #[derive(Drop)]
-struct Record {
+pub struct Record {
     lines: List<Line>,
-    replies: List<List<Told>>,
+    pub replies: List<List<Told>>,
 }
 
 /// Runs the fleet and writes its journal and its replies.
@@ -134,7 +134,7 @@ fn fleet_on<R: Threads + Wait + Sync, W: World>(
 }
 
 /// Why there are no budgets, as a command says it.
-fn budget_stop(why: BudgetNo) -> Stop
+pub fn budget_stop(why: BudgetNo) -> Stop
     ensures { result ≡ budget_stop why }
 {
     match why {
@@ -185,7 +185,7 @@ fn fleet_with<R: Threads + Wait + Sync, W: World>(
 
 /// Publishes for each replica, starts the core, and lets the workers work. The store and the
 /// outfits come back.
-fn begin<R: Threads + Wait + Sync, T: Tape + Send, L: Kms + Send, D: Dice + Send>(
+pub fn begin<R: Threads + Wait + Sync, T: Tape + Send, L: Kms + Send, D: Dice + Send>(
     rt: &R,
     alloc: Global,
     plan: &Plan,

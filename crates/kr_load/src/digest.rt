@@ -1,0 +1,59 @@
+//! The digest over what the workers of a load got.
+use kr_base::{List, NoMemory};
+use kr_script::{Part, ScriptLine, Told};
+use sha2::{Digest, Sha256};
+use std::alloc::Global;
+
+/// The path of a `get` and the data of its reply.
+type Gotten<'a> = (&'a str, &'a [u8]);
+
+/// SHA-256 of each path of a `get` reply and its data, by the bytes of the paths, an LF behind both.
+pub fn digest_of(
+    alloc: Global,
+    parts: &[Part],
+    replies: &[List<Told>],
+) -> Result<[u8; 32], NoMemory> {
+    let mut all = Vec::new(alloc);
+    for (part, told) in parts.iter().zip(replies) {
+        add_gotten(part.lines.as_slice(), told.as_slice(), &mut all)?;
+    }
+    all.sort_unstable();
+    Ok(digest_over(all.as_slice()))
+}
+
+fn add_gotten<'a>(
+    lines: &'a [ScriptLine],
+    replies: &'a [Told],
+    all: &mut Vec<Gotten<'a>>,
+) -> Result<(), NoMemory> {
+    for (asked, reply) in lines.iter().zip(replies) {
+        if let Some(gotten) = gotten_by(asked, reply) {
+            match all.push(gotten) {
+                Ok(()) => {}
+                Err(_) => return Err(NoMemory),
+            }
+        }
+    }
+    Ok(())
+}
+
+/// The path and the data, if the line is a `get` that was replied to with data.
+fn gotten_by<'a>(asked: &'a ScriptLine, reply: &'a Told) -> Option<Gotten<'a>> {
+    match (asked, reply) {
+        (ScriptLine::Get { path }, Told::Got { revision: _, plain }) => {
+            Some((path.as_str(), plain.as_slice()))
+        }
+        _ => None,
+    }
+}
+
+fn digest_over(all: &[Gotten<'_>]) -> [u8; 32] {
+    let mut hasher = Sha256::new();
+    for (path, plain) in all {
+        hasher.update(path.as_bytes());
+        hasher.update(b"\n");
+        hasher.update(*plain);
+        hasher.update(b"\n");
+    }
+    hasher.finalize()
+}
