@@ -2,7 +2,7 @@
 
 import functools
 
-from . import configuration, fleet, plugins, store
+from . import configuration, fleet, load, plugins, store
 from .board import Board
 from .outside import Stop, load_settings, programs_of
 from .values import Refused, check_of, inspected, reader_of, seal, unseal
@@ -194,6 +194,8 @@ def answer(words, world, source, output):
             return get(options, world, output)
         if command == "fleet":
             return fleet.run(options, world, output)
+        if command == "gen":
+            return load.run(options, world, output)
         if command == "rewrite":
             return rewrite(options, world, output)
         if command == "inspect":
