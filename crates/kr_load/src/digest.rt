@@ -1,4 +1,11 @@
 //! The digest over what the workers of a load got.
+ghost use Rattle.std.specs.Prelude.{◌≡◌, ◌++◌, IfOk, OnOk, map};
+ghost use Rattle.std.specs.List.{flat_map};
+ghost use Rattle.sha2.specs.Sha256.{sha256};
+ghost use Rattle.kr_script.specs.Fleets.{worker_of};
+ghost use Rattle.kr_load.specs.Summaries.{IsDigest, gotten_by, gotten_in, gotten_of, lines_of};
+ghost use Rattle.kr_load.specs.inner.Listing.{lent_list, lent_pairs};
+
 use kr_base::{List, NoMemory};
 use kr_script::{Part, ScriptLine, Told};
 use sha2::{Digest, Sha256};
@@ -12,7 +19,9 @@ pub fn digest_of(
     alloc: Global,
     parts: &[Part],
     replies: &[List<Told>],
-) -> Result<[u8; 32], NoMemory> {
+) -> Result<[u8; 32], NoMemory>
+    ensures { IfOk result (IsDigest (gotten_of (map worker_of parts.now) replies.now)) }
+{
     let mut all = Vec::new(alloc);
     for (part, told) in parts.iter().zip(replies) {
         add_gotten(part.lines.as_slice(), told.as_slice(), &mut all)?;
@@ -25,7 +34,10 @@ fn add_gotten<'a>(
     lines: &'a [ScriptLine],
     replies: &'a [Told],
     all: &mut Vec<Gotten<'a>>,
-) -> Result<(), NoMemory> {
+) -> Result<(), NoMemory>
+    ensures { OnOk result (lent_pairs all.new.items
+        ≡ lent_pairs all.old.items ++ gotten_in lines.now replies.now) }
+{
     for (asked, reply) in lines.iter().zip(replies) {
         if let Some(gotten) = gotten_by(asked, reply) {
             match all.push(gotten) {
@@ -38,7 +50,9 @@ fn add_gotten<'a>(
 }
 
 /// The path and the data, if the line is a `get` that was replied to with data.
-fn gotten_by<'a>(asked: &'a ScriptLine, reply: &'a Told) -> Option<Gotten<'a>> {
+fn gotten_by<'a>(asked: &'a ScriptLine, reply: &'a Told) -> Option<Gotten<'a>>
+    ensures { lent_list result ≡ gotten_by asked.now reply.now }
+{
     match (asked, reply) {
         (ScriptLine::Get { path }, Told::Got { revision: _, plain }) => {
             Some((path.as_str(), plain.as_slice()))
@@ -47,7 +61,9 @@ fn gotten_by<'a>(asked: &'a ScriptLine, reply: &'a Told) -> Option<Gotten<'a>> {
     }
 }
 
-fn digest_over(all: &[Gotten<'_>]) -> [u8; 32] {
+fn digest_over(all: &[Gotten<'_>]) -> [u8; 32]
+    ensures { result ≡ sha256 (flat_map lines_of (lent_pairs all.now)) }
+{
     let mut hasher = Sha256::new();
     for (path, plain) in all {
         hasher.update(path.as_bytes());

@@ -1,11 +1,18 @@
 //! How a load ended, by what its workers told.
+ghost use Rattle.std.specs.Prelude.{◌≡◌};
+ghost use Rattle.std.specs.List.{list_any};
+ghost use Rattle.kr_load.specs.Endings.{ending_of_load};
+ghost use Rattle.kr_load.specs.inner.Refusing.{ending_of_refusals, refuses};
+
 use kr_base::List;
 use kr_script::Told;
 use kr_workers::{Ending, ending_of};
 
 /// How a load ended: as a fleet whose workers told this, but that the verdicts on its reloads, which
 /// depend on the order of the workers' turns, don't count.
-pub fn ending_of_load(replies: &[List<Told>]) -> Ending {
+pub fn ending_of_load(replies: &[List<Told>]) -> Ending
+    ensures { result ≡ ending_of_load replies.now }
+{
     match ending_of(replies) {
         Ending::Refused => ending_of_refusals(replies),
         other => other,
@@ -13,7 +20,9 @@ pub fn ending_of_load(replies: &[List<Told>]) -> Ending {
 }
 
 /// How it ended where no reply is graver than a refusal.
-fn ending_of_refusals(replies: &[List<Told>]) -> Ending {
+fn ending_of_refusals(replies: &[List<Told>]) -> Ending
+    ensures { result ≡ ending_of_refusals replies.now }
+{
     if replies.iter().any(|told| some_refuses(told.as_slice())) {
         Ending::Refused
     } else {
@@ -22,12 +31,16 @@ fn ending_of_refusals(replies: &[List<Told>]) -> Ending {
 }
 
 /// Whether a reply other than a verdict is a refusal.
-fn some_refuses(told: &[Told]) -> bool {
+fn some_refuses(told: &[Told]) -> bool
+    ensures { result ≡ list_any refuses told.now }
+{
     told.iter().any(|reply| refuses(reply))
 }
 
 /// Whether the reply is a refusal of an object or a replica.
-fn refuses(reply: &Told) -> bool {
+fn refuses(reply: &Told) -> bool
+    ensures { result ≡ refuses reply.now }
+{
     match reply {
         Told::Rewritten { left, .. } => *left > 0,
         Told::Absent

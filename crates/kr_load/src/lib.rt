@@ -6,6 +6,7 @@ mod configurations;
 mod digest;
 mod ending;
 mod load;
+mod pieces;
 mod script;
 mod stream;
 mod summary;

@@ -1,7 +1,11 @@
 //! What a load is made of.
+ghost use Rattle.std.specs.Prelude.{◌≡◌, IfOk, map};
+ghost use Rattle.kr_script.specs.Fleets.{fleet_of};
+ghost use Rattle.kr_load.specs.Loads.{configurations, load_fleet, named_rows};
+
 use crate::configurations::files_of;
+use crate::pieces::Pieces;
 use crate::script::script_of;
-use crate::stream::{next_piece, stream_of};
 use kr_base::{List, NoMemory};
 use kr_script::Script;
 use kr_workers::SettingsFile;
@@ -15,11 +19,14 @@ pub struct Load {
 }
 
 /// The load of a seed, each worker of which puts and gets so many objects.
-pub fn load_of(alloc: Global, seed: u64, size: u64) -> Result<Load, NoMemory> {
-    let mut rng = stream_of(seed, 0);
-    let g1 = next_piece(alloc, &mut rng)?;
-    let g2 = next_piece(alloc, &mut rng)?;
+pub fn load_of(alloc: Global, seed: u64, size: u32) -> Result<Load, NoMemory>
+    ensures fleet { IfOk result (λ load. fleet_of load.script ≡ load_fleet seed size) }
+    ensures files { IfOk result (λ load. map named_rows load.files.0 ≡ configurations seed) }
+{
+    let mut pieces = Pieces::of(seed);
+    let g1 = pieces.next(alloc)?;
+    let g2 = pieces.next(alloc)?;
     let files = files_of(alloc, g1.as_slice(), g2.as_slice())?;
-    let script = script_of(alloc, &mut rng, size)?;
+    let script = script_of(alloc, &mut pieces, size)?;
     Ok(Load { script, files })
 }

@@ -9,7 +9,7 @@ use std::alloc::Global;
 pub struct LoadWords {
     pub seed: u64,
     /// How many objects each worker puts and gets.
-    pub size: u64,
+    pub size: u32,
     /// The name of the store's file.
     pub store: Text,
 }
@@ -50,5 +50,9 @@ fn load_asked(alloc: Global, words: &kr_words::Command) -> Result<Option<LoadWor
         return Ok(None);
     };
     let store = Text::copy(alloc, store)?;
-    Ok(Some(LoadWords { seed, size, store }))
+    Ok(Some(LoadWords {
+        seed,
+        size: size as u32,
+        store,
+    }))
 }
