@@ -1,0 +1,6 @@
+-- Lemmas.
+mod Endings
+mod Filling
+mod Gathering
+mod Keeping
+mod Passing

@@ -1,7 +1,7 @@
 -- The summary of a load.
 use Rattle.std.specs.Prelude.{◌≡◌, ℕ, ◌+◌, ◌/◌, ◌%◌, nat_lt, Bool, true, false, List, [], ◌∷◌, ◌++◌, codes, count_by, decimal, if◌then◌else◌, Option, Result, Ok, Err}
 use Rattle.std.specs.Io.KnownBytes.{Appends, Keeps}
-use Rattle.std.specs.List.{flat_map, sum_by}
+use Rattle.std.specs.List.{flat_map}
 use Rattle.std.specs.List.Sorted.{IsPermutation, IsSorted}
 use Rattle.std.specs.Ordering.{nat_cmp, ordering_then}
 use Rattle.std.specs.Cmp.Lexicographic.{slice_cmp}
@@ -32,10 +32,12 @@ is_got (told.Got revision plain) = true
 is_got other = false
 
 abbrev pub puts_in : Replies → ℕ
-puts_in replies = sum_by (λ (told : List Told × ℕ). count_by is_put told.0) replies
+puts_in [] = 0
+puts_in (told ∷ replies) = count_by is_put told.0 + puts_in replies
 
 abbrev pub gets_in : Replies → ℕ
-gets_in replies = sum_by (λ (told : List Told × ℕ). count_by is_got told.0) replies
+gets_in [] = 0
+gets_in (told ∷ replies) = count_by is_got told.0 + gets_in replies
 
 -- ---- the digest
 

@@ -15,7 +15,11 @@ pub fn ending_of_load(replies: &[List<Told>]) -> Ending
 {
     match ending_of(replies) {
         Ending::Refused => ending_of_refusals(replies),
-        other => other,
+        Ending::Done => Ending::Done,
+        Ending::Unhealthy => Ending::Unhealthy,
+        Ending::Full => Ending::Full,
+        Ending::Memory => Ending::Memory,
+        Ending::Fault => Ending::Fault,
     }
 }
 

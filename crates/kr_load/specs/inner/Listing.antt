@@ -3,6 +3,10 @@ use Rattle.std.specs.Prelude.{ℕ, List, [], ◌∷◌, map, Option, None, Some}
 use denote.Ref.{Bor}
 use Rattle.kr_load.specs.Summaries.{Gotten}
 
+-- a file's clauses name kr_base's `List`, so this is the name of antt's there
+abbrev pub Bytes : Type 0
+Bytes = List ℕ
+
 -- a path and its data, lent
 abbrev pub LentPair : Type 0
 LentPair = Bor (List ℕ) × Bor (List ℕ)
