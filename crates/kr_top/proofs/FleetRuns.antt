@@ -39,6 +39,7 @@ use Rattle.kr_top.specs.declared.refusal.Stop.TheVariants.{Words, Refused, Fault
 use Rattle.kr_top.specs.inner.Fleets.{LacksWorkers, LeavesRecord, RunsBy, budget_stop}
 use Rattle.kr_top.specs.inner.Phases.{Does}
 use Rattle.kr_top.specs.inner.Tapes.{LentTape, ReturnedTape}
+use Rattle.kr_top.specs.inner.Workings.{Outfits, RunsWith}
 use Rattle.kr_top.proofs.Goes.{goes_on, home_refl, home_trans, reach, stays_refl, stops}
 use Rattle.kr_top.proofs.Tapes.{came_back, lent, nothing}
 
@@ -183,6 +184,15 @@ module _ (T : Type 0) {L D : Type 0} (truth : Truth) (link : L → Link)
         (lent store true _ h a) result
         (subst (λ b. Runs steps (with_lent_tape store given first (with_world out a)) b result)
         (came_back store returned a) r)
+
+-- what is known of the workers beside, left out
+pub runs_with : (T : Type 0) {L D : Type 0} (truth : Truth) (link : L → Link)
+    (left : D → Option (List ℕ)) (count : D → ℕ) (store : List ℕ) (plan : FleetPlan)
+    (steps : Steps Begun) (outfits : Outfits L D) (old new : Around) (result : Result Record Stop)
+    → RunsWith link left count T truth steps store plan outfits old new result
+    → RunsBy T truth link left count steps store plan old new result
+runs_with T truth link left count store plan steps outfits old new (Ok made) r = r.leaves
+runs_with T truth link left count store plan steps outfits old new (Err stop) r = r
 
 -- ---- budgets
 

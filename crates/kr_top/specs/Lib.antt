@@ -8,10 +8,12 @@ pub mod FleetAsked
 pub mod FleetFiles
 pub mod FleetReadings
 pub mod Fleets
+pub mod GeneratedLoads
 pub mod Configuration
 pub mod Inspect
 pub mod Judgements
 pub mod Limits
+pub mod LoadAsked
 pub mod Message
 pub mod Plugins
 pub mod Ran
