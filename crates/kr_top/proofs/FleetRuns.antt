@@ -25,7 +25,7 @@ use Rattle.kr_workers.specs.declared.ending.Ending.{Ending}
 use Rattle.kr_workers.specs.declared.worker.Worker as fleet_worker
 use Rattle.kr_top.specs.Around.{Around, left_of, with_lent_tape, with_world}
 use Rattle.kr_top.specs.Commands.{tape_for}
-use Rattle.kr_top.specs.FleetAsked.{AsksFleet, IsFleetAsked, AskNoFleet}
+use Rattle.kr_top.specs.FleetAsked.{AskAlone, AsksFleet, IsFleetAsked}
 use Rattle.kr_top.specs.FleetFiles.{FleetPlan, planning}
 use Rattle.kr_top.specs.Fleets.{Begun, DidFleet, RanFleet, WritesFleet, budgeting, over_store, parts_of}
 use Rattle.kr_top.specs.Ran.{IsIdle, Receipt, StopsAtOnce, Tells}
@@ -326,9 +326,9 @@ at_once words NoMemory h = tt
 -- they ask for no fleet, but where memory lacked
 pub alone_or_memory : (words : List (List ℕ)) (stop : Stop) → IsFleetAsked words (Err stop)
     → (errors : Receipt) (status : ℕ)
-    → Tells (line_of (Err stop)) (stop_status (Err stop)) errors status → AskNoFleet words
+    → Tells (line_of (Err stop)) (stop_status (Err stop)) errors status → AskAlone words
     ⊎ Tells (line_of (Err NoMemory)) (stop_status (Err NoMemory)) errors status
-alone_or_memory words (Words why) h errors status t = inl h.1
+alone_or_memory words (Words why) h errors status t = inl (h.1, h.2)
 alone_or_memory words (Refused why) h errors status t = absurd h
 alone_or_memory words (Fault object count) h errors status t = absurd h
 alone_or_memory words NoMemory h errors status t = inr t

@@ -28,6 +28,8 @@ pub mod Plans
 pub mod Pieces
 pub mod Publishings
 pub mod Loading
+pub mod LoadAsked
+pub mod LoadRuns
 pub mod Loads
 pub mod LoneCallers
 pub mod Judging
