@@ -4,3 +4,4 @@ mod Filling
 mod Gathering
 mod Keeping
 mod Passing
+pub mod Ruling

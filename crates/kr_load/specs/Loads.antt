@@ -1,11 +1,12 @@
 -- What a load is made of: its secrets, its data, its three configurations and its fleet.
-use Rattle.std.specs.Prelude.{ℕ, zero, suc, ◌+◌, ◌*◌, ◌%◌, List, [], ◌∷◌, ◌++◌, codes, decimal, map}
+use Rattle.std.specs.Prelude.{ℕ, zero, suc, ◌+◌, ◌*◌, ◌%◌, ◌<◌, ◌^◌, List, [], ◌∷◌, ◌++◌, codes, decimal, map}
 use Rattle.std.specs.List.{range_with_len}
 use Rattle.kr_config.specs.Kept.{Row, rows_of}
 use Rattle.kr_config.specs.declared.pattern.Pattern.TheVariants.{Exact}
 use Rattle.kr_config.specs.declared.who.Who.{Who}
 use Rattle.kr_config.specs.declared.who.Who.TheVariants.{Aesgcm, Identity}
 use Rattle.kr_script.specs.Fleets.{Fleet, Worker}
+use Rattle.kr_script.specs.Rules.{IsFleet, IsWhole, IsWithin}
 use Rattle.kr_script.specs.declared.script.ScriptLine.{ScriptLine}
 use Rattle.kr_script.specs.declared.script.ScriptLine.TheVariants.{Get, Put, Reload}
 use Rattle.kr_workers.specs.declared.files.SettingsFile.{SettingsFile}
@@ -83,3 +84,14 @@ load_fleet seed size = record {
   replicas = (codes "a", codes "A") ∷ ((codes "b", codes "A") ∷ []);
   workers = map (load_worker seed size) (range_with_len 0 4);
 }
+
+-- ---- what is known of the fleet
+
+-- it keeps the rules of a fleet file and its limits
+pub record KeepsRules (seed size : ℕ) : Type 0 where
+  pub rules : IsFleet (load_fleet seed size)
+  pub whole : IsWhole (load_fleet seed size)
+  pub within : IsWithin (load_fleet seed size)
+
+abbrev pub LoadsKeepRules : Type 0
+LoadsKeepRules = (seed size : ℕ) → size < 2 ^ 32 → KeepsRules seed size

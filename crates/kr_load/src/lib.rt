@@ -5,6 +5,7 @@
 mod configurations;
 mod digest;
 mod ending;
+mod laws;
 mod load;
 mod pieces;
 mod script;
@@ -12,6 +13,7 @@ mod stream;
 mod summary;
 
 pub use ending::ending_of_load;
+pub use laws::loads_keep_rules;
 pub use load::{Load, load_of};
 pub use stream::source_of;
 pub use summary::write_summary;

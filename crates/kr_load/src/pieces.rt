@@ -45,6 +45,7 @@ impl Pieces {
     pub fn next(&mut self, alloc: Global) -> Result<Bytes, NoMemory>
         requires few { self.old.1 < 2 ^ 60 }
         ensures piece { IfOk result (λ bytes. bytes ≡ piece self.old.0 self.old.1) }
+        ensures long { IfOk result (λ bytes. length bytes ≡ 32) }
         ensures passed { self.new ≡ (self.old.0, self.old.1 + 1) }
     {
         let piece = draw(&mut self.rng);
