@@ -16,6 +16,7 @@ pub mod FleetReadings
 pub mod FleetRuns
 pub mod EquallyLong
 pub mod Found
+pub mod Generating
 pub mod Frames
 pub mod Goes
 pub mod Listed

@@ -148,6 +148,10 @@ fn load_with<R: Threads + Wait + Sync, T: Tape + Send, L: Kms + Send>(
         (plan_of plan.now) (with_lent_tape name store.told store.count (seeded a))
         (with_lent_tape name result.1.told result.1.count (seeded a)) result.0 }
 {
+    let replicas = match publish_load::<L>(alloc, seed, plan) {
+        Ok(replicas) => replicas,
+        Err(stop) => return (Err(stop), store),
+    };
     let seats = plan.script.workers.as_slice().len() as u32;
     let mut outfits: List<Outfit<L, SeededDice<ChaCha8Rng>>> = List::new(alloc);
     match make_outfits(alloc, seed, seats, &mut outfits) {
@@ -157,13 +161,6 @@ fn load_with<R: Threads + Wait + Sync, T: Tape + Send, L: Kms + Send>(
             return (Err(Stop::NoMemory), store);
         }
     }
-    let replicas = match publish_load::<L>(alloc, seed, plan) {
-        Ok(replicas) => replicas,
-        Err(stop) => {
-            end_outfits(outfits);
-            return (Err(stop), store);
-        }
-    };
     let (made, store, outfits) = work_with(rt, alloc, plan, budgets, store, replicas, outfits);
     end_outfits(outfits);
     (made, store)
