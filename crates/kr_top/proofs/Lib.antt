@@ -30,6 +30,7 @@ pub mod Pieces
 pub mod Publishings
 pub mod Loading
 pub mod LoadAsked
+pub mod LoadPlans
 pub mod LoadRuns
 pub mod Loads
 pub mod LoneCallers

@@ -1,17 +1,26 @@
 -- How a call of `run` goes by what `gen` did.
-use Rattle.std.proofs.Common.{◌≡◌, ℕ, List, [], Option, Some, Result, Ok, Err, refl, sym, ◌∙◌, ap, subst, inl, inr}
+use Rattle.std.proofs.Common.{◌≡◌, ℕ, List, [], map, Option, Some, Result, Ok, Err, refl, sym, ◌∙◌, ap, subst, inl, inr}
 use Rattle.std.specs.Prelude.{◌⊎◌}
+use Rattle.kr_base.specs.declared.seeded_dice.SeededDice.{SeededDice}
 use Rattle.kr_kms.specs.Calls.{Link}
 use Rattle.kr_kms.specs.Truth.{Truth}
+use Rattle.kr_workers.specs.declared.ending.Ending.{Ending}
+use Rattle.kr_workers.specs.declared.worker.Worker as fleet_worker
+use Rattle.rand_chacha.specs.ChaCha.{ChaCha}
 use Rattle.kr_top.specs.Around.{Around, left_of}
 use Rattle.kr_top.specs.FleetAsked.{AskAlone, AskNoFleet, IsFleetAsked}
-use Rattle.kr_top.specs.GeneratedLoads.{DidLoad, RanLoad, load_steps, seeded}
+use Rattle.kr_top.specs.FleetFiles.{FleetPlan}
+use Rattle.kr_top.specs.GeneratedLoads.{DidLoad, LeavesOthers, RanLoad, WritesLoad, load_over, load_plan, load_steps, seeded}
 use Rattle.kr_top.specs.LoadAsked.{AsksLoad, IsLoadAsked}
 use Rattle.kr_top.specs.Message.{line_of, status_of as stop_status}
 use Rattle.kr_top.specs.Ran.{IsIdle, Receipt, StopsAtOnce, Tells}
+use Rattle.kr_top.specs.declared.fleet.Record.{Record}
 use Rattle.kr_top.specs.declared.load_words.LoadWords.{LoadWords}
 use Rattle.kr_top.specs.declared.refusal.Stop.{Stop}
 use Rattle.kr_top.specs.declared.refusal.Stop.TheVariants.{Words, Refused, Fault, NoMemory}
+use Rattle.kr_top.specs.inner.GeneratedLoads.{RunsLoad}
+use Rattle.kr_top.specs.inner.Phases.{Does}
+use Rattle.kr_top.proofs.Generating.{home_unseeded}
 use Rattle.kr_top.proofs.Goes.{home_refl, reach, stays_refl}
 
 -- ---- the words stop the call
@@ -73,3 +82,72 @@ module _ (T : Type 0) {L : Type 0} (truth : Truth) (link : L → Link) where
   fleet_unread words asked asks (Refused why) h a output idle = absurd h
   fleet_unread words asked asks (Fault object n) h a output idle = absurd h
   fleet_unread words asked asks NoMemory h a output idle = unbegun asked a output idle
+
+  module _ (asked : LoadWords) (plan : FleetPlan) (is : plan ≡ load_plan asked)
+      (old new : Around) where
+    -- the steps behind the plan ended the command, or want of memory did
+    pub load_stopped : (stop : Stop) (output : Receipt) → LeavesOthers old.world new.world
+        → RunsLoad T truth link asked.seed (load_over asked.store plan) asked.store plan
+        (seeded old) (seeded new) (Err stop)
+        → IsIdle output → DidLoad T truth link asked old new output (Err stop)
+    load_stopped stop output others (inl e) idle =
+        let d = subst (λ p. Does (load_over asked.store p) (seeded old) (seeded new) (Err stop)) is
+        e in
+        record {
+          home = home_unseeded old new others d.home;
+          others = others;
+          did = inl (inl (d.ends (left_of (seeded old)) (stays_refl (seeded old))), idle);
+        }
+    load_stopped stop output others (inr l) idle =
+        let d = subst (λ p. Does (load_over asked.store p) (seeded old) l.mid (Ok l.begun)) is
+        l.does in
+        record {
+          home = home_unseeded old new others l.home;
+          others = others;
+          did = inl (
+            inr (
+              l.stops,
+              (
+                l.mid,
+                l.begun,
+                d.ends (left_of (seeded old)) (stays_refl (seeded old)),
+                l.none,
+                d.home,
+              ),
+            ),
+            idle,
+          );
+        }
+
+    -- the workers ran
+    pub load_ran : (made : Record) (output : Receipt) (result : Result Ending Stop)
+        → LeavesOthers old.world new.world
+        → RunsLoad T truth link asked.seed (load_over asked.store plan) asked.store plan
+        (seeded old) (seeded new) (Ok made)
+        → WritesLoad asked plan.fleet.workers made.replies.0 output result
+        → DidLoad T truth link asked old new output result
+    load_ran made output result others r w =
+        let l = r.leaves in
+        let d = subst (λ p. Does (load_over asked.store p) (seeded old) l.mid (Ok l.begun)) is
+        l.does in
+        let told = map (λ (worker : fleet_worker.Worker T L (SeededDice ChaCha)). worker.told)
+        l.ended in
+        let by_replies = subst (λ replies. WritesLoad asked plan.fleet.workers replies output
+        result) l.replies w in
+        record {
+          home = home_unseeded old new others l.home;
+          others = others;
+          did = inr (record {
+            begun = l.begun;
+            plan_is = l.plan_is ∙ is;
+            mid = l.mid;
+            reaches = d.ends (left_of (seeded old)) (stays_refl (seeded old));
+            since = d.home;
+            history = l.history;
+            ended = l.ended;
+            runs = l.runs;
+            sources = r.sources;
+            writes = subst (λ p. WritesLoad asked p.fleet.workers told output result)
+                (sym l.plan_is) by_replies;
+          });
+        }
