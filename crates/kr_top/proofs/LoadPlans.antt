@@ -3,7 +3,7 @@ use Rattle.std.proofs.Common.{◌≡◌, ℕ, zero, suc, ◌+◌, ◌<◌, ◌^�
 use Rattle.std.specs.Prelude.{All, IsSome}
 use Rattle.std.specs.List.{flat_map, range_with_len}
 use Rattle.std.proofs.lemmas.Grind.{flat_map-append}
-use Rattle.std.proofs.lemmas.List.{append_nil, length-map}
+use Rattle.std.proofs.lemmas.List.{append-nil, length-map}
 use Rattle.std.proofs.lemmas.List.Elements.{All-append, All-cons, All-nil}
 use Rattle.std.proofs.lemmas.List.Folds.{flat_map-map}
 use Rattle.kr_load.specs.Loads.{configurations, get_of, lines_of, load_fleet, load_worker, put_of, reloads_of}
@@ -49,7 +49,7 @@ lines_files seed size worker =
     flat_map-append file_in puts (reloads_of worker ++ gets)
     ∙ (λ i. no_puts i ++ (flat_map-append file_in (reloads_of worker) gets
     ∙ (λ j. flat_map file_in (reloads_of worker) ++ no_gets j)
-    ∙ append_nil (flat_map file_in (reloads_of worker))) i)
+    ∙ append-nil (flat_map file_in (reloads_of worker))) i)
 
 lines_read : (seed size worker : ℕ)
     → All (IsRead seed) (flat_map file_in (lines_of seed size worker))
