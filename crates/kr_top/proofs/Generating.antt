@@ -273,6 +273,17 @@ home_unseeded old new others h = record {
   input = h.input;
 }
 
+-- and the other way
+pub home_seeded : (old new : Around) → LeavesOthers old.world new.world → IsHome old new
+    → IsHome (seeded old) (seeded new)
+home_seeded old new others h = record {
+  files = record { file = h.files.file; later = h.files.later };
+  dice = home_same (ap (seeded_dice 0 4) others.dice);
+  tapes = h.tapes;
+  links = h.links;
+  input = h.input;
+}
+
 -- ---- memory lacked for the outfits
 
 pub lacks_start : (plan : FleetPlan) (stored : Stored) (budgets : List ℕ) (replicas : Replicas)

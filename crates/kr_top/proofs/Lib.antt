@@ -31,6 +31,7 @@ pub mod Publishings
 pub mod Loading
 pub mod LoadAsked
 pub mod LoadPlans
+pub mod LoadReadings
 pub mod LoadRuns
 pub mod Loads
 pub mod LoneCallers

@@ -14,6 +14,7 @@ pub mod Inspect
 pub mod Judgements
 pub mod Limits
 pub mod LoadAsked
+pub mod LoadReadings
 pub mod Message
 pub mod Plugins
 pub mod Ran

@@ -9,6 +9,7 @@ ghost use Rattle.kr_top.specs.FleetReadings.{FleetReadings};
 ghost use Rattle.kr_top.specs.Fleets.{RanAlone, RanFleet};
 ghost use Rattle.kr_top.specs.GeneratedLoads.{RanLoad};
 ghost use Rattle.kr_top.specs.LoadAsked.{AskNoLoad, AsksLoad};
+ghost use Rattle.kr_top.specs.LoadReadings.{LoadReadings};
 ghost use Rattle.kr_top.specs.Ran.{receipt, Answers, Ran, Readings};
 ghost use Rattle.kr_top.specs.declared.fleet_words.FleetWords.{FleetWords};
 ghost use Rattle.kr_top.specs.declared.load_words.LoadWords.{LoadWords};
@@ -45,7 +46,7 @@ use std::thread::Threads;
 /// is 4. The workers of a fleet and of a load wait for each other by `rt`. `readings` is what follows
 /// from `ran`, for readers; `tapes` is what is left of the tapes, by the status. For words that ask
 /// for a fleet `fleet` says what was done, and `fleet_readings` what the status comes from; for
-/// those that ask for a load `load` says what was done.
+/// those that ask for a load `load` says what was done, and `load_readings` what the status comes from.
 pub fn run<R: Threads + Wait + Sync, W: World, I: Source, O: Sink, E: Sink>(
     rt: &R,
     alloc: Global,
@@ -103,6 +104,15 @@ pub fn run<R: Threads + Wait + Sync, W: World, I: Source, O: Sink, E: Sink>(
         (receipt (O.held output.old) (O.held output.new) (O.count output.old) (O.count output.new))
         (receipt (E.held errors.old) (E.held errors.new) (E.count errors.old) (E.count errors.new))
         result }
+    ensures load_readings { (asked : LoadWords) → AsksLoad (texts words.now) asked
+        → LoadReadings W.Tap W.Link.truth W.Link.link asked
+        (around W.Link.truth (W.told world.old) (I.left input.old)
+        (I.count input.old))
+        (around W.Link.truth (W.told world.new) (I.left input.new)
+        (I.count input.new))
+        (receipt (O.held output.old) (O.held output.new) (O.count output.old) (O.count output.new))
+        (receipt (E.held errors.old) (E.held errors.new) (E.count errors.old) (E.count errors.new))
+        result }
 {
     match read_fleet(alloc, words) {
         Ok(Some(asked)) => run_fleet(rt, alloc, &asked, world, output, errors),
@@ -144,6 +154,15 @@ fn run_other<R: Threads + Wait + Sync, W: World, I: Source, O: Sink, E: Sink>(
         (I.count input.new)) result }
     ensures load { (asked : LoadWords) → AsksLoad (texts words.now) asked
         → RanLoad W.Tap W.Link.truth W.Link.link asked
+        (around W.Link.truth (W.told world.old) (I.left input.old)
+        (I.count input.old))
+        (around W.Link.truth (W.told world.new) (I.left input.new)
+        (I.count input.new))
+        (receipt (O.held output.old) (O.held output.new) (O.count output.old) (O.count output.new))
+        (receipt (E.held errors.old) (E.held errors.new) (E.count errors.old) (E.count errors.new))
+        result }
+    ensures load_readings { (asked : LoadWords) → AsksLoad (texts words.now) asked
+        → LoadReadings W.Tap W.Link.truth W.Link.link asked
         (around W.Link.truth (W.told world.old) (I.left input.old)
         (I.count input.old))
         (around W.Link.truth (W.told world.new) (I.left input.new)

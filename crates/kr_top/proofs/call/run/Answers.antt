@@ -7,6 +7,7 @@ use Rattle.kr_top.specs.FleetAsked.{IsFleetAsked}
 use Rattle.kr_top.proofs.FleetReadings.{fleet_readings}
 use Rattle.kr_top.proofs.FleetRuns.{at_once, for_asked, one_fleet, unread}
 use Rattle.kr_top.proofs.LoadAsked.{not_both}
+use Rattle.kr_top.proofs.LoadReadings.{load_readings}
 use Rattle.kr_top.proofs.LoadRuns.{fleet_unread}
 use Rattle.kr_top.proofs.Readings.{readings}
 use Rattle.kr_top.proofs.Leaving.{tapes_left}
@@ -118,8 +119,17 @@ returns-in-Ok-Some-clause-load g c asked asks =
     (subst (λ o. IsFleetAsked (texts c.args.words.now) (Ok o)) c.in-Ok-Some.field-0-is
     c.in-Ok-Some.ensures) asks)
 
+pub returns-in-Ok-Some-clause-load_readings : goal.returns-in-Ok-Some-clause-load_readings
+returns-in-Ok-Some-clause-load_readings g c asked asks =
+    absurd (not_both (texts c.args.words.now) c.in-Ok-Some.asked asked
+    (subst (λ o. IsFleetAsked (texts c.args.words.now) (Ok o)) c.in-Ok-Some.field-0-is
+    c.in-Ok-Some.ensures) asks)
+
 pub returns-in-Ok-None-clause-load : goal.returns-in-Ok-None-clause-load
 returns-in-Ok-None-clause-load g c asked asks = c.run_other.ensures.load asked asks
+
+pub returns-in-Ok-None-clause-load_readings : goal.returns-in-Ok-None-clause-load_readings
+returns-in-Ok-None-clause-load_readings g c asked asks = c.run_other.ensures.load_readings asked asks
 
 pub returns-in-Err-clause-load : goal.returns-in-Err-clause-load
 returns-in-Err-clause-load g c asked asks = record {
@@ -130,3 +140,15 @@ returns-in-Err-clause-load g c asked asks = record {
   written = omega arith;
   told = c.tell.ensures.later;
 }
+
+pub returns-in-Err-clause-load_readings : goal.returns-in-Err-clause-load_readings
+returns-in-Err-clause-load_readings g c asked asks =
+    load_readings g.row.W-Tap.Denot g.W.Link.Kms.truth g.W.Link.Kms.link asked _ _ _ _ _
+    (record {
+      result = Err c.in-Err.stop;
+      did = fleet_unread g.row.W-Tap.Denot g.W.Link.Kms.truth g.W.Link.Kms.link
+          (texts c.args.words.now) asked asks c.in-Err.stop c.in-Err.ensures _ _ (refl, refl);
+      tells = c.tell.ensures.told;
+      written = omega arith;
+      told = c.tell.ensures.later;
+    })
