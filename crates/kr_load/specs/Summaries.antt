@@ -23,11 +23,11 @@ Replies = List (List Told × ℕ)
 
 -- ---- how many puts and gets were done
 
-abbrev pub is_put : Told → Bool
+unfoldable pub is_put : Told → Bool
 is_put (told.Put revision) = true
 is_put other = false
 
-abbrev pub is_got : Told → Bool
+unfoldable pub is_got : Told → Bool
 is_got (told.Got revision plain) = true
 is_got other = false
 

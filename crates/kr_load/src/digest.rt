@@ -69,7 +69,7 @@ fn add_gotten<'a>(
 
 fn add_one<'a>(gotten: Option<Gotten<'a>>, all: &mut Vec<Gotten<'a>>) -> Result<(), NoMemory>
     ensures { OnOk result (lent_pairs all.new.items
-        ≡ lent_pairs all.old.items ++ lent_list gotten) }
+        ≡ lent_pairs all.old.items ++ lent_list gotten.entry) }
 {
     let Some(gotten) = gotten else {
         return Ok(());

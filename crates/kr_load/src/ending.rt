@@ -2,7 +2,7 @@
 ghost use Rattle.std.specs.Prelude.{◌≡◌};
 ghost use Rattle.std.specs.List.{list_any};
 ghost use Rattle.kr_load.specs.Endings.{ending_of_load};
-ghost use Rattle.kr_load.specs.inner.Refusing.{ending_of_refusals, refuses};
+ghost use Rattle.kr_load.specs.inner.Refusing.{ending_of_refusals, refuses, some_refuses};
 
 use kr_base::List;
 use kr_script::Told;
@@ -27,7 +27,7 @@ pub fn ending_of_load(replies: &[List<Told>]) -> Ending
 fn ending_of_refusals(replies: &[List<Told>]) -> Ending
     ensures { result ≡ ending_of_refusals replies.now }
 {
-    if replies.iter().any(|told| some_refuses(told.as_slice())) {
+    if some_refuses(replies) {
         Ending::Refused
     } else {
         Ending::Done
@@ -35,7 +35,13 @@ fn ending_of_refusals(replies: &[List<Told>]) -> Ending
 }
 
 /// Whether a reply other than a verdict is a refusal.
-fn some_refuses(told: &[Told]) -> bool
+fn some_refuses(replies: &[List<Told>]) -> bool
+    ensures { result ≡ some_refuses replies.now }
+{
+    replies.iter().any(|told| one_refuses(told.as_slice()))
+}
+
+fn one_refuses(told: &[Told]) -> bool
     ensures { result ≡ list_any refuses told.now }
 {
     told.iter().any(|reply| refuses(reply))

@@ -84,12 +84,14 @@ fn gets_among(replies: &[Told]) -> usize
     replies.iter().filter(|reply| is_got(reply)).count()
 }
 
+#[tactic(auto, unfolding(crate::specs::Summaries::is_put))]
 fn is_put(reply: &Told) -> bool
     ensures { result ≡ is_put reply.now }
 {
     matches!(reply, Told::Put { .. })
 }
 
+#[tactic(auto, unfolding(crate::specs::Summaries::is_got))]
 fn is_got(reply: &Told) -> bool
     ensures { result ≡ is_got reply.now }
 {
