@@ -27,9 +27,12 @@ pub fn files_of(alloc: Global, g1: &[u8], g2: &[u8]) -> Result<List<SettingsFile
         ≡ configurations_by (Aesgcm (codes "g1") g1.now) (Aesgcm (codes "g2") g2.now)) }
 {
     let mut files = List::new(alloc);
-    add_file(alloc, &mut files, FIRST, first(alloc, g1)?)?;
-    add_file(alloc, &mut files, BOTH, two(alloc, "g1", g1, "g2", g2)?)?;
-    add_file(alloc, &mut files, TURNED, two(alloc, "g2", g2, "g1", g1)?)?;
+    let one = first(alloc, g1)?;
+    add_file(alloc, &mut files, FIRST, one)?;
+    let both = two(alloc, "g1", g1, "g2", g2)?;
+    add_file(alloc, &mut files, BOTH, both)?;
+    let turned = two(alloc, "g2", g2, "g1", g1)?;
+    add_file(alloc, &mut files, TURNED, turned)?;
     Ok(files)
 }
 

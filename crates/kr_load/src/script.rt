@@ -46,7 +46,8 @@ fn add_workers(
         ++ map (load_worker pieces.old.0 size) (range_with_len 0 4)) }
 {
     for worker in 0..WORKERS {
-        add(workers, part_of(alloc, pieces, worker, size)?)?;
+        let part = part_of(alloc, pieces, worker, size)?;
+        add(workers, part)?;
     }
     Ok(())
 }
@@ -83,7 +84,8 @@ fn add_puts(
     ensures passed { OnOk result (pieces.new ≡ (pieces.old.0, pieces.old.1 + size)) }
 {
     for number in 0..size {
-        add(lines, put_of(alloc, pieces, worker, size, number)?)?;
+        let line = put_of(alloc, pieces, worker, size, number)?;
+        add(lines, line)?;
     }
     Ok(())
 }

@@ -44,10 +44,10 @@ fn summary_of(
         (string_bytes text)) }
 {
     let digest = digest_of(alloc, parts, replies)?;
-    let digest = hex_of(alloc, &digest)?;
+    let hex = hex_of(alloc, &digest)?;
     let puts = puts_in(replies);
     let gets = gets_in(replies);
-    Ok(format!(in alloc; "gen {seed} {size}\nputs {puts}\ngets {gets}\ndigest {digest}\n")?)
+    Ok(format!(in alloc; "gen {seed} {size}\nputs {puts}\ngets {gets}\ndigest {hex}\n")?)
 }
 
 /// How many puts were done.
