@@ -26,6 +26,7 @@ pub mod FleetSettled
 pub mod FleetWalk
 pub mod EquallyLong
 pub mod Found
+pub mod Generating
 pub mod Frames
 pub mod GivesOnly
 pub mod Goes
@@ -40,6 +41,10 @@ pub mod Plans
 pub mod Pieces
 pub mod Publishings
 pub mod Loading
+pub mod LoadAsked
+pub mod LoadPlans
+pub mod LoadReadings
+pub mod LoadRuns
 pub mod Loads
 pub mod LoneCallers
 pub mod Judging

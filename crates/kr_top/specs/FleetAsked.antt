@@ -5,6 +5,7 @@ use Rattle.kr_words.specs.Options.{value_of}
 use Rattle.kr_words.specs.declared.command.Verb.{Verb}
 use Rattle.kr_words.specs.declared.command.Verb.TheVariants as verbs
 use Rattle.kr_top.specs.Command.{AskBadly}
+use Rattle.kr_top.specs.LoadAsked.{AskNoLoad}
 use Rattle.kr_top.specs.declared.fleet_words.FleetWords.{FleetWords}
 use Rattle.kr_top.specs.declared.refusal.Stop.{Stop}
 use Rattle.kr_top.specs.declared.refusal.Stop.TheVariants.{Words, NoMemory}
@@ -20,11 +21,16 @@ pub record AsksFleet (words : List (List ℕ)) (asked : FleetWords) : Type 0 whe
 abbrev pub AskNoFleet : List (List ℕ) → Type 0
 AskNoFleet words = (asked : FleetWords) → AsksFleet words asked → ⊥
 
+-- they ask for neither a fleet nor a load, so nothing waits
+abbrev pub AskAlone : List (List ℕ) → Type 0
+AskAlone words = AskNoFleet words × AskNoLoad words
+
 -- they ask for this one, or for none
 abbrev pub IsFleetAsked : List (List ℕ) → Result (Option FleetWords) Stop → Type 0
 IsFleetAsked words (Ok (Some asked)) = AsksFleet words asked
 IsFleetAsked words (Ok None) = AskNoFleet words
-IsFleetAsked words (Err (Words why)) = AskBadly why words × AskNoFleet words
+IsFleetAsked words (Err (Words why)) =
+    AskBadly why words × AskNoFleet words × AskNoLoad words
 IsFleetAsked words (Err NoMemory) = ⊤
 IsFleetAsked words (Err stop) = ⊥
 

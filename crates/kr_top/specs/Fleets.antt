@@ -34,15 +34,17 @@ use Rattle.kr_workers.specs.declared.worker.Worker as fleet_worker
 use Rattle.kr_top.specs.Afterwards.{AreLeft}
 use Rattle.kr_top.specs.Around.{Around, Ends, IsHome, Reaches, left_of}
 use Rattle.kr_top.specs.Commands.{by_result, stored_on, tape_for, with_memory}
-use Rattle.kr_top.specs.FleetAsked.{AskNoFleet, AsksFleet}
+use Rattle.kr_top.specs.FleetAsked.{AskAlone, AsksFleet}
 use Rattle.kr_top.specs.FleetFiles.{FleetPlan, NamedRows, named_rows, no_file, planning, rows_at}
 use Rattle.kr_top.specs.Judgements.{start_refusal}
+use Rattle.kr_top.specs.LoadAsked.{AsksLoad}
 use Rattle.kr_top.specs.Plugins.{make_seeds}
 use Rattle.kr_top.specs.Ran.{IsIdle, IsUntouched, Ran, Readings, Receipt, Tells}
 use Rattle.kr_top.specs.Message.{line_of, status_of as stop_status}
 use Rattle.kr_top.specs.Steps.{Steps, borrow_dice, borrow_link, find, gives, give, and_then}
 use Rattle.kr_top.specs.StoreFiles.{Stored}
 use Rattle.kr_top.specs.declared.fleet_words.FleetWords.{FleetWords}
+use Rattle.kr_top.specs.declared.load_words.LoadWords.{LoadWords}
 use Rattle.kr_top.specs.declared.programs.Program.{Program}
 use Rattle.kr_top.specs.declared.refusal.Limit.TheVariants as limit
 use Rattle.kr_top.specs.declared.refusal.Object.TheVariants.{Output, Store}
@@ -318,13 +320,14 @@ pub record RanFleet (T : Type 0) {L D : Type 0} (truth : Truth) (link : L → Li
   pub written : output.old_faults ≤ output.new_faults
   pub told : errors.old_faults ≤ errors.new_faults
 
--- what a call did where no one may wait: for a fleet nothing, unless memory lacked to read its
--- words
+-- what a call did where no one may wait: for a fleet and for a load nothing, unless memory lacked to
+-- read its words
 abbrev pub RanAlone : (words : List (List ℕ)) → (old new : Around) → (output errors : Receipt)
     → Option ℕ → Type 0
 RanAlone words old new output errors (Some status) =
     Ran words old new output errors status × Readings words old new output errors status
-    × AreLeft words old new status × (AskNoFleet words
+    × AreLeft words old new status × (AskAlone words
     ⊎ Tells (line_of (Err NoMemory)) (stop_status (Err NoMemory)) errors status)
 RanAlone words old new output errors None =
-    ((asked : FleetWords) × AsksFleet words asked) × IsUntouched old new output × IsIdle errors
+    (((asked : FleetWords) × AsksFleet words asked) ⊎ ((asked : LoadWords) × AsksLoad words asked))
+    × IsUntouched old new output × IsIdle errors

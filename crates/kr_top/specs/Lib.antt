@@ -9,10 +9,13 @@ pub mod FleetFiles
 pub mod FleetReadings
 pub mod FleetReady
 pub mod Fleets
+pub mod GeneratedLoads
 pub mod Configuration
 pub mod Inspect
 pub mod Judgements
 pub mod Limits
+pub mod LoadAsked
+pub mod LoadReadings
 pub mod Message
 pub mod Plugins
 pub mod Ran

@@ -1,0 +1,6 @@
+-- The definitions that contracts name.
+pub mod Streams
+pub mod Loads
+pub mod Summaries
+pub mod Endings
+pub mod inner
