@@ -253,6 +253,17 @@ pub record StartsNone (store : List ℕ) (begun : Begun) (mid new : Around) : Ty
   pub dice : new.world.dice.told ≡ mid.world.dice.told
   pub rest : LeavesRest store (length begun.plan.fleet.workers) mid new
 
+-- the steps up to the workers ended the command, or want of memory did before they started
+abbrev pub StopsBefore : Steps Begun → (store : List ℕ) → (old new : Around) → Receipt
+    → Result Ending Stop → Type 0
+StopsBefore steps store old new output (Ok ending) = ⊥
+StopsBefore steps store old new output (Err stop) =
+    (Ends steps (left_of old) old new (Err stop)
+    ⊎ ((stop ≡ NoMemory) × ((mid : Around) × (begun : Begun)
+    × Reaches steps (left_of old) mid (gives begun)
+    × StartsNone store begun mid new × IsHome old mid)))
+    × IsIdle output
+
 -- the journal and the replies
 abbrev pub text_of : {T L D : Type 0} → Fleet → List Entry → List (fleet_worker.Worker T L D)
     → List ℕ
@@ -285,21 +296,12 @@ module _ (T : Type 0) {L D : Type 0} (truth : Truth) (link : L → Link)
     pub writes : WritesFleet (text_of begun.plan.fleet history ended)
         (ending_of (map (λ (w : fleet_worker.Worker T L D). w.told) ended)) output result
 
-  -- the steps up to the workers ended the command, or want of memory did before they started
-  abbrev pub StopsBefore : FleetWords → Around → Around → Receipt → Result Ending Stop → Type 0
-  StopsBefore words old new output (Ok ending) = ⊥
-  StopsBefore words old new output (Err stop) =
-      (Ends (fleet_steps words) (left_of old) old new (Err stop)
-      ⊎ ((stop ≡ NoMemory) × ((mid : Around) × (begun : Begun)
-      × Reaches (fleet_steps words) (left_of old) mid (gives begun)
-      × StartsNone words.store begun mid new × IsHome old mid)))
-      × IsIdle output
-
   -- all that was handed out is back
   pub record DidFleet (words : FleetWords) (old new : Around) (output : Receipt)
       (result : Result Ending Stop) : Type 0 where
     pub home : IsHome old new
-    pub did : StopsBefore words old new output result ⊎ Starts words old new output result
+    pub did : StopsBefore (fleet_steps words) words.store old new output result
+        ⊎ Starts words old new output result
 
 -- ---- the status
 

@@ -16,11 +16,11 @@ use Rattle.kr_script.specs.Fleets.{Worker}
 use Rattle.kr_workers.specs.declared.ending.Ending.{Ending}
 use Rattle.kr_workers.specs.declared.worker.Worker as fleet_worker
 use Rattle.rand_chacha.specs.ChaCha.{ChaCha}
-use Rattle.kr_top.specs.Around.{Around, Ends, IsHome, Reaches, left_of, with_lent, with_world}
+use Rattle.kr_top.specs.Around.{Around, IsHome, Reaches, left_of, with_lent, with_world}
 use Rattle.kr_top.specs.Commands.{stored_on, tape_for}
 use Rattle.kr_top.specs.FleetFiles.{FleetPlan}
-use Rattle.kr_top.specs.Fleets.{Begun, RunsFleet, StartsNone, TellsFleet, budgeting, outfitted, parts_of}
-use Rattle.kr_top.specs.Ran.{IsIdle, Receipt}
+use Rattle.kr_top.specs.Fleets.{Begun, RunsFleet, StopsBefore, TellsFleet, budgeting, outfitted, parts_of}
+use Rattle.kr_top.specs.Ran.{Receipt}
 use Rattle.kr_top.specs.Steps.{Steps, and_then, gives}
 use Rattle.kr_top.specs.StoreFiles.{Stored}
 use Rattle.kr_top.specs.declared.load_words.LoadWords.{LoadWords}
@@ -117,22 +117,13 @@ module _ (T : Type 0) {L : Type 0} (truth : Truth) (link : L → Link) where
     pub writes : WritesLoad words begun.plan.fleet.workers
         (map (λ (w : fleet_worker.Worker T L (SeededDice ChaCha)). w.told) ended) output result
 
-  -- the steps up to the workers ended the command, or want of memory did before they started
-  abbrev pub StopsLoad : LoadWords → Around → Around → Receipt → Result Ending Stop → Type 0
-  StopsLoad words old new output (Ok ending) = ⊥
-  StopsLoad words old new output (Err stop) =
-      (Ends (load_steps words) (left_of (seeded old)) (seeded old) (seeded new) (Err stop)
-      ⊎ ((stop ≡ NoMemory) × ((mid : Around) × (begun : Begun)
-      × Reaches (load_steps words) (left_of (seeded old)) mid (gives begun)
-      × StartsNone words.store begun mid (seeded new) × IsHome (seeded old) mid)))
-      × IsIdle output
-
   -- all that was handed out is back
   pub record DidLoad (words : LoadWords) (old new : Around) (output : Receipt)
       (result : Result Ending Stop) : Type 0 where
     pub home : IsHome old new
     pub others : LeavesOthers old.world new.world
-    pub did : StopsLoad words old new output result ⊎ StartsLoad words old new output result
+    pub did : StopsBefore (load_steps words) words.store (seeded old) (seeded new) output result
+        ⊎ StartsLoad words old new output result
 
 -- what a call of `run` did for a load
 pub record RanLoad (T : Type 0) {L : Type 0} (truth : Truth) (link : L → Link)

@@ -1,6 +1,7 @@
 -- The definitions that contracts cite.
 pub mod Afterwards
 pub mod Around
+pub mod Causes
 pub mod Check
 pub mod Command
 pub mod Commands
