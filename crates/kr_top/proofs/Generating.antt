@@ -44,7 +44,7 @@ use Rattle.kr_top.proofs.Tapes.{came_back, lent, not_lent, nothing}
 abbrev Source : Type 0
 Source = SeededDice ChaCha
 
-abbrev AreBare : {L : Type 0} → Outfits L Source → Type 0
+abbrev pub AreBare : {L : Type 0} → Outfits L Source → Type 0
 AreBare {L} outfits = All (λ (outfit : Outfit L Source). outfit.links ≡ []) outfits
 
 -- so many sources from this seat on, over what is around
@@ -87,6 +87,22 @@ module _ {L : Type 0} (link : L → Link) where
       → AreBare olds → AreBare news
   later_bare olds news later bare = named_bare news
       (later_named link untold never [] olds news later (bare_named olds bare))
+
+-- ---- the last one
+
+module _ {L : Type 0} (olds news : Outfits L Source) (last : Outfit L Source)
+    (pop : olds ≡ news ++ last ∷ []) (bare : AreBare olds) where
+  bare_both : AreBare (news ++ last ∷ [])
+  bare_both = subst AreBare pop bare
+
+  pub bare_front : AreBare news
+  bare_front = λ k d lt.
+      ap (λ (o : Outfit L Source). o.links) (sym (get_or_append_left news (last ∷ []) d k lt))
+      ∙ bare_both k d (omega (arith, lt, length-append news (last ∷ [])))
+
+  pub bare_last : last.links ≡ []
+  bare_last = ap (λ (o : Outfit L Source). o.links) (sym (get_or-append_seam news last [] last))
+      ∙ bare_both (length news) last (omega (arith, length-append news (last ∷ [])))
 
 -- ---- one more
 

@@ -1,0 +1,8 @@
+-- `size_of`: a size within its limit fits.
+use Rattle.std.proofs.Common.{codes, arith}
+use Rattle.kr_words.specs.Options.{value_of}
+use Rattle.kr_top.proofs.LoadAsked.{size_fits}
+use Rattle.kr_top.proofs.load_words.size_of.Goals as goal
+
+pub overflow_cast-result : goal.overflow_cast-result
+overflow_cast-result c = ?
