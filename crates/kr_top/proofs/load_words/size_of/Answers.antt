@@ -5,4 +5,6 @@ use Rattle.kr_top.proofs.LoadAsked.{size_fits}
 use Rattle.kr_top.proofs.load_words.size_of.Goals as goal
 
 pub overflow_cast-result : goal.overflow_cast-result
-overflow_cast-result c = ?
+overflow_cast-result c =
+    let fits = size_fits (value_of c.args.words.now.options.0 (codes "size")) c.in-Some.size
+    c.requires.small c.in-Some.ensures.number in omega (arith, fits)
