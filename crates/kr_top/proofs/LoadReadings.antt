@@ -4,7 +4,7 @@ use Rattle.kr_kms.specs.Calls.{Link}
 use Rattle.kr_kms.specs.Truth.{Truth}
 use Rattle.kr_workers.specs.declared.ending.Ending.{Ending}
 use Rattle.kr_top.specs.Around.{Around}
-use Rattle.kr_top.specs.GeneratedLoads.{RanLoad, load_steps, seeded}
+use Rattle.kr_top.specs.GeneratedLoads.{RanLoad, load_steps, with_streams}
 use Rattle.kr_top.specs.LoadReadings.{HasStarted, LoadReadings, TellsTape}
 use Rattle.kr_top.specs.Ran.{Receipt}
 use Rattle.kr_top.specs.declared.load_words.LoadWords.{LoadWords}
@@ -28,8 +28,8 @@ module _ (T : Type 0) {L : Type 0} (truth : Truth) (link : L → Link) (words : 
   pub load_readings : (status : ℕ) → RanLoad T truth link words old new output errors status
       → LoadReadings T truth link words old new output errors status
   load_readings status ran = record {
-    causes = causes (load_steps words) words.store Began (seeded old) (seeded new) output errors
-        (λ e s. (s.begun, (s.reaches.end, s.reaches.goes))) breaks (TellsTape words old)
+    causes = causes (load_steps words) words.store Began (with_streams old) (with_streams new)
+        output errors (λ e s. (s.begun, (s.reaches.end, s.reaches.goes))) breaks (TellsTape words old)
         (settled_load words old) status ran.result
         (home_seeded old new ran.did.others ran.did.home) ran.did.did ran.tells;
   }

@@ -7,8 +7,8 @@ use Rattle.kr_provider.specs.PluginOrder.{plugin_order}
 use Rattle.kr_provider.proofs.PluginOrder.{order_has}
 use Rattle.kr_top.specs.Around.{Around, left_of}
 use Rattle.kr_top.specs.FleetFiles.{rows_at}
-use Rattle.kr_top.specs.Fleets.{outfitted, parts_of, publishing, starting}
-use Rattle.kr_top.specs.GeneratedLoads.{load_beginning, load_plan, load_steps, seeded}
+use Rattle.kr_top.specs.Fleets.{launching, parts_of, publishing, starting}
+use Rattle.kr_top.specs.GeneratedLoads.{load_beginning, load_plan, load_steps, with_streams}
 use Rattle.kr_top.specs.LoadReadings.{TellsTape}
 use Rattle.kr_top.specs.Steps.{Left, and_then, or_empty}
 use Rattle.kr_top.specs.StoreFiles.{Stored}
@@ -33,8 +33,8 @@ names_none seed name rows is plugin c =
 module _ (words : LoadWords) (old : Around) where
   settled_outfits : (stored : Stored) (budgets : List ℕ) (l r : Left)
       → r.links ≡ l.links
-      → IsSettled (and_then (outfitted (load_plan words) stored budgets) closing)
-      (and_then (outfitted (load_plan words) stored budgets) closing) l r
+      → IsSettled (and_then (launching (load_plan words) stored budgets) closing)
+      (and_then (launching (load_plan words) stored budgets) closing) l r
   settled_outfits stored budgets l r x =
       let plan = load_plan words in
       let makes = publishing plan.files [] plan.fleet.replicas in
@@ -46,7 +46,7 @@ module _ (words : LoadWords) (old : Around) where
       r refl x refl)
 
   pub settled_load : TellsTape words old
-      → GoOneWay (and_then (load_steps words) closing) (left_of (seeded old))
+      → GoOneWay (and_then (load_steps words) closing) (left_of (with_streams old))
   settled_load there = (
     there,
     refl,
@@ -59,7 +59,7 @@ module _ (words : LoadWords) (old : Around) where
       refl,
       λ bytes a b x y. settled_pair _ _ a b (load_beginning (load_plan words)) closing
           (one_stored bytes a b x y) (λ stored. λ c d u v.
-          settled_pair _ _ c d (outfitted (load_plan words) stored) closing
+          settled_pair _ _ c d (launching (load_plan words) stored) closing
           (one_within stored.rows (parts_of (load_plan words).fleet) c d u v)
           (λ budgets. settled_outfits stored budgets _ _ refl)),
     ),

@@ -14,7 +14,6 @@ pub mod GeneratedLoads
 pub mod Configuration
 pub mod Inspect
 pub mod Judgements
-pub mod Limits
 pub mod LoadAsked
 pub mod LoadReadings
 pub mod Message

@@ -5,7 +5,7 @@ use Rattle.kr_kms.specs.Truth.{Truth}
 use Rattle.kr_workers.specs.declared.ending.Ending.{Ending}
 use Rattle.kr_top.specs.Around.{Around}
 use Rattle.kr_top.specs.Causes.{Causes}
-use Rattle.kr_top.specs.GeneratedLoads.{StartsLoad, load_steps, seeded}
+use Rattle.kr_top.specs.GeneratedLoads.{StartsLoad, load_steps, with_streams}
 use Rattle.kr_top.specs.Ran.{Receipt}
 use Rattle.kr_top.specs.declared.load_words.LoadWords.{LoadWords}
 use Rattle.kr_top.specs.declared.refusal.Stop.{Stop}
@@ -20,5 +20,5 @@ module _ (T : Type 0) {L : Type 0} (truth : Truth) (link : L → Link) (words : 
   HasStarted result = StartsLoad T truth link words old new output result
 
   pub record LoadReadings (status : ℕ) : Type 0 where
-    pub causes : Causes (load_steps words) HasStarted (seeded old) (seeded new) output errors
-        (TellsTape words old) status
+    pub causes : Causes (load_steps words) HasStarted (with_streams old) (with_streams new)
+        output errors (TellsTape words old) status
