@@ -2,6 +2,7 @@
 mod Endings
 mod Filling
 mod Gathering
+mod Joining
 mod Keeping
 mod Passing
 pub mod Ruling
