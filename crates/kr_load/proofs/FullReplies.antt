@@ -18,7 +18,7 @@ use Rattle.kr_load.proofs.LoadHistories.{front_all, secrets}
 use Rattle.kr_load.proofs.LoadLines.{IsReloading, long}
 use Rattle.kr_load.proofs.LoadReplies.{IsFullReply}
 use Rattle.kr_load.proofs.LoadSeats.{IsFullLine, IsSaid}
-use Rattle.kr_load.proofs.RunParts.{IsNumbered, Splits, all_numbered, count_all, count_behind, count_none}
+use Rattle.kr_load.proofs.RunParts.{IsNumbered, Splits, count_all, count_behind, count_none, head_line, numbered_all, tail_lines}
 
 -- ---- one reply
 
@@ -174,14 +174,6 @@ module _ (seed size worker : ℕ) where
         ≡ (path_of worker number, plain_of seed size worker number) ∷ []
     got_so = ap (λ (l : ScriptLine). gotten_by l done.reply) is ∙ get_parts.2
 
-  head_line : ScriptLine → List ScriptLine → ScriptLine
-  head_line other [] = other
-  head_line other (asked ∷ lines) = asked
-
-  tail_lines : List ScriptLine → List ScriptLine
-  tail_lines [] = []
-  tail_lines (asked ∷ lines) = lines
-
   all_got : (first count : ℕ) → first + count ≤ size → (run : List LineDone)
       → lines_in run ≡ map (get_of worker) (range_with_len first count)
       → All (IsFullLine seed size worker) run
@@ -214,7 +206,7 @@ module _ (seed size worker : ℕ) where
 
     puts_so : All IsPut p.front
     puts_so = λ k d below. put_so (get_or p.front k d)
-        (all_numbered (put_of seed size worker) 0 size p.front p.front_is k d below)
+        (numbered_all (put_of seed size worker) size p.front p.front_is k d below)
         (front_all (IsFullLine seed size worker) p.front (q.front ++ q.rest) all_so k d below)
 
     others_so : All IsOther q.front
@@ -226,7 +218,7 @@ module _ (seed size worker : ℕ) where
 
     gets_so : All IsGet q.rest
     gets_so = λ k d below.
-        let n = all_numbered (get_of worker) 0 size q.rest q.rest_is k d below in
+        let n = numbered_all (get_of worker) size q.rest q.rest_is k d below in
         get_so (get_or q.rest k d) n.number n.below n.line_is (gets_all k d below)
 
     replies_are : replies_in run ≡ replies_in p.front ++ (replies_in q.front ++ replies_in q.rest)

@@ -325,7 +325,7 @@ module _ (seed size worker : ℕ) (o : Opening) (st : State) (e : Entry) (few : 
       stored : List ℕ
       check : Option Check
       row_is : row ≡ put_of path secrets stored check
-      small : IsSmall row
+      bytes : IsSmall row
 
     put_of_load : (path resource plain : List ℕ) (row : LogRow)
         → IsLoads seed size worker (did.Put path resource plain)
@@ -346,7 +346,7 @@ module _ (seed size worker : ℕ) (o : Opening) (st : State) (e : Entry) (few : 
           stored = put.stored;
           check = check;
           row_is = is;
-          small = subst IsSmall (sym is) (put_small path put.stored check path_few
+          bytes = subst IsSmall (sym is) (put_small path put.stored check path_few
               (value_short p path plain put.stored (keyed p held) long sealing));
         }
 
@@ -366,15 +366,15 @@ module _ (seed size worker : ℕ) (o : Opening) (st : State) (e : Entry) (few : 
 
     -- the rows that it writes
     record AddsFew (added : List LogRow) : Type 0 where
-      few : length added ≤ 1
+      at_most : length added ≤ 1
       all : All IsSmall added
 
     none_few : AddsFew []
-    none_few = record { few = omega arith; all = All-nil IsSmall }
+    none_few = record { at_most = omega arith; all = All-nil IsSmall }
 
     one_few : (row : LogRow) → IsSmall row → AddsFew (row ∷ [])
     one_few row small =
-        record { few = omega arith; all = All-cons IsSmall row [] small (All-nil IsSmall) }
+        record { at_most = omega arith; all = All-cons IsSmall row [] small (All-nil IsSmall) }
 
     put_few : (row : LogRow) (shown : Option stored_row.Row) (revision : ℕ) → IsSmallPut row
         → shown ≡ row_of revision row.path row.change → AddsFew (put_row shown)
@@ -382,7 +382,7 @@ module _ (seed size worker : ℕ) (o : Opening) (st : State) (e : Entry) (few : 
         let same : put_row (row_of revision row.path row.change) ≡ row ∷ [] =
         subst (λ (r : LogRow). put_row (row_of revision r.path r.change) ≡ r ∷ []) (sym s.row_is)
         refl in
-        subst AddsFew (sym (ap put_row is ∙ same)) (one_few row s.small)
+        subst AddsFew (sym (ap put_row is ∙ same)) (one_few row s.bytes)
 
     written_few : (asked : Did) (revision : ℕ) (row : LogRow) (shown : Option stored_row.Row)
         → IsLoads seed size worker asked → IsSmallPut row
@@ -428,7 +428,7 @@ module _ (seed size worker : ℕ) (o : Opening) (st : State) (e : Entry) (few : 
         → Writes (gave.StoreFull needed) o st e → ⊥
     never_full needed limit all many own (row, would, needed_is, passed) =
         let s = row_of_load e.line.did row own would in
-        let size = file_few o.format st.rows row all s.small in
+        let size = file_few o.format st.rows row all s.bytes in
         omega (arith, size, many, needed_is, passed, limit)
 
 -- ---- all of a history
@@ -460,7 +460,7 @@ module _ (seed size : ℕ) (small : size ≤ 10000) (o : Opening) where
           replicas = in_after seed size (seat_of e) o st.current s.replicas e.line.gave
               e.line.did st e.line.held own.asks step.answer;
           rows = All-append IsSmall st.rows behind s.rows added.all;
-          few = omega (arith, s.few, added.few, length-append st.rows behind);
+          few = omega (arith, s.few, added.at_most, length-append st.rows behind);
         }
 
   sound_from : (st : State) (many : ℕ) → IsSound st many → (history : List Entry)
@@ -544,9 +544,12 @@ module _ (seed size : ℕ) (small : size ≤ 10000) (o : Opening) where
         step = step_there o (start_of o) front e rest (subst (IsRun o (start_of o)) is runs)
 
         sound : IsSound (state_from (start_of o) front) (length front)
-        sound = sound_from (start_of o) 0 sound_first front
+        sound =
+            let same : 0 + length front ≡ length front = omega arith in
+            subst (λ n. IsSound (state_from (start_of o) front) n) same
+            (sound_from (start_of o) 0 sound_first front
             (front_all (IsLoadEntry seed size) front (e ∷ rest) all_so)
-            (front_runs o (start_of o) front (e ∷ rest) (subst (IsRun o (start_of o)) is runs))
+            (front_runs o (start_of o) front (e ∷ rest) (subst (IsRun o (start_of o)) is runs)))
 
         -- what it names writes by a key
         pub names_keyed : (p : Publication) → e.published ≡ Some p → WritesByKey p.rows

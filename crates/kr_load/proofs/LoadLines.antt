@@ -5,7 +5,7 @@ use Rattle.std.specs.Option.{option_map}
 use Rattle.std.specs.Str.{bytes_eq}
 use Rattle.std.proofs.Common.{◌≡◌, ℕ, zero, suc, ◌+◌, ◌<◌, ◌≤◌, ◌*◌, ◌⊎◌, length-append, Bool, true, false, cond, List, [], ◌∷◌, ◌++◌, codes, length, map, Option, None, Some, inl, inr, refl, ap, sym, subst, ◌∙◌, arith}
 use Rattle.std.proofs.lemmas.Bool.{false≢true}
-use Rattle.std.proofs.lemmas.List.Elements.{All-append, All-cons, All-nil}
+use Rattle.std.proofs.lemmas.List.Elements.{All-append, All-cons, All-head, All-nil, All-tail}
 use Rattle.std.proofs.lemmas.Option.{same_Some}
 use Rattle.kr_config.specs.Kept.{Row, rows_of}
 use Rattle.kr_config.specs.declared.who.Who.TheVariants.{Aesgcm, Identity}
@@ -15,6 +15,7 @@ use Rattle.kr_rollout.specs.declared.line.Did.{Did}
 use Rattle.kr_rollout.specs.declared.line.Did.TheVariants as did
 use Rattle.kr_script.specs.declared.script.ScriptLine.{ScriptLine}
 use Rattle.kr_script.specs.declared.script.ScriptLine.TheVariants as line
+use Rattle.kr_workers.specs.Budgets.{budget_of, entries_of}
 use Rattle.kr_workers.specs.Files.{rows_at}
 use Rattle.kr_workers.specs.declared.files.SettingsFile.{SettingsFile}
 use Rattle.kr_load.specs.FullLoads.{opening_rows}
@@ -171,6 +172,26 @@ module _ (seed : ℕ) (files : List SettingsFile)
   of_load size worker asked own (did.Join replica p) is = absurd is
   of_load size worker asked own (did.Leave replica) is = absurd is
 
+-- ---- how many entries they may add
+
+line_few : (seed size worker paths : ℕ) (asked : ScriptLine)
+    → IsLoadLine seed size worker asked → entries_of paths asked ≤ 3
+line_few seed size worker paths asked (inl (number, below, is)) =
+    subst (λ (l : ScriptLine). entries_of paths l ≤ 3) (sym is) (omega arith)
+line_few seed size worker paths asked (inr (inl (number, below, is))) =
+    subst (λ (l : ScriptLine). entries_of paths l ≤ 3) (sym is) (omega arith)
+line_few seed size worker paths asked (inr (inr (replica, file, is, named))) =
+    subst (λ (l : ScriptLine). entries_of paths l ≤ 3) (sym is) (omega arith)
+
+all_few : (seed size worker paths : ℕ) (lines : List ScriptLine)
+    → All (IsLoadLine seed size worker) lines → budget_of paths lines ≤ 3 * length lines
+all_few seed size worker paths [] all = omega arith
+all_few seed size worker paths (asked ∷ lines) all =
+    let Is = IsLoadLine seed size worker in
+    let first = line_few seed size worker paths asked (All-head Is asked lines all) in
+    let rest = all_few seed size worker paths lines (All-tail Is asked lines all) in
+    omega (arith, first, rest)
+
 -- ---- a worker's lines
 
 numbered : (P : ScriptLine → Type 0) (f : ℕ → ScriptLine) (first size : ℕ)
@@ -181,17 +202,18 @@ numbered P f first (suc size) each = All-cons P (f first)
     (map f (range_with_len (first + 1) size)) (each first (omega arith))
     (numbered P f (first + 1) size (λ number below. each number (omega (arith, below))))
 
-reloads_are : (seed size worker : ℕ) → All (IsLoadLine seed size worker) (reloads_of worker)
-reloads_are seed size zero =
-    let P = IsLoadLine seed size 0 in
-    let at : (replica : ℕ) (file : List ℕ) → (file ≡ codes "B") ⊎ (file ≡ codes "C")
-    → IsLoadLine seed size 0 (line.Reload replica file) =
-    λ replica file named. inr (inr (replica, file, refl, named)) in
-    All-cons P (line.Reload 0 (codes "B")) _ (at 0 (codes "B") (inl refl))
-    (All-cons P (line.Reload 1 (codes "B")) _ (at 1 (codes "B") (inl refl))
-    (All-cons P (line.Reload 0 (codes "C")) _ (at 0 (codes "C") (inr refl))
-    (All-cons P (line.Reload 1 (codes "C")) _ (at 1 (codes "C") (inr refl)) (All-nil P))))
-reloads_are seed size (suc worker) = All-nil (IsLoadLine seed size (suc worker))
+-- of B and C, at both replicas
+pub reloading : (worker : ℕ) → All IsReloading (reloads_of worker)
+reloading zero =
+    let b0 = line.Reload 0 (codes "B") in
+    let b1 = line.Reload 1 (codes "B") in
+    let c0 = line.Reload 0 (codes "C") in
+    let c1 = line.Reload 1 (codes "C") in
+    All-cons IsReloading b0 (b1 ∷ (c0 ∷ (c1 ∷ []))) (0, codes "B", refl, inl refl)
+    (All-cons IsReloading b1 (c0 ∷ (c1 ∷ [])) (1, codes "B", refl, inl refl)
+    (All-cons IsReloading c0 (c1 ∷ []) (0, codes "C", refl, inr refl)
+    (All-cons IsReloading c1 [] (1, codes "C", refl, inr refl) (All-nil IsReloading))))
+reloading (suc worker) = All-nil IsReloading
 
 pub lines_are : (seed size worker : ℕ)
     → All (IsLoadLine seed size worker) (lines_of seed size worker)
@@ -202,7 +224,8 @@ lines_are seed size worker =
     All-append P puts (reloads_of worker ++ gets)
     (numbered P (put_of seed size worker) 0 size
     (λ number below. inl (number, omega (arith, below), refl)))
-    (All-append P (reloads_of worker) gets (reloads_are seed size worker)
+    (All-append P (reloads_of worker) gets
+    (λ k d below. inr (inr (reloading worker k d below)))
     (numbered P (get_of worker) 0 size
     (λ number below. inr (inl (number, omega (arith, below), refl)))))
 
@@ -227,3 +250,9 @@ lines_few seed size worker =
       long (get_of worker) 0 size,
       reloads_few worker,
     )
+
+pub budget_few : (seed size worker paths : ℕ)
+    → budget_of paths (lines_of seed size worker) ≤ 3 * (2 * size + 4)
+budget_few seed size worker paths =
+    let few = all_few seed size worker paths (lines_of seed size worker)
+    (lines_are seed size worker) in omega (arith, few, lines_few seed size worker)

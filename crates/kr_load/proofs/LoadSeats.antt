@@ -36,12 +36,12 @@ use Rattle.kr_load.specs.inner.Refusing.{refuses}
 use Rattle.kr_load.proofs.LineParts.{OfLine, line_makes}
 use Rattle.kr_load.proofs.LoadContents.{stays_put}
 use Rattle.kr_load.proofs.LoadHistories.{IsLoadEntry, IsLoads, at_middle, front_all, secrets}
-use Rattle.kr_load.proofs.LoadLines.{IsLoadLine, IsReloading, lines_are, lines_few, load_simple, long, of_load}
+use Rattle.kr_load.proofs.LoadLines.{IsLoadLine, IsReloading, lines_are, lines_few, load_simple, long, of_load, reloading}
 use Rattle.kr_load.proofs.LoadReplies.{IsCalm, IsFullReply, IsReply, get_ends, no_fault, put_ends, reload_ends}
 use Rattle.kr_load.proofs.LoadTexts.{one_number}
 use Rattle.kr_load.proofs.PutParts.{HasWritten, TellsPut, part_is, put_tells}
 use Rattle.kr_load.proofs.Ruling.{piece_long}
-use Rattle.kr_load.proofs.RunParts.{IsNumbered, Splits, WasDone, all_by_parts, all_done, all_entries, all_numbered, count_all, count_behind, count_none, entries_behind, entry_there, few_entries, numbered_there, passed_there, split_lines}
+use Rattle.kr_load.proofs.RunParts.{IsNumbered, Splits, WasDone, all_by_parts, all_done, all_entries, count_all, count_behind, count_none, entries_behind, entry_there, few_entries, numbered_all, numbered_at, passed_there, split_lines}
 
 -- ---- lists
 
@@ -182,10 +182,10 @@ module _ {L D : Type 0} (truth : Truth) (link : L → Link) (left : D → Option
             (Contains-append_right p.front p.rest done c)
 
         puts_numbered : All (IsNumbered (put_of seed size worker) size) p.front
-        puts_numbered = all_numbered (put_of seed size worker) 0 size p.front p.front_is
+        puts_numbered = numbered_all (put_of seed size worker) size p.front p.front_is
 
         gets_numbered : All (IsNumbered (get_of worker) size) q.rest
-        gets_numbered = all_numbered (get_of worker) 0 size q.rest q.rest_is
+        gets_numbered = numbered_all (get_of worker) size q.rest q.rest_is
 
         was_done : (done : LineDone) → Contains s.run done
             → WasDone truth link left count files part.replica done
@@ -235,16 +235,7 @@ module _ {L D : Type 0} (truth : Truth) (link : L → Link) (left : D → Option
             (subst (λ (l : ScriptLine). HasCause link count l (first_place o worker budget bench)
             done.reply history after.links after.dice) is (caused done there)))
 
-        reloading : (worker : ℕ) → All IsReloading (reloads_of worker)
-        reloading zero =
-            All-cons IsReloading (line.Reload 0 (codes "B")) _ (0, codes "B", refl, inl refl)
-            (All-cons IsReloading (line.Reload 1 (codes "B")) _ (1, codes "B", refl, inl refl)
-            (All-cons IsReloading (line.Reload 0 (codes "C")) _ (0, codes "C", refl, inr refl)
-            (All-cons IsReloading (line.Reload 1 (codes "C")) _ (1, codes "C", refl, inr refl)
-            (All-nil IsReloading))))
-        reloading (suc worker) = All-nil IsReloading
-
-        reloads_lines : All (λ (done : LineDone). IsReloading done.line) q.front
+        pub reloads_lines : All (λ (done : LineDone). IsReloading done.line) q.front
         reloads_lines = all_lines IsReloading q.front
             (subst (λ l. All IsReloading l) (sym q.front_is) (reloading worker))
 
@@ -300,7 +291,7 @@ module _ {L D : Type 0} (truth : Truth) (link : L → Link) (left : D → Option
 
               own_put : (it : LineDone) × Contains p.front it
                   × (it.line ≡ put_of seed size worker number)
-              own_put = numbered_there (put_of seed size worker) 0 size p.front p.front_is number below
+              own_put = numbered_at (put_of seed size worker) size p.front p.front_is number below
 
               -- it stands before the line's Fetch
               known : (upto : List Entry) (fetch : Entry) (more : List Entry) (adopt : Entry)

@@ -24,17 +24,16 @@ use Rattle.kr_load.proofs.LoadHistories.{at_middle}
 pub passed_there : {X : Type 0} (test : X → Bool) (xs : List X) (x : X)
     → Contains (filter test xs) x → Contains xs x
 passed_there test [] x (k, below, is) = absurd (omega (arith, below))
-passed_there {X} test (first ∷ xs) x c = by (test first) c
+passed_there {X} test (first ∷ xs) x c = by (test first) c (λ d. passed_there test xs x d)
   where
+    behind : Contains xs x → Contains (first ∷ xs) x
+    behind rest = (suc rest.0, (let l = rest.1 in omega (arith, l)), rest.2)
+
     by : (b : Bool) → Contains (cond b (first ∷ filter test xs) (filter test xs)) x
-        → Contains (first ∷ xs) x
-    by true (zero, below, is) = (0, omega arith, is)
-    by true (suc k, below, is) =
-        let rest = passed_there test xs x (k, omega (arith, below), is) in
-        (suc rest.0, (let l = rest.1 in omega (arith, l)), rest.2)
-    by false c =
-        let rest = passed_there test xs x c in
-        (suc rest.0, (let l = rest.1 in omega (arith, l)), rest.2)
+        → (Contains (filter test xs) x → Contains xs x) → Contains (first ∷ xs) x
+    by true (zero, below, is) again = (0, omega arith, is)
+    by true (suc k, below, is) again = behind (again (k, omega (arith, below), is))
+    by false c again = behind (again c)
 
 -- an element parts the list
 pub record Parts {X : Type 0} (xs : List X) (x : X) : Type 0 where
@@ -120,11 +119,11 @@ pub record Splits (run : List LineDone) (one other : List ScriptLine) : Type 0 w
   pub front_is : lines_in front ≡ one
   pub rest_is : lines_in rest ≡ other
 
-head_line : ScriptLine → List ScriptLine → ScriptLine
+abbrev pub head_line : ScriptLine → List ScriptLine → ScriptLine
 head_line other [] = other
 head_line other (asked ∷ lines) = asked
 
-tail_lines : List ScriptLine → List ScriptLine
+abbrev pub tail_lines : List ScriptLine → List ScriptLine
 tail_lines [] = []
 tail_lines (asked ∷ lines) = lines
 
@@ -149,7 +148,7 @@ pub record IsNumbered (f : ℕ → ScriptLine) (size : ℕ) (done : LineDone) : 
   pub below : number < size
   pub line_is : done.line ≡ f number
 
-pub all_numbered : (f : ℕ → ScriptLine) (first size : ℕ) (run : List LineDone)
+all_numbered : (f : ℕ → ScriptLine) (first size : ℕ) (run : List LineDone)
     → lines_in run ≡ map f (range_with_len first size)
     → All (IsNumbered f (first + size)) run
 all_numbered f first zero [] is = All-nil (IsNumbered f (first + 0))
@@ -165,7 +164,7 @@ all_numbered f first (suc size) (done ∷ run) is =
     (all_numbered f (first + 1) size run (ap tail_lines is)))
 
 -- and each number has its line
-pub numbered_there : (f : ℕ → ScriptLine) (first size : ℕ) (run : List LineDone)
+numbered_there : (f : ℕ → ScriptLine) (first size : ℕ) (run : List LineDone)
     → lines_in run ≡ map f (range_with_len first size) → (number : ℕ) → number < size
     → (done : LineDone) × Contains run done × (done.line ≡ f (first + number))
 numbered_there f first zero run is number below = absurd (omega (arith, below))
@@ -184,9 +183,22 @@ numbered_there f first (suc size) (done ∷ run) is (suc number) below =
       n.2 ∙ ap f (let e : first + 1 + number ≡ first + suc number = omega arith in e),
     )
 
+-- from 0 on
+pub numbered_all : (f : ℕ → ScriptLine) (size : ℕ) (run : List LineDone)
+    → lines_in run ≡ map f (range_with_len 0 size) → All (IsNumbered f size) run
+numbered_all f size run is = subst (λ n. All (IsNumbered f n) run)
+    (let e : 0 + size ≡ size = omega arith in e) (all_numbered f 0 size run is)
+
+pub numbered_at : (f : ℕ → ScriptLine) (size : ℕ) (run : List LineDone)
+    → lines_in run ≡ map f (range_with_len 0 size) → (number : ℕ) → number < size
+    → (done : LineDone) × Contains run done × (done.line ≡ f number)
+numbered_at f size run is number below =
+    let n = numbered_there f 0 size run is number below in
+    (n.0, n.1, n.2 ∙ ap f (let e : 0 + number ≡ number = omega arith in e))
+
 -- ---- counting
 
-counted_by : {X : Type 0} (test : X → Bool) → List X → ℕ
+abbrev counted_by : {X : Type 0} (test : X → Bool) → List X → ℕ
 counted_by test [] = 0
 counted_by test (x ∷ xs) = cond (test x) (1 + counted_by test xs) (counted_by test xs)
 
@@ -226,7 +238,7 @@ count_none test run all = sym (is_counted test (replies_in run)) ∙ counted_non
 
 counted_behind : {X : Type 0} (test : X → Bool) (xs ys : List X)
     → counted_by test (xs ++ ys) ≡ counted_by test xs + counted_by test ys
-counted_behind test [] ys = refl
+counted_behind test [] ys = omega arith
 counted_behind test (x ∷ xs) ys = by (test x) (counted_behind test xs ys)
   where
     by : (b : Bool)
