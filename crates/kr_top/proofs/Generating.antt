@@ -16,11 +16,11 @@ use Rattle.kr_provider.specs.Names.{names_of}
 use Rattle.kr_store.specs.Stores.{Kept}
 use Rattle.kr_workers.specs.declared.worker.Worker as fleet_worker
 use Rattle.rand_chacha.specs.ChaCha.{ChaCha}
-use Rattle.kr_top.specs.Around.{Around, IsHome, left_of, with_lent_dice, with_lent_links, with_lent_tape, with_world}
+use Rattle.kr_top.specs.Around.{Around, IsHome, left_of, with_world}
 use Rattle.kr_top.specs.Commands.{tape_for}
 use Rattle.kr_top.specs.FleetFiles.{FleetPlan}
 use Rattle.kr_top.specs.Fleets.{Begun, Replicas, starting}
-use Rattle.kr_top.specs.GeneratedLoads.{AreSeeded, LeavesOthers, never, seeded, seeded_dice, seeded_world, untold}
+use Rattle.kr_top.specs.GeneratedLoads.{AreSeeded, LeavesOthers, no_faults, with_streams, seeded_dice, seeded_world, nothing_told}
 use Rattle.kr_top.specs.Steps.{Steps, and_then}
 use Rattle.kr_top.specs.StoreFiles.{Stored}
 use Rattle.kr_top.specs.declared.fleet.Record.{Record}
@@ -29,6 +29,7 @@ use Rattle.kr_top.specs.declared.refusal.Stop.{Stop}
 use Rattle.kr_top.specs.declared.refusal.Stop.TheVariants.{Words, Refused, Fault, NoMemory}
 use Rattle.kr_top.specs.inner.Crews.{outfit_of, outfits_of}
 use Rattle.kr_top.specs.inner.GeneratedLoads.{AreGenerated, LeavesLoad, RunsLoad}
+use Rattle.kr_top.specs.inner.Lent.{with_lent_dice, with_lent_links, with_lent_tape}
 use Rattle.kr_top.specs.inner.Outfits.{AreLater, AreNamed, with_outfits}
 use Rattle.kr_top.specs.inner.Phases.{AskedUnless, Does}
 use Rattle.kr_top.specs.inner.Tapes.{LentTape, NoTape, ReturnedTape}
@@ -44,7 +45,7 @@ use Rattle.kr_top.proofs.Tapes.{came_back, lent, not_lent, nothing}
 abbrev Source : Type 0
 Source = SeededDice ChaCha
 
-abbrev AreBare : {L : Type 0} → Outfits L Source → Type 0
+abbrev pub AreBare : {L : Type 0} → Outfits L Source → Type 0
 AreBare {L} outfits = All (λ (outfit : Outfit L Source). outfit.links ≡ []) outfits
 
 -- so many sources from this seat on, over what is around
@@ -54,11 +55,12 @@ seeded_from seat seats a =
 
 module _ {L : Type 0} (link : L → Link) where
   outfits_seeded : (seat : ℕ) (outfits : Outfits L Source) → AreBare outfits → (a : Around)
-      → with_outfits link untold never seat outfits a ≡ seeded_from seat (length outfits) a
+      → with_outfits link nothing_told no_faults seat outfits a
+      ≡ seeded_from seat (length outfits) a
   outfits_seeded seat [] bare a = refl
   outfits_seeded seat (outfit ∷ outfits) bare a =
       ap (λ links. with_lent_links link seat links (with_lent_dice seat None 0
-      (with_outfits link untold never (seat + 1) outfits a)))
+      (with_outfits link nothing_told no_faults (seat + 1) outfits a)))
       (All-head (λ (o : Outfit L Source). o.links ≡ []) outfit outfits bare)
       ∙ ap (with_lent_dice seat None 0) (outfits_seeded (seat + 1) outfits
       (All-tail (λ (o : Outfit L Source). o.links ≡ []) outfit outfits bare) a)
@@ -66,8 +68,8 @@ module _ {L : Type 0} (link : L → Link) where
   -- those of four workers and the store's tape
   pub crew_seeded : (name : List ℕ) (store : Kept) (outfits : Outfits L Source)
       → AreBare outfits → length outfits ≡ 4 → (a : Around)
-      → with_crew link untold never name store outfits a
-      ≡ with_lent_tape name store.told store.count (seeded a)
+      → with_crew link nothing_told no_faults name store outfits a
+      ≡ with_lent_tape name store.told store.count (with_streams a)
   crew_seeded name store outfits bare four a =
       outfits_seeded 0 outfits bare (with_lent_tape name store.told store.count a)
       ∙ ap (λ n. seeded_from 0 n (with_lent_tape name store.told store.count a)) four
@@ -83,10 +85,26 @@ module _ {L : Type 0} (link : L → Link) where
   named_bare outfits named = λ k d lt. no_links (get_or outfits k d).links (named k d lt)
 
   -- those that come back have no links either
-  pub later_bare : (olds news : Outfits L Source) → AreLater link never olds news
+  pub later_bare : (olds news : Outfits L Source) → AreLater link no_faults olds news
       → AreBare olds → AreBare news
   later_bare olds news later bare = named_bare news
-      (later_named link untold never [] olds news later (bare_named olds bare))
+      (later_named link nothing_told no_faults [] olds news later (bare_named olds bare))
+
+-- ---- the last one
+
+module _ {L : Type 0} (olds news : Outfits L Source) (last : Outfit L Source)
+    (pop : olds ≡ news ++ last ∷ []) (bare : AreBare olds) where
+  bare_both : AreBare (news ++ last ∷ [])
+  bare_both = subst AreBare pop bare
+
+  pub bare_front : AreBare news
+  bare_front = λ k d lt.
+      ap (λ (o : Outfit L Source). o.links) (sym (get_or_append_left news (last ∷ []) d k lt))
+      ∙ bare_both k d (omega (arith, lt, length-append news (last ∷ [])))
+
+  pub bare_last : last.links ≡ []
+  bare_last = ap (λ (o : Outfit L Source). o.links) (sym (get_or-append_seam news last [] last))
+      ∙ bare_both (length news) last (omega (arith, length-append news (last ∷ [])))
 
 -- ---- one more
 
@@ -146,7 +164,7 @@ module _ (T : Type 0) {L : Type 0} (truth : Truth) (link : L → Link) (seed : �
   -- the workers, by their outfits
   pub runs_crew : (steps : Steps Begun) (outfits : Outfits L Source) (old new : Around)
       → AreGenerated seed outfits → (result : Result Record Stop)
-      → RunsWith link untold never T truth steps store plan outfits old new result
+      → RunsWith link nothing_told no_faults T truth steps store plan outfits old new result
       → Runs steps old new result
   runs_crew steps outfits old new generated (Ok made) r = record {
     leaves = r.leaves;
@@ -161,16 +179,17 @@ module _ (T : Type 0) {L : Type 0} (truth : Truth) (link : L → Link) (seed : �
         → Runs (and_then first others) old new result
     unfolding before
     load_before x old mid new d (Ok made) l = record {
-      leaves = before T truth link untold never store plan first others x new d (Ok made) l.leaves;
+      leaves = before T truth link nothing_told no_faults store plan first others x new d (Ok made)
+          l.leaves;
       sources = l.sources;
     }
     load_before x old mid new d (Err stop) l =
-        before T truth link untold never store plan first others x new d (Err stop) l
+        before T truth link nothing_told no_faults store plan first others x new d (Err stop) l
 
     pub load_ends : (old new : Around) (stop : Stop) → Does first old new (Err stop)
         → Runs (and_then first others) old new (Err stop)
     load_ends old new stop d =
-        ends_before T truth link untold never store plan first others stop d
+        ends_before T truth link nothing_told no_faults store plan first others stop d
 
   -- the same between two surroundings that are these
   pub runs_same : (steps : Steps Begun) (old old' new new' : Around)
@@ -227,8 +246,8 @@ module _ {old new : Outside} where
   pub untaped : (name : List ℕ) (steps : Steps Begun) (a : Around) (stop : Stop)
       → KeepsFiles old new → KeepsObjects old new → NoTape old new name true stop
       → AskedUnless old.asked new.asked (Tape name true) stop
-      → Does (tape_for name true steps) (seeded (with_world old a)) (seeded (with_world new a))
-      (Err stop)
+      → Does (tape_for name true steps) (with_streams (with_world old a))
+      (with_streams (with_world new a)) (Err stop)
   untaped name steps a stop files objects n asked =
       not_lent (record { file = files.file; later = files.later }) (record {
         dice = ap (seeded_dice 0 4) objects.dice;
@@ -243,16 +262,17 @@ module _ (T : Type 0) {L : Type 0} (truth : Truth) (link : L → Link) (seed : �
       (result : Result Record Stop) → LentTape store true old out given first
       → ReturnedTape store out new back n
       → Runs T truth link seed store plan steps
-      (with_lent_tape store given first (seeded (with_world out a)))
-      (with_lent_tape store back n (seeded (with_world out a))) result
+      (with_lent_tape store given first (with_streams (with_world out a)))
+      (with_lent_tape store back n (with_streams (with_world out a))) result
       → Runs T truth link seed store plan (tape_for store true steps)
-      (seeded (with_world old a)) (seeded (with_world new a)) result
+      (with_streams (with_world old a)) (with_streams (with_world new a)) result
   load_over_tape {old} {out} {new} {given} {back} {first} {n} result h returned r =
       load_before T truth link seed store plan (tape_for store true nothing) (λ u. steps) tt
-      (seeded (with_world old a)) (with_lent_tape store given first (seeded (with_world out a)))
-      (seeded (with_world new a)) (lent store true _ (lent_seeded h) a) result
+      (with_streams (with_world old a))
+      (with_lent_tape store given first (with_streams (with_world out a)))
+      (with_streams (with_world new a)) (lent store true _ (lent_seeded h) a) result
       (subst (λ b. Runs T truth link seed store plan steps
-      (with_lent_tape store given first (seeded (with_world out a))) b result)
+      (with_lent_tape store given first (with_streams (with_world out a))) b result)
       (came_back store (back_seeded returned) a) r)
 
 -- of the world nothing but the tape was used
@@ -264,7 +284,7 @@ others_stay h returned =
 
 -- so all is home that was so as the sources stood among it
 pub home_unseeded : (old new : Around) → LeavesOthers old.world new.world
-    → IsHome (seeded old) (seeded new) → IsHome old new
+    → IsHome (with_streams old) (with_streams new) → IsHome old new
 home_unseeded old new others h = record {
   files = record { file = h.files.file; later = h.files.later };
   dice = home_same others.dice;
@@ -275,7 +295,7 @@ home_unseeded old new others h = record {
 
 -- and the other way
 pub home_seeded : (old new : Around) → LeavesOthers old.world new.world → IsHome old new
-    → IsHome (seeded old) (seeded new)
+    → IsHome (with_streams old) (with_streams new)
 home_seeded old new others h = record {
   files = record { file = h.files.file; later = h.files.later };
   dice = home_same (ap (seeded_dice 0 4) others.dice);

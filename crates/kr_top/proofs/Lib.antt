@@ -11,10 +11,10 @@ pub mod Migrating
 pub mod Points
 pub mod TwoTapes
 pub mod Beginnings
+pub mod Causes
 pub mod Crews
 pub mod Decided
 pub mod FleetCrews
-pub mod FleetDecided
 pub mod FleetEndings
 pub mod FleetAsked
 pub mod FleetLoads
@@ -32,6 +32,7 @@ pub mod GivesOnly
 pub mod Goes
 pub mod Listed
 pub mod Listings
+pub mod OneBeginning
 pub mod OnePoint
 mod OneTape
 pub mod Outfits
@@ -45,6 +46,7 @@ pub mod LoadAsked
 pub mod LoadPlans
 pub mod LoadReadings
 pub mod LoadRuns
+pub mod LoadSettled
 pub mod Loads
 pub mod LoneCallers
 pub mod Judging

@@ -13,9 +13,10 @@ use Rattle.kr_words.specs.declared.command.WordsNo.TheVariants as no
 use Rattle.kr_words.proofs.Meanings.{mean_one}
 use Rattle.kr_top.specs.Command.{AskNothing, AskReplicas, AskSize}
 use Rattle.kr_top.specs.FleetAsked.{AsksFleet}
-use Rattle.kr_top.specs.LoadAsked.{AskNoLoad, AsksLoad, IsLoadAsked, IsLoadOf}
+use Rattle.kr_top.specs.LoadAsked.{AskNoLoad, AsksLoad}
 use Rattle.kr_top.specs.declared.fleet_words.FleetWords.{FleetWords}
 use Rattle.kr_top.specs.declared.load_words.LoadWords.{LoadWords}
+use Rattle.kr_top.specs.inner.LoadAsked.{IsLoadAsked, IsLoadOf}
 use Rattle.kr_top.proofs.Decided.{one_size}
 
 pub no_load_words : AskNoLoad []

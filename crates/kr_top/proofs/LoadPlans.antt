@@ -10,7 +10,7 @@ use Rattle.kr_load.specs.Loads.{configurations, get_of, lines_of, load_fleet, lo
 use Rattle.kr_load.proofs.Ruling.{keeps_rules}
 use Rattle.kr_script.specs.Fleets.{Fleet, Worker, fleet_of, worker_of}
 use Rattle.kr_workers.specs.declared.files.SettingsFile.{SettingsFile}
-use Rattle.kr_top.specs.FleetFiles.{FleetPlan, NamedRows, file_in, file_of_replica, mentioned, named_rows, rows_at}
+use Rattle.kr_top.specs.FleetFiles.{FleetPlan, NamedRows, file_in, file_of_replica, all_files, named_rows, rows_at}
 use Rattle.kr_top.specs.GeneratedLoads.{load_plan}
 use Rattle.kr_top.specs.declared.fleet_file.Plan.{Plan}
 use Rattle.kr_top.specs.declared.load_words.LoadWords.{LoadWords}
@@ -64,7 +64,7 @@ workers_read seed size (worker ∷ workers) =
     All-append (IsRead seed) (flat_map file_in (lines_of seed size worker)) _
     (lines_read seed size worker) (workers_read seed size workers)
 
-all_read : (seed size : ℕ) → All (IsRead seed) (mentioned (load_fleet seed size))
+all_read : (seed size : ℕ) → All (IsRead seed) (all_files (load_fleet seed size))
 all_read seed size =
     All-append (IsRead seed) (flat_map file_of_replica (load_fleet seed size).replicas) _
     (All-cons (IsRead seed) (codes "A") _ refl

@@ -8,17 +8,19 @@ use Rattle.kr_workers.specs.declared.ending.Ending.{Ending}
 use Rattle.kr_workers.specs.declared.worker.Worker as fleet_worker
 use Rattle.rand_chacha.specs.ChaCha.{ChaCha}
 use Rattle.kr_top.specs.Around.{Around, left_of}
-use Rattle.kr_top.specs.FleetAsked.{AskAlone, AskNoFleet, IsFleetAsked}
+use Rattle.kr_top.specs.FleetAsked.{AskAlone, AskNoFleet}
 use Rattle.kr_top.specs.FleetFiles.{FleetPlan}
-use Rattle.kr_top.specs.GeneratedLoads.{DidLoad, LeavesOthers, RanLoad, WritesLoad, load_over, load_plan, load_steps, seeded}
-use Rattle.kr_top.specs.LoadAsked.{AsksLoad, IsLoadAsked}
+use Rattle.kr_top.specs.GeneratedLoads.{DidLoad, LeavesOthers, RanLoad, WritesLoad, load_over, load_plan, load_steps, with_streams}
+use Rattle.kr_top.specs.LoadAsked.{AsksLoad}
 use Rattle.kr_top.specs.Message.{line_of, status_of as stop_status}
 use Rattle.kr_top.specs.Ran.{IsIdle, Receipt, StopsAtOnce, Tells}
 use Rattle.kr_top.specs.declared.fleet.Record.{Record}
 use Rattle.kr_top.specs.declared.load_words.LoadWords.{LoadWords}
 use Rattle.kr_top.specs.declared.refusal.Stop.{Stop}
 use Rattle.kr_top.specs.declared.refusal.Stop.TheVariants.{Words, Refused, Fault, NoMemory}
+use Rattle.kr_top.specs.inner.FleetAsked.{IsFleetAsked}
 use Rattle.kr_top.specs.inner.GeneratedLoads.{RunsLoad}
+use Rattle.kr_top.specs.inner.LoadAsked.{IsLoadAsked}
 use Rattle.kr_top.specs.inner.Phases.{Does}
 use Rattle.kr_top.proofs.Generating.{home_unseeded}
 use Rattle.kr_top.proofs.Goes.{home_refl, reach, stays_refl}
@@ -60,8 +62,8 @@ module _ (T : Type 0) {L : Type 0} (truth : Truth) (link : L → Link) where
     home = home_refl a;
     others = record { dice = refl; links = refl };
     did = inl (
-      inl (inr (reach (left_of (seeded a)) (inl (refl, refl))
-          (stays_refl (seeded a)))),
+      inl (inr (reach (left_of (with_streams a)) (inl (refl, refl))
+          (stays_refl (with_streams a)))),
       idle,
     );
   }
@@ -88,18 +90,21 @@ module _ (T : Type 0) {L : Type 0} (truth : Truth) (link : L → Link) where
     -- the steps behind the plan ended the command, or want of memory did
     pub load_stopped : (stop : Stop) (output : Receipt) → LeavesOthers old.world new.world
         → RunsLoad T truth link asked.seed (load_over asked.store plan) asked.store plan
-        (seeded old) (seeded new) (Err stop)
+        (with_streams old) (with_streams new) (Err stop)
         → IsIdle output → DidLoad T truth link asked old new output (Err stop)
     load_stopped stop output others (inl e) idle =
-        let d = subst (λ p. Does (load_over asked.store p) (seeded old) (seeded new) (Err stop)) is
-        e in
+        let d = subst (λ p. Does (load_over asked.store p) (with_streams old) (with_streams new)
+        (Err stop)) is e in
         record {
           home = home_unseeded old new others d.home;
           others = others;
-          did = inl (inl (d.ends (left_of (seeded old)) (stays_refl (seeded old))), idle);
+          did = inl (
+            inl (d.ends (left_of (with_streams old)) (stays_refl (with_streams old))),
+            idle,
+          );
         }
     load_stopped stop output others (inr l) idle =
-        let d = subst (λ p. Does (load_over asked.store p) (seeded old) l.mid (Ok l.begun)) is
+        let d = subst (λ p. Does (load_over asked.store p) (with_streams old) l.mid (Ok l.begun)) is
         l.does in
         record {
           home = home_unseeded old new others l.home;
@@ -110,7 +115,7 @@ module _ (T : Type 0) {L : Type 0} (truth : Truth) (link : L → Link) where
               (
                 l.mid,
                 l.begun,
-                d.ends (left_of (seeded old)) (stays_refl (seeded old)),
+                d.ends (left_of (with_streams old)) (stays_refl (with_streams old)),
                 l.none,
                 d.home,
               ),
@@ -123,12 +128,12 @@ module _ (T : Type 0) {L : Type 0} (truth : Truth) (link : L → Link) where
     pub load_ran : (made : Record) (output : Receipt) (result : Result Ending Stop)
         → LeavesOthers old.world new.world
         → RunsLoad T truth link asked.seed (load_over asked.store plan) asked.store plan
-        (seeded old) (seeded new) (Ok made)
+        (with_streams old) (with_streams new) (Ok made)
         → WritesLoad asked plan.fleet.workers made.replies.0 output result
         → DidLoad T truth link asked old new output result
     load_ran made output result others r w =
         let l = r.leaves in
-        let d = subst (λ p. Does (load_over asked.store p) (seeded old) l.mid (Ok l.begun)) is
+        let d = subst (λ p. Does (load_over asked.store p) (with_streams old) l.mid (Ok l.begun)) is
         l.does in
         let told = map (λ (worker : fleet_worker.Worker T L (SeededDice ChaCha)). worker.told)
         l.ended in
@@ -141,7 +146,7 @@ module _ (T : Type 0) {L : Type 0} (truth : Truth) (link : L → Link) where
             begun = l.begun;
             plan_is = l.plan_is ∙ is;
             mid = l.mid;
-            reaches = d.ends (left_of (seeded old)) (stays_refl (seeded old));
+            reaches = d.ends (left_of (with_streams old)) (stays_refl (with_streams old));
             since = d.home;
             history = l.history;
             ended = l.ended;

@@ -135,17 +135,17 @@ starting plan stored budgets replicas =
     })))
 
 -- once each worker has an outfit, and with one for each
-abbrev pub outfitted : FleetPlan → Stored → List ℕ → Steps Begun
-outfitted plan stored budgets =
+abbrev pub launching : FleetPlan → Stored → List ℕ → Steps Begun
+launching plan stored budgets =
     and_then (publishing plan.files [] plan.fleet.replicas) (starting plan stored budgets)
 
-abbrev pub equipped : FleetPlan → Stored → List ℕ → Steps Begun
-equipped plan stored budgets = equipping plan.programs 0 (length plan.fleet.workers)
-    (outfitted plan stored budgets)
+abbrev pub equipping_all : FleetPlan → Stored → List ℕ → Steps Begun
+equipping_all plan stored budgets = equipping plan.programs 0 (length plan.fleet.workers)
+    (launching plan stored budgets)
 
 abbrev pub beginning : FleetPlan → Stored → Steps Begun
 beginning plan stored =
-    and_then (budgeting stored.rows (parts_of plan.fleet)) (equipped plan stored)
+    and_then (budgeting stored.rows (parts_of plan.fleet)) (equipping_all plan stored)
 
 -- a fleet by its plan, over the store of this name
 abbrev pub over_store : (store : List ℕ) → FleetPlan → Steps Begun
@@ -253,6 +253,17 @@ pub record StartsNone (store : List ℕ) (begun : Begun) (mid new : Around) : Ty
   pub dice : new.world.dice.told ≡ mid.world.dice.told
   pub rest : LeavesRest store (length begun.plan.fleet.workers) mid new
 
+-- the steps up to the workers ended the command, or want of memory did before they started
+abbrev pub StopsBefore : Steps Begun → (store : List ℕ) → (old new : Around) → Receipt
+    → Result Ending Stop → Type 0
+StopsBefore steps store old new output (Ok ending) = ⊥
+StopsBefore steps store old new output (Err stop) =
+    (Ends steps (left_of old) old new (Err stop)
+    ⊎ ((stop ≡ NoMemory) × ((mid : Around) × (begun : Begun)
+    × Reaches steps (left_of old) mid (gives begun)
+    × StartsNone store begun mid new × IsHome old mid)))
+    × IsIdle output
+
 -- the journal and the replies
 abbrev pub text_of : {T L D : Type 0} → Fleet → List Entry → List (fleet_worker.Worker T L D)
     → List ℕ
@@ -285,21 +296,12 @@ module _ (T : Type 0) {L D : Type 0} (truth : Truth) (link : L → Link)
     pub writes : WritesFleet (text_of begun.plan.fleet history ended)
         (ending_of (map (λ (w : fleet_worker.Worker T L D). w.told) ended)) output result
 
-  -- the steps up to the workers ended the command, or want of memory did before they started
-  abbrev pub StopsBefore : FleetWords → Around → Around → Receipt → Result Ending Stop → Type 0
-  StopsBefore words old new output (Ok ending) = ⊥
-  StopsBefore words old new output (Err stop) =
-      (Ends (fleet_steps words) (left_of old) old new (Err stop)
-      ⊎ ((stop ≡ NoMemory) × ((mid : Around) × (begun : Begun)
-      × Reaches (fleet_steps words) (left_of old) mid (gives begun)
-      × StartsNone words.store begun mid new × IsHome old mid)))
-      × IsIdle output
-
   -- all that was handed out is back
   pub record DidFleet (words : FleetWords) (old new : Around) (output : Receipt)
       (result : Result Ending Stop) : Type 0 where
     pub home : IsHome old new
-    pub did : StopsBefore words old new output result ⊎ Starts words old new output result
+    pub did : StopsBefore (fleet_steps words) words.store old new output result
+        ⊎ Starts words old new output result
 
 -- ---- the status
 
@@ -320,8 +322,8 @@ pub record RanFleet (T : Type 0) {L D : Type 0} (truth : Truth) (link : L → Li
   pub written : output.old_faults ≤ output.new_faults
   pub told : errors.old_faults ≤ errors.new_faults
 
--- what a call did where no one may wait: for a fleet and for a load nothing, unless memory lacked to
--- read its words
+-- what a call did where no one may wait: for a fleet and for a load nothing, unless memory lacked
+-- to read its words
 abbrev pub RanAlone : (words : List (List ℕ)) → (old new : Around) → (output errors : Receipt)
     → Option ℕ → Type 0
 RanAlone words old new output errors (Some status) =

@@ -16,11 +16,11 @@ use Rattle.kr_script.specs.Fleets.{Worker}
 use Rattle.kr_workers.specs.declared.ending.Ending.{Ending}
 use Rattle.kr_workers.specs.declared.worker.Worker as fleet_worker
 use Rattle.rand_chacha.specs.ChaCha.{ChaCha}
-use Rattle.kr_top.specs.Around.{Around, Ends, IsHome, Reaches, left_of, with_lent, with_world}
+use Rattle.kr_top.specs.Around.{Around, IsHome, Reaches, left_of, with_lent, with_world}
 use Rattle.kr_top.specs.Commands.{stored_on, tape_for}
 use Rattle.kr_top.specs.FleetFiles.{FleetPlan}
-use Rattle.kr_top.specs.Fleets.{Begun, RunsFleet, StartsNone, TellsFleet, budgeting, outfitted, parts_of}
-use Rattle.kr_top.specs.Ran.{IsIdle, Receipt}
+use Rattle.kr_top.specs.Fleets.{Begun, RunsFleet, StopsBefore, TellsFleet, budgeting, launching, parts_of}
+use Rattle.kr_top.specs.Ran.{Receipt}
 use Rattle.kr_top.specs.Steps.{Steps, and_then, gives}
 use Rattle.kr_top.specs.StoreFiles.{Stored}
 use Rattle.kr_top.specs.declared.load_words.LoadWords.{LoadWords}
@@ -40,7 +40,7 @@ load_plan words = record {
 
 abbrev pub load_beginning : FleetPlan → Stored → Steps Begun
 load_beginning plan stored =
-    and_then (budgeting stored.rows (parts_of plan.fleet)) (outfitted plan stored)
+    and_then (budgeting stored.rows (parts_of plan.fleet)) (launching plan stored)
 
 abbrev pub load_over : (store : List ℕ) → FleetPlan → Steps Begun
 load_over store plan =
@@ -63,8 +63,8 @@ seeded_dice seat (suc more) dice =
 abbrev pub seeded_world : Outside → Outside
 seeded_world world = record world { dice = seeded_dice 0 4 world.dice }
 
-abbrev pub seeded : Around → Around
-seeded a = with_world (seeded_world a.world) a
+abbrev pub with_streams : Around → Around
+with_streams a = with_world (seeded_world a.world) a
 
 -- each worker began with a stream of its own
 abbrev pub AreSeeded : {T L : Type 0} → (seed : ℕ)
@@ -95,11 +95,11 @@ pub record LeavesOthers (old new : Outside) : Type 0 where
   pub links : new.links ≡ old.links
 
 -- a worker's source tells nothing of what it will give, and never fails
-abbrev pub untold : SeededDice ChaCha → Option (List ℕ)
-untold dice = None
+abbrev pub nothing_told : SeededDice ChaCha → Option (List ℕ)
+nothing_told dice = None
 
-abbrev pub never : SeededDice ChaCha → ℕ
-never dice = 0
+abbrev pub no_faults : SeededDice ChaCha → ℕ
+no_faults dice = 0
 
 module _ (T : Type 0) {L : Type 0} (truth : Truth) (link : L → Link) where
   -- the workers were started, each with its stream
@@ -108,31 +108,24 @@ module _ (T : Type 0) {L : Type 0} (truth : Truth) (link : L → Link) where
     pub begun : Begun
     pub plan_is : begun.plan ≡ load_plan words
     pub mid : Around
-    pub reaches : Reaches (load_steps words) (left_of (seeded old)) mid (gives begun)
-    pub since : IsHome (seeded old) mid
+    pub reaches : Reaches (load_steps words) (left_of (with_streams old)) mid (gives begun)
+    pub since : IsHome (with_streams old) mid
     pub history : List Entry
     pub ended : List (fleet_worker.Worker T L (SeededDice ChaCha))
-    pub runs : RunsFleet truth link untold never words.store begun mid (seeded new) history ended
+    pub runs : RunsFleet truth link nothing_told no_faults words.store begun mid
+        (with_streams new) history ended
     pub sources : AreSeeded words.seed runs.workers
     pub writes : WritesLoad words begun.plan.fleet.workers
         (map (λ (w : fleet_worker.Worker T L (SeededDice ChaCha)). w.told) ended) output result
-
-  -- the steps up to the workers ended the command, or want of memory did before they started
-  abbrev pub StopsLoad : LoadWords → Around → Around → Receipt → Result Ending Stop → Type 0
-  StopsLoad words old new output (Ok ending) = ⊥
-  StopsLoad words old new output (Err stop) =
-      (Ends (load_steps words) (left_of (seeded old)) (seeded old) (seeded new) (Err stop)
-      ⊎ ((stop ≡ NoMemory) × ((mid : Around) × (begun : Begun)
-      × Reaches (load_steps words) (left_of (seeded old)) mid (gives begun)
-      × StartsNone words.store begun mid (seeded new) × IsHome (seeded old) mid)))
-      × IsIdle output
 
   -- all that was handed out is back
   pub record DidLoad (words : LoadWords) (old new : Around) (output : Receipt)
       (result : Result Ending Stop) : Type 0 where
     pub home : IsHome old new
     pub others : LeavesOthers old.world new.world
-    pub did : StopsLoad words old new output result ⊎ StartsLoad words old new output result
+    pub did : StopsBefore (load_steps words) words.store (with_streams old) (with_streams new)
+        output result
+        ⊎ StartsLoad words old new output result
 
 -- what a call of `run` did for a load
 pub record RanLoad (T : Type 0) {L : Type 0} (truth : Truth) (link : L → Link)

@@ -1,6 +1,7 @@
 -- The definitions that contracts cite.
 pub mod Afterwards
 pub mod Around
+pub mod Causes
 pub mod Check
 pub mod Command
 pub mod Commands
@@ -13,7 +14,6 @@ pub mod GeneratedLoads
 pub mod Configuration
 pub mod Inspect
 pub mod Judgements
-pub mod Limits
 pub mod LoadAsked
 pub mod LoadReadings
 pub mod Message

@@ -13,3 +13,6 @@ pub mod Fleets
 pub mod Plugins
 pub mod GeneratedLoads
 pub mod Workings
+pub mod Lent
+pub mod FleetAsked
+pub mod LoadAsked

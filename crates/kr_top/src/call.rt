@@ -202,8 +202,8 @@ fn run_load<R: Threads + Wait + Sync, W: World, O: Sink, E: Sink>(
     }
 }
 
-/// The same for each command but `fleet` and `gen`. Where the words ask for a fleet or a load nothing
-/// is done, and there is no status.
+/// The same for each command but `fleet` and `gen`. Where the words ask for a fleet or a load
+/// nothing is done, and there is no status.
 pub fn run_alone<W: World, I: Source, O: Sink, E: Sink>(
     alloc: Global,
     words: &[String],

@@ -2,16 +2,17 @@
 //! each worker, and the summary of what its workers told.
 ghost use Rattle.std.specs.Prelude.{◌≡◌, ◌≤◌, All, IfOk, None, OnOk, [], false, length, sum};
 ghost use Rattle.kr_base.specs.Limits.{store_limit};
-ghost use Rattle.kr_top.specs.Around.{Around, Name, with_lent_dice, with_lent_tape, with_world};
+ghost use Rattle.kr_top.specs.Around.{Around, with_world};
 ghost use Rattle.kr_top.specs.Commands.{stored_on};
-ghost use Rattle.kr_top.specs.Fleets.{outfitted, publishing};
+ghost use Rattle.kr_top.specs.Fleets.{launching, publishing};
 ghost use Rattle.kr_top.specs.GeneratedLoads.{DidLoad, LeavesOthers, WritesLoad, load_beginning};
-ghost use Rattle.kr_top.specs.GeneratedLoads.{load_over, load_plan, seeded};
+ghost use Rattle.kr_top.specs.GeneratedLoads.{load_over, load_plan, with_streams};
 ghost use Rattle.kr_top.specs.Ran.{receipt};
 ghost use Rattle.kr_top.specs.Steps.{and_then};
 ghost use Rattle.kr_top.specs.inner.FleetFiles.{named, plan_of};
 ghost use Rattle.kr_top.specs.inner.Fleets.{ArePublished, published_in};
 ghost use Rattle.kr_top.specs.inner.GeneratedLoads.{AreGenerated, IsLoadPlan, RunsLoad};
+ghost use Rattle.kr_top.specs.inner.Lent.{Name, with_lent_dice, with_lent_tape};
 ghost use Rattle.kr_top.specs.inner.Phases.{Does};
 ghost use Rattle.kr_top.specs.inner.Tapes.{stored_of};
 ghost use Rattle.kr_workers.specs.Budgets.{AreBudgets, all_reloads, journal_limit};
@@ -86,8 +87,8 @@ fn load_by<R: Threads + Wait + Sync, W: World>(
     ensures runs { (a : Around) → a.truth ≡ W.Link.truth
         → RunsLoad W.Tap W.Link.truth W.Link.link words.now.seed
         (load_over words.now.store (plan_of plan.now)) words.now.store (plan_of plan.now)
-        (seeded (with_world (W.told world.old) a)) (seeded (with_world (W.told world.new) a))
-        result }
+        (with_streams (with_world (W.told world.old) a))
+        (with_streams (with_world (W.told world.new) a)) result }
     ensures others { LeavesOthers (W.told world.old) (W.told world.new) }
 {
     let store = words.store.as_str();
@@ -112,8 +113,8 @@ fn load_on<R: Threads + Wait + Sync, T: Tape + Send, L: Kms + Send>(
     ensures { (name : Name) (a : Around) → a.truth ≡ L.truth
         → RunsLoad T L.truth L.link seed
         (and_then (stored_on Object.Store name) (load_beginning (plan_of plan.now))) name
-        (plan_of plan.now) (with_lent_tape name (T.told tape) (T.count tape) (seeded a))
-        (with_lent_tape name (T.told result.1) (T.count result.1) (seeded a)) result.0 }
+        (plan_of plan.now) (with_lent_tape name (T.told tape) (T.count tape) (with_streams a))
+        (with_lent_tape name (T.told result.1) (T.count result.1) (with_streams a)) result.0 }
 {
     let store = match load_store(alloc, tape, Object::Store) {
         Ok(store) => store,
@@ -144,9 +145,9 @@ fn load_with<R: Threads + Wait + Sync, T: Tape + Send, L: Kms + Send>(
     requires plan { IsLoadPlan plan.now }
     ensures { (name : Name) (a : Around) → a.truth ≡ L.truth
         → RunsLoad T L.truth L.link seed
-        (outfitted (plan_of plan.now) (stored_of store) budgets.now.entries.items) name
-        (plan_of plan.now) (with_lent_tape name store.told store.count (seeded a))
-        (with_lent_tape name result.1.told result.1.count (seeded a)) result.0 }
+        (launching (plan_of plan.now) (stored_of store) budgets.now.entries.items) name
+        (plan_of plan.now) (with_lent_tape name store.told store.count (with_streams a))
+        (with_lent_tape name result.1.told result.1.count (with_streams a)) result.0 }
 {
     let replicas = match publish_load::<L>(alloc, seed, plan) {
         Ok(replicas) => replicas,

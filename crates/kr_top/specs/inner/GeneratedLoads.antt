@@ -8,7 +8,7 @@ use Rattle.rand_chacha.specs.ChaCha.{ChaCha}
 use Rattle.kr_top.specs.Around.{Around}
 use Rattle.kr_top.specs.FleetFiles.{FleetPlan}
 use Rattle.kr_top.specs.Fleets.{Begun}
-use Rattle.kr_top.specs.GeneratedLoads.{AreSeeded, never, untold}
+use Rattle.kr_top.specs.GeneratedLoads.{AreSeeded, no_faults, nothing_told}
 use Rattle.kr_top.specs.Steps.{Steps}
 use Rattle.kr_top.specs.declared.fleet.Record.{Record}
 use Rattle.kr_top.specs.declared.fleet_file.Plan.{Plan}
@@ -23,7 +23,7 @@ module _ (T : Type 0) {L : Type 0} (truth : Truth) (link : L → Link) (seed : �
   -- the workers ran, each with its stream
   pub record LeavesLoad (steps : Steps Begun) (store : List ℕ) (plan : FleetPlan)
       (old new : Around) (made : Record) : Type 0 where
-    pub leaves : LeavesRecord T truth link untold never steps store plan old new made
+    pub leaves : LeavesRecord T truth link nothing_told no_faults steps store plan old new made
     pub sources : AreSeeded seed leaves.runs.workers
 
   -- what these steps up to the workers give
@@ -31,7 +31,7 @@ module _ (T : Type 0) {L : Type 0} (truth : Truth) (link : L → Link) (seed : �
       → Result Record Stop → Type 0
   RunsLoad steps store plan old new (Ok made) = LeavesLoad steps store plan old new made
   RunsLoad steps store plan old new (Err stop) = Does steps old new (Err stop)
-      ⊎ LacksWorkers T truth link untold never steps store old new stop
+      ⊎ LacksWorkers T truth link nothing_told no_faults steps store old new stop
 
 -- the outfits of the load's workers: no links, and each a stream of its own
 pub record AreGenerated {L : Type 0} (seed : ℕ) (outfits : Outfits L (SeededDice ChaCha))

@@ -3,7 +3,7 @@ use Rattle.std.specs.Prelude.{◌≡◌, ◌⊎◌, ℕ, List, [], length, Optio
 use Rattle.kr_kms.specs.Calls.{Link}
 use Rattle.kr_kms.specs.Truth.{Truth}
 use Rattle.kr_store.specs.Stores.{Kept}
-use Rattle.kr_top.specs.Around.{Around, with_lent_tape}
+use Rattle.kr_top.specs.Around.{Around}
 use Rattle.kr_top.specs.FleetFiles.{FleetPlan}
 use Rattle.kr_top.specs.Fleets.{Begun, Replicas, publishing}
 use Rattle.kr_top.specs.Steps.{Steps}
@@ -14,6 +14,7 @@ use Rattle.kr_top.specs.declared.refusal.Stop.{Stop}
 use Rattle.kr_top.specs.inner.Crews.{outfits_of}
 use Rattle.kr_top.specs.inner.FleetFiles.{named}
 use Rattle.kr_top.specs.inner.Fleets.{LacksWorkers, LeavesRecord}
+use Rattle.kr_top.specs.inner.Lent.{with_lent_tape}
 use Rattle.kr_top.specs.inner.Outfits.{AreLater, AreNamed, names_in, with_outfits}
 use Rattle.kr_top.specs.inner.Phases.{Does}
 

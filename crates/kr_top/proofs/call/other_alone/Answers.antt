@@ -2,8 +2,8 @@
 use Rattle.std.proofs.Common.{Err, Ok, refl, inl, inr, arith, subst}
 use Rattle.kr_words.specs.Grammar.{texts}
 use Rattle.kr_top.specs.Around.{around}
-use Rattle.kr_top.specs.LoadAsked.{IsLoadAsked}
 use Rattle.kr_top.specs.Ran.{receipt}
+use Rattle.kr_top.specs.inner.LoadAsked.{IsLoadAsked}
 use Rattle.kr_top.proofs.Leaving.{tapes_left}
 use Rattle.kr_top.proofs.LoadRuns.{load_at_once, no_load_or_memory}
 use Rattle.kr_top.proofs.Readings.{readings}
@@ -40,7 +40,8 @@ returns-in-Err g c =
     let count = g.O.Sink.count c.args.output.now in
     let left_alone = tapes_left (texts c.args.words.now) a a (receipt held held count count) _ _
     (Err c.in-Err.stop)
-    (inl (load_at_once _ c.in-Err.stop c.in-Err.ensures, (refl, (refl, refl)))) c.tell.ensures.told in (
+    (inl (load_at_once _ c.in-Err.stop c.in-Err.ensures, (refl, (refl, refl))))
+    c.tell.ensures.told in (
       record {
         result = Err c.in-Err.stop;
         answers = inl (load_at_once _ c.in-Err.stop c.in-Err.ensures, (refl, (refl, refl)));
@@ -49,7 +50,8 @@ returns-in-Err g c =
         told = c.tell.ensures.later;
       },
       readings _ _ _ _ _ _ (Err c.in-Err.stop)
-          (inl (load_at_once _ c.in-Err.stop c.in-Err.ensures, (refl, (refl, refl)))) c.tell.ensures.told,
+          (inl (load_at_once _ c.in-Err.stop c.in-Err.ensures, (refl, (refl, refl))))
+          c.tell.ensures.told,
       left_alone,
       no_load_or_memory _ c.requires c.in-Err.stop c.in-Err.ensures _ _ c.tell.ensures.told,
     )

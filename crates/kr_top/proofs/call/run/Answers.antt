@@ -3,7 +3,7 @@ use Rattle.std.proofs.Common.{Err, Ok, refl, inl, arith, subst}
 use Rattle.kr_words.specs.Grammar.{texts}
 use Rattle.kr_top.specs.Around.{around}
 use Rattle.kr_top.specs.Ran.{receipt}
-use Rattle.kr_top.specs.FleetAsked.{IsFleetAsked}
+use Rattle.kr_top.specs.inner.FleetAsked.{IsFleetAsked}
 use Rattle.kr_top.proofs.FleetReadings.{fleet_readings}
 use Rattle.kr_top.proofs.FleetRuns.{at_once, for_asked, one_fleet, unread}
 use Rattle.kr_top.proofs.LoadAsked.{not_both}
@@ -129,7 +129,8 @@ pub returns-in-Ok-None-clause-load : goal.returns-in-Ok-None-clause-load
 returns-in-Ok-None-clause-load g c asked asks = c.run_other.ensures.load asked asks
 
 pub returns-in-Ok-None-clause-load_readings : goal.returns-in-Ok-None-clause-load_readings
-returns-in-Ok-None-clause-load_readings g c asked asks = c.run_other.ensures.load_readings asked asks
+returns-in-Ok-None-clause-load_readings g c asked asks =
+    c.run_other.ensures.load_readings asked asks
 
 pub returns-in-Err-clause-load : goal.returns-in-Err-clause-load
 returns-in-Err-clause-load g c asked asks = record {

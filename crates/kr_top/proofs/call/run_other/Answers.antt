@@ -2,8 +2,8 @@
 use Rattle.std.proofs.Common.{Err, Ok, refl, inl, arith, subst}
 use Rattle.kr_words.specs.Grammar.{texts}
 use Rattle.kr_top.specs.Around.{around}
-use Rattle.kr_top.specs.LoadAsked.{IsLoadAsked}
 use Rattle.kr_top.specs.Ran.{receipt}
+use Rattle.kr_top.specs.inner.LoadAsked.{IsLoadAsked}
 use Rattle.kr_top.proofs.Leaving.{tapes_left}
 use Rattle.kr_top.proofs.LoadAsked.{one_load}
 use Rattle.kr_top.proofs.LoadReadings.{load_readings}

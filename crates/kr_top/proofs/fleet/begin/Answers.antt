@@ -1,10 +1,10 @@
 -- `begin`: what the replicas publish, and the workers.
 use Rattle.std.proofs.Common.{[], inl, subst, ◌∙◌}
 use Rattle.std.specs.Prelude.{IfOk}
-use Rattle.kr_top.specs.Around.{with_lent_tape}
-use Rattle.kr_top.specs.Fleets.{outfitted, publishing, starting}
+use Rattle.kr_top.specs.Fleets.{launching, publishing, starting}
 use Rattle.kr_top.specs.inner.FleetFiles.{named, plan_of}
 use Rattle.kr_top.specs.inner.Fleets.{ArePublished, published_in}
+use Rattle.kr_top.specs.inner.Lent.{with_lent_tape}
 use Rattle.kr_top.specs.inner.Outfits.{names_in, with_outfits}
 use Rattle.kr_top.specs.inner.Phases.{Does}
 use Rattle.kr_top.specs.inner.Tapes.{stored_of}
@@ -62,7 +62,7 @@ returns-clause-made g c name a t =
     (with_outfits link left count 0 olds over) (with_outfits link left count 0 outs over)
     (published_in r)) c.in-Ok.is (c.publish_first-published.ensures.does over t) in
     runs_with g.row.T.Denot g.L.Kms.truth link left count name (plan_of plan)
-    (outfitted (plan_of plan) (stored_of store) c.args.budgets.now.entries.items) outs
+    (launching (plan_of plan) (stored_of store) c.args.budgets.now.entries.items) outs
     (with_outfits link left count 0 olds over)
     (with_outfits link left count 0 c.work_with.result.2.0
     (with_lent_tape name c.work_with.result.1.told c.work_with.result.1.count a))

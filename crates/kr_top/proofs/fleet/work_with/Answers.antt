@@ -3,7 +3,7 @@ use Rattle.std.proofs.Common.{[], Err, ap, inl, inr, length, sym, subst, ◌∙�
 use Rattle.kr_rollout.specs.Cores.{CoreState}
 use Rattle.kr_store.specs.Stores.{Kept}
 use Rattle.kr_workers.specs.Budgets.{AreBudgets}
-use Rattle.kr_top.specs.Fleets.{outfitted, publishing, starting}
+use Rattle.kr_top.specs.Fleets.{launching, publishing, starting}
 use Rattle.kr_top.specs.inner.FleetFiles.{named, plan_of}
 use Rattle.kr_top.specs.inner.Outfits.{AreNamed, names_in, with_outfits}
 use Rattle.kr_top.specs.inner.Phases.{Does}
@@ -48,7 +48,7 @@ returns-in-Err-clause-made g c name a olds t p =
     let count = g.D.Dice.count in
     let store = c.args.store in
     let outs = c.args.outfits.0 in
-    inl (subst (λ (k : Kept). Does (outfitted (plan_of plan) (stored_of store) budgets)
+    inl (subst (λ (k : Kept). Does (launching (plan_of plan) (stored_of store) budgets)
     (with_crew link left count name store olds a) (with_crew link left count name k outs a)
     (Err c.in-Err.stop)) (sym c.in-Err.ensures.back)
     (goes_on (publishing (named plan.files.0) [] plan.script.replicas.0)

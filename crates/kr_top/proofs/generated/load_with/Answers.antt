@@ -1,10 +1,10 @@
 -- `load_with`: what the replicas publish, the outfits, and the workers.
 use Rattle.std.proofs.Common.{◌≡◌, [], Err, Ok, None, ap, inl, length, refl, sym, subst, ◌∙◌, arith}
 use Rattle.std.specs.Prelude.{All}
-use Rattle.kr_top.specs.Around.{with_lent_dice, with_lent_tape}
-use Rattle.kr_top.specs.Fleets.{outfitted, publishing, starting}
-use Rattle.kr_top.specs.GeneratedLoads.{never, seeded, untold}
+use Rattle.kr_top.specs.Fleets.{launching, publishing, starting}
+use Rattle.kr_top.specs.GeneratedLoads.{no_faults, with_streams, nothing_told}
 use Rattle.kr_top.specs.inner.FleetFiles.{named, plan_of}
+use Rattle.kr_top.specs.inner.Lent.{with_lent_dice, with_lent_tape}
 use Rattle.kr_top.specs.inner.Outfits.{AreNamed, names_in}
 use Rattle.kr_top.specs.inner.Phases.{Does}
 use Rattle.kr_top.specs.inner.Tapes.{stored_of}
@@ -36,7 +36,7 @@ returns-in-Err-make_outfits g c name a truth =
     let plan = c.args.plan.now in
     let store = c.args.store in
     let budgets = c.args.budgets.now.entries.items in
-    let over = with_lent_tape name store.told store.count (seeded a) in
+    let over = with_lent_tape name store.told store.count (with_streams a) in
     inl (goes_on (publishing (named plan.files.0) [] plan.script.replicas.0)
     (starting (plan_of plan) (stored_of store) budgets) c.in-Ok.replicas.0
     (c.in-Ok.ensures.does
@@ -84,22 +84,22 @@ returns g c name a truth =
     let here = crew_seeded link name store outfits known.bare four a in
     let later = c.work_with-made.ensures.later in
     let there = crew_seeded link name back after (later_bare link outfits after later known.bare)
-    (later_many link untold never outfits after later ∙ four) a in
-    let next = outfitted (plan_of plan) (stored_of store) budgets in
+    (later_many link nothing_told no_faults outfits after later ∙ four) a in
+    let next = launching (plan_of plan) (stored_of store) budgets in
     let publish = publishing (named plan.files.0) [] plan.script.replicas.0 in
     runs_same g.row.T.Denot g.L.Kms.truth link c.args.seed name (plan_of plan) next
-    (with_crew link untold never name store outfits a)
-    (with_lent_tape name store.told store.count (seeded a))
-    (with_crew link untold never name back after a)
-    (with_lent_tape name back.told back.count (seeded a)) c.work_with-made.result.0 here there
+    (with_crew link nothing_told no_faults name store outfits a)
+    (with_lent_tape name store.told store.count (with_streams a))
+    (with_crew link nothing_told no_faults name back after a)
+    (with_lent_tape name back.told back.count (with_streams a)) c.work_with-made.result.0 here there
     (runs_crew g.row.T.Denot g.L.Kms.truth link c.args.seed name (plan_of plan) next outfits
-    (with_crew link untold never name store outfits a)
-    (with_crew link untold never name back after a) known c.work_with-made.result.0
+    (with_crew link nothing_told no_faults name store outfits a)
+    (with_crew link nothing_told no_faults name back after a) known c.work_with-made.result.0
     (c.work_with-made.ensures.made name a outfits truth (record {
       are_named = subst (λ programs. AreNamed link (names_in programs) outfits)
           (sym c.requires.plan.bare) (bare_named link outfits known.bare);
       seats = c.in-Ok-make_outfits.ensures.many ∙ ap length c.as_slice.ensures;
-      later = later_refl link untold never outfits;
+      later = later_refl link nothing_told no_faults outfits;
       does = subst (λ x. Does publish x x (Ok c.in-Ok.replicas.0)) (sym here)
           (c.in-Ok.ensures.does
           (with_lent_tape name store.told store.count (seeded_from 1 3 a)) truth);

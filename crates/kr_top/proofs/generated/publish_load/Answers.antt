@@ -1,10 +1,10 @@
 -- `publish_load`: no plugin is named, so no link is wanted.
 use Rattle.std.proofs.Common.{[], None, ap, subst, sym, ◌∙◌}
 use Rattle.kr_provider.specs.Names.{names_of}
-use Rattle.kr_top.specs.Around.{with_lent_dice, with_lent_links}
 use Rattle.kr_top.specs.Fleets.{publishing}
 use Rattle.kr_top.specs.inner.FleetFiles.{named}
 use Rattle.kr_top.specs.inner.Fleets.{published_in}
+use Rattle.kr_top.specs.inner.Lent.{with_lent_dice, with_lent_links}
 use Rattle.kr_top.specs.inner.Outfits.{names_in}
 use Rattle.kr_top.specs.inner.Phases.{Does}
 use Rattle.kr_top.proofs.Generating.{never_asked, published_bare}
