@@ -11,9 +11,9 @@ use Rattle.kr_script.specs.declared.told.Told.{Told}
 use Rattle.kr_script.specs.declared.told.Told.TheVariants as told
 use Rattle.kr_judge.specs.declared.verdict.Verdict.{Verdict}
 use Rattle.kr_workers.specs.Runs.{LineDone, lines_in, replies_in}
-use Rattle.kr_load.specs.FullLoads.{gotten_at}
+use Rattle.kr_load.specs.FullLoads.{objects_at}
 use Rattle.kr_load.specs.Loads.{get_of, lines_of, path_of, plain_of, put_of, reloads_of}
-use Rattle.kr_load.specs.Summaries.{Gotten, gotten_by, gotten_in, is_got, is_put}
+use Rattle.kr_load.specs.Summaries.{Objects, objects_by, objects_in, is_got, is_put}
 use Rattle.kr_load.proofs.LoadHistories.{front_all, secrets}
 use Rattle.kr_load.proofs.LoadLines.{IsReloading, long}
 use Rattle.kr_load.proofs.LoadReplies.{IsFullReply}
@@ -60,7 +60,7 @@ module _ (Said : List ℕ → List ℕ → Type 0) where
   get_is : (path plain : List ℕ) → ((found : List ℕ) → Said path found → found ≡ plain)
       → (reply : Told) → IsFullReply Said (line.Get path) reply
       → (is_put reply ≡ false) × (is_got reply ≡ true)
-      × (gotten_by (line.Get path) reply ≡ (path, plain) ∷ [])
+      × (objects_by (line.Get path) reply ≡ (path, plain) ∷ [])
   unfolding is_put is_got
   get_is path plain says (told.Got revision found) f =
       (refl, refl, ap (λ (d : List ℕ). (path, d) ∷ []) (says found f))
@@ -69,26 +69,26 @@ module _ (Said : List ℕ → List ℕ → Type 0) where
 -- ---- of some lines
 
 -- what was got, line by line
-abbrev gotten_run : List LineDone → Gotten
-gotten_run [] = []
-gotten_run (done ∷ run) = gotten_by done.line done.reply ++ gotten_run run
+abbrev objects_run : List LineDone → Objects
+objects_run [] = []
+objects_run (done ∷ run) = objects_by done.line done.reply ++ objects_run run
 
-gotten_is : (run : List LineDone) → gotten_in (lines_in run) (replies_in run) ≡ gotten_run run
-gotten_is [] = refl
-gotten_is (done ∷ run) = ap (λ l. gotten_by done.line done.reply ++ l) (gotten_is run)
+objects_is : (run : List LineDone) → objects_in (lines_in run) (replies_in run) ≡ objects_run run
+objects_is [] = refl
+objects_is (done ∷ run) = ap (λ l. objects_by done.line done.reply ++ l) (objects_is run)
 
-gotten_behind : (run more : List LineDone)
-    → gotten_run (run ++ more) ≡ gotten_run run ++ gotten_run more
-gotten_behind [] more = refl
-gotten_behind (done ∷ run) more =
-    ap (λ l. gotten_by done.line done.reply ++ l) (gotten_behind run more)
-    ∙ sym (append_assoc (gotten_by done.line done.reply) (gotten_run run) (gotten_run more))
+objects_behind : (run more : List LineDone)
+    → objects_run (run ++ more) ≡ objects_run run ++ objects_run more
+objects_behind [] more = refl
+objects_behind (done ∷ run) more =
+    ap (λ l. objects_by done.line done.reply ++ l) (objects_behind run more)
+    ∙ sym (append_assoc (objects_by done.line done.reply) (objects_run run) (objects_run more))
 
 nothing_got : (run : List LineDone)
-    → All (λ (done : LineDone). gotten_by done.line done.reply ≡ []) run → gotten_run run ≡ []
+    → All (λ (done : LineDone). objects_by done.line done.reply ≡ []) run → objects_run run ≡ []
 nothing_got [] all = refl
 nothing_got (done ∷ run) all =
-    let Is : LineDone → Type 0 = λ d. gotten_by d.line d.reply ≡ [] in
+    let Is : LineDone → Type 0 = λ d. objects_by d.line d.reply ≡ [] in
     λ i. All-head Is done run all i ++ nothing_got run (All-tail Is done run all) i
 
 replies_behind : (run more : List LineDone)
@@ -106,7 +106,7 @@ back_all P (x ∷ xs) ys a = back_all P xs ys (All-tail P x (xs ++ ys) a)
 pub record IsFullWorker (seed size worker : ℕ) (replies : List Told) : Type 0 where
   pub puts : count_by is_put replies ≡ size
   pub gets : count_by is_got replies ≡ size
-  pub gotten : gotten_in (lines_of seed size worker) replies ≡ gotten_at seed size worker
+  pub objects : objects_in (lines_of seed size worker) replies ≡ objects_at seed size worker
   pub quiet : (test : Told → Bool) → IsElse test → list_any test replies ≡ false
 
 quiet_run : (seed size worker : ℕ) (run : List LineDone)
@@ -124,12 +124,12 @@ module _ (seed size worker : ℕ) where
   record IsPut (done : LineDone) : Type 0 where
     put : is_put done.reply ≡ true
     got : is_got done.reply ≡ false
-    gotten : gotten_by done.line done.reply ≡ []
+    objects : objects_by done.line done.reply ≡ []
 
   record IsOther (done : LineDone) : Type 0 where
     put : is_put done.reply ≡ false
     got : is_got done.reply ≡ false
-    gotten : gotten_by done.line done.reply ≡ []
+    objects : objects_by done.line done.reply ≡ []
 
   record IsGet (done : LineDone) : Type 0 where
     put : is_put done.reply ≡ false
@@ -144,7 +144,7 @@ module _ (seed size worker : ℕ) where
       in record {
         put = p.0;
         got = p.1;
-        gotten = ap (λ (l : ScriptLine). gotten_by l done.reply) n.line_is;
+        objects = ap (λ (l : ScriptLine). objects_by l done.reply) n.line_is;
       }
 
   reload_so : (done : LineDone) → IsReloading done.line → IsFullLine seed size worker done
@@ -155,13 +155,13 @@ module _ (seed size worker : ℕ) where
       record {
         put = p.0;
         got = p.1;
-        gotten = ap (λ (l : ScriptLine). gotten_by l done.reply) is;
+        objects = ap (λ (l : ScriptLine). objects_by l done.reply) is;
       }
 
   module _ (done : LineDone) (number : ℕ) (below : number < size)
       (is : done.line ≡ get_of worker number) (f : IsFullLine seed size worker done) where
     get_parts : (is_put done.reply ≡ false) × (is_got done.reply ≡ true)
-        × (gotten_by (get_of worker number) done.reply
+        × (objects_by (get_of worker number) done.reply
         ≡ (path_of worker number, plain_of seed size worker number) ∷ [])
     get_parts = get_is (IsSaid seed size worker) (path_of worker number)
         (plain_of seed size worker number) (λ found says. says number below refl) done.reply
@@ -170,14 +170,14 @@ module _ (seed size worker : ℕ) where
     get_so : IsGet done
     get_so = record { put = get_parts.0; got = get_parts.1 }
 
-    got_so : gotten_by done.line done.reply
+    got_so : objects_by done.line done.reply
         ≡ (path_of worker number, plain_of seed size worker number) ∷ []
-    got_so = ap (λ (l : ScriptLine). gotten_by l done.reply) is ∙ get_parts.2
+    got_so = ap (λ (l : ScriptLine). objects_by l done.reply) is ∙ get_parts.2
 
   all_got : (first count : ℕ) → first + count ≤ size → (run : List LineDone)
       → lines_in run ≡ map (get_of worker) (range_with_len first count)
       → All (IsFullLine seed size worker) run
-      → gotten_run run ≡ map (λ number. (path_of worker number, plain_of seed size worker number))
+      → objects_run run ≡ map (λ number. (path_of worker number, plain_of seed size worker number))
       (range_with_len first count)
   all_got first zero few [] is all = refl
   all_got first zero few (done ∷ run) is all =
@@ -261,13 +261,13 @@ module _ (seed size worker : ℕ) where
       rest_long,
     )
 
-    gotten_are : gotten_run run ≡ gotten_at seed size worker
-    gotten_are = ap gotten_run run_is ∙ gotten_behind p.front (q.front ++ q.rest)
-        ∙ ap (λ l. l ++ gotten_run (q.front ++ q.rest))
-        (nothing_got p.front (λ k d below. (puts_so k d below).gotten))
-        ∙ gotten_behind q.front q.rest
-        ∙ ap (λ l. l ++ gotten_run q.rest)
-        (nothing_got q.front (λ k d below. (others_so k d below).gotten))
+    objects_are : objects_run run ≡ objects_at seed size worker
+    objects_are = ap objects_run run_is ∙ objects_behind p.front (q.front ++ q.rest)
+        ∙ ap (λ l. l ++ objects_run (q.front ++ q.rest))
+        (nothing_got p.front (λ k d below. (puts_so k d below).objects))
+        ∙ objects_behind q.front q.rest
+        ∙ ap (λ l. l ++ objects_run q.rest)
+        (nothing_got q.front (λ k d below. (others_so k d below).objects))
         ∙ all_got 0 size (omega arith) q.rest q.rest_is gets_all
 
     pub full_worker : (replies : List Told) → replies ≡ replies_in run
@@ -275,7 +275,7 @@ module _ (seed size worker : ℕ) where
     full_worker replies is lines = record {
       puts = ap (count_by is_put) is ∙ puts_are;
       gets = ap (count_by is_got) is ∙ gets_are;
-      gotten = (λ i. gotten_in (sym lines i) (is i)) ∙ gotten_is run ∙ gotten_are;
+      objects = (λ i. objects_in (sym lines i) (is i)) ∙ objects_is run ∙ objects_are;
       quiet = λ test e. list_any_none test replies
           (subst (λ l. All (λ (reply : Told). test reply ≡ false) l) (sym is)
           (quiet_run seed size worker run all test e));

@@ -41,9 +41,9 @@ use Rattle.kr_workers.specs.declared.files.SettingsFile.{SettingsFile}
 use Rattle.kr_workers.specs.declared.worker.Worker.{Worker}
 use Rattle.kr_workers.proofs.Sentencing.{histories_tell}
 use Rattle.kr_load.specs.Endings.{ending_of_load}
-use Rattle.kr_load.specs.FullLoads.{AreFull, IsBlankRun, LoadsAreFull, all_gotten, gotten_at, opening_rows}
+use Rattle.kr_load.specs.FullLoads.{AreFull, IsBlankRun, LoadsAreFull, all_objects, objects_at, opening_rows}
 use Rattle.kr_load.specs.Loads.{get_of, lines_of, load_fleet, load_worker, put_of, reloads_of}
-use Rattle.kr_load.specs.Summaries.{Replies, gets_in, gotten_of, is_got, is_put, puts_in}
+use Rattle.kr_load.specs.Summaries.{Replies, gets_in, objects_of, is_got, is_put, puts_in}
 use Rattle.kr_load.specs.inner.Refusing.{refuses, some_refuses}
 use Rattle.kr_load.proofs.Endings.{load_picks, pick}
 use Rattle.kr_load.proofs.FullReplies.{IsElse, IsFullWorker, full_worker}
@@ -422,8 +422,8 @@ module _ (T : Type 0) {L D : Type 0} (truth : Truth) (link : L → Link)
           omega (arith, e, w0.puts, w1.puts, w2.puts, w3.puts));
       gets = (let e = ap gets_in told_are in
           omega (arith, e, w0.gets, w1.gets, w2.gets, w3.gets));
-      gotten = ap (gotten_of (load_fleet seed size).workers) told_are
-          ∙ (λ i. w0.gotten i ++ (w1.gotten i ++ (w2.gotten i ++ (w3.gotten i ++ []))));
+      objects = ap (objects_of (load_fleet seed size).workers) told_are
+          ∙ (λ i. w0.objects i ++ (w1.objects i ++ (w2.objects i ++ (w3.objects i ++ []))));
     }
 
   by_memory : (b : Bool) → some_is ending.Memory all_told ≡ b

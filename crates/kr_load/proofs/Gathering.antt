@@ -1,12 +1,8 @@
 -- What was got, listed in order.
-use Rattle.std.proofs.Common.{◌≡◌, ℕ, ◌+◌, ◌<◌, ◌≤◌, false, List, [], ◌∷◌, map, length, subst, sym, ap, ◌∙◌, arith}
-use Rattle.std.specs.Ordering.{is_lt}
-use Rattle.std.specs.List.Sorted.{IsPermutation, IsSorted}
+use Rattle.std.proofs.Common.{ℕ, ◌+◌, ◌<◌, List, [], ◌∷◌, map, length, subst, arith}
+use Rattle.std.specs.List.Sorted.{IsSorted}
 use Rattle.std.specs.declared.cmp.Ordering.{Ordering}
 use Rattle.std.proofs.lemmas.List.{get_or-map, length-map}
-use Rattle.std.proofs.lemmas.List.Sorted.{IsPermutation-map}
-use Rattle.kr_load.specs.Summaries.{Gotten, IsDigest, gotten_cmp}
-use Rattle.kr_load.specs.inner.Listing.{LentPair, lent_pair, lent_pairs}
 
 -- a list that is sorted by what its items are seen as
 pub sorted_map : {A B : Type 0} (f : A → B) (cmp : B → B → Ordering) (xs : List A)

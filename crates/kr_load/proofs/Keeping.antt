@@ -1,5 +1,5 @@
 -- The load's configurations keep the rules.
-use Rattle.std.proofs.Common.{◌≡◌, ℕ, true, List, [], ◌∷◌, codes, length, refl, subst, sym}
+use Rattle.std.proofs.Common.{◌≡◌, ℕ, List, [], ◌∷◌, codes, length}
 use Rattle.std.specs.Prelude.{IsTrue}
 use Rattle.kr_config.specs.Kept.{keeps}
 use Rattle.kr_config.specs.declared.who.Who.TheVariants.{Aesgcm, Identity}

@@ -13,6 +13,7 @@ mod Filling
 mod FullReplies
 pub mod FullRuns
 mod Gathering
+mod Joining
 mod Keeping
 mod Passing
 pub mod Ruling

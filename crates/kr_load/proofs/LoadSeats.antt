@@ -29,9 +29,9 @@ use Rattle.kr_workers.specs.ScriptLines.{Does}
 use Rattle.kr_workers.specs.declared.ending.Ending.TheVariants as ending
 use Rattle.kr_workers.specs.declared.files.SettingsFile.{SettingsFile}
 use Rattle.kr_workers.proofs.CausingRuns.{replies_have_causes}
-use Rattle.kr_load.specs.FullLoads.{gotten_at}
+use Rattle.kr_load.specs.FullLoads.{objects_at}
 use Rattle.kr_load.specs.Loads.{get_of, lines_of, path_of, plain_of, put_of, reloads_of}
-use Rattle.kr_load.specs.Summaries.{gotten_by, gotten_in, is_got, is_put}
+use Rattle.kr_load.specs.Summaries.{objects_by, objects_in, is_got, is_put}
 use Rattle.kr_load.specs.inner.Refusing.{refuses}
 use Rattle.kr_load.proofs.LineParts.{OfLine, line_makes}
 use Rattle.kr_load.proofs.LoadContents.{stays_put}

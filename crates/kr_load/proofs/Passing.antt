@@ -1,5 +1,5 @@
 -- The generator behind some of its words.
-use Rattle.std.proofs.Common.{◌≡◌, ℕ, zero, suc, ◌+◌, ◌*◌, ◌%◌, ◌^◌, ◌<◌, List, ap, ◌∙◌, arith}
+use Rattle.std.proofs.Common.{◌≡◌, ℕ, zero, suc, ◌+◌, ◌*◌, ◌%◌, ◌^◌, ◌<◌, ap, ◌∙◌, arith}
 use Rattle.std.specs.Int.{to_le_bytes, w32}
 use Rattle.rand_core.specs.Steps.{word_bytes}
 use Rattle.rand_chacha.specs.ChaCha.{ChaCha, next_word}

@@ -114,7 +114,8 @@ lines_ok seed size worker small few =
 -- ---- workers
 
 worker_by : (seed size worker : ℕ) → size < 2 ^ 32 → worker < 4
-    → is_name (codes "w" ++ decimal worker) ≡ true → is_worker 2 (load_worker seed size worker) ≡ true
+    → is_name (codes "w" ++ decimal worker) ≡ true
+    → is_worker 2 (load_worker seed size worker) ≡ true
 worker_by seed size worker small few named =
     let below : nat_le (suc (worker % 2)) 2 ≡ true = le-leb (suc (worker % 2)) 2 (omega arith) in
     λ i. named i && below i && lines_ok seed size worker small few i

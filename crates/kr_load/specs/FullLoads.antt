@@ -20,22 +20,22 @@ use Rattle.kr_workers.specs.declared.files.SettingsFile.{SettingsFile}
 use Rattle.kr_workers.specs.declared.worker.Worker.{Worker}
 use Rattle.kr_load.specs.Endings.{ending_of_load}
 use Rattle.kr_load.specs.Loads.{configurations, g1, load_fleet, named_rows, of_secrets, path_of, plain_of}
-use Rattle.kr_load.specs.Summaries.{Gotten, IsDigest, Replies, gets_in, gotten_of, puts_in, text_of}
+use Rattle.kr_load.specs.Summaries.{Objects, IsDigest, Replies, gets_in, objects_of, puts_in, text_of}
 
 -- ---- the summary
 
 -- what a worker puts, and is to get: path and data of each of its objects
-abbrev pub gotten_at : (seed size worker : ℕ) → Gotten
-gotten_at seed size worker = map
+abbrev pub objects_at : (seed size worker : ℕ) → Objects
+objects_at seed size worker = map
     (λ number. (path_of worker number, plain_of seed size worker number)) (range_with_len 0 size)
 
 -- all four of them
-abbrev pub all_gotten : (seed size : ℕ) → Gotten
-all_gotten seed size = flat_map (gotten_at seed size) (range_with_len 0 4)
+abbrev pub all_objects : (seed size : ℕ) → Objects
+all_objects seed size = flat_map (objects_at seed size) (range_with_len 0 4)
 
 -- each worker's objects were put, and got as they were put: nothing here depends on the run
 abbrev pub IsFull : (seed size : ℕ) → (text : List ℕ) → Type 0
-IsFull seed size text = (digest : List ℕ) × IsDigest (all_gotten seed size) digest
+IsFull seed size text = (digest : List ℕ) × IsDigest (all_objects seed size) digest
     × (text ≡ text_of seed size (4 * size) (4 * size) digest)
 
 -- the replies of such a load
@@ -43,7 +43,7 @@ pub record AreFull (seed size : ℕ) (replies : Replies) : Type 0 where
   pub ended : ending_of_load replies ≡ ending.Done
   pub puts : puts_in replies ≡ 4 * size
   pub gets : gets_in replies ≡ 4 * size
-  pub gotten : gotten_of (load_fleet seed size).workers replies ≡ all_gotten seed size
+  pub objects : objects_of (load_fleet seed size).workers replies ≡ all_objects seed size
 
 -- ---- when a load is so
 

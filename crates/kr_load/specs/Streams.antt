@@ -4,11 +4,14 @@ use Rattle.std.specs.Int.{to_be_bytes, w64}
 use Rattle.rand_core.specs.Steps.{fill_via_u32}
 use Rattle.rand_chacha.specs.ChaCha.{ChaCha, next_word, of_seed}
 
--- the generator of a stream at its begin: its key is the seed and the stream's number, each in 8
--- bytes, high byte first, and 16 zero bytes
+-- the key of a stream: the seed and the stream's number, each in 8 bytes, high byte first, and 16
+-- zero bytes
+abbrev pub key_of : (seed number : ℕ) → List ℕ
+key_of seed number = (to_be_bytes w64 seed ++ to_be_bytes w64 number) ++ replicate 16 0
+
+-- the generator of a stream at its begin
 abbrev pub stream : (seed number : ℕ) → ChaCha
-stream seed number =
-    of_seed ((to_be_bytes w64 seed ++ to_be_bytes w64 number) ++ replicate 16 0)
+stream seed number = of_seed (key_of seed number)
 
 -- its next 32 bytes, by four double rounds a block, and the generator behind them
 abbrev pub next_piece : ChaCha → List ℕ × ChaCha

@@ -41,43 +41,43 @@ gets_in (told ∷ replies) = count_by is_got told.0 + gets_in replies
 
 -- ---- the digest
 
--- paths with data
-abbrev pub Gotten : Type 0
-Gotten = List (List ℕ × List ℕ)
+-- what workers got: paths with data
+abbrev pub Objects : Type 0
+Objects = List (List ℕ × List ℕ)
 
 -- the path of a `get` and the data of its reply, if there are data
-abbrev pub gotten_by : ScriptLine → Told → Gotten
-gotten_by (line.Get path) (told.Got revision plain) = (path, plain) ∷ []
-gotten_by asked reply = []
+abbrev pub objects_by : ScriptLine → Told → Objects
+objects_by (line.Get path) (told.Got revision plain) = (path, plain) ∷ []
+objects_by asked reply = []
 
 -- of each line by its reply
-abbrev pub gotten_in : List ScriptLine → List Told → Gotten
-gotten_in [] replies = []
-gotten_in (asked ∷ lines) [] = []
-gotten_in (asked ∷ lines) (reply ∷ replies) = gotten_by asked reply ++ gotten_in lines replies
+abbrev pub objects_in : List ScriptLine → List Told → Objects
+objects_in [] replies = []
+objects_in (asked ∷ lines) [] = []
+objects_in (asked ∷ lines) (reply ∷ replies) = objects_by asked reply ++ objects_in lines replies
 
 -- of each worker by what it told
-abbrev pub gotten_of : List Worker → Replies → Gotten
-gotten_of [] replies = []
-gotten_of (worker ∷ workers) [] = []
-gotten_of (worker ∷ workers) (told ∷ replies) =
-    gotten_in worker.lines told.0 ++ gotten_of workers replies
+abbrev pub objects_of : List Worker → Replies → Objects
+objects_of [] replies = []
+objects_of (worker ∷ workers) [] = []
+objects_of (worker ∷ workers) (told ∷ replies) =
+    objects_in worker.lines told.0 ++ objects_of workers replies
 
 -- by the bytes of the paths; of one path by the data
-abbrev pub gotten_cmp : List ℕ × List ℕ → List ℕ × List ℕ → Ordering
-gotten_cmp one other =
+abbrev pub object_cmp : List ℕ × List ℕ → List ℕ × List ℕ → Ordering
+object_cmp one other =
     ordering_then (slice_cmp nat_cmp one.0 other.0) (slice_cmp nat_cmp one.1 other.1)
 
 -- a path and its data, an LF behind both
-abbrev pub lines_of : List ℕ × List ℕ → List ℕ
-lines_of gotten = gotten.0 ++ codes "\n" ++ gotten.1 ++ codes "\n"
+abbrev pub object_lines : List ℕ × List ℕ → List ℕ
+object_lines object = object.0 ++ codes "\n" ++ object.1 ++ codes "\n"
 
--- the digest over what was got, in order
-pub record IsDigest (gotten : Gotten) (digest : List ℕ) : Type 0 where
-  pub ordered : Gotten
-  pub same : IsPermutation gotten ordered
-  pub sorted : IsSorted gotten_cmp ordered
-  pub digest_is : digest ≡ sha256 (flat_map lines_of ordered)
+-- the digest over what was got: SHA-256 of the listing in order
+pub record IsDigest (objects : Objects) (digest : List ℕ) : Type 0 where
+  pub listing : Objects
+  pub same : IsPermutation objects listing
+  pub sorted : IsSorted object_cmp listing
+  pub digest_is : digest ≡ sha256 (flat_map object_lines listing)
 
 -- ---- the text
 
@@ -98,7 +98,7 @@ text_of seed size puts gets digest =
 pub record IsSummary (seed size : ℕ) (workers : List Worker) (replies : Replies)
     (text : List ℕ) : Type 0 where
   pub digest : List ℕ
-  pub over : IsDigest (gotten_of workers replies) digest
+  pub over : IsDigest (objects_of workers replies) digest
   pub text_is : text ≡ text_of seed size (puts_in replies) (gets_in replies) digest
 
 -- it was written; or the sink failed behind a prefix of it; or memory lacked to make it

@@ -9,17 +9,20 @@ use kr_config::{Entry, Pattern, Settings, Who};
 use kr_workers::SettingsFile;
 use std::alloc::Global;
 
-/// The names of the files: what both replicas open with, and what they are reloaded with.
+/// The file that both replicas open with: g1 alone.
 pub const FIRST: &str = "A";
 
+/// The file of both keys in which g1 writes.
 pub const BOTH: &str = "B";
 
+/// The file of both keys in which g2 writes.
 pub const TURNED: &str = "C";
 
 /// The resource of each object.
 pub const RESOURCE: &str = "secrets";
 
-/// The configurations: objects are written by g1, by g1 where g2 is read too, and by g2 where g1 is.
+/// The configurations: objects are written by g1, by g1 where g2 is read too, and by g2 where g1
+/// is.
 pub fn files_of(alloc: Global, g1: &[u8], g2: &[u8]) -> Result<List<SettingsFile>, NoMemory>
     requires g1 { length g1.now ≡ 32 }
     requires g2 { length g2.now ≡ 32 }

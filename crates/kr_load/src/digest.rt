@@ -4,7 +4,8 @@ ghost use Rattle.std.specs.List.{flat_map};
 ghost use Rattle.sha2.specs.Hashers.{Holds256};
 ghost use Rattle.sha2.specs.Sha256.{sha256};
 ghost use Rattle.kr_script.specs.Fleets.{worker_of};
-ghost use Rattle.kr_load.specs.Summaries.{IsDigest, gotten_by, gotten_in, gotten_of, lines_of};
+ghost use Rattle.kr_load.specs.Summaries.{IsDigest, object_lines, objects_by, objects_in};
+ghost use Rattle.kr_load.specs.Summaries.{objects_of};
 ghost use Rattle.kr_load.specs.inner.Listing.{Bytes, lent_list, lent_pairs};
 
 use kr_base::{List, NoMemory};
@@ -13,15 +14,16 @@ use sha2::{Digest, Sha256};
 use std::alloc::Global;
 
 /// The path of a `get` and the data of its reply.
-type Gotten<'a> = (&'a str, &'a [u8]);
+type Object<'a> = (&'a str, &'a [u8]);
 
-/// SHA-256 of each path of a `get` reply and its data, by the bytes of the paths, an LF behind both.
+/// SHA-256 of the path and the data of each `get` reply with an LF behind both, in the order of the
+/// paths' bytes.
 pub fn digest_of(
     alloc: Global,
     parts: &[Part],
     replies: &[List<Told>],
 ) -> Result<[u8; 32], NoMemory>
-    ensures { IfOk result (IsDigest (gotten_of (map worker_of parts.now) replies.now)) }
+    ensures { IfOk result (IsDigest (objects_of (map worker_of parts.now) replies.now)) }
 {
     let mut all = Vec::new(alloc);
     add_all(parts, replies, &mut all)?;
@@ -32,57 +34,55 @@ pub fn digest_of(
 fn add_all<'a>(
     parts: &'a [Part],
     replies: &'a [List<Told>],
-    all: &mut Vec<Gotten<'a>>,
+    all: &mut Vec<Object<'a>>,
 ) -> Result<(), NoMemory>
     ensures { OnOk result (lent_pairs all.new.items ≡ lent_pairs all.old.items
-        ++ gotten_of (map worker_of parts.now) replies.now) }
+        ++ objects_of (map worker_of parts.now) replies.now) }
 {
     let mut rest = replies;
     for part in parts {
         let [told, more @ ..] = rest else {
             return Ok(());
         };
-        add_gotten(part.lines.as_slice(), told.as_slice(), all)?;
+        add_objects(part.lines.as_slice(), told.as_slice(), all)?;
         rest = more;
     }
     Ok(())
 }
 
-fn add_gotten<'a>(
+fn add_objects<'a>(
     lines: &'a [ScriptLine],
     replies: &'a [Told],
-    all: &mut Vec<Gotten<'a>>,
+    all: &mut Vec<Object<'a>>,
 ) -> Result<(), NoMemory>
     ensures { OnOk result (lent_pairs all.new.items
-        ≡ lent_pairs all.old.items ++ gotten_in lines.now replies.now) }
+        ≡ lent_pairs all.old.items ++ objects_in lines.now replies.now) }
 {
     let mut rest = replies;
     for asked in lines {
         let [reply, more @ ..] = rest else {
             return Ok(());
         };
-        add_one(gotten_by(asked, reply), all)?;
+        add_one(object_by(asked, reply), all)?;
         rest = more;
     }
     Ok(())
 }
 
-fn add_one<'a>(gotten: Option<Gotten<'a>>, all: &mut Vec<Gotten<'a>>) -> Result<(), NoMemory>
+fn add_one<'a>(object: Option<Object<'a>>, all: &mut Vec<Object<'a>>) -> Result<(), NoMemory>
     ensures { OnOk result (lent_pairs all.new.items
-        ≡ lent_pairs all.old.items ++ lent_list gotten.entry) }
+        ≡ lent_pairs all.old.items ++ lent_list object.entry) }
 {
-    let Some(gotten) = gotten else {
+    let Some(object) = object else {
         return Ok(());
     };
-    match all.push(gotten) {
-        Ok(()) => Ok(()),
-        Err(_) => Err(NoMemory),
-    }
+    all.push(object)?;
+    Ok(())
 }
 
 /// The path and the data, if the line is a `get` that was replied to with data.
-fn gotten_by<'a>(asked: &'a ScriptLine, reply: &'a Told) -> Option<Gotten<'a>>
-    ensures { lent_list result ≡ gotten_by asked.now reply.now }
+fn object_by<'a>(asked: &'a ScriptLine, reply: &'a Told) -> Option<Object<'a>>
+    ensures { lent_list result ≡ objects_by asked.now reply.now }
 {
     match (asked, reply) {
         (ScriptLine::Get { path }, Told::Got { revision: _, plain }) => {
@@ -92,12 +92,12 @@ fn gotten_by<'a>(asked: &'a ScriptLine, reply: &'a Told) -> Option<Gotten<'a>>
     }
 }
 
-fn digest_over(all: &[Gotten<'_>]) -> [u8; 32]
-    ensures { result ≡ sha256 (flat_map lines_of (lent_pairs all.now)) }
+fn digest_over(all: &[Object<'_>]) -> [u8; 32]
+    ensures { result ≡ sha256 (flat_map object_lines (lent_pairs all.now)) }
 {
     let mut hasher = Sha256::new();
-    for gotten in all {
-        feed(&mut hasher, gotten.0, gotten.1);
+    for object in all {
+        feed(&mut hasher, object.0, object.1);
     }
     hasher.finalize()
 }
@@ -105,7 +105,7 @@ fn digest_over(all: &[Gotten<'_>]) -> [u8; 32]
 /// Adds the path and the data with their LFs.
 fn feed(hasher: &mut Sha256, path: &str, plain: &[u8])
     ensures { (front : Bytes) → Holds256 hasher.old front
-        → Holds256 hasher.new (front ++ lines_of (path.now, plain.now)) }
+        → Holds256 hasher.new (front ++ object_lines (path.now, plain.now)) }
 {
     hasher.update(path.as_bytes());
     hasher.update(b"\n");

@@ -8,8 +8,8 @@ use kr_base::List;
 use kr_script::Told;
 use kr_workers::{Ending, ending_of};
 
-/// How a load ended: as a fleet whose workers told this, but that the verdicts on its reloads, which
-/// depend on the order of the workers' turns, don't count.
+/// How a load ended: as a fleet whose workers told this, but that the verdicts on its reloads don't
+/// count, since they depend on the order of the workers' turns.
 pub fn ending_of_load(replies: &[List<Told>]) -> Ending
     ensures { result ≡ ending_of_load replies.now }
 {

@@ -63,8 +63,9 @@ fn part_of(alloc: Global, pieces: &mut Pieces, worker: u32, size: u32) -> Result
     add_puts(alloc, pieces, worker, size, &mut lines)?;
     add_reloads(alloc, worker, &mut lines)?;
     add_gets(alloc, worker, size, &mut lines)?;
+    let name = Text::from_string(format!(in alloc; "w{worker}")?);
     Ok(Part {
-        name: Text::from_string(format!(in alloc; "w{worker}")?),
+        name,
         replica: worker % 2,
         lines,
     })
@@ -90,7 +91,7 @@ fn add_puts(
     Ok(())
 }
 
-/// The put of a worker's object of this number.
+/// The `put` of a worker's object of this number.
 fn put_of(
     alloc: Global,
     pieces: &mut Pieces,
@@ -144,10 +145,19 @@ fn add_gets(
         (lines.new.0 ≡ lines.old.0 ++ map (get_of worker) (range_with_len 0 size)) }
 {
     for number in 0..size {
-        let path = path_of(alloc, worker, number)?;
-        add(lines, ScriptLine::Get { path })?;
+        let line = get_of(alloc, worker, number)?;
+        add(lines, line)?;
     }
     Ok(())
+}
+
+/// The `get` of a worker's object of this number.
+fn get_of(alloc: Global, worker: u32, number: u32) -> Result<ScriptLine, NoMemory>
+    ensures { IfOk result (λ line. line ≡ get_of worker number) }
+{
+    Ok(ScriptLine::Get {
+        path: path_of(alloc, worker, number)?,
+    })
 }
 
 /// The path of a worker's object of this number.

@@ -1,7 +1,7 @@
 //! The streams of ChaCha8 that a seed gives: of stream 0 are the secrets and the data of a load, of
 //! each other one the random source of a worker.
 ghost use Rattle.std.specs.Prelude.{◌≡◌, ◌+◌};
-ghost use Rattle.kr_load.specs.Streams.{stream};
+ghost use Rattle.kr_load.specs.Streams.{key_of, stream};
 
 use kr_base::SeededDice;
 use rand_chacha::ChaCha8Rng;
@@ -11,10 +11,17 @@ use rand_core::SeedableRng;
 pub fn stream_of(seed: u64, number: u64) -> ChaCha8Rng
     ensures { result ≡ stream seed number }
 {
+    ChaCha8Rng::from_seed(key_of(seed, number))
+}
+
+/// The key: both numbers, high byte first, and zeros.
+fn key_of(seed: u64, number: u64) -> [u8; 32]
+    ensures { result ≡ key_of seed number }
+{
     let mut key = [0; 32];
     key[0..8].copy_from_slice(&seed.to_be_bytes());
     key[8..16].copy_from_slice(&number.to_be_bytes());
-    ChaCha8Rng::from_seed(key)
+    key
 }
 
 /// The random source of a worker by its number, from 0.

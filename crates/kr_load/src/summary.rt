@@ -3,7 +3,7 @@ ghost use Rattle.std.specs.Prelude.{◌≡◌, ◌<◌, ◌≤◌, IfOk, count_b
 ghost use Rattle.std.specs.String.{string_bytes};
 ghost use Rattle.kr_script.specs.Fleets.{worker_of};
 ghost use Rattle.kr_load.specs.Summaries.{IsSummary, WritesSummary, gets_in, hex_digit, hex_text};
-ghost use Rattle.kr_load.specs.Summaries.{is_got, is_put, puts_in};
+ghost use Rattle.kr_load.specs.Summaries.{is_got, is_put, puts_in, text_of};
 
 use crate::digest::digest_of;
 use kr_base::{List, NoMemory, Sink, write_all};
@@ -44,9 +44,24 @@ fn summary_of(
         (string_bytes text)) }
 {
     let digest = digest_of(alloc, parts, replies)?;
-    let hex = hex_of(alloc, &digest)?;
     let puts = puts_in(replies);
     let gets = gets_in(replies);
+    let text = text_of(alloc, seed, size, puts, gets, &digest)?;
+    Ok(text)
+}
+
+/// The lines, by what they tell.
+fn text_of(
+    alloc: Global,
+    seed: u64,
+    size: u32,
+    puts: u128,
+    gets: u128,
+    digest: &[u8],
+) -> Result<String, NoMemory>
+    ensures { IfOk result (λ text. string_bytes text ≡ text_of seed size puts gets digest.now) }
+{
+    let hex = hex_of(alloc, digest)?;
     Ok(format!(in alloc; "gen {seed} {size}\nputs {puts}\ngets {gets}\ndigest {hex}\n")?)
 }
 

@@ -1,7 +1,7 @@
 -- What was got, as it is lent.
 use Rattle.std.specs.Prelude.{ℕ, List, [], ◌∷◌, map, Option, None, Some}
 use denote.Ref.{Bor}
-use Rattle.kr_load.specs.Summaries.{Gotten}
+use Rattle.kr_load.specs.Summaries.{Objects}
 
 -- a file's clauses name kr_base's `List`, so this is the name of antt's there
 abbrev pub Bytes : Type 0
@@ -14,10 +14,10 @@ LentPair = Bor (List ℕ) × Bor (List ℕ)
 abbrev pub lent_pair : LentPair → List ℕ × List ℕ
 lent_pair pair = (pair.0.now, pair.1.now)
 
-abbrev pub lent_pairs : List LentPair → Gotten
+abbrev pub lent_pairs : List LentPair → Objects
 lent_pairs pairs = map lent_pair pairs
 
 -- of a pair, if there is one
-abbrev pub lent_list : Option LentPair → Gotten
+abbrev pub lent_list : Option LentPair → Objects
 lent_list None = []
 lent_list (Some pair) = lent_pair pair ∷ []

@@ -1,5 +1,5 @@
 -- `add_puts`: the lines so far, and the pieces that they took.
-use Rattle.std.proofs.Common.{◌≡◌, ◌+◌, ◌*◌, ◌≤◌, ◌++◌, map}
+use Rattle.std.proofs.Common.{◌≡◌, ◌+◌, ◌*◌, ◌++◌, map}
 use Rattle.std.specs.List.{range_with_len}
 use Rattle.kr_load.specs.Loads.{put_of}
 use Rattle.kr_load.proofs.script.add_puts.Given as goal

@@ -1,5 +1,5 @@
 -- `next`: a piece is drawn, and passed.
-use Rattle.std.proofs.Common.{◌≡◌, ℕ, List, ap, arith, subst, sym, ◌∙◌}
+use Rattle.std.proofs.Common.{◌≡◌, ℕ, List, ap, arith, subst, ◌∙◌}
 use Rattle.std.specs.Prelude.{IfOk}
 use Rattle.rand_chacha.specs.ChaCha.{ChaCha}
 use Rattle.kr_load.specs.Streams.{next_piece, piece}
