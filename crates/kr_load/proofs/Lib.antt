@@ -3,7 +3,7 @@ mod Endings
 mod LineParts
 mod LoadHistories
 mod LoadContents
-mod LoadLines
+pub mod LoadLines
 mod LoadReplies
 mod LoadSeats
 mod LoadTexts

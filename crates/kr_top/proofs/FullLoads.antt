@@ -1,5 +1,5 @@
 -- A load over a store without rows ends with its whole summary, or memory lacked.
-use Rattle.std.proofs.Common.{◌≡◌, ℕ, zero, suc, ◌+◌, ◌*◌, ◌<◌, ◌≤◌, ◌⊎◌, Bool, true, false, List, [], ◌∷◌, ◌++◌, length, map, get_or, sum, Contains, Option, None, Some, Result, Ok, Err, refl, sym, ◌∙◌, ap, subst, inl, inr, arith}
+use Rattle.std.proofs.Common.{◌≡◌, ℕ, zero, suc, ◌+◌, ◌*◌, ◌<◌, ◌≤◌, ◌⊎◌, Bool, true, false, List, [], ◌∷◌, ◌++◌, codes, length, map, get_or, sum, Contains, Option, None, Some, Result, Ok, Err, refl, sym, ◌∙◌, ap, subst, inl, inr, arith}
 use Rattle.std.specs.Prelude.{if◌then◌else◌}
 use Rattle.std.specs.List.{list_any, slice_get}
 use Rattle.std.proofs.lemmas.List.{length-map}
@@ -12,17 +12,21 @@ use Rattle.kr_config.specs.Kept.{Row}
 use Rattle.kr_config.specs.Lists.{class_list, first_list}
 use Rattle.kr_config.specs.Patterns.{covers_group, covers_rest, matches}
 use Rattle.kr_config.specs.declared.class.Class.{Class}
-use Rattle.kr_config.specs.declared.class.Class.TheVariants as class
+use Rattle.kr_config.specs.declared.class.Class.TheVariants as classes
 use Rattle.kr_config.specs.declared.pattern.Pattern.{Pattern}
+use Rattle.kr_config.specs.declared.pattern.Pattern.TheVariants.{Exact}
 use Rattle.kr_config.specs.declared.who.Who.{Who}
+use Rattle.kr_config.specs.declared.who.Who.TheVariants.{Identity}
 use Rattle.kr_kms.specs.Calls.{Link}
+use Rattle.kr_kms.specs.Outside.{same_seat}
 use Rattle.kr_kms.specs.Truth.{Truth}
 use Rattle.kr_load.specs.Endings.{ending_of_load}
 use Rattle.kr_load.specs.FullLoads.{AreFull, IsBlankRun, opening_rows}
-use Rattle.kr_load.specs.Loads.{configurations, lines_of, load_fleet}
-use Rattle.kr_load.specs.Summaries.{IsDigest, IsSummary, Replies, text_of}
+use Rattle.kr_load.specs.Loads.{g1, lines_of, load_fleet}
+use Rattle.kr_load.specs.Summaries.{IsDigest, Replies, objects_of, text_of}
 use Rattle.kr_load.proofs.FullRuns.{loads_are_full}
 use Rattle.kr_load.proofs.LoadLines.{budget_few}
+use Rattle.kr_provider.specs.Names.{names_of}
 use Rattle.kr_provider.specs.Readers.{writer_of}
 use Rattle.kr_rollout.specs.Openings.{settings_of}
 use Rattle.kr_rollout.specs.Starts.{MayStart}
@@ -32,26 +36,27 @@ use Rattle.kr_script.specs.Fleets.{Worker}
 use Rattle.kr_script.specs.declared.script.Part.{Part}
 use Rattle.kr_store.specs.Rows.{live}
 use Rattle.kr_store.specs.declared.format.Format.TheVariants.{Two}
-use Rattle.kr_workers.specs.Budgets.{budget_of, budgets_of}
+use Rattle.kr_workers.specs.Budgets.{budget_of, budgets_of, put_lines}
 use Rattle.kr_workers.specs.Endings.{status_of}
 use Rattle.kr_workers.specs.declared.ending.Ending.{Ending}
 use Rattle.kr_workers.specs.declared.ending.Ending.TheVariants as ending
 use Rattle.kr_workers.specs.declared.worker.Worker as fleet_worker
 use Rattle.kr_base.specs.declared.seeded_dice.SeededDice.{SeededDice}
 use Rattle.rand_chacha.specs.ChaCha.{ChaCha}
-use Rattle.kr_top.specs.Around.{Around, left_of}
+use Rattle.kr_top.specs.Around.{Around, faults_at, left_of}
 use Rattle.kr_top.specs.Causes.{NoneRose}
-use Rattle.kr_top.specs.Commands.{by_result}
-use Rattle.kr_top.specs.FleetFiles.{FleetPlan, rows_at}
-use Rattle.kr_top.specs.Fleets.{AreWithin, Begun, IsStart, Replicas, StopsBefore, TellsFleet, launching, opening_of, parts_of, publishing, starting}
+use Rattle.kr_top.specs.Commands.{by_result, with_memory}
+use Rattle.kr_top.specs.FleetFiles.{FleetPlan}
+use Rattle.kr_top.specs.Fleets.{AreWithin, Begun, IsStart, Replicas, StopsBefore, TellsFleet, launching, opening_of, parts_of, rows_of_replica, starting}
 use Rattle.kr_top.specs.FullLoads.{IsBlank, IsFullLoad}
 use Rattle.kr_top.specs.GeneratedLoads.{RanLoad, StartsLoad, load_beginning, load_plan, load_steps, no_faults, nothing_told, with_streams}
 use Rattle.kr_top.specs.Judgements.{start_refusal}
 use Rattle.kr_top.specs.Message.{status_of as stop_status}
 use Rattle.kr_top.specs.Ran.{IsIdle, Receipt}
-use Rattle.kr_top.specs.Steps.{Left, Steps, and_then, gives, or_empty, refuses, scanning, tapes_with}
+use Rattle.kr_top.specs.Steps.{Left, and_then, give, gives, or_empty, refuses, tapes_with, Call, asking, drawing, lending, linking, loading, opening, reading, scanning, writing}
 use Rattle.kr_top.specs.StoreFiles.{IsStored, Stored}
 use Rattle.kr_top.specs.declared.load_words.LoadWords.{LoadWords}
+use Rattle.kr_top.specs.declared.programs.Program.{Program}
 use Rattle.kr_top.specs.declared.refusal.Object.TheVariants.{Store}
 use Rattle.kr_top.specs.declared.refusal.Refusal.{Refusal}
 use Rattle.kr_top.specs.declared.refusal.Stop.{Stop}
@@ -63,7 +68,7 @@ use Rattle.kr_top.proofs.Tapes.{own_name}
 
 -- ---- the store
 
-no_rows : Stored
+abbrev no_rows : Stored
 no_rows = record { format = Two; rows = [] }
 
 told_blank : (words : LoadWords) (old : Around) → IsBlank words old
@@ -188,6 +193,11 @@ module _ (words : LoadWords) (small : words.size ≤ 10000) where
           (count + put_lines (parts_of (load_plan words).fleet)) small in
           let same = ap sum are in absurd (omega (arith, few, many, same))
 
+  known_blank : (r : Result Stored Refusal) (left : Left) → Ok no_rows ≡ r
+      → GivesOnly BeginsBlank (and_then (by_result r) (load_beginning (load_plan words))) left
+  known_blank r left e = subst (λ k. GivesOnly BeginsBlank
+      (and_then (by_result k) (load_beginning (load_plan words))) left) e (begins_blank left)
+
   module _ (old : Around) (blank : IsBlank words old) where
     pub walks_blank : GivesOnly BeginsBlank (load_steps words) (left_of (with_streams old))
     walks_blank = (
@@ -201,12 +211,26 @@ module _ (words : LoadWords) (small : words.size ≤ 10000) where
           ∙ told_blank words old blank) agrees) in
           let e : Ok no_rows ≡ r = one_stored bytes (Ok no_rows) r
           (subst (λ b. IsStored b (Ok no_rows)) held stored_none) is in
-          subst (λ k. GivesOnly BeginsBlank
-          (and_then (by_result k) (load_beginning (load_plan words))) _) e (begins_blank _),
+          known_blank r _ e,
     )
       where
         stored_none : IsStored [] (Ok no_rows)
         stored_none = (omega arith, (tt, inl (refl, refl, refl)))
+
+-- ---- counts
+
+never_rose : Rose 0 0 → ⊥
+never_rose (inl l) = omega (arith, l)
+never_rose (inr e) = let is = e.0 in omega (arith, is)
+
+beside_streams : (a b c d : Bool) (before now : ℕ)
+    → Rose (if a then 0 else if b then 0 else if c then 0 else if d then 0 else before)
+    (if a then 0 else if b then 0 else if c then 0 else if d then 0 else now) → Rose before now
+beside_streams true b c d before now rose = absurd (never_rose rose)
+beside_streams false true c d before now rose = absurd (never_rose rose)
+beside_streams false false true d before now rose = absurd (never_rose rose)
+beside_streams false false false true before now rose = absurd (never_rose rose)
+beside_streams false false false false before now rose = rose
 
 -- ---- the workers
 
@@ -216,7 +240,22 @@ Source = SeededDice ChaCha
 module _ (T : Type 0) {L : Type 0} (truth : Truth) (link : L → Link) (words : LoadWords)
     (old new : Around) (output errors : Receipt) (small : words.size ≤ 10000)
     (blank : IsBlank words old)
-    (none : NoneRose (with_streams old) (with_streams new) output errors) where
+    (none : NoneRose old new output errors) where
+  -- so none rose with the workers' streams in place of random sources either
+  calls : (call : Call)
+      → Rose (faults_at call (with_streams old)) (faults_at call (with_streams new)) → ⊥
+  calls (loading name) rose = none.calls (loading name) rose
+  calls reading rose = none.calls reading rose
+  calls (opening seat) rose = none.calls (opening seat) rose
+  calls (lending name) rose = none.calls (lending name) rose
+  calls (scanning object name) rose = none.calls (scanning object name) rose
+  calls (writing object name) rose = none.calls (writing object name) rose
+  calls (drawing seat) rose = none.calls (drawing seat)
+      (beside_streams (same_seat 0 seat) (same_seat 1 seat) (same_seat 2 seat)
+      (same_seat 3 seat) (old.world.dice.faults seat) (new.world.dice.faults seat) rose)
+  calls (linking seat plugin) rose = none.calls (linking seat plugin) rose
+  calls (asking seat plugin) rose = none.calls (asking seat plugin) rose
+
   module _ (result : Result Ending Stop)
       (s : StartsLoad T truth link words old new output result) where
     rows_none : s.begun.stored.rows ≡ []
@@ -245,15 +284,11 @@ module _ (T : Type 0) {L : Type 0} (truth : Truth) (link : L → Link) (words : 
           let own = get_or_from_slice_get s.runs.workers number worker worker is in
           ap (λ (w : fleet_worker.Worker T L Source). names_of link w.bench.links) (sym own)
           ∙ had.names ∙ ap (map (λ (program : Program). program.plugin)) no_programs;
-      stored = λ rose. none.calls (scanning Store words.store)
+      stored = λ rose. calls (scanning Store words.store)
           (Rose-later _ _ _ (s.since.tapes.later words.store)
           (subst (λ n. Rose (s.mid.world.tapes.faults words.store) n) (sym s.runs.counted) rose));
       drawn = λ before after rose. never_rose rose;
     }
-      where
-        never_rose : Rose 0 0 → ⊥
-        never_rose (inl l) = omega (arith, l)
-        never_rose (inr e) = let is = e.0 in omega (arith, is)
 
     abbrev told_by : Replies
     told_by = map (λ (w : fleet_worker.Worker T L Source). w.told) s.ended
@@ -283,8 +318,13 @@ module _ (T : Type 0) {L : Type 0} (truth : Truth) (link : L → Link) (words : 
           (ap (λ ws. objects_of ws (told_by (Ok e) s)) workers ∙ full.objects) made.over in
           let is_text = made.text_is
           ∙ (λ i. text_of words.seed words.size (full.puts i) (full.gets i) made.digest) in
-          inl (is ∙ ap status_of (s.writes.0 ∙ full.ended), idle, (text,
-          (made.digest, over, is_text), s.writes.1.2))
+          inl (
+            is ∙ ap status_of (s.writes.0 ∙ full.ended),
+            idle,
+            text,
+            (made.digest, over, is_text),
+            s.writes.1.2,
+          )
 
   stopped_so : (status : ℕ) (stop : Stop) → status ≡ stop_status (Err stop)
       → StopsBefore (load_steps words) words.store (with_streams old) (with_streams new) output
@@ -298,7 +338,7 @@ module _ (T : Type 0) {L : Type 0} (truth : Truth) (link : L → Link) (words : 
   stopped_so status (Refused why) is (inl (inr (e, lacking), idle)) = absurd cc
   stopped_so status (Refused why) is (inr s) = absurd s.writes
   stopped_so status (Fault object n) is (inl (inl (call, reaches, fault), idle)) =
-      absurd (none.calls call fault.1)
+      absurd (calls call fault.1)
   stopped_so status (Fault object n) is (inl (inr (e, lacking), idle)) = absurd cc
   stopped_so status (Fault object n) is (inr s) = absurd (none.written s.writes.2)
   stopped_so status NoMemory is did = inr is
