@@ -79,7 +79,13 @@ fn puts_in(replies: &[List<Told>]) -> u128
 fn puts_among(replies: &[Told]) -> usize
     ensures { result ≡ count_by is_put replies.now }
 {
-    replies.iter().filter(|reply| is_put(reply)).count()
+    let mut puts = 0;
+    for reply in replies {
+        if is_put(reply) {
+            puts += 1;
+        }
+    }
+    puts
 }
 
 /// How many gets gave data.
@@ -96,7 +102,13 @@ fn gets_in(replies: &[List<Told>]) -> u128
 fn gets_among(replies: &[Told]) -> usize
     ensures { result ≡ count_by is_got replies.now }
 {
-    replies.iter().filter(|reply| is_got(reply)).count()
+    let mut gets = 0;
+    for reply in replies {
+        if is_got(reply) {
+            gets += 1;
+        }
+    }
+    gets
 }
 
 #[tactic(auto, unfolding(crate::specs::Summaries::is_put))]
