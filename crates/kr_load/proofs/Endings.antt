@@ -75,7 +75,7 @@ refusals_among (told ∷ replies) =
     λ i. refusals_in told.0 i || refusals_among replies i
 
 -- the first kind that there is
-abbrev pick : (fault memory full unhealthy refused : Bool) → Ending
+abbrev pub pick : (fault memory full unhealthy refused : Bool) → Ending
 pick fault memory full unhealthy refused =
     if fault then ending.Fault else if memory then ending.Memory else if full then ending.Full
     else if unhealthy then ending.Unhealthy else if refused then ending.Refused else ending.Done
@@ -104,7 +104,7 @@ other_at false false false false false true k e apart back = absurd (false≢tru
 other_at false false false false false false k e apart back = sym e
 
 -- the load's ending by the tests of its replies
-load_picks : (replies : List (List Told × ℕ)) → ending_of_load replies
+pub load_picks : (replies : List (List Told × ℕ)) → ending_of_load replies
     ≡ pick (some_is ending.Fault replies) (some_is ending.Memory replies)
     (some_is ending.Full replies) (some_is ending.Unhealthy replies) (some_refuses replies)
 load_picks replies = λ i. pick (same_among ending.Fault refl replies i)

@@ -1,23 +1,21 @@
 -- The fleet of a load keeps the rules of a fleet file.
-use Rattle.std.proofs.Common.{◌≡◌, ℕ, zero, suc, ◌+◌, ◌*◌, ◌%◌, ◌^◌, ◌<◌, ◌≤◌, Bool, true, false, List, [], ◌∷◌, ◌++◌, codes, length, map, get_or, refl, sym, ◌∙◌, ap, subst, arith}
+use Rattle.std.proofs.Common.{◌≡◌, ℕ, zero, suc, ◌+◌, ◌*◌, ◌%◌, ◌^◌, ◌<◌, ◌≤◌, Bool, true, false, List, [], ◌∷◌, ◌++◌, codes, length, map, get_or, refl, ◌∙◌, ap, arith}
 use Rattle.std.specs.Prelude.{◌&&◌, ◌||◌, nat_le, decimal}
 use Rattle.std.specs.Int.{IsInRange, to_le_bytes, w32}
 use Rattle.std.specs.List.{list_all, list_any, range_with_len}
 use Rattle.std.specs.Str.Parse.{digits_value}
 use Rattle.std.proofs.lemmas.Bool.{le-leb}
 use Rattle.std.proofs.lemmas.Bool.Decides.{nat_tests}
-use Rattle.std.proofs.lemmas.Fmt.{decimal_digit, decimal_nonempty, digits_decimal, length-decimal-le}
+use Rattle.std.proofs.lemmas.Fmt.{decimal_digit, digits_decimal, length-decimal-le}
 use Rattle.std.proofs.lemmas.List.{length-append, length-take-le}
 use Rattle.std.proofs.lemmas.List.Folds.{list_all-append, list_all-map, list_any-append}
 use Rattle.std.proofs.lemmas.Str.Parse.{IsNumeralModel, numerals_by_value, tells_by_index}
 use Rattle.kr_base.specs.Rules.{is_graphic, is_name, is_path}
-use Rattle.kr_script.specs.Fleets.{Worker}
 use Rattle.kr_script.specs.Rules.{are_distinct, has_long_line, is_line, is_long, is_worker, worker_names}
-use Rattle.kr_script.specs.declared.script.ScriptLine.{ScriptLine}
 use Rattle.rand_core.specs.Steps.{word_bytes}
 use Rattle.rand_chacha.specs.ChaCha.{ChaCha, next_word}
 use Rattle.kr_load.specs.Loads.{KeepsRules, get_of, lines_of, load_fleet, load_worker, path_of, put_of, reloads_of}
-use Rattle.kr_load.specs.Streams.{before_piece, next_piece, piece}
+use Rattle.kr_load.specs.Streams.{before_piece, piece}
 
 -- ---- digits
 
@@ -119,9 +117,6 @@ worker_by : (seed size worker : ℕ) → size < 2 ^ 32 → worker < 4
 worker_by seed size worker small few named =
     let below : nat_le (suc (worker % 2)) 2 ≡ true = le-leb (suc (worker % 2)) 2 (omega arith) in
     λ i. named i && below i && lines_ok seed size worker small few i
-
-named : (worker : ℕ) → worker < 10 → decimal worker ≡ (48 + worker) ∷ []
-named worker few = decimal_digit worker few
 
 name_ok : (worker : ℕ) → worker < 10 → is_name (codes "w" ++ (48 + worker) ∷ []) ≡ true
     → is_name (codes "w" ++ decimal worker) ≡ true

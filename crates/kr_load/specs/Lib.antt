@@ -3,4 +3,5 @@ pub mod Streams
 pub mod Loads
 pub mod Summaries
 pub mod Endings
+pub mod FullLoads
 pub mod inner

@@ -26,6 +26,7 @@ pub mod FleetSettled
 pub mod FleetWalk
 pub mod EquallyLong
 pub mod Found
+pub mod FullLoads
 pub mod Generating
 pub mod Frames
 pub mod GivesOnly

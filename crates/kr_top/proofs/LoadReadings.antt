@@ -11,6 +11,7 @@ use Rattle.kr_top.specs.declared.load_words.LoadWords.{LoadWords}
 use Rattle.kr_top.specs.declared.refusal.Stop.{Stop}
 use Rattle.kr_top.specs.declared.refusal.Stop.TheVariants.{Words, Refused, Fault, NoMemory}
 use Rattle.kr_top.proofs.Causes.{BreaksOff, causes}
+use Rattle.kr_top.proofs.FullLoads.{full_load}
 use Rattle.kr_top.proofs.Generating.{home_seeded}
 use Rattle.kr_top.proofs.LoadSettled.{settled_load}
 
@@ -32,4 +33,6 @@ module _ (T : Type 0) {L : Type 0} (truth : Truth) (link : L → Link) (words : 
         output errors (λ e s. (s.begun, (s.reaches.end, s.reaches.goes))) breaks (TellsTape words old)
         (settled_load words old) status ran.result
         (home_seeded old new ran.did.others ran.did.home) ran.did.did ran.tells;
+    complete = λ small blank none.
+        full_load T truth link words old new output errors small blank none status ran;
   }

@@ -10,6 +10,7 @@ pub mod FleetFiles
 pub mod FleetReadings
 pub mod FleetReady
 pub mod Fleets
+pub mod FullLoads
 pub mod GeneratedLoads
 pub mod Configuration
 pub mod Inspect
