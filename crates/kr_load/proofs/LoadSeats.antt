@@ -1,8 +1,7 @@
 -- What one worker of a load replies.
 use Rattle.std.specs.Prelude.{All, Contains}
-use Rattle.std.specs.List.{list_any, range_with_len}
-use Rattle.std.proofs.Common.{◌≡◌, ℕ, zero, suc, ◌+◌, ◌*◌, ◌<◌, ◌≤◌, ◌^◌, ◌⊎◌, ◌==◌, ◌||◌, Bool, true, false, List, [], ◌∷◌, ◌++◌, codes, length, map, get_or, count_by, Option, Some, Result, Ok, Err, inl, inr, refl, ap, sym, subst, ◌∙◌, length-append, arith}
-use Rattle.std.proofs.lemmas.Bool.{false≢true}
+use Rattle.std.specs.List.{range_with_len}
+use Rattle.std.proofs.Common.{◌≡◌, ℕ, ◌+◌, ◌*◌, ◌<◌, ◌≤◌, ◌==◌, false, List, [], ◌∷◌, ◌++◌, length, map, get_or, Option, Some, Ok, inl, inr, refl, ap, sym, subst, ◌∙◌, arith}
 use Rattle.std.proofs.lemmas.List.{append_assoc, length-map}
 use Rattle.std.proofs.lemmas.List.Elements.{All-append, All-contains, All-cons, All-head, All-nil, All-tail, Contains-append_left, Contains-append_right, Contains-get_or}
 use Rattle.kr_base.specs.Lines.{of_seat}
@@ -16,7 +15,6 @@ use Rattle.kr_rollout.specs.declared.opening.Entry.{Entry}
 use Rattle.kr_rollout.specs.declared.opening.Opening.{Opening}
 use Rattle.kr_script.specs.declared.script.Part.{Part}
 use Rattle.kr_script.specs.declared.script.ScriptLine.{ScriptLine}
-use Rattle.kr_script.specs.declared.script.ScriptLine.TheVariants as line
 use Rattle.kr_script.specs.declared.told.Told.{Told}
 use Rattle.kr_script.specs.declared.told.Told.TheVariants as told
 use Rattle.kr_workers.specs.Budgets.{entries_of}
@@ -29,19 +27,16 @@ use Rattle.kr_workers.specs.ScriptLines.{Does}
 use Rattle.kr_workers.specs.declared.ending.Ending.TheVariants as ending
 use Rattle.kr_workers.specs.declared.files.SettingsFile.{SettingsFile}
 use Rattle.kr_workers.proofs.CausingRuns.{replies_have_causes}
-use Rattle.kr_load.specs.FullLoads.{objects_at}
 use Rattle.kr_load.specs.Loads.{get_of, lines_of, path_of, plain_of, put_of, reloads_of}
-use Rattle.kr_load.specs.Summaries.{objects_by, objects_in, is_got, is_put}
-use Rattle.kr_load.specs.inner.Refusing.{refuses}
 use Rattle.kr_load.proofs.LineParts.{OfLine, line_makes}
 use Rattle.kr_load.proofs.LoadContents.{stays_put}
 use Rattle.kr_load.proofs.LoadHistories.{IsLoadEntry, IsLoads, at_middle, front_all, secrets}
-use Rattle.kr_load.proofs.LoadLines.{IsLoadLine, IsReloading, lines_are, lines_few, load_simple, long, of_load, reloading}
+use Rattle.kr_load.proofs.LoadLines.{IsLoadLine, IsReloading, lines_are, lines_few, load_simple, reloading}
 use Rattle.kr_load.proofs.LoadReplies.{IsCalm, IsFullReply, IsReply, get_ends, no_fault, put_ends, reload_ends}
 use Rattle.kr_load.proofs.LoadTexts.{one_number}
 use Rattle.kr_load.proofs.PutParts.{HasWritten, TellsPut, part_is, put_tells}
 use Rattle.kr_load.proofs.Ruling.{piece_long}
-use Rattle.kr_load.proofs.RunParts.{IsNumbered, Splits, WasDone, all_by_parts, all_done, all_entries, count_all, count_behind, count_none, entries_behind, entry_there, few_entries, numbered_all, numbered_at, passed_there, split_lines}
+use Rattle.kr_load.proofs.RunParts.{IsNumbered, Splits, WasDone, all_by_parts, all_done, all_entries, entries_behind, entry_there, few_entries, numbered_all, numbered_at, passed_there}
 
 -- ---- lists
 
