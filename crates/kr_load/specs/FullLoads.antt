@@ -38,6 +38,11 @@ abbrev pub IsFull : (seed size : ℕ) → (text : List ℕ) → Type 0
 IsFull seed size text = (digest : List ℕ) × IsDigest (all_objects seed size) digest
     × (text ≡ text_of seed size (4 * size) (4 * size) digest)
 
+-- and it is one text
+abbrev pub FullIsOne : Type 0
+FullIsOne = (seed size : ℕ) (one other : List ℕ) → IsFull seed size one → IsFull seed size other
+    → one ≡ other
+
 -- the replies of such a load
 pub record AreFull (seed size : ℕ) (replies : Replies) : Type 0 where
   pub ended : ending_of_load replies ≡ ending.Done
