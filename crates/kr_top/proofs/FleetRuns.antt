@@ -135,7 +135,7 @@ module _ (T : Type 0) {L D : Type 0} (truth : Truth) (link : L → Link)
 
   module _ {A : Type 0} (first : Steps A) (others : A → Steps Begun) where
     -- the first steps gave something, and the fleet ran by the others
-    pub before : (x : A) (new : Around) {old mid : Around} → Does first old mid (Ok x)
+    unfoldable pub before : (x : A) (new : Around) {old mid : Around} → Does first old mid (Ok x)
         → (result : Result Record Stop) → Runs (others x) mid new result
         → Runs (and_then first others) old new result
     before x new d (Ok made) l = record {

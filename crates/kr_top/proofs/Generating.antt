@@ -1,6 +1,6 @@
 -- A load over a store: its workers' random sources stand as if they were those of their seats.
 use Rattle.std.proofs.Common.{◌≡◌, ℕ, zero, suc, ◌+◌, ◌<◌, ◌≤◌, List, [], ◌∷◌, ◌++◌, length, get_or, map, Option, None, Some, Result, Ok, Err, refl, sym, ◌∙◌, ap, subst, inl, inr, arith}
-use Rattle.std.specs.Prelude.{All, true, ◌⊎◌}
+use Rattle.std.specs.Prelude.{All, Bool, true, ◌⊎◌}
 use Rattle.std.proofs.lemmas.List.{get_or_append_left, length-append, length-map}
 use Rattle.std.proofs.lemmas.List.Elements.{All-append, All-cons, All-head, All-nil, All-tail}
 use Rattle.std.proofs.Math.ListN.{get_or-map}
@@ -209,6 +209,14 @@ module _ (T : Type 0) {L : Type 0} (truth : Truth) (link : L → Link) (seed : �
 
 -- ---- the store's tape
 
+no_tape_seeded : (old new : Outside) (name : List ℕ) (make : Bool) (stop : Stop)
+    → NoTape old new name make stop
+    → NoTape (seeded_world old) (seeded_world new) name make stop
+no_tape_seeded old new name make (Words why) n = n
+no_tape_seeded old new name make (Refused why) n = n
+no_tape_seeded old new name make (Fault object count) n = n
+no_tape_seeded old new name make NoMemory n = n
+
 module _ {old new : Outside} where
   lent_seeded : {name : List ℕ} {make : _} {told : Option (List ℕ)} {count : ℕ}
       → LentTape name make old new told count
@@ -235,13 +243,6 @@ module _ {old new : Outside} where
     links = h.links;
   }
 
-  no_tape_seeded : (name : List ℕ) (make : _) (stop : Stop) → NoTape old new name make stop
-      → NoTape (seeded_world old) (seeded_world new) name make stop
-  no_tape_seeded name make (Words why) n = n
-  no_tape_seeded name make (Refused why) n = n
-  no_tape_seeded name make (Fault object count) n = n
-  no_tape_seeded name make NoMemory n = n
-
   -- no tape was handed out
   pub untaped : (name : List ℕ) (steps : Steps Begun) (a : Around) (stop : Stop)
       → KeepsFiles old new → KeepsObjects old new → NoTape old new name true stop
@@ -253,7 +254,7 @@ module _ {old new : Outside} where
         dice = ap (seeded_dice 0 4) objects.dice;
         tapes = objects.tapes;
         links = objects.links;
-      }) a name true stop (no_tape_seeded name true stop n) asked
+      }) a name true stop (no_tape_seeded old new name true stop n) asked
 
 module _ (T : Type 0) {L : Type 0} (truth : Truth) (link : L → Link) (seed : ℕ)
     (store : List ℕ) (plan : FleetPlan) (steps : Steps Begun) (a : Around) where

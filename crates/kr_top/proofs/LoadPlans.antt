@@ -29,9 +29,10 @@ no_files f first (suc count) none =
     let rest = no_files f (first + 1) count none in λ i. none first i ++ rest i
 
 reloads_read : (seed worker : ℕ) → All (IsRead seed) (flat_map file_in (reloads_of worker))
-reloads_read seed zero = All-cons (IsRead seed) (codes "B") _ refl
-    (All-cons (IsRead seed) (codes "B") _ refl
-    (All-cons (IsRead seed) (codes "C") _ refl
+reloads_read seed zero =
+    All-cons (IsRead seed) (codes "B") (codes "B" ∷ (codes "C" ∷ (codes "C" ∷ []))) refl
+    (All-cons (IsRead seed) (codes "B") (codes "C" ∷ (codes "C" ∷ [])) refl
+    (All-cons (IsRead seed) (codes "C") (codes "C" ∷ []) refl
     (All-cons (IsRead seed) (codes "C") [] refl (All-nil (IsRead seed)))))
 reloads_read seed (suc worker) = All-nil (IsRead seed)
 
@@ -67,7 +68,7 @@ workers_read seed size (worker ∷ workers) =
 all_read : (seed size : ℕ) → All (IsRead seed) (all_files (load_fleet seed size))
 all_read seed size =
     All-append (IsRead seed) (flat_map file_of_replica (load_fleet seed size).replicas) _
-    (All-cons (IsRead seed) (codes "A") _ refl
+    (All-cons (IsRead seed) (codes "A") (codes "A" ∷ []) refl
     (All-cons (IsRead seed) (codes "A") [] refl (All-nil (IsRead seed))))
     (workers_read seed size (range_with_len 0 4))
 
