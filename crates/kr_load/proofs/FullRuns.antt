@@ -274,6 +274,7 @@ module _ (T : Type 0) {L D : Type 0} (truth : Truth) (link : L → Link)
   module _ (worker : ℕ) (few : worker < 4) where
     calm : IsCalm link count history
         (first_place o worker (slice_index budgets worker) (was worker few).x.bench)
+        (now worker few).x.bench.dice
     calm = record {
       here = λ front e rest is replica says. is_not_gone seed size r.few o opens history all_load
           r.one.legal.runs history_few front e rest is replica says;
@@ -287,7 +288,8 @@ module _ (T : Type 0) {L D : Type 0} (truth : Truth) (link : L → Link)
           names_keyed seed size r.few o opens history all_load r.one.legal.runs history_few
           at.front e at.rest at.is p is;
       bare = r.links worker (was worker few).x (was worker few).is;
-      drawn = r.drawn;
+      drawn = r.drawn worker (was worker few).x (now worker few).x (was worker few).is
+          (now worker few).is;
     }
 
     quiet : list_any (of_kind ending.Fault) (now worker few).x.told.0 ≡ false

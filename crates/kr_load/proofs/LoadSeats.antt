@@ -144,7 +144,8 @@ module _ {L D : Type 0} (truth : Truth) (link : L → Link) (left : D → Option
     (s : StandsIn truth link left count files history part (first_place o worker budget bench)
     replies after) (lines : part.lines.0 ≡ lines_of seed size worker)
     (tell : TellContents truth o history worker s.run) (small : size ≤ 10000)
-    (few : worker < 4) (calm : IsCalm link count history (first_place o worker budget bench))
+    (few : worker < 4)
+    (calm : IsCalm link count history (first_place o worker budget bench) after.dice)
     (all : All (IsLoadEntry seed size) history)
     (no_names : (front rest : List Entry) → history ≡ front ++ rest → NamesNoPlugin o front)
   where
@@ -159,7 +160,7 @@ module _ {L D : Type 0} (truth : Truth) (link : L → Link) (left : D → Option
         let P : Told → Type 0 = λ reply. is_same (kind_of reply) ending.Fault ≡ false in
         subst (λ l. All P l) (sym s.replies_are) (all_replies P s.run (λ k d below.
         let done = get_or s.run k d in
-        no_fault link count history (first_place o worker budget bench) calm after.links after.dice
+        no_fault link count history (first_place o worker budget bench) after.links after.dice calm
         done.line done.reply (caused done (Contains-get_or s.run k d below))))
 
     -- ---- the puts
@@ -210,8 +211,7 @@ module _ {L D : Type 0} (truth : Truth) (link : L → Link) (left : D → Option
             → IsNumbered (put_of seed size worker) size done → IsLine seed size worker done
         put_replied done there n = subst
             (λ (l : ScriptLine). IsReply (IsSaid seed size worker) l done.reply) (sym n.line_is)
-            (put_ends link count history (first_place o worker budget bench) calm after.links
-            after.dice (IsSaid seed size worker) (path_of worker n.number)
+            (put_ends link count history (first_place o worker budget bench) after.links after.dice calm (IsSaid seed size worker) (path_of worker n.number)
             (plain_of seed size worker n.number)
             (piece_long seed (2 + worker * size + n.number)) done.part (entry_in done there)
             done.reply
@@ -225,8 +225,7 @@ module _ {L D : Type 0} (truth : Truth) (link : L → Link) (left : D → Option
             → IsLine seed size worker done
         reload_replied done there (replica, file, is, named) = subst
             (λ (l : ScriptLine). IsReply (IsSaid seed size worker) l done.reply) (sym is)
-            (reload_ends link count history (first_place o worker budget bench) calm after.links
-            after.dice (IsSaid seed size worker) replica file done.reply
+            (reload_ends link count history (first_place o worker budget bench) after.links after.dice calm (IsSaid seed size worker) replica file done.reply
             (subst (λ (l : ScriptLine). HasCause link count l (first_place o worker budget bench)
             done.reply history after.links after.dice) is (caused done there)))
 
@@ -326,8 +325,7 @@ module _ {L D : Type 0} (truth : Truth) (link : L → Link) (left : D → Option
                   (0, omega arith, refl)) in
                   full_of done there (subst
                   (λ (l : ScriptLine). IsReply (IsSaid seed size worker) l done.reply) (sym asked)
-                  (get_ends link count history (first_place o worker budget bench) calm after.links
-                  after.dice (IsSaid seed size worker) truth o worker (path_of worker number)
+                  (get_ends link count history (first_place o worker budget bench) after.links after.dice calm (IsSaid seed size worker) truth o worker (path_of worker number)
                   (plain_of seed size worker number)
                   (entries_in (p.front ++ (q.front ++ front))) done.part no_names known said done.reply
                   (subst (λ (l : ScriptLine). HasCause link count l (first_place o worker budget bench)

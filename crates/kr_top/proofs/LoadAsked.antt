@@ -90,6 +90,12 @@ pub size_fits : (value : Option (List ℕ)) (size : ℕ)
 size_fits None size h k = absurd k
 size_fits (Some text) size (n, is, small) so = omega (arith, small, is.1, so.1)
 
+-- so does that of words that ask for a load
+pub asked_small : {words : List (List ℕ)} {asked : LoadWords} → AsksLoad words asked
+    → asked.size ≤ 10000
+asked_small {words} {asked} h =
+    size_fits (value_of h.options (codes "size")) asked.size h.small h.size
+
 one_number : (value : Option (List ℕ)) (m n : ℕ) → IsSomeAnd value (λ text. IsDecimal text m)
     → IsSomeAnd value (λ text. IsDecimal text n) → m ≡ n
 one_number None m n h k = absurd h

@@ -1,5 +1,5 @@
 -- What readers take from the relation of a load.
-use Rattle.std.proofs.Common.{ℕ, List, Result, Ok, Err}
+use Rattle.std.proofs.Common.{ℕ, ◌≤◌, List, Result, Ok, Err}
 use Rattle.kr_kms.specs.Calls.{Link}
 use Rattle.kr_kms.specs.Truth.{Truth}
 use Rattle.kr_workers.specs.declared.ending.Ending.{Ending}
@@ -26,13 +26,14 @@ module _ (T : Type 0) {L : Type 0} (truth : Truth) (link : L → Link) (words : 
   breaks (Fault object n) s = s.writes.2
   breaks NoMemory s = tt
 
-  pub load_readings : (status : ℕ) → RanLoad T truth link words old new output errors status
+  pub load_readings : (status : ℕ) → words.size ≤ 10000
+      → RanLoad T truth link words old new output errors status
       → LoadReadings T truth link words old new output errors status
-  load_readings status ran = record {
+  load_readings status small ran = record {
     causes = causes (load_steps words) words.store Began (with_streams old) (with_streams new)
         output errors (λ e s. (s.begun, (s.reaches.end, s.reaches.goes))) breaks (TellsTape words old)
         (settled_load words old) status ran.result
         (home_seeded old new ran.did.others ran.did.home) ran.did.did ran.tells;
-    complete = λ small blank none.
+    complete = λ blank none.
         full_load T truth link words old new output errors small blank none status ran;
   }

@@ -1,8 +1,7 @@
 -- What follows from a load's relation for readers: what its status comes from.
-use Rattle.std.specs.Prelude.{ℕ, ◌≤◌, List, IsSome, Result}
+use Rattle.std.specs.Prelude.{ℕ, List, IsSome, Result}
 use Rattle.kr_kms.specs.Calls.{Link}
 use Rattle.kr_kms.specs.Truth.{Truth}
-use Rattle.kr_words.specs.Grammar.{size_limit}
 use Rattle.kr_workers.specs.declared.ending.Ending.{Ending}
 use Rattle.kr_top.specs.Around.{Around}
 use Rattle.kr_top.specs.Causes.{Causes, NoneRose}
@@ -26,5 +25,5 @@ module _ (T : Type 0) {L : Type 0} (truth : Truth) (link : L → Link) (words : 
         output errors (TellsTape words old) status
     -- over a store that is told to have no rows, where no count rose, all was put and got, and
     -- told; or memory lacked
-    pub complete : words.size ≤ size_limit → IsBlank words old → NoneRose old new output errors
+    pub complete : IsBlank words old → NoneRose old new output errors
         → IsFullLoad words output errors status

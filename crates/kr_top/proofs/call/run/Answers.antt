@@ -6,7 +6,7 @@ use Rattle.kr_top.specs.Ran.{receipt}
 use Rattle.kr_top.specs.inner.FleetAsked.{IsFleetAsked}
 use Rattle.kr_top.proofs.FleetReadings.{fleet_readings}
 use Rattle.kr_top.proofs.FleetRuns.{at_once, for_asked, one_fleet, unread}
-use Rattle.kr_top.proofs.LoadAsked.{not_both}
+use Rattle.kr_top.proofs.LoadAsked.{asked_small, not_both}
 use Rattle.kr_top.proofs.LoadReadings.{load_readings}
 use Rattle.kr_top.proofs.LoadRuns.{fleet_unread}
 use Rattle.kr_top.proofs.Readings.{readings}
@@ -145,6 +145,7 @@ returns-in-Err-clause-load g c asked asks = record {
 pub returns-in-Err-clause-load_readings : goal.returns-in-Err-clause-load_readings
 returns-in-Err-clause-load_readings g c asked asks =
     load_readings g.row.W-Tap.Denot g.W.Link.Kms.truth g.W.Link.Kms.link asked _ _ _ _ _
+    (asked_small asks)
     (record {
       result = Err c.in-Err.stop;
       did = fleet_unread g.row.W-Tap.Denot g.W.Link.Kms.truth g.W.Link.Kms.link

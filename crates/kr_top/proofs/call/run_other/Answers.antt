@@ -5,7 +5,7 @@ use Rattle.kr_top.specs.Around.{around}
 use Rattle.kr_top.specs.Ran.{receipt}
 use Rattle.kr_top.specs.inner.LoadAsked.{IsLoadAsked}
 use Rattle.kr_top.proofs.Leaving.{tapes_left}
-use Rattle.kr_top.proofs.LoadAsked.{one_load}
+use Rattle.kr_top.proofs.LoadAsked.{asked_small, one_load}
 use Rattle.kr_top.proofs.LoadReadings.{load_readings}
 use Rattle.kr_top.proofs.LoadRuns.{for_load, load_at_once, load_unread}
 use Rattle.kr_top.proofs.Readings.{readings}
@@ -38,6 +38,7 @@ returns-in-Ok-Some-clause-load g c asked asks =
 pub returns-in-Ok-Some-clause-load_readings : goal.returns-in-Ok-Some-clause-load_readings
 returns-in-Ok-Some-clause-load_readings g c asked asks =
     load_readings g.row.W-Tap.Denot g.W.Link.Kms.truth g.W.Link.Kms.link asked _ _ _ _ _
+    (asked_small asks)
     (for_load
     (one_load (texts c.args.words.now) c.in-Ok-Some.asked asked
     (subst (λ o. IsLoadAsked (texts c.args.words.now) (Ok o)) c.in-Ok-Some.field-0-is
@@ -102,6 +103,7 @@ returns-in-Err-clause-load g c asked asks = record {
 pub returns-in-Err-clause-load_readings : goal.returns-in-Err-clause-load_readings
 returns-in-Err-clause-load_readings g c asked asks =
     load_readings g.row.W-Tap.Denot g.W.Link.Kms.truth g.W.Link.Kms.link asked _ _ _ _ _
+    (asked_small asks)
     (record {
       result = Err c.in-Err.stop;
       did = load_unread g.row.W-Tap.Denot g.W.Link.Kms.truth g.W.Link.Kms.link
