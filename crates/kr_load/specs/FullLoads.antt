@@ -52,7 +52,7 @@ pub record AreFull (seed size : ℕ) (replies : Replies) : Type 0 where
 
 -- ---- when a load is so
 
--- the most objects of a worker
+-- so many objects of each worker fit into a store
 abbrev pub size_limit : ℕ
 size_limit = 10000
 
