@@ -1,7 +1,7 @@
 -- A load over a store without rows: memory lacked for some reply, or nothing lacks.
-use Rattle.std.specs.Prelude.{All, Contains}
+use Rattle.std.specs.Prelude.{All}
 use Rattle.std.specs.List.{list_any, range_with_len, slice_get, slice_index}
-use Rattle.std.proofs.Common.{◌≡◌, ℕ, zero, suc, ◌+◌, ◌*◌, ◌<◌, ◌≤◌, ◌⊎◌, ◌||◌, Bool, true, false, List, [], ◌∷◌, ◌++◌, length, map, get_or, count_by, Option, Some, inl, inr, refl, ap, sym, subst, ◌∙◌, arith}
+use Rattle.std.proofs.Common.{◌≡◌, ℕ, ◌+◌, ◌*◌, ◌<◌, ◌≤◌, ◌⊎◌, ◌||◌, Bool, true, false, List, [], ◌∷◌, ◌++◌, length, map, get_or, Option, Some, inl, inr, refl, ap, sym, subst, ◌∙◌, arith}
 use Rattle.std.proofs.lemmas.Bool.{false≢true}
 use Rattle.std.proofs.lemmas.List.{get_or-map, length-map}
 use Rattle.std.proofs.lemmas.List.Elements.{All-contains, All-cons, All-head, All-nil, All-tail}
@@ -14,7 +14,6 @@ use Rattle.kr_base.specs.Lines.{of_seat}
 use Rattle.kr_base.proofs.Counting.{Rose-later}
 use Rattle.kr_kms.specs.Calls.{Link}
 use Rattle.kr_kms.specs.Truth.{Truth}
-use Rattle.kr_provider.specs.Publication.{Publication}
 use Rattle.kr_rollout.specs.ContentLaws.{NamesNoPlugin}
 use Rattle.kr_rollout.specs.Entries.{seat_of}
 use Rattle.kr_rollout.specs.Histories.{IsLegal, IsRun, state_from, state_of}
@@ -30,7 +29,6 @@ use Rattle.kr_rollout.proofs.NoNames.{no_names_no_plugin}
 use Rattle.kr_script.specs.Fleets.{worker_of, Worker as fleet_worker}
 use Rattle.kr_script.specs.declared.script.Part.{Part}
 use Rattle.kr_script.specs.declared.told.Told.{Told}
-use Rattle.kr_script.specs.declared.told.Told.TheVariants as told
 use Rattle.kr_workers.specs.Endings.{is_same, kind_of, some_is}
 use Rattle.kr_workers.specs.Histories.{first_place}
 use Rattle.kr_workers.specs.Runs.{LineDone, replies_in}
@@ -41,9 +39,9 @@ use Rattle.kr_workers.specs.declared.files.SettingsFile.{SettingsFile}
 use Rattle.kr_workers.specs.declared.worker.Worker.{Worker}
 use Rattle.kr_workers.proofs.Sentencing.{histories_tell}
 use Rattle.kr_load.specs.Endings.{ending_of_load}
-use Rattle.kr_load.specs.FullLoads.{AreFull, IsBlankRun, LoadsAreFull, all_objects, objects_at, opening_rows}
+use Rattle.kr_load.specs.FullLoads.{AreFull, IsBlankRun, LoadsAreFull, opening_rows}
 use Rattle.kr_load.specs.Loads.{get_of, lines_of, load_fleet, load_worker, put_of, reloads_of}
-use Rattle.kr_load.specs.Summaries.{Replies, gets_in, objects_of, is_got, is_put, puts_in}
+use Rattle.kr_load.specs.Summaries.{Replies, gets_in, objects_of, puts_in}
 use Rattle.kr_load.specs.inner.Refusing.{refuses, some_refuses}
 use Rattle.kr_load.proofs.Endings.{load_picks, pick}
 use Rattle.kr_load.proofs.FullReplies.{IsElse, IsFullWorker, full_worker}
@@ -51,7 +49,7 @@ use Rattle.kr_load.proofs.LoadHistories.{IsLoadEntry, IsLoads, OpensKeyed, is_no
 use Rattle.kr_load.proofs.LoadLines.{of_load, opening_keyed}
 use Rattle.kr_load.proofs.LoadReplies.{IsCalm}
 use Rattle.kr_load.proofs.LoadSeats.{entries_owned, none_failed, reloads_lines, run_full, seat_few}
-use Rattle.kr_load.proofs.RunParts.{Splits, four_seats, own_there, parted, split_lines}
+use Rattle.kr_load.proofs.RunParts.{four_seats, own_there, parted, split_lines}
 
 -- ---- lists
 
@@ -276,6 +274,7 @@ module _ (T : Type 0) {L D : Type 0} (truth : Truth) (link : L → Link)
   module _ (worker : ℕ) (few : worker < 4) where
     calm : IsCalm link count history
         (first_place o worker (slice_index budgets worker) (was worker few).x.bench)
+        (now worker few).x.bench.dice
     calm = record {
       here = λ front e rest is replica says. is_not_gone seed size r.few o opens history all_load
           r.one.legal.runs history_few front e rest is replica says;
@@ -289,7 +288,8 @@ module _ (T : Type 0) {L D : Type 0} (truth : Truth) (link : L → Link)
           names_keyed seed size r.few o opens history all_load r.one.legal.runs history_few
           at.front e at.rest at.is p is;
       bare = r.links worker (was worker few).x (was worker few).is;
-      drawn = r.drawn;
+      drawn = r.drawn worker (was worker few).x (now worker few).x (was worker few).is
+          (now worker few).is;
     }
 
     quiet : list_any (of_kind ending.Fault) (now worker few).x.told.0 ≡ false

@@ -15,5 +15,6 @@ pub mod FullRuns
 mod Gathering
 mod Joining
 mod Keeping
+mod OneListing
 mod Passing
 pub mod Ruling

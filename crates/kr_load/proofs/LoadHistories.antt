@@ -1,16 +1,13 @@
 -- The history of a load: whose puts it has, which configurations, and that its rows are few.
-use Rattle.std.specs.Prelude.{All, Contains, IfSome, IsSome, slice_set, ⊤}
-use Rattle.std.proofs.Common.{◌≡◌, ℕ, zero, suc, ◌+◌, ◌*◌, ◌<◌, ◌≤◌, ◌^◌, ◌⊎◌, List, [], ◌∷◌, ◌++◌, codes, length, map, get_or, Option, None, Some, Result, Ok, Err, inl, inr, refl, ap, sym, subst, ◌∙◌, length-append, arith}
-use Rattle.std.specs.Option.{option_map}
+use Rattle.std.specs.Prelude.{All, IfSome, IsSome, slice_set, ⊤}
+use Rattle.std.proofs.Common.{◌≡◌, ℕ, zero, suc, ◌+◌, ◌*◌, ◌<◌, ◌≤◌, List, [], ◌∷◌, ◌++◌, codes, length, get_or, Option, None, Some, refl, ap, sym, subst, ◌∙◌, length-append, arith}
 use Rattle.std.proofs.lemmas.Bool.{false≢true}
 use Rattle.std.proofs.lemmas.List.Elements.{All-append, All-cons, All-head, All-nil, All-tail}
 use Rattle.std.proofs.lemmas.Option.{none-some, same_Some}
-use Rattle.kr_base.specs.Faults.{Rose}
 use Rattle.kr_base.specs.Limits.{store_limit}
 use Rattle.kr_config.specs.Kept.{Row}
 use Rattle.kr_config.specs.Lists.{list_of}
-use Rattle.kr_config.specs.declared.who.Who.{Who}
-use Rattle.kr_config.specs.declared.who.Who.TheVariants.{Aesgcm, Identity}
+use Rattle.kr_config.specs.declared.who.Who.TheVariants.{Aesgcm}
 use Rattle.kr_envelope.specs.Prefixes.{prefix}
 use Rattle.kr_envelope.specs.declared.prefix.Kind.TheVariants as kind
 use Rattle.kr_provider.specs.Publication.{Publication, writer_at}
@@ -20,11 +17,11 @@ use Rattle.kr_provider.proofs.SealedSizes.{sealing_is_sized}
 use Rattle.kr_rollout.specs.Answers.{IsAnswer}
 use Rattle.kr_rollout.specs.Checks.{written_check}
 use Rattle.kr_rollout.specs.Entries.{generation_named_in, published_at, seat_of}
-use Rattle.kr_rollout.specs.Histories.{IsRun, state_from, state_of}
+use Rattle.kr_rollout.specs.Histories.{IsRun, state_from}
 use Rattle.kr_rollout.specs.Openings.{current_from, generations_from, settings_of, start_of}
 use Rattle.kr_rollout.specs.States.{State, current_of}
 use Rattle.kr_rollout.specs.Steps.{IsStep, KeepsRules, after, current_after, new_generations, new_rows, put_row, row_written_by}
-use Rattle.kr_rollout.specs.Writes.{IsSealedPut, WouldWrite, Writes, file_size}
+use Rattle.kr_rollout.specs.Writes.{WouldWrite, Writes, file_size}
 use Rattle.kr_rollout.specs.declared.generation.Generation.{Generation}
 use Rattle.kr_rollout.specs.declared.line.Did.{Did}
 use Rattle.kr_rollout.specs.declared.line.Did.TheVariants as did

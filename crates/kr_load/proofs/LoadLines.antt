@@ -1,14 +1,14 @@
 -- The lines of a load, and what their entries are.
-use Rattle.std.specs.Prelude.{All, ⊤}
+use Rattle.std.specs.Prelude.{All}
 use Rattle.std.specs.List.{find, range_with_len}
 use Rattle.std.specs.Option.{option_map}
 use Rattle.std.specs.Str.{bytes_eq}
-use Rattle.std.proofs.Common.{◌≡◌, ℕ, zero, suc, ◌+◌, ◌<◌, ◌≤◌, ◌*◌, ◌⊎◌, length-append, Bool, true, false, cond, List, [], ◌∷◌, ◌++◌, codes, length, map, Option, None, Some, inl, inr, refl, ap, sym, subst, ◌∙◌, arith}
+use Rattle.std.proofs.Common.{◌≡◌, ℕ, zero, suc, ◌+◌, ◌<◌, ◌≤◌, ◌*◌, ◌⊎◌, length-append, Bool, true, false, cond, List, [], ◌∷◌, ◌++◌, codes, length, map, Option, Some, inl, inr, refl, ap, sym, subst, ◌∙◌, arith}
 use Rattle.std.proofs.lemmas.Bool.{false≢true}
 use Rattle.std.proofs.lemmas.List.Elements.{All-append, All-cons, All-head, All-nil, All-tail}
 use Rattle.std.proofs.lemmas.Option.{same_Some}
 use Rattle.kr_config.specs.Kept.{Row, rows_of}
-use Rattle.kr_config.specs.declared.who.Who.TheVariants.{Aesgcm, Identity}
+use Rattle.kr_config.specs.declared.who.Who.TheVariants.{Identity}
 use Rattle.kr_envelope.specs.Prefixes.{prefix}
 use Rattle.kr_envelope.specs.declared.prefix.Kind.TheVariants as kind
 use Rattle.kr_rollout.specs.declared.line.Did.{Did}
@@ -19,10 +19,10 @@ use Rattle.kr_workers.specs.Budgets.{budget_of, entries_of}
 use Rattle.kr_workers.specs.Files.{rows_at}
 use Rattle.kr_workers.specs.declared.files.SettingsFile.{SettingsFile}
 use Rattle.kr_load.specs.FullLoads.{opening_rows}
-use Rattle.kr_load.specs.Loads.{configurations, g1, g2, get_of, lines_of, named_rows, of_secrets, path_of, plain_of, put_of, reloads_of}
+use Rattle.kr_load.specs.Loads.{configurations, g1, g2, get_of, lines_of, named_rows, of_secrets, put_of, reloads_of}
 use Rattle.kr_load.specs.Streams.{piece}
 use Rattle.kr_load.proofs.LineParts.{IsOf, IsSimple}
-use Rattle.kr_load.proofs.LoadHistories.{IsLoads, WritesByKey, secrets}
+use Rattle.kr_load.proofs.LoadHistories.{IsLoads, WritesByKey}
 
 -- ---- the lines
 

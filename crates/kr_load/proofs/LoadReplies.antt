@@ -1,17 +1,14 @@
 -- What the replies of a load can be: each line was done, or memory lacked.
-use Rattle.std.specs.Prelude.{All, Contains, ◌+◌, if◌then◌else◌, ⊤}
-use Rattle.std.specs.List.{list_any}
-use Rattle.std.proofs.Common.{◌≡◌, ℕ, zero, suc, ◌<◌, ◌≤◌, ◌==◌, ◌⊎◌, Bool, true, false, List, [], ◌∷◌, ◌++◌, length, map, Option, None, Some, inl, inr, refl, ap, sym, subst, ◌∙◌, arith}
+use Rattle.std.specs.Prelude.{Contains, if◌then◌else◌, ⊤}
+use Rattle.std.proofs.Common.{◌≡◌, ℕ, ◌==◌, ◌⊎◌, Bool, true, false, List, [], ◌∷◌, ◌++◌, length, Option, None, Some, inl, inr, refl, ap, sym, subst, ◌∙◌, arith}
 use Rattle.std.proofs.lemmas.Bool.{false≢true}
 use Rattle.std.proofs.lemmas.List.{length-map}
-use Rattle.std.proofs.lemmas.Option.{none-some, same_Some}
 use Rattle.kr_base.specs.Faults.{Rose}
 use Rattle.kr_base.specs.Lines.{of_seat}
 use Rattle.kr_config.specs.declared.who.Who.{Who}
-use Rattle.kr_config.specs.declared.who.Who.TheVariants.{Aescbc, Aesgcm, Identity, Kms}
+use Rattle.kr_config.specs.declared.who.Who.TheVariants.{Aesgcm, Identity}
 use Rattle.kr_kms.specs.Calls.{Link}
 use Rattle.kr_kms.specs.Truth.{Opens, Truth}
-use Rattle.kr_provider.specs.AskedLinks.{FaultRose, HasLinkWith}
 use Rattle.kr_provider.specs.Names.{names_of}
 use Rattle.kr_provider.specs.Publication.{Publication}
 use Rattle.kr_provider.specs.Reading.{Reading, data_of, refused, unopened}
@@ -29,7 +26,7 @@ use Rattle.kr_script.specs.declared.told.Told.{Told}
 use Rattle.kr_script.specs.declared.told.Told.TheVariants as told
 use Rattle.kr_workers.specs.Causes.{HasCause, OwnGave, StoreFails, TellsAnswer}
 use Rattle.kr_workers.specs.Endings.{is_same, kind_of}
-use Rattle.kr_workers.specs.Gets.{FetchesWhere, TellsContent}
+use Rattle.kr_workers.specs.Gets.{TellsContent}
 use Rattle.kr_workers.specs.ScriptLines.{Workplace}
 use Rattle.kr_workers.specs.declared.ending.Ending.TheVariants as ending
 use Rattle.kr_load.proofs.LoadHistories.{WritesByKey, secrets}
@@ -52,7 +49,7 @@ IsReply Said asked reply = (reply ≡ told.Memory) ⊎ IsFullReply Said asked re
 -- ---- what a load's history rules out
 
 pub record IsCalm {L D : Type 0} (link : L → Link) (count : D → ℕ) (history : List Entry)
-    (first : Workplace L D) : Type 0 where
+    (first : Workplace L D) (dice : D) : Type 0 where
   pub here : (front : List Entry) (e : Entry) (rest : List Entry) → history ≡ front ++ e ∷ rest
       → (replica : ℕ) → e.line.gave ≡ gave.Gone replica → ⊥
   pub room : (front : List Entry) (e : Entry) (rest : List Entry) → history ≡ front ++ e ∷ rest
@@ -62,7 +59,7 @@ pub record IsCalm {L D : Type 0} (link : L → Link) (count : D → ℕ) (histor
   pub keyed : (e : Entry) → Contains history e → (p : Publication) → e.published ≡ Some p
       → WritesByKey p.rows
   pub bare : names_of link first.links ≡ []
-  pub drawn : (before after : D) → Rose (count before) (count after) → ⊥
+  pub drawn : Rose (count first.dice) (count dice) → ⊥
 
 no_identity : (name secret : List ℕ) → Aesgcm name secret ≡ Identity → ⊥
 no_identity name secret e = absurd (false≢true (sym (ap is_named e)))
@@ -72,7 +69,7 @@ no_identity name secret e = absurd (false≢true (sym (ap is_named e)))
     is_named other = true
 
 module _ {L D : Type 0} (link : L → Link) (count : D → ℕ) (history : List Entry)
-    (first : Workplace L D) (calm : IsCalm link count history first) (links : List L) (dice : D)
+    (first : Workplace L D) (links : List L) (dice : D) (calm : IsCalm link count history first dice)
   where
     no_link : (it : L) → Contains first.links it → ⊥
     no_link it (k, below, is) =
@@ -119,7 +116,7 @@ module _ {L D : Type 0} (link : L → Link) (count : D → ℕ) (history : List 
     no_fault asked (told.Value why) c = refl
     no_fault asked (told.Unhealthy name field text) c = refl
     no_fault asked (told.FaultPlugin name) c = absurd (no_link c.1.old c.1.old_there)
-    no_fault asked (told.FaultDice seat) c = absurd (calm.drawn first.dice dice c.2)
+    no_fault asked (told.FaultDice seat) c = absurd (calm.drawn c.2)
     no_fault asked told.FaultStore c = absurd (none_failed c.1)
     no_fault asked told.Full c = refl
     no_fault asked told.Memory c = refl
@@ -169,7 +166,7 @@ module _ {L D : Type 0} (link : L → Link) (count : D → ℕ) (history : List 
         put_ends (told.Value why) c t = absurd (value_ends why c t)
         put_ends (told.Unhealthy name field text) c t = absurd c.0
         put_ends (told.FaultPlugin name) c t = absurd c.0
-        put_ends (told.FaultDice seat) c t = absurd (calm.drawn first.dice dice c.2)
+        put_ends (told.FaultDice seat) c t = absurd (calm.drawn c.2)
         put_ends told.FaultStore c t = absurd (none_failed c.1)
         put_ends told.Full c t = absurd (none_full c.1)
         put_ends told.Memory c t = inl refl
@@ -196,7 +193,7 @@ module _ {L D : Type 0} (link : L → Link) (count : D → ℕ) (history : List 
       reload_ends replica file (told.Unhealthy name field text) c =
           absurd (no_link c.1.it c.1.there)
       reload_ends replica file (told.FaultPlugin name) c = absurd (no_link c.1.old c.1.old_there)
-      reload_ends replica file (told.FaultDice seat) c = absurd (calm.drawn first.dice dice c.2)
+      reload_ends replica file (told.FaultDice seat) c = absurd (calm.drawn c.2)
       reload_ends replica file told.FaultStore c = absurd c.0
       reload_ends replica file told.Full c = absurd c.0
       reload_ends replica file told.Memory c = inl refl

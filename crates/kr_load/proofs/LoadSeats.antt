@@ -1,8 +1,7 @@
 -- What one worker of a load replies.
 use Rattle.std.specs.Prelude.{All, Contains}
-use Rattle.std.specs.List.{list_any, range_with_len}
-use Rattle.std.proofs.Common.{◌≡◌, ℕ, zero, suc, ◌+◌, ◌*◌, ◌<◌, ◌≤◌, ◌^◌, ◌⊎◌, ◌==◌, ◌||◌, Bool, true, false, List, [], ◌∷◌, ◌++◌, codes, length, map, get_or, count_by, Option, Some, Result, Ok, Err, inl, inr, refl, ap, sym, subst, ◌∙◌, length-append, arith}
-use Rattle.std.proofs.lemmas.Bool.{false≢true}
+use Rattle.std.specs.List.{range_with_len}
+use Rattle.std.proofs.Common.{◌≡◌, ℕ, ◌+◌, ◌*◌, ◌<◌, ◌≤◌, ◌==◌, false, List, [], ◌∷◌, ◌++◌, length, map, get_or, Option, Some, Ok, inl, inr, refl, ap, sym, subst, ◌∙◌, arith}
 use Rattle.std.proofs.lemmas.List.{append_assoc, length-map}
 use Rattle.std.proofs.lemmas.List.Elements.{All-append, All-contains, All-cons, All-head, All-nil, All-tail, Contains-append_left, Contains-append_right, Contains-get_or}
 use Rattle.kr_base.specs.Lines.{of_seat}
@@ -16,7 +15,6 @@ use Rattle.kr_rollout.specs.declared.opening.Entry.{Entry}
 use Rattle.kr_rollout.specs.declared.opening.Opening.{Opening}
 use Rattle.kr_script.specs.declared.script.Part.{Part}
 use Rattle.kr_script.specs.declared.script.ScriptLine.{ScriptLine}
-use Rattle.kr_script.specs.declared.script.ScriptLine.TheVariants as line
 use Rattle.kr_script.specs.declared.told.Told.{Told}
 use Rattle.kr_script.specs.declared.told.Told.TheVariants as told
 use Rattle.kr_workers.specs.Budgets.{entries_of}
@@ -29,19 +27,16 @@ use Rattle.kr_workers.specs.ScriptLines.{Does}
 use Rattle.kr_workers.specs.declared.ending.Ending.TheVariants as ending
 use Rattle.kr_workers.specs.declared.files.SettingsFile.{SettingsFile}
 use Rattle.kr_workers.proofs.CausingRuns.{replies_have_causes}
-use Rattle.kr_load.specs.FullLoads.{objects_at}
 use Rattle.kr_load.specs.Loads.{get_of, lines_of, path_of, plain_of, put_of, reloads_of}
-use Rattle.kr_load.specs.Summaries.{objects_by, objects_in, is_got, is_put}
-use Rattle.kr_load.specs.inner.Refusing.{refuses}
 use Rattle.kr_load.proofs.LineParts.{OfLine, line_makes}
 use Rattle.kr_load.proofs.LoadContents.{stays_put}
 use Rattle.kr_load.proofs.LoadHistories.{IsLoadEntry, IsLoads, at_middle, front_all, secrets}
-use Rattle.kr_load.proofs.LoadLines.{IsLoadLine, IsReloading, lines_are, lines_few, load_simple, long, of_load, reloading}
+use Rattle.kr_load.proofs.LoadLines.{IsLoadLine, IsReloading, lines_are, lines_few, load_simple, reloading}
 use Rattle.kr_load.proofs.LoadReplies.{IsCalm, IsFullReply, IsReply, get_ends, no_fault, put_ends, reload_ends}
 use Rattle.kr_load.proofs.LoadTexts.{one_number}
 use Rattle.kr_load.proofs.PutParts.{HasWritten, TellsPut, part_is, put_tells}
 use Rattle.kr_load.proofs.Ruling.{piece_long}
-use Rattle.kr_load.proofs.RunParts.{IsNumbered, Splits, WasDone, all_by_parts, all_done, all_entries, count_all, count_behind, count_none, entries_behind, entry_there, few_entries, numbered_all, numbered_at, passed_there, split_lines}
+use Rattle.kr_load.proofs.RunParts.{IsNumbered, Splits, WasDone, all_by_parts, all_done, all_entries, entries_behind, entry_there, few_entries, numbered_all, numbered_at, passed_there}
 
 -- ---- lists
 
@@ -149,7 +144,8 @@ module _ {L D : Type 0} (truth : Truth) (link : L → Link) (left : D → Option
     (s : StandsIn truth link left count files history part (first_place o worker budget bench)
     replies after) (lines : part.lines.0 ≡ lines_of seed size worker)
     (tell : TellContents truth o history worker s.run) (small : size ≤ 10000)
-    (few : worker < 4) (calm : IsCalm link count history (first_place o worker budget bench))
+    (few : worker < 4)
+    (calm : IsCalm link count history (first_place o worker budget bench) after.dice)
     (all : All (IsLoadEntry seed size) history)
     (no_names : (front rest : List Entry) → history ≡ front ++ rest → NamesNoPlugin o front)
   where
@@ -164,7 +160,7 @@ module _ {L D : Type 0} (truth : Truth) (link : L → Link) (left : D → Option
         let P : Told → Type 0 = λ reply. is_same (kind_of reply) ending.Fault ≡ false in
         subst (λ l. All P l) (sym s.replies_are) (all_replies P s.run (λ k d below.
         let done = get_or s.run k d in
-        no_fault link count history (first_place o worker budget bench) calm after.links after.dice
+        no_fault link count history (first_place o worker budget bench) after.links after.dice calm
         done.line done.reply (caused done (Contains-get_or s.run k d below))))
 
     -- ---- the puts
@@ -215,8 +211,7 @@ module _ {L D : Type 0} (truth : Truth) (link : L → Link) (left : D → Option
             → IsNumbered (put_of seed size worker) size done → IsLine seed size worker done
         put_replied done there n = subst
             (λ (l : ScriptLine). IsReply (IsSaid seed size worker) l done.reply) (sym n.line_is)
-            (put_ends link count history (first_place o worker budget bench) calm after.links
-            after.dice (IsSaid seed size worker) (path_of worker n.number)
+            (put_ends link count history (first_place o worker budget bench) after.links after.dice calm (IsSaid seed size worker) (path_of worker n.number)
             (plain_of seed size worker n.number)
             (piece_long seed (2 + worker * size + n.number)) done.part (entry_in done there)
             done.reply
@@ -230,8 +225,7 @@ module _ {L D : Type 0} (truth : Truth) (link : L → Link) (left : D → Option
             → IsLine seed size worker done
         reload_replied done there (replica, file, is, named) = subst
             (λ (l : ScriptLine). IsReply (IsSaid seed size worker) l done.reply) (sym is)
-            (reload_ends link count history (first_place o worker budget bench) calm after.links
-            after.dice (IsSaid seed size worker) replica file done.reply
+            (reload_ends link count history (first_place o worker budget bench) after.links after.dice calm (IsSaid seed size worker) replica file done.reply
             (subst (λ (l : ScriptLine). HasCause link count l (first_place o worker budget bench)
             done.reply history after.links after.dice) is (caused done there)))
 
@@ -331,8 +325,7 @@ module _ {L D : Type 0} (truth : Truth) (link : L → Link) (left : D → Option
                   (0, omega arith, refl)) in
                   full_of done there (subst
                   (λ (l : ScriptLine). IsReply (IsSaid seed size worker) l done.reply) (sym asked)
-                  (get_ends link count history (first_place o worker budget bench) calm after.links
-                  after.dice (IsSaid seed size worker) truth o worker (path_of worker number)
+                  (get_ends link count history (first_place o worker budget bench) after.links after.dice calm (IsSaid seed size worker) truth o worker (path_of worker number)
                   (plain_of seed size worker number)
                   (entries_in (p.front ++ (q.front ++ front))) done.part no_names known said done.reply
                   (subst (λ (l : ScriptLine). HasCause link count l (first_place o worker budget bench)

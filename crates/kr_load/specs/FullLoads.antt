@@ -38,6 +38,11 @@ abbrev pub IsFull : (seed size : ℕ) → (text : List ℕ) → Type 0
 IsFull seed size text = (digest : List ℕ) × IsDigest (all_objects seed size) digest
     × (text ≡ text_of seed size (4 * size) (4 * size) digest)
 
+-- and it is one text
+abbrev pub FullIsOne : Type 0
+FullIsOne = (seed size : ℕ) (one other : List ℕ) → IsFull seed size one → IsFull seed size other
+    → one ≡ other
+
 -- the replies of such a load
 pub record AreFull (seed size : ℕ) (replies : Replies) : Type 0 where
   pub ended : ending_of_load replies ≡ ending.Done
@@ -47,7 +52,7 @@ pub record AreFull (seed size : ℕ) (replies : Replies) : Type 0 where
 
 -- ---- when a load is so
 
--- the most objects of a worker
+-- so many objects of each worker fit into a store
 abbrev pub size_limit : ℕ
 size_limit = 10000
 
@@ -57,8 +62,8 @@ opening_rows seed = of_secrets (g1 seed ∷ (Identity ∷ []))
 
 module _ {T L D : Type 0} (truth : Truth) (link : L → Link) (left : D → Option (List ℕ))
     (count : D → ℕ) where
-  -- the workers of a load did their lines over a store that had no rows, with no plugins; the
-  -- count of the store's tape didn't rise, and no count of a random source does
+  -- the workers of a load did their lines over a store that had no rows, with no plugins; neither
+  -- the count of the store's tape rose nor that of a worker's random source
   pub record IsBlankRun (seed size : ℕ) (files : List SettingsFile) (history : List Entry)
       (o : Opening) (parts : List Part) (budgets : List ℕ) (old new : List (Worker T L D))
       : Type 0 where
@@ -74,7 +79,9 @@ module _ {T L D : Type 0} (truth : Truth) (link : L → Link) (left : D → Opti
     pub links : (number : ℕ) (worker : Worker T L D) → slice_get old number ≡ Some worker
         → names_of link worker.bench.links ≡ []
     pub stored : Rose o.count (state_of o history).count → ⊥
-    pub drawn : (before after : D) → Rose (count before) (count after) → ⊥
+    pub drawn : (number : ℕ) (before after : Worker T L D)
+        → slice_get old number ≡ Some before → slice_get new number ≡ Some after
+        → Rose (count before.bench.dice) (count after.bench.dice) → ⊥
 
 -- memory lacked for some reply, or nothing lacks
 abbrev pub LoadsAreFull : (T : Type 0) → {L D : Type 0} → Truth → (L → Link)

@@ -79,6 +79,11 @@ pub record IsDigest (objects : Objects) (digest : List ℕ) : Type 0 where
   pub sorted : IsSorted object_cmp listing
   pub digest_is : digest ≡ sha256 (flat_map object_lines listing)
 
+-- it is one alone
+abbrev pub OneDigest : Type 0
+OneDigest = (objects : Objects) (one other : List ℕ) → IsDigest objects one
+    → IsDigest objects other → one ≡ other
+
 -- ---- the text
 
 abbrev pub hex_digit : ℕ → ℕ

@@ -1,6 +1,7 @@
 //! Laws of the definitions, for a reader and for callers' proofs. The functions do nothing.
-ghost use Rattle.kr_load.specs.FullLoads.{LoadsAreFull};
+ghost use Rattle.kr_load.specs.FullLoads.{FullIsOne, LoadsAreFull};
 ghost use Rattle.kr_load.specs.Loads.{LoadsKeepRules};
+ghost use Rattle.kr_load.specs.Summaries.{OneDigest};
 
 use kr_base::{Dice, Tape};
 use kr_kms::Kms;
@@ -14,4 +15,10 @@ pub fn loads_keep_rules()
 /// memory lacked for some reply, or each put and each `get` was done.
 pub fn loads_are_full<T: Tape, L: Kms, D: Dice>()
     ensures { LoadsAreFull T L.truth L.link D.left D.count }
+{}
+
+/// What was got has one digest, and so the summary of a load of which nothing lacks is one text.
+pub fn summaries_are_one()
+    ensures digest { OneDigest }
+    ensures full { FullIsOne }
 {}

@@ -35,7 +35,6 @@ use Rattle.kr_rollout.proofs.Judging.{refusal_is_exact}
 use Rattle.kr_script.specs.Fleets.{Worker}
 use Rattle.kr_script.specs.declared.script.Part.{Part}
 use Rattle.kr_store.specs.Rows.{live}
-use Rattle.kr_store.specs.declared.format.Format.TheVariants.{Two}
 use Rattle.kr_workers.specs.Budgets.{budget_of, budgets_of, put_lines}
 use Rattle.kr_workers.specs.Endings.{status_of}
 use Rattle.kr_workers.specs.declared.ending.Ending.{Ending}
@@ -65,16 +64,6 @@ use Rattle.kr_top.proofs.FleetWalk.{is_told, some_same}
 use Rattle.kr_top.proofs.GivesOnly.{GivesOnly, allowed}
 use Rattle.kr_top.proofs.Listed.{one_stored}
 use Rattle.kr_top.proofs.Tapes.{own_name}
-
--- ---- the store
-
-abbrev no_rows : Stored
-no_rows = record { format = Two; rows = [] }
-
-told_blank : (words : LoadWords) (old : Around) → IsBlank words old
-    → or_empty (old.world.tapes.told words.store) ≡ Some (Some [])
-told_blank words old (inl absent) = ap or_empty absent
-told_blank words old (inr empty) = ap or_empty empty
 
 -- ---- the start
 
@@ -158,64 +147,61 @@ within_journal seed size paths small =
 abbrev BeginsBlank : Begun → Left → Type 0
 BeginsBlank begun left = begun.stored.rows ≡ []
 
-module _ (words : LoadWords) (small : words.size ≤ 10000) where
+module _ (words : LoadWords) (small : words.size ≤ 10000) (stored : Stored)
+    (empty : stored.rows ≡ []) where
   starts_blank : (budgets : List ℕ) (replicas : Replicas) (left : Left)
       → settings_of replicas
       ≡ Some (opening_rows words.seed) ∷ (Some (opening_rows words.seed) ∷ [])
-      → GivesOnly BeginsBlank (starting (load_plan words) no_rows budgets replicas) left
+      → GivesOnly BeginsBlank (starting (load_plan words) stored budgets replicas) left
   starts_blank budgets replicas left settings = by
     where
-      by : (r : Result (Unit {0}) Refusal) → IsStart [] replicas r
+      by : (r : Result (Unit {0}) Refusal) → IsStart stored.rows replicas r
           → GivesOnly BeginsBlank (and_then (by_result r) (λ done. with_memory (give (record {
             plan = load_plan words;
-            stored = no_rows;
+            stored = stored;
             budgets = budgets;
             replicas = replicas;
           })))) left
-      by (Ok done) is = λ u t. refl
-      by (Err why) is = absurd (no_refusal words.seed replicas why settings is)
+      by (Ok done) is = λ u t. empty
+      by (Err why) is = absurd (no_refusal words.seed replicas why settings
+          (subst (λ rows. IsStart rows replicas (Err why)) empty is))
 
   launches_blank : (budgets : List ℕ) (left : Left)
-      → GivesOnly BeginsBlank (launching (load_plan words) no_rows budgets) left
+      → GivesOnly BeginsBlank (launching (load_plan words) stored budgets) left
   launches_blank budgets left = λ u t v s x y. starts_blank budgets _ left refl
 
   begins_blank : (left : Left)
-      → GivesOnly BeginsBlank (load_beginning (load_plan words) no_rows) left
+      → GivesOnly BeginsBlank (load_beginning (load_plan words) stored) left
   begins_blank left = by
     where
       by : (r : Result (List ℕ) Refusal)
-          → AreWithin [] (parts_of (load_plan words).fleet) r
+          → AreWithin stored.rows (parts_of (load_plan words).fleet) r
           → GivesOnly BeginsBlank
-          (and_then (by_result r) (launching (load_plan words) no_rows)) left
+          (and_then (by_result r) (launching (load_plan words) stored)) left
       by (Ok budgets) is = launches_blank budgets left
       by (Err why) (e, (budgets, (count, live, are), many)) =
           let few = within_journal words.seed words.size
           (count + put_lines (parts_of (load_plan words).fleet)) small in
           let same = ap sum are in absurd (omega (arith, few, many, same))
 
-  known_blank : (r : Result Stored Refusal) (left : Left) → Ok no_rows ≡ r
+  known_blank : (r : Result Stored Refusal) (left : Left) → Ok stored ≡ r
       → GivesOnly BeginsBlank (and_then (by_result r) (load_beginning (load_plan words))) left
   known_blank r left e = subst (λ k. GivesOnly BeginsBlank
       (and_then (by_result k) (load_beginning (load_plan words))) left) e (begins_blank left)
 
-  module _ (old : Around) (blank : IsBlank words old) where
-    pub walks_blank : GivesOnly BeginsBlank (load_steps words) (left_of (with_streams old))
-    walks_blank = (
-      refl,
-      λ bytes agrees r is.
-          let held : [] ≡ bytes = some_same (is_told
-          (tapes_with true words.store old.world.tapes.told words.store) (Some []) (Some bytes)
-          (ap {B = Option (Option (List ℕ))}
-          (λ b. if b then or_empty (old.world.tapes.told words.store)
-          else old.world.tapes.told words.store) (own_name words.store)
-          ∙ told_blank words old blank) agrees) in
-          let e : Ok no_rows ≡ r = one_stored bytes (Ok no_rows) r
-          (subst (λ b. IsStored b (Ok no_rows)) held stored_none) is in
-          known_blank r _ e,
-    )
-      where
-        stored_none : IsStored [] (Ok no_rows)
-        stored_none = (omega arith, (tt, inl (refl, refl, refl)))
+walks_blank : (words : LoadWords) → words.size ≤ 10000 → (old : Around) → IsBlank words old
+    → GivesOnly BeginsBlank (load_steps words) (left_of (with_streams old))
+walks_blank words small old (stored, (file, told, holds), empty) = (
+  refl,
+  λ bytes agrees r is.
+      let held : file ≡ bytes = some_same (is_told
+      (tapes_with true words.store old.world.tapes.told words.store) (Some file) (Some bytes)
+      (ap {B = Option (Option (List ℕ))}
+      (λ b. if b then or_empty (old.world.tapes.told words.store)
+      else old.world.tapes.told words.store) (own_name words.store) ∙ told) agrees) in
+      known_blank words small stored empty r _
+      (one_stored bytes (Ok stored) r (subst (λ b. IsStored b (Ok stored)) held holds) is),
+)
 
 -- ---- counts
 
@@ -287,7 +273,7 @@ module _ (T : Type 0) {L : Type 0} (truth : Truth) (link : L → Link) (words : 
       stored = λ rose. calls (scanning Store words.store)
           (Rose-later _ _ _ (s.since.tapes.later words.store)
           (subst (λ n. Rose (s.mid.world.tapes.faults words.store) n) (sym s.runs.counted) rose));
-      drawn = λ before after rose. never_rose rose;
+      drawn = λ number before after was now rose. never_rose rose;
     }
 
     abbrev told_by : Replies

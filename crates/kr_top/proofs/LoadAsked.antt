@@ -2,7 +2,7 @@
 use Rattle.std.proofs.Common.{◌≡◌, ℕ, ◌+◌, ◌≤◌, ◌<◌, List, [], ◌∷◌, length, codes, get_or, Option, None, Some, Ok, Err, sym, ◌∙◌, ap, subst, inl, inr, arith}
 use Rattle.std.specs.Prelude.{IfSome, IsSomeAnd}
 use Rattle.kr_words.specs.Arguments.{IsNumberAt}
-use Rattle.kr_words.specs.Grammar.{IsWithinSize, Means, Reads, replica_limit, replicas_of, size_limit}
+use Rattle.kr_words.specs.Grammar.{IsWithinSize, Means, Reads, replica_limit, replicas_of}
 use Rattle.kr_words.specs.Numerals.{IsDecimal}
 use Rattle.kr_words.specs.Options.{value_of}
 use Rattle.kr_words.specs.declared.command.Verb.{Verb}
@@ -90,11 +90,11 @@ pub size_fits : (value : Option (List ℕ)) (size : ℕ)
 size_fits None size h k = absurd k
 size_fits (Some text) size (n, is, small) so = omega (arith, small, is.1, so.1)
 
--- the words keep the limit of a size
+-- so does that of words that ask for a load
 pub asked_small : {words : List (List ℕ)} {asked : LoadWords} → AsksLoad words asked
-    → asked.size ≤ size_limit
-asked_small {words} {asked} asks =
-    size_fits (value_of asks.options (codes "size")) asked.size asks.small asks.size
+    → asked.size ≤ 10000
+asked_small {words} {asked} h =
+    size_fits (value_of h.options (codes "size")) asked.size h.small h.size
 
 one_number : (value : Option (List ℕ)) (m n : ℕ) → IsSomeAnd value (λ text. IsDecimal text m)
     → IsSomeAnd value (λ text. IsDecimal text n) → m ≡ n

@@ -2,7 +2,6 @@
 use Rattle.std.proofs.Common.{ℕ, ◌≤◌, List, Result, Ok, Err}
 use Rattle.kr_kms.specs.Calls.{Link}
 use Rattle.kr_kms.specs.Truth.{Truth}
-use Rattle.kr_words.specs.Grammar.{size_limit}
 use Rattle.kr_workers.specs.declared.ending.Ending.{Ending}
 use Rattle.kr_top.specs.Around.{Around}
 use Rattle.kr_top.specs.GeneratedLoads.{RanLoad, load_steps, with_streams}
@@ -27,10 +26,10 @@ module _ (T : Type 0) {L : Type 0} (truth : Truth) (link : L → Link) (words : 
   breaks (Fault object n) s = s.writes.2
   breaks NoMemory s = tt
 
-  pub load_readings : words.size ≤ size_limit → (status : ℕ)
+  pub load_readings : (status : ℕ) → words.size ≤ 10000
       → RanLoad T truth link words old new output errors status
       → LoadReadings T truth link words old new output errors status
-  load_readings small status ran = record {
+  load_readings status small ran = record {
     causes = causes (load_steps words) words.store Began (with_streams old) (with_streams new)
         output errors (λ e s. (s.begun, (s.reaches.end, s.reaches.goes))) breaks
         (TellsTape words old) (settled_load words old) status ran.result

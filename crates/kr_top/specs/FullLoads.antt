@@ -1,15 +1,17 @@
 -- A load over a store without rows: how it ends where no count rises.
-use Rattle.std.specs.Prelude.{◌≡◌, ℕ, ◌⊎◌, List, [], Some, None}
+use Rattle.std.specs.Prelude.{◌≡◌, ℕ, ◌⊎◌, List, []}
 use Rattle.std.specs.Io.KnownBytes.{Appends}
 use Rattle.kr_load.specs.FullLoads.{IsFull}
 use Rattle.kr_top.specs.Around.{Around}
+use Rattle.kr_top.specs.FleetReady.{TellsStore}
 use Rattle.kr_top.specs.Ran.{IsIdle, Receipt}
+use Rattle.kr_top.specs.StoreFiles.{Stored}
 use Rattle.kr_top.specs.declared.load_words.LoadWords.{LoadWords}
 
--- the store's file is told to be absent, or to be empty
+-- the store's tape is told, and holds no rows, or is absent
 abbrev pub IsBlank : LoadWords → Around → Type 0
-IsBlank words old = (old.world.tapes.told words.store ≡ Some None)
-    ⊎ (old.world.tapes.told words.store ≡ Some (Some []))
+IsBlank words old =
+    (stored : Stored) × TellsStore old words.store stored × (stored.rows ≡ [])
 
 -- each object was put and got, and just the summary was written, which the seed and the size alone
 -- decide; or memory lacked

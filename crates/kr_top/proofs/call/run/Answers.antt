@@ -144,8 +144,8 @@ returns-in-Err-clause-load g c asked asks = record {
 
 pub returns-in-Err-clause-load_readings : goal.returns-in-Err-clause-load_readings
 returns-in-Err-clause-load_readings g c asked asks =
-    load_readings g.row.W-Tap.Denot g.W.Link.Kms.truth g.W.Link.Kms.link asked _ _ _ _
-    (asked_small asks) _
+    load_readings g.row.W-Tap.Denot g.W.Link.Kms.truth g.W.Link.Kms.link asked _ _ _ _ _
+    (asked_small asks)
     (record {
       result = Err c.in-Err.stop;
       did = fleet_unread g.row.W-Tap.Denot g.W.Link.Kms.truth g.W.Link.Kms.link

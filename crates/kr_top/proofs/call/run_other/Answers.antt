@@ -37,8 +37,8 @@ returns-in-Ok-Some-clause-load g c asked asks =
 
 pub returns-in-Ok-Some-clause-load_readings : goal.returns-in-Ok-Some-clause-load_readings
 returns-in-Ok-Some-clause-load_readings g c asked asks =
-    load_readings g.row.W-Tap.Denot g.W.Link.Kms.truth g.W.Link.Kms.link asked _ _ _ _
-    (asked_small asks) _
+    load_readings g.row.W-Tap.Denot g.W.Link.Kms.truth g.W.Link.Kms.link asked _ _ _ _ _
+    (asked_small asks)
     (for_load
     (one_load (texts c.args.words.now) c.in-Ok-Some.asked asked
     (subst (λ o. IsLoadAsked (texts c.args.words.now) (Ok o)) c.in-Ok-Some.field-0-is
@@ -102,8 +102,8 @@ returns-in-Err-clause-load g c asked asks = record {
 
 pub returns-in-Err-clause-load_readings : goal.returns-in-Err-clause-load_readings
 returns-in-Err-clause-load_readings g c asked asks =
-    load_readings g.row.W-Tap.Denot g.W.Link.Kms.truth g.W.Link.Kms.link asked _ _ _ _
-    (asked_small asks) _
+    load_readings g.row.W-Tap.Denot g.W.Link.Kms.truth g.W.Link.Kms.link asked _ _ _ _ _
+    (asked_small asks)
     (record {
       result = Err c.in-Err.stop;
       did = load_unread g.row.W-Tap.Denot g.W.Link.Kms.truth g.W.Link.Kms.link
