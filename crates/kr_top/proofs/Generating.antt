@@ -49,7 +49,7 @@ abbrev pub AreBare : {L : Type 0} → Outfits L Source → Type 0
 AreBare {L} outfits = All (λ (outfit : Outfit L Source). outfit.links ≡ []) outfits
 
 -- so many sources from this seat on, over what is around
-abbrev seeded_from : (seat seats : ℕ) → Around → Around
+abbrev pub seeded_from : (seat seats : ℕ) → Around → Around
 seeded_from seat seats a =
     record a { world = record a.world { dice = seeded_dice seat seats a.world.dice } }
 

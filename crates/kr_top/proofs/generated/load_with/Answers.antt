@@ -43,8 +43,8 @@ returns-in-Err-make_outfits g c name a truth =
     (with_lent_tape name store.told store.count (seeded_from 1 3 a)) truth)
     (lacks_start (plan_of plan) (stored_of store) budgets c.in-Ok.replicas.0 over))
 
-pub end_outfits-requires-in-Err : goal.end_outfits-requires-in-Err
-end_outfits-requires-in-Err g c = record { bare = c.in-Err-make_outfits.ensures.generated.bare }
+pub end_outfits-requires : goal.end_outfits-requires
+end_outfits-requires g c = record { bare = c.in-Err-make_outfits.ensures.generated.bare }
 
 pub work_with-made-requires-clause-plan : goal.work_with-made-requires-clause-plan
 work_with-made-requires-clause-plan g c = λ κs lives. c.requires.plan.whole
@@ -63,8 +63,8 @@ work_with-made-requires-clause-named g c = λ κs lives.
 pub work_with-made-requires-clause-published : goal.work_with-made-requires-clause-published
 work_with-made-requires-clause-published g c = λ κs lives. c.in-Ok.ensures.replicas
 
-pub end_outfits-requires : goal.end_outfits-requires
-end_outfits-requires g c = record {
+pub end_outfits-requires-2 : goal.end_outfits-requires-2
+end_outfits-requires-2 g c = record {
   bare = later_bare g.L.Kms.link c.make_outfits.new.outfits.0 c.work_with-made.result.2.0
       c.work_with-made.ensures.later c.in-Ok-make_outfits.ensures.generated.bare;
 }
