@@ -33,7 +33,7 @@ use Rattle.kr_script.specs.declared.told.Told.{Told}
 use Rattle.kr_seats.specs.Fleets.{AreAdded, HonestIfSeatsAre, IsFleetSeat, caller_of}
 use Rattle.kr_seats.specs.declared.shared_core.SharedCore.{SharedCore}
 use Rattle.kr_turn.specs.Keys.{Home}
-use Rattle.kr_turn.specs.Seats.{AreAll, AreFresh, IsFresh, left_of, mine, number_of, seen}
+use Rattle.kr_turn.specs.Seats.{AreAll, AreFresh, IsFresh, left_of, mine, number_of, lines_seen}
 use Rattle.kr_turn.specs.declared.seat.Place.{Place}
 use Rattle.kr_turn.specs.declared.view.Terms.{Terms}
 use Rattle.kr_workers.specs.declared.files.SettingsFile.{SettingsFile}
@@ -71,7 +71,7 @@ module _ {S L D : Type 0} where
   -- it is a worker's first place
   pub fresh_place : (home : Home Opening) (o : Opening) (i budget : ℕ)
       (seat : Place S Entry Opening) (bench : BenchState L D) → home.terms.basis ≡ o
-      → number_of seat ≡ i → seen seat ≡ [] → mine seat ≡ [] → left_of seat ≡ budget
+      → number_of seat ≡ i → lines_seen seat ≡ [] → mine seat ≡ [] → left_of seat ≡ budget
       → place_of (caller_of home seat) bench ≡ first_place o i budget bench
   fresh_place home o i budget seat bench basis number none_seen none_mine left = λ k. record {
     caller = record {
@@ -425,18 +425,18 @@ module _ {T L D : Type 0} (truth : Truth) (link : L → Link) (left : D → Opti
     -- a seat that saw honest entries alone keeps the history honest
     pub back_keeps : truth.told ≡ true
         → All (λ (seat : Place (SharedCore T) Entry Opening). KeepsHonest truth.opens
-        home.terms.basis (number_of seat) (seen seat)) back
+        home.terms.basis (number_of seat) (lines_seen seat)) back
     back_keeps told k s l =
         let b = is_back (get_or back k s) k l s refl in
         let h = b.at.has in
         subst (λ (p : Place (SharedCore T) Entry Opening). KeepsHonest truth.opens
-        home.terms.basis (number_of p) (seen p)) b.is
+        home.terms.basis (number_of p) (lines_seen p)) b.is
         (h.runs.honest told (fresh_keeps truth.opens home.terms.basis (number_of h.before)
-        (seen h.before) b.at.fresh.none_seen))
+        (lines_seen h.before) b.at.fresh.none_seen))
 
     module _ (history : List Entry) (legal : IsLegal o history)
         (stand : All (λ (seat : Place (SharedCore T) Entry Opening).
-        Stands seat_of history (number_of seat) (seen seat) (mine seat)) back)
+        Stands seat_of history (number_of seat) (lines_seen seat) (mine seat)) back)
         (added : AreAdded back history) where
       pub no_other : All (λ e. seat_of e < length parts) history
       no_other k e l =
@@ -494,7 +494,7 @@ module _ {T L D : Type 0} (truth : Truth) (link : L → Link) (left : D → Opti
             let inside : i < length back = omega (arith, l, back_is) in
             let s = at_of back i inside in
             let stands = subst (λ (p : Place (SharedCore T) Entry Opening).
-            Stands seat_of history (number_of p) (seen p) (mine p)) (sym (back_at i s d l w))
+            Stands seat_of history (number_of p) (lines_seen p) (mine p)) (sym (back_at i s d l w))
             (stand i s inside) in
             let there : get_or parts i part ≡ h.part = part_at parts i part h.part
             (ap (slice_get parts) (sym w.number) ∙ h.part_is) in
@@ -528,7 +528,7 @@ module _ {T L D : Type 0} (truth : Truth) (link : L → Link) (left : D → Opti
                 → IsFresh home h.before → number_of h.before ≡ i
                 → place_of (caller_of home h.before) (get_or (seated seats workers) i d).bench
                 ≡ first_place o i (slice_index budgets i) (get_or workers i d).bench
-                → Stands seat_of history (number_of h.after) (seen h.after) (mine h.after)
+                → Stands seat_of history (number_of h.after) (lines_seen h.after) (mine h.after)
                 → budget_of (length paths) h.part.lines.0 ≤ slice_index budgets i
                 → (end : Result (Unit {0}) Spent)
                 → Runs truth link left count files h.part.replica h.part.lines.0
