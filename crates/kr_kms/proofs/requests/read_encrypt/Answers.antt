@@ -6,15 +6,15 @@ use Rattle.kr_kms.specs.Requests.{encrypt_in}
 use Rattle.kr_kms.proofs.Shapes.{stops, no_plain, no_uid, whole_encrypt}
 use Rattle.kr_kms.proofs.requests.read_encrypt.Goals as goal
 
-pub returns-in-Err : goal.returns-in-Err
-returns-in-Err c = let value = view c.args.value.now in
-    stops (bytes_at (codes "plaintext") value) (encrypt_in value) c.in-Err.why c.in-Err.ensures
+pub returns-in_err-plain : goal.returns-in_err-plain
+returns-in_err-plain c = let value = view c.args.value.now in
+    stops (bytes_at (codes "plaintext") value) (encrypt_in value) c.in_err-plain.why c.in_err-plain.ensures
     (no_plain value)
 
 pub returns-in-None : goal.returns-in-None
-returns-in-None c = no_uid (view c.args.value.now) c.in-Ok.plain c.in-Ok.ensures
+returns-in-None c = no_uid (view c.args.value.now) c.in_ok-plain.plain c.in_ok-plain.ensures
     (sym c.number_at.ensures ∙ c.in-None.is)
 
 pub returns-in-Some : goal.returns-in-Some
-returns-in-Some c = whole_encrypt (view c.args.value.now) c.in-Ok.plain c.in-Some.uid
-    c.in-Ok.ensures (sym c.number_at.ensures ∙ c.in-Some.is)
+returns-in-Some c = whole_encrypt (view c.args.value.now) c.in_ok-plain.plain c.in-Some.uid
+    c.in_ok-plain.ensures (sym c.number_at.ensures ∙ c.in-Some.is)

@@ -19,8 +19,8 @@ returns-in-Some g c =
     (gives_kept g.L.Kms.truth link old c.args.self.now c.copy_of.new.self c.in-Ok.key
     c.in-Some.kept c.in-Some.ensures.found copied.rows copied.size copied.fits)
 
-pub returns-in-Err : goal.returns-in-Err
-returns-in-Err g c =
+pub returns-in_err-seed : goal.returns-in_err-seed
+returns-in_err-seed g c =
     let link = g.L.Kms.link in
     let old = c.args.link.now in
     let rows = c.args.self.now.rows in
@@ -32,7 +32,7 @@ returns-in-Err g c =
     let copied = c.copy_of.ensures in
     gives_answer g.L.Kms.truth link old c.unwrap_source.new.self c.args.self.now
     c.copy_of.new.self c.args.key_id.now c.args.annotations.now c.args.source.now
-    (Err c.in-Err.why) none c.in-Err.ensures
+    (Err c.in_err-seed.why) none c.in_err-seed.ensures
     (λ other seed there. inl (copied.rows other seed there)) copied.size copied.fits
 
 pub returns : goal.returns
@@ -40,7 +40,7 @@ returns g c =
     let link = g.L.Kms.link in
     let old = c.args.link.now in
     let rows = c.args.self.now.rows in
-    let seed = c.in-Ok-unwrap_source.seed in
+    let seed = c.in_ok-seed.seed in
     let named = λ (name : List ℕ).
     asked_key name c.args.key_id.now c.args.annotations.now c.args.source.now in
     let same : c.in-Ok.key ≡ named (link old).name = c.in-Ok.ensures ∙ ap named c.name.ensures in
@@ -50,7 +50,7 @@ returns g c =
     let copied = c.copy_of.ensures in
     gives_answer g.L.Kms.truth link old c.unwrap_source.new.self c.args.self.now c.keep.new.self
     c.args.key_id.now c.args.annotations.now c.args.source.now (Ok seed) none
-    c.in-Ok-unwrap_source.ensures
+    c.in_ok-seed.ensures
     (rows_with rows c.copy_of.new.self.rows c.keep.new.self.rows (named (link old).name) seed
     copied.rows
     (subst (λ key. AreAmongWith c.copy_of.new.self.rows key seed c.keep.new.self.rows) same
