@@ -8,20 +8,20 @@ use Rattle.kr_kms.proofs.replies.read_wrapped.Goals as goal
 
 pub returns-in_err-key_id : goal.returns-in_err-key_id
 returns-in_err-key_id c = let value = view c.args.value.now in
-    stops (text_at (codes "key_id") value) (wrapped_in value) c.in_err-key_id.why c.in_err-key_id.ensures
-    (no_wrap_key_id value)
+    rw c.from_residual.ensures (stops (text_at (codes "key_id") value) (wrapped_in value) c.in_err-key_id.field-0.0 c.in_err-key_id.ensures
+    (no_wrap_key_id value))
 
 pub returns-in_err-annotations : goal.returns-in_err-annotations
 returns-in_err-annotations c = let value = view c.args.value.now in
-    stops (annotations_in value) (wrapped_in value) c.in_err-annotations.why
-    c.in_err-annotations.ensures (no_annotations value c.in_ok-key_id.key_id c.in_ok-key_id.ensures)
+    rw c.from_residual-in_err-annotations.ensures (stops (annotations_in value) (wrapped_in value) c.in_err-annotations.field-0.0
+    c.in_err-annotations.ensures (no_annotations value c.in_ok-key_id.key_id c.in_ok-key_id.ensures))
 
 pub returns-in_err-cipher : goal.returns-in_err-cipher
 returns-in_err-cipher c = let value = view c.args.value.now in
-    stops (bytes_at (codes "ciphertext") value) (wrapped_in value) c.in_err-cipher.why
+    rw c.from_residual-in_err-cipher.ensures (stops (bytes_at (codes "ciphertext") value) (wrapped_in value) c.in_err-cipher.field-0.0
     c.in_err-cipher.ensures
     (no_cipher value c.in_ok-key_id.key_id c.in_ok-annotations.annotations c.in_ok-key_id.ensures
-    c.in_ok-annotations.ensures)
+    c.in_ok-annotations.ensures))
 
 pub returns : goal.returns
 returns c = whole_wrap (view c.args.value.now) c.in_ok-key_id.key_id c.in_ok-annotations.annotations

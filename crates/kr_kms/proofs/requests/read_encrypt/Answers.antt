@@ -8,8 +8,8 @@ use Rattle.kr_kms.proofs.requests.read_encrypt.Goals as goal
 
 pub returns-in_err-plain : goal.returns-in_err-plain
 returns-in_err-plain c = let value = view c.args.value.now in
-    stops (bytes_at (codes "plaintext") value) (encrypt_in value) c.in_err-plain.why c.in_err-plain.ensures
-    (no_plain value)
+    rw c.from_residual.ensures (stops (bytes_at (codes "plaintext") value) (encrypt_in value) c.in_err-plain.field-0.0 c.in_err-plain.ensures
+    (no_plain value))
 
 pub returns-in-None : goal.returns-in-None
 returns-in-None c = no_uid (view c.args.value.now) c.in_ok-plain.plain c.in_ok-plain.ensures

@@ -18,11 +18,11 @@ returns-then-is_seed_of-clause-opened g c = seed_taken g.L.Kms.truth g.L.Kms.lin
     (c.as_slice.ensures i) c.args.path.now (c.as_slice-encrypted.ensures i)) c.by_source.ensures)
 
 pub returns-in_err-source-clause-opened : goal.returns-in_err-source-clause-opened
-returns-in_err-source-clause-opened g c = source_fails g.L.Kms.truth g.L.Kms.link c.args.row.now
+returns-in_err-source-clause-opened g c = rw c.from_residual.ensures (source_fails g.L.Kms.truth g.L.Kms.link c.args.row.now
     c.args.name.now c.args.object.now c.args.path.now c.args.links.now c.open_source.new.links
-    c.in_err-source.why
+    c.in_err-source.field-0.0
     (another_seed c.args.row.now c.args.name.now c.args.object.now c.is_seed_of.result
-    c.is_seed_of.ensures c.if-is_seed_of.false) c.in_err-source.ensures.opened
+    c.is_seed_of.ensures c.if-is_seed_of.false) c.in_err-source.ensures.opened)
 
 pub returns-clause-opened : goal.returns-clause-opened
 returns-clause-opened g c = source_opened g.L.Kms.truth g.L.Kms.link c.args.row.now
@@ -44,8 +44,11 @@ returns-then-is_seed_of-clause-cached g c = λ source is. (
 
 pub returns-in_err-source-clause-cached : goal.returns-in_err-source-clause-cached
 returns-in_err-source-clause-cached g c = λ source is.
-    let kept = c.in_err-source.ensures.cached source is in
-    (kept.0, λ other. source_lacks c.args.object.now c.args.path.now source c.in_err-source.why kept.1)
+    let kept = c.in_err-source.ensures.cached source is in (
+      kept.0,
+      λ other. rw c.from_residual.ensures
+          (source_lacks c.args.object.now c.args.path.now source c.in_err-source.field-0.0 kept.1),
+    )
 
 pub returns-clause-cached : goal.returns-clause-cached
 returns-clause-cached g c = λ source is.

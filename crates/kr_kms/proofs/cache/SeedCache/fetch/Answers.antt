@@ -30,10 +30,10 @@ returns-in_err-seed g c =
     let none : seed_at rows (named (link old).name) ≡ None =
     subst (λ key. seed_at rows key ≡ None) same c.in_default-copy_of.ensures.found in
     let copied = c.copy_of.ensures in
-    gives_answer g.L.Kms.truth link old c.unwrap_source.new.self c.args.self.now
+    rw c.from_residual.ensures (gives_answer g.L.Kms.truth link old c.unwrap_source.new.self c.args.self.now
     c.copy_of.new.self c.args.key_id.now c.args.annotations.now c.args.source.now
-    (Err c.in_err-seed.why) none c.in_err-seed.ensures
-    (λ other seed there. inl (copied.rows other seed there)) copied.size copied.fits
+    (Err c.in_err-seed.field-0.0) none c.in_err-seed.ensures
+    (λ other seed there. inl (copied.rows other seed there)) copied.size copied.fits)
 
 pub returns : goal.returns
 returns g c =
