@@ -1,5 +1,5 @@
 -- A line, the last line, or why there is none.
-use Rattle.std.proofs.Common.{ℕ, List, Option, Some, None, Ok, refl, subst, take, arith}
+use Rattle.std.proofs.Common.{ℕ, List, Option, Some, None, Ok, refl, subst, take, arith, rules}
 use Rattle.kr_base.specs.Faults.{Rose}
 use Rattle.kr_keywrap.specs.Answer.{Plugin}
 use Rattle.kr_keywrap.specs.inner.Lines.{Finds}
@@ -15,7 +15,7 @@ returns-in_err-found g c =
     let R : Type 0 = Rose (g.S.Source.count c.args.source.now) (g.S.Source.count c.next_line.new.source) in
     let Q : Type 0 = Rose (g.K.Sink.count c.args.sink.now) (g.K.Sink.count c.args.sink.now) in
     record {
-      serves = record { all = all; grows = c.in_err-found.ensures.grows; serves = rw c.from_residual.ensures (none_found plugin left held all all R Q c.in_err-found.field-0.0 c.in_err-found.ensures.finds) };
+      serves = record { all = all; grows = c.in_err-found.ensures.grows; serves = let stop = none_found plugin left held all all R Q c.in_err-found.field-0.0 c.in_err-found.ensures.finds in search (rules, stop) };
       source = c.in_err-found.ensures.later;
       sink = omega arith;
     }
@@ -53,8 +53,8 @@ returns-in_err-serve_line g c =
       serves = record {
         all = all;
         grows = c.in_ok-found.ensures.grows;
-        serves = rw c.from_residual-in_err-serve_line.ensures (line_failed plugin left held (g.K.Sink.held c.serve_line.new.sink) all c.serve_line.new.pending (take c.in-Some.place all) c.in-Some.place R Q
-            c.in_err-serve_line.field-0.0 finds.0 finds.1 refl c.in_err-serve_line.ensures.writes);
+        serves = let stop = line_failed plugin left held (g.K.Sink.held c.serve_line.new.sink) all c.serve_line.new.pending (take c.in-Some.place all) c.in-Some.place R Q
+            c.in_err-serve_line.field-0.0 finds.0 finds.1 refl c.in_err-serve_line.ensures.writes in search (rules, stop);
       };
       source = c.in_ok-found.ensures.later;
       sink = c.in_err-serve_line.ensures.sink;
@@ -92,8 +92,8 @@ returns-in_err-serve_last g c =
       serves = record {
         all = all;
         grows = c.in_ok-found.ensures.grows;
-        serves = rw c.from_residual-in_err-serve_last.ensures (last_failed plugin left held (g.K.Sink.held c.serve_last.new.sink) all all c.as_slice.result.now R Q
-            c.in_err-serve_last.field-0.0 finds c.as_slice.ensures.bytes c.in_err-serve_last.ensures.writes);
+        serves = let stop = last_failed plugin left held (g.K.Sink.held c.serve_last.new.sink) all all c.as_slice.result.now R Q
+            c.in_err-serve_last.field-0.0 finds c.as_slice.ensures.bytes c.in_err-serve_last.ensures.writes in search (rules, stop);
       };
       source = c.in_ok-found.ensures.later;
       sink = c.in_err-serve_last.ensures.sink;

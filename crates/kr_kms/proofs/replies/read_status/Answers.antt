@@ -1,5 +1,5 @@
 -- A status is read part by part.
-use Rattle.std.proofs.Common.{codes}
+use Rattle.std.proofs.Common.{codes, rules}
 use Rattle.serde_json.specs.View.{view}
 use Rattle.kr_kms.specs.Members.{text_at}
 use Rattle.kr_kms.specs.Replies.{status_in}
@@ -8,20 +8,20 @@ use Rattle.kr_kms.proofs.replies.read_status.Goals as goal
 
 pub returns-in_err-version : goal.returns-in_err-version
 returns-in_err-version c = let value = view c.args.value.now in
-    rw c.from_residual.ensures (stops (text_at (codes "version") value) (status_in value) c.in_err-version.field-0.0 c.in_err-version.ensures
-    (no_version value))
+    let stop = stops (text_at (codes "version") value) (status_in value) c.in_err-version.field-0.0 c.in_err-version.ensures
+    (no_version value) in search (rules, stop)
 
 pub returns-in_err-healthz : goal.returns-in_err-healthz
 returns-in_err-healthz c = let value = view c.args.value.now in
-    rw c.from_residual-in_err-healthz.ensures (stops (text_at (codes "healthz") value) (status_in value) c.in_err-healthz.field-0.0
-    c.in_err-healthz.ensures (no_healthz value c.in_ok-version.version c.in_ok-version.ensures))
+    let stop = stops (text_at (codes "healthz") value) (status_in value) c.in_err-healthz.field-0.0
+    c.in_err-healthz.ensures (no_healthz value c.in_ok-version.version c.in_ok-version.ensures) in search (rules, stop)
 
 pub returns-in_err-key_id : goal.returns-in_err-key_id
 returns-in_err-key_id c = let value = view c.args.value.now in
-    rw c.from_residual-in_err-key_id.ensures (stops (text_at (codes "key_id") value) (status_in value) c.in_err-key_id.field-0.0
+    let stop = stops (text_at (codes "key_id") value) (status_in value) c.in_err-key_id.field-0.0
     c.in_err-key_id.ensures
     (no_key_id value c.in_ok-version.version c.in_ok-healthz.healthz c.in_ok-version.ensures
-    c.in_ok-healthz.ensures))
+    c.in_ok-healthz.ensures) in search (rules, stop)
 
 pub returns : goal.returns
 returns c = whole_status (view c.args.value.now) c.in_ok-version.version c.in_ok-healthz.healthz

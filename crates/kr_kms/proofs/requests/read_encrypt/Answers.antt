@@ -1,5 +1,5 @@
 -- A request to wrap is read part by part.
-use Rattle.std.proofs.Common.{codes, sym, ◌∙◌}
+use Rattle.std.proofs.Common.{codes, rules, sym, ◌∙◌}
 use Rattle.serde_json.specs.View.{view}
 use Rattle.kr_kms.specs.Members.{bytes_at}
 use Rattle.kr_kms.specs.Requests.{encrypt_in}
@@ -8,8 +8,9 @@ use Rattle.kr_kms.proofs.requests.read_encrypt.Goals as goal
 
 pub returns-in_err-plain : goal.returns-in_err-plain
 returns-in_err-plain c = let value = view c.args.value.now in
-    rw c.from_residual.ensures (stops (bytes_at (codes "plaintext") value) (encrypt_in value) c.in_err-plain.field-0.0 c.in_err-plain.ensures
-    (no_plain value))
+    let none = stops (bytes_at (codes "plaintext") value) (encrypt_in value)
+    c.in_err-plain.field-0.0 c.in_err-plain.ensures (no_plain value) in
+    search (rules, none)
 
 pub returns-in-None : goal.returns-in-None
 returns-in-None c = no_uid (view c.args.value.now) c.in_ok-plain.plain c.in_ok-plain.ensures

@@ -1,5 +1,5 @@
 -- `make_seeds`: each turn makes the seed of the next name.
-use Rattle.std.proofs.Common.{◌++◌, ◌∷◌, [], ℕ, List, arith, refl, sym, subst, ap, length}
+use Rattle.std.proofs.Common.{◌++◌, ◌∷◌, [], ℕ, List, arith, refl, sym, subst, ap, length, rules}
 use Rattle.std.specs.Prelude.{Ok}
 use Rattle.kr_config.specs.Kept.{plugins_in, rows_of}
 use Rattle.kr_provider.proofs.AskedLists.{links_stay}
@@ -26,10 +26,10 @@ pub next_plugin-requires-text-after : goal.next_plugin-requires-text-after
 next_plugin-requires-text-after g c = λ κs. c.loop-name.invariant.1
 
 pub returns-in_err-row-clause-made : goal.returns-in_err-row-clause-made
-returns-in_err-row-clause-made g c = rw c.from_residual.ensures (ends g.L.Kms.truth g.L.Kms.link g.D.Dice.left g.D.Dice.count
+returns-in_err-row-clause-made g c = let stop = ends g.L.Kms.truth g.L.Kms.link g.D.Dice.left g.D.Dice.count
     (rows_of c.args.settings.now.entries.0) c.args.links.now c.args.dice.now c.loop-name.after.now
     c.in-Some.name.now c.loop-name.made.0 c.loop-name.links c.make_one.new.links c.loop-name.dice
-    c.make_one.new.dice c.in_err-row.field-0.0 c.in-Some.ensures c.loop-name.invariant.0 c.in_err-row.ensures.made)
+    c.make_one.new.dice c.in_err-row.field-0.0 c.in-Some.ensures c.loop-name.invariant.0 c.in_err-row.ensures.made in search (rules, stop)
 
 pub returns-in_err-row-clause-asked : goal.returns-in_err-row-clause-asked
 returns-in_err-row-clause-asked g c = asked_next g.L.Kms.truth g.L.Kms.link g.D.Dice.left g.D.Dice.count

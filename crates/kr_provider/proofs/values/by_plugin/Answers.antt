@@ -1,5 +1,5 @@
 -- `by_plugin`: the answer is that of the value that the plugin reads.
-use Rattle.std.proofs.Common.{refl, sym, subst, Ok}
+use Rattle.std.proofs.Common.{refl, sym, subst, Ok, rules}
 use Rattle.kr_provider.specs.Unsealing.{UnsealsBy}
 use Rattle.kr_provider.proofs.Cached.{failed_heeds, object_heeds, opened_heeds}
 use Rattle.kr_provider.proofs.Unsealings.{object_fails, object_opens, object_refuses}
@@ -7,15 +7,15 @@ use Rattle.kr_provider.proofs.values.by_plugin.Goals as goal
 
 pub returns-in_err-object-clause-opened : goal.returns-in_err-object-clause-opened
 returns-in_err-object-clause-opened g c = λ seeds list bytes is_row r.
-    rw c.from_residual.ensures (object_refuses g.L.Kms.truth g.L.Kms.link seeds list c.args.path.now bytes c.args.name.now
-    c.args.body.now c.args.first c.args.links.now c.in_err-object.field-0.0 r c.in_err-object.ensures.is)
+    let stop = object_refuses g.L.Kms.truth g.L.Kms.link seeds list c.args.path.now bytes c.args.name.now
+    c.args.body.now c.args.first c.args.links.now c.in_err-object.field-0.0 r c.in_err-object.ensures.is in search (rules, stop)
 
 pub returns-in_err-plain-clause-opened : goal.returns-in_err-plain-clause-opened
 returns-in_err-plain-clause-opened g c = λ seeds list bytes is_row r.
-    rw c.from_residual-in_err-plain.ensures (object_fails g.L.Kms.truth g.L.Kms.link seeds list c.args.path.now bytes c.args.name.now
+    let stop = object_fails g.L.Kms.truth g.L.Kms.link seeds list c.args.path.now bytes c.args.name.now
     c.args.body.now c.args.first c.args.row.now is_row c.in_ok-object.object r
     c.in_ok-object.ensures.is c.args.links.now c.unseal_object.new.links c.in_err-plain.field-0.0
-    c.in_err-plain.ensures.opened)
+    c.in_err-plain.ensures.opened in search (rules, stop)
 
 pub returns-clause-opened : goal.returns-clause-opened
 returns-clause-opened g c = λ seeds list bytes is_row r.
@@ -29,14 +29,14 @@ returns-clause-opened g c = λ seeds list bytes is_row r.
 
 pub returns-in_err-object-clause-cached : goal.returns-in_err-object-clause-cached
 returns-in_err-object-clause-cached g c = λ seeds list bytes is_row r.
-    rw c.from_residual.ensures (object_heeds c.args.cache.now.rows seeds list c.args.path.now bytes c.args.links.now
-    c.args.links.now c.args.name.now c.args.body.now c.args.first r c.in_err-object.field-0.0 refl c.in_err-object.ensures.is)
+    let stop = object_heeds c.args.cache.now.rows seeds list c.args.path.now bytes c.args.links.now
+    c.args.links.now c.args.name.now c.args.body.now c.args.first r c.in_err-object.field-0.0 refl c.in_err-object.ensures.is in search (rules, stop)
 
 pub returns-in_err-plain-clause-cached : goal.returns-in_err-plain-clause-cached
 returns-in_err-plain-clause-cached g c = λ seeds list bytes is_row r.
-    rw c.from_residual-in_err-plain.ensures (failed_heeds c.args.cache.now.rows seeds list c.args.path.now bytes c.args.links.now
+    let stop = failed_heeds c.args.cache.now.rows seeds list c.args.path.now bytes c.args.links.now
     c.unseal_object.new.links c.args.name.now c.args.body.now c.args.first r c.args.row.now is_row
-    c.in_ok-object.object c.in_ok-object.ensures.is _ c.in_err-plain.ensures.cached c.in_err-plain.field-0.0 refl)
+    c.in_ok-object.object c.in_ok-object.ensures.is _ c.in_err-plain.ensures.cached c.in_err-plain.field-0.0 refl in search (rules, stop)
 
 pub returns-clause-cached : goal.returns-clause-cached
 returns-clause-cached g c = λ seeds list bytes is_row r.

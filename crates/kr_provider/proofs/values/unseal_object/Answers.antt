@@ -1,5 +1,5 @@
 -- `unseal_object`: the source is the published seed, or what the plugin unwraps.
-use Rattle.std.proofs.Common.{◌∙◌, refl, sym, subst}
+use Rattle.std.proofs.Common.{◌∙◌, refl, sym, subst, rules}
 use Rattle.kr_kms.specs.Truth.{key_of}
 use Rattle.kr_kms.proofs.Keys.{same_key}
 use Rattle.kr_provider.specs.Envelopes.{seed_key}
@@ -18,11 +18,11 @@ returns-then-is_seed_of-clause-opened g c = seed_taken g.L.Kms.truth g.L.Kms.lin
     (c.as_slice.ensures i) c.args.path.now (c.as_slice-encrypted.ensures i)) c.by_source.ensures)
 
 pub returns-in_err-source-clause-opened : goal.returns-in_err-source-clause-opened
-returns-in_err-source-clause-opened g c = rw c.from_residual.ensures (source_fails g.L.Kms.truth g.L.Kms.link c.args.row.now
+returns-in_err-source-clause-opened g c = let stop = source_fails g.L.Kms.truth g.L.Kms.link c.args.row.now
     c.args.name.now c.args.object.now c.args.path.now c.args.links.now c.open_source.new.links
     c.in_err-source.field-0.0
     (another_seed c.args.row.now c.args.name.now c.args.object.now c.is_seed_of.result
-    c.is_seed_of.ensures c.if-is_seed_of.false) c.in_err-source.ensures.opened)
+    c.is_seed_of.ensures c.if-is_seed_of.false) c.in_err-source.ensures.opened in search (rules, stop)
 
 pub returns-clause-opened : goal.returns-clause-opened
 returns-clause-opened g c = source_opened g.L.Kms.truth g.L.Kms.link c.args.row.now
@@ -46,8 +46,7 @@ pub returns-in_err-source-clause-cached : goal.returns-in_err-source-clause-cach
 returns-in_err-source-clause-cached g c = λ source is.
     let kept = c.in_err-source.ensures.cached source is in (
       kept.0,
-      λ other. rw c.from_residual.ensures
-          (source_lacks c.args.object.now c.args.path.now source c.in_err-source.field-0.0 kept.1),
+      λ other. let stop = source_lacks c.args.object.now c.args.path.now source c.in_err-source.field-0.0 kept.1 in search (rules, stop),
     )
 
 pub returns-clause-cached : goal.returns-clause-cached

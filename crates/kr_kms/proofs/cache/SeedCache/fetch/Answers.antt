@@ -1,5 +1,5 @@
 -- A kept seed, or the link's answer.
-use Rattle.std.proofs.Common.{◌≡◌, ℕ, List, Ok, Err, None, inl, ap, subst, ◌∙◌}
+use Rattle.std.proofs.Common.{◌≡◌, ℕ, List, Ok, Err, None, inl, ap, subst, ◌∙◌, rules}
 use Rattle.kr_kms.specs.Cache.{Fetches, seed_at}
 use Rattle.kr_kms.specs.Calls.{asked_key}
 use Rattle.kr_kms.specs.inner.Keeping.{AreAmongWith}
@@ -30,10 +30,10 @@ returns-in_err-seed g c =
     let none : seed_at rows (named (link old).name) ≡ None =
     subst (λ key. seed_at rows key ≡ None) same c.in_default-copy_of.ensures.found in
     let copied = c.copy_of.ensures in
-    rw c.from_residual.ensures (gives_answer g.L.Kms.truth link old c.unwrap_source.new.self c.args.self.now
+    let stop = gives_answer g.L.Kms.truth link old c.unwrap_source.new.self c.args.self.now
     c.copy_of.new.self c.args.key_id.now c.args.annotations.now c.args.source.now
     (Err c.in_err-seed.field-0.0) none c.in_err-seed.ensures
-    (λ other seed there. inl (copied.rows other seed there)) copied.size copied.fits)
+    (λ other seed there. inl (copied.rows other seed there)) copied.size copied.fits in search (rules, stop)
 
 pub returns : goal.returns
 returns g c =
