@@ -20,8 +20,8 @@ returns-in_err-found g c =
       sink = omega arith;
     }
 
-pub returns-in-Some : goal.returns-in-Some
-returns-in-Some g c =
+pub returns-in_ok-serve_line-in-Some : goal.returns-in_ok-serve_line-in-Some
+returns-in_ok-serve_line-in-Some g c =
     let plugin : Plugin = record { words = c.args.words.now; rounds = c.args.rounds; key_id = c.args.key_id.now } in
     let all : List ℕ = c.next_line.new.pending in
     let left : Option (List ℕ) = g.S.Source.left c.next_line.new.source in
@@ -34,14 +34,14 @@ returns-in-Some g c =
         all = all;
         grows = c.in_ok-found.ensures.grows;
         serves = line_served plugin held (g.K.Sink.held c.serve_line.new.sink) all c.serve_line.new.pending (take c.in-Some.place all) c.in-Some.place
-            finds.0 finds.1 refl c.in_ok-serve_line.ensures.left c.in_ok-serve_line.ensures.writes;
+            finds.0 finds.1 refl c.in_ok-serve_line-in-Some.ensures.left c.in_ok-serve_line-in-Some.ensures.writes;
       };
       source = c.in_ok-found.ensures.later;
-      sink = c.in_ok-serve_line.ensures.sink;
+      sink = c.in_ok-serve_line-in-Some.ensures.sink;
     }
 
-pub returns-in_err-serve_line : goal.returns-in_err-serve_line
-returns-in_err-serve_line g c =
+pub returns-in_err-serve_line-in-Some : goal.returns-in_err-serve_line-in-Some
+returns-in_err-serve_line-in-Some g c =
     let plugin : Plugin = record { words = c.args.words.now; rounds = c.args.rounds; key_id = c.args.key_id.now } in
     let all : List ℕ = c.next_line.new.pending in
     let left : Option (List ℕ) = g.S.Source.left c.next_line.new.source in
@@ -54,14 +54,14 @@ returns-in_err-serve_line g c =
         all = all;
         grows = c.in_ok-found.ensures.grows;
         serves = let stop = line_failed plugin left held (g.K.Sink.held c.serve_line.new.sink) all c.serve_line.new.pending (take c.in-Some.place all) c.in-Some.place R Q
-            c.in_err-serve_line.field-0.0 finds.0 finds.1 refl c.in_err-serve_line.ensures.writes in search (rules, stop);
+            c.in_err-serve_line-in-Some.field-0.0 finds.0 finds.1 refl c.in_err-serve_line-in-Some.ensures.writes in search (rules, stop);
       };
       source = c.in_ok-found.ensures.later;
-      sink = c.in_err-serve_line.ensures.sink;
+      sink = c.in_err-serve_line-in-Some.ensures.sink;
     }
 
-pub returns-in-None : goal.returns-in-None
-returns-in-None g c =
+pub returns-in_ok-serve_last-in-None : goal.returns-in_ok-serve_last-in-None
+returns-in_ok-serve_last-in-None g c =
     let plugin : Plugin = record { words = c.args.words.now; rounds = c.args.rounds; key_id = c.args.key_id.now } in
     let all : List ℕ = c.next_line.new.pending in
     let left : Option (List ℕ) = g.S.Source.left c.next_line.new.source in
@@ -73,14 +73,14 @@ returns-in-None g c =
       serves = record {
         all = all;
         grows = c.in_ok-found.ensures.grows;
-        serves = last_served plugin left held (g.K.Sink.held c.serve_last.new.sink) all c.as_slice.result.now R finds c.as_slice.ensures.bytes c.in_ok-serve_last.ensures.writes;
+        serves = last_served plugin left held (g.K.Sink.held c.serve_last.new.sink) all c.as_slice.result.now R finds c.as_slice.ensures.bytes c.in_ok-serve_last-in-None.ensures.writes;
       };
       source = c.in_ok-found.ensures.later;
-      sink = c.in_ok-serve_last.ensures.sink;
+      sink = c.in_ok-serve_last-in-None.ensures.sink;
     }
 
-pub returns-in_err-serve_last : goal.returns-in_err-serve_last
-returns-in_err-serve_last g c =
+pub returns-in_err-serve_last-in-None : goal.returns-in_err-serve_last-in-None
+returns-in_err-serve_last-in-None g c =
     let plugin : Plugin = record { words = c.args.words.now; rounds = c.args.rounds; key_id = c.args.key_id.now } in
     let all : List ℕ = c.next_line.new.pending in
     let left : Option (List ℕ) = g.S.Source.left c.next_line.new.source in
@@ -93,8 +93,8 @@ returns-in_err-serve_last g c =
         all = all;
         grows = c.in_ok-found.ensures.grows;
         serves = let stop = last_failed plugin left held (g.K.Sink.held c.serve_last.new.sink) all all c.as_slice.result.now R Q
-            c.in_err-serve_last.field-0.0 finds c.as_slice.ensures.bytes c.in_err-serve_last.ensures.writes in search (rules, stop);
+            c.in_err-serve_last-in-None.field-0.0 finds c.as_slice.ensures.bytes c.in_err-serve_last-in-None.ensures.writes in search (rules, stop);
       };
       source = c.in_ok-found.ensures.later;
-      sink = c.in_err-serve_last.ensures.sink;
+      sink = c.in_err-serve_last-in-None.ensures.sink;
     }
