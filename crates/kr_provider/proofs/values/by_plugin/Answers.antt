@@ -28,15 +28,21 @@ returns-clause-opened g c = λ seeds list bytes is_row r.
     c.in_ok-plain.plain c.in_ok-plain.ensures.opened)
 
 pub returns-in_err-object-clause-cached : goal.returns-in_err-object-clause-cached
-returns-in_err-object-clause-cached g c = λ seeds list bytes is_row r.
+returns-in_err-object-clause-cached g c = λ seeds list bytes is_row r name object source reader
+    has is.
     let stop = object_heeds c.args.cache.now.rows seeds list c.args.path.now bytes c.args.links.now
-    c.args.links.now c.args.name.now c.args.body.now c.args.first r c.in_err-object.field-0.0 refl c.in_err-object.ensures.is in search (rules, stop)
+    c.args.links.now c.args.name.now c.args.body.now c.args.first r c.in_err-object.field-0.0 refl
+    c.in_err-object.ensures.is name object source reader has is in
+    (stop.0, λ may. let gives = stop.1 may in search (rules, gives))
 
 pub returns-in_err-plain-clause-cached : goal.returns-in_err-plain-clause-cached
-returns-in_err-plain-clause-cached g c = λ seeds list bytes is_row r.
+returns-in_err-plain-clause-cached g c = λ seeds list bytes is_row r name object source reader
+    has is.
     let stop = failed_heeds c.args.cache.now.rows seeds list c.args.path.now bytes c.args.links.now
     c.unseal_object.new.links c.args.name.now c.args.body.now c.args.first r c.args.row.now is_row
-    c.in_ok-object.object c.in_ok-object.ensures.is _ c.in_err-plain.ensures.cached c.in_err-plain.field-0.0 refl in search (rules, stop)
+    c.in_ok-object.object c.in_ok-object.ensures.is _ c.in_err-plain.ensures.cached
+    c.in_err-plain.field-0.0 refl name object source reader has is in
+    (stop.0, λ may. let gives = stop.1 may in search (rules, gives))
 
 pub returns-clause-cached : goal.returns-clause-cached
 returns-clause-cached g c = λ seeds list bytes is_row r.
