@@ -6,7 +6,7 @@ use Rattle.std.proofs.lemmas.List.Sums.{sum_by-append, sum_by-cons}
 use Rattle.kr_kms.specs.Calls.{Link}
 use Rattle.kr_kms.specs.Truth.{Truth}
 use Rattle.kr_rollout.specs.Acting.{Caller}
-use Rattle.kr_rewrite.specs.Drives.{Counts, FindsRow, IsSettled, Settles, Walks, counted, is_changed, is_fresh, is_left, is_rewritten, last_of, path_of}
+use Rattle.kr_rewrite.specs.Drives.{Counts, FindsRow, IsSettled, Settles, Walks, count_of, is_changed, is_fresh, is_left, is_rewritten, last_of, path_of}
 use Rattle.kr_rewrite.specs.Rewrites.{IsStep}
 use Rattle.kr_rewrite.specs.declared.outcome.Report.{Report}
 use Rattle.kr_rewrite.specs.declared.outcome.Step.{Step}
@@ -23,7 +23,7 @@ last_more above (first ∷ steps) taken = last_more (path_of above first) steps 
 -- ---- counts
 
 module _ (p : Step → Bool) (steps : List Step) (taken : Step) (m : ℕ)
-    (is : m ≡ counted (count_by p steps)) where
+    (is : m ≡ count_of (count_by p steps)) where
   count_more : count_by p (steps ++ taken ∷ []) ≡ count_by p steps + cond (p taken) 1 0
   count_more = omega (
     arith,
@@ -31,20 +31,20 @@ module _ (p : Step → Bool) (steps : List Step) (taken : Step) (m : ℕ)
     sum_by-cons (λ x. cond (p x) 1 0) taken [],
   )
 
-  counts_it : p taken ≡ true → one_more m ≡ counted (count_by p (steps ++ taken ∷ []))
+  counts_it : p taken ≡ true → one_more m ≡ count_of (count_by p (steps ++ taken ∷ []))
   counts_it here =
       let one : cond (p taken) 1 0 ≡ 1 = ap {B = ℕ} (λ b. cond b 1 0) here in
       by m (count_by p steps) (count_by p (steps ++ taken ∷ [])) is (omega (arith, count_more, one))
     where
-      by : (m n k : ℕ) → m ≡ counted n → k ≡ n + 1 → one_more m ≡ counted k
+      by : (m n k : ℕ) → m ≡ count_of n → k ≡ n + 1 → one_more m ≡ count_of k
       by m n k e f = grind arith
 
-  counts_still : p taken ≡ false → m ≡ counted (count_by p (steps ++ taken ∷ []))
+  counts_still : p taken ≡ false → m ≡ count_of (count_by p (steps ++ taken ∷ []))
   counts_still not_here =
       let none : cond (p taken) 1 0 ≡ 0 = ap {B = ℕ} (λ b. cond b 1 0) not_here in
       let same : count_by p steps ≡ count_by p (steps ++ taken ∷ []) =
       omega (arith, count_more, none) in
-      is ∙ ap counted same
+      is ∙ ap count_of same
 
 module _ (above : List ℕ) (steps : List Step) (old new : Report) (c : Counts above steps old) where
   counts_rewritten : (path : List ℕ)
@@ -212,7 +212,7 @@ module _ {L D : Type 0} (truth : Truth) (link : L → Link) (left : D → Option
       (settles_all (path_of above taken) steps w.middle new w.mids news w.between after w.behind
       (omega (arith, one_left)) (omega (arith, one_changed)))
 
-  none_by : (m n : ℕ) → m ≡ counted n → m ≡ 0 → n ≡ 0
+  none_by : (m n : ℕ) → m ≡ count_of n → m ≡ 0 → n ≡ 0
   none_by m n e z = grind arith
 
   pub settles : (above : List ℕ) (steps : List Step) (report : Report) (old new : Caller)

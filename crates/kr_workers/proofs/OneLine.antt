@@ -34,7 +34,7 @@ use Rattle.kr_workers.specs.declared.files.SettingsFile.{SettingsFile}
 use Rattle.kr_workers.specs.Files.{rows_at}
 use Rattle.kr_workers.specs.Replies.{Reply, told_of_delete, told_of_drive, told_of_join, told_of_leave, told_of_read, told_of_refresh, told_of_reload, told_of_write}
 use Rattle.kr_workers.specs.ScriptLines.{Does, DoesJoin, DoesReload, IfRead}
-use Rattle.kr_workers.specs.Serving.{AddsFor, EndsFor, IsIdleAt, Serves, place_of}
+use Rattle.kr_workers.specs.inner.Serving.{AddsFor, EndsFor, IsIdleAt, Serves, place_of}
 use Rattle.kr_workers.proofs.Cutting.{delete_spent, join_spent, leave_spent, read_spent, refresh_spent, reload_spent, write_spent}
 use Rattle.kr_workers.proofs.Telling.{ends_delete, ends_drive, ends_join, ends_leave, ends_read, ends_refresh, ends_reload, ends_write, idle_always, idle_drive, idle_read, idle_refresh, idle_write}
 
