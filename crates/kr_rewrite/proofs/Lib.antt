@@ -1,5 +1,4 @@
 -- The lemmas of kr_rewrite: of one step, of a row that is replaced, and of a whole drive.
-pub mod Asked
 pub mod BetweenSteps
 pub mod Covering
 pub mod Growing

@@ -45,3 +45,4 @@ pub mod AdoptedLetGo
 pub mod PartsAdd
 pub mod NoNames
 pub mod LivePuts
+pub mod AskedReaders
