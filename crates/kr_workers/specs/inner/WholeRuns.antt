@@ -61,7 +61,7 @@ module _ {L D : Type 0} (truth : Truth) (link : L → Link) (left : D → Option
     pub run : List LineDone
     pub replies_are : replies ≡ replies_in run
     pub middle : Workplace L D
-    pub does : DoesAll (place_of old bench) run middle
+    pub does : DoesAll truth link left count files replica (place_of old bench) run middle
     pub ends : EndsRun lines run middle ended (place_of new after)
     pub opening : new.opening ≡ old.opening
     pub seat : new.seat ≡ old.seat
