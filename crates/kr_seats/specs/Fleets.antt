@@ -22,7 +22,7 @@ IsEntryOf o before seat event answer e =
     IsStep o (state_of o before) e × Records seat event answer e
 
 -- a seat that acts on a fleet: which fleet it is, and the seat
-pub record Seated (S : Type 0) : Type 0 where
+pub record FleetSeat (S : Type 0) : Type 0 where
   pub home : Home Opening
   pub seat : Place S Entry Opening
 
