@@ -111,8 +111,8 @@ impl<A: Acts, L: Kms> Desk<A, L> {
         mem::replace(&mut self.bench, bench)
     }
 
-    /// The object at the path. Where the seat is spent, or there is no such replica or path, no call
-    /// is made, as with those below.
+    /// The object at the path. Where the seat is spent, or there is no such replica or path, no
+    /// call is made, as with those below.
     pub fn read(&mut self, alloc: Global, replica: u32, path: &str) -> Result<Done<Read>, Wrong> {
         if !may(self.ended, self.replicas, replica) {
             return Err(Wrong::Form);
