@@ -28,7 +28,7 @@ use Rattle.kr_rewrite.specs.Drives.{CopiesNoPath, Drives, EndsBy, IsCut, Walks, 
 use Rattle.kr_rewrite.specs.declared.outcome.Report.{Report}
 use Rattle.kr_rewrite.specs.declared.outcome.Step.{Step}
 use Rattle.kr_rewrite.specs.declared.outcome.Step.TheVariants as step
-use Rattle.kr_top.specs.Around.{Around, with_lent_tape, with_what_is_said}
+use Rattle.kr_top.specs.Around.{Around, with_what_is_said}
 use Rattle.kr_top.specs.Commands.{Progress, driving, row_steps, with_memory}
 use Rattle.kr_top.specs.Reports.{report_outcome, report_text}
 use Rattle.kr_top.specs.Steps.{Steps, and_then, give}
@@ -37,6 +37,7 @@ use Rattle.kr_top.specs.declared.refusal.Outcome.{Outcome}
 use Rattle.kr_top.specs.declared.refusal.Stop.{Stop}
 use Rattle.kr_top.specs.declared.refusal.Stop.TheVariants.{NoMemory}
 use Rattle.kr_top.specs.declared.report.Counts.{Counts}
+use Rattle.kr_top.specs.inner.Lent.{with_lent_tape}
 use Rattle.kr_top.specs.inner.Phases.{Does}
 use Rattle.kr_top.specs.inner.Rewriting.{IsDriveStop, counts_of}
 use Rattle.kr_top.proofs.Crews.{counted as counted_on}

@@ -9,8 +9,9 @@ use Rattle.kr_words.specs.declared.command.WordsNo.{WordsNo}
 use Rattle.kr_words.specs.declared.command.WordsNo.TheVariants as no
 use Rattle.kr_words.proofs.Meanings.{mean_one}
 use Rattle.kr_top.specs.Command.{AskNothing, AskReplicas, AskSize}
-use Rattle.kr_top.specs.FleetAsked.{AskNoFleet, IsFleetAsked, IsFleetOf}
+use Rattle.kr_top.specs.FleetAsked.{AskNoFleet}
 use Rattle.kr_top.specs.declared.fleet_words.FleetWords.{FleetWords}
+use Rattle.kr_top.specs.inner.FleetAsked.{IsFleetAsked, IsFleetOf}
 use Rattle.kr_top.proofs.Decided.{one_size}
 
 pub no_words : AskNoFleet []

@@ -30,9 +30,9 @@ use Rattle.kr_workers.specs.Budgets.{all_reloads, reloads_of}
 use Rattle.kr_workers.specs.Histories.{IsOneHistory}
 use Rattle.kr_workers.specs.Sentences.{RepliesAreTrue}
 use Rattle.kr_workers.specs.declared.worker.Worker.{Worker}
-use Rattle.kr_top.specs.Around.{Around, IsHome, Tapes, lent_links, with_lent, with_lent_tape}
+use Rattle.kr_top.specs.Around.{Around, IsHome, with_lent}
 use Rattle.kr_top.specs.FleetFiles.{all_rows}
-use Rattle.kr_top.specs.Fleets.{AreEquipped, Begun, HasRows, IsEquipped, LeavesRest, Replicas, RunsFleet, opening_of, outfitted, parts_of, publishing, starting}
+use Rattle.kr_top.specs.Fleets.{AreEquipped, Begun, HasRows, IsEquipped, LeavesRest, Replicas, RunsFleet, opening_of, launching, parts_of, publishing, starting}
 use Rattle.kr_top.specs.Steps.{Steps}
 use Rattle.kr_top.specs.declared.fleet.Record.{Record}
 use Rattle.kr_top.specs.declared.fleet_file.Plan.{Plan}
@@ -44,6 +44,7 @@ use Rattle.kr_top.specs.inner.Beginnings.{begun_with, first_core}
 use Rattle.kr_top.specs.inner.Crews.{IsReadyCore, KeepsStore, RunsCrew, WorkersRan, outfit_of, outfits_of}
 use Rattle.kr_top.specs.inner.FleetFiles.{IsWholePlan, named, plan_of}
 use Rattle.kr_top.specs.inner.Fleets.{ArePublished, LacksWorkers, RunsBy}
+use Rattle.kr_top.specs.inner.Lent.{Tapes, lent_links, with_lent_tape}
 use Rattle.kr_top.specs.inner.Outfits.{AreLater, AreNamed, names_in, with_outfits}
 use Rattle.kr_top.specs.inner.Phases.{Does}
 use Rattle.kr_top.specs.inner.Tapes.{stored_of}
@@ -239,7 +240,7 @@ module _ {L D : Type 0} (truth : Truth) (link : L → Link) (left : D → Option
       (with_lent_tape name kept.told kept.count a)
 
   abbrev pub Next : Steps Begun
-  Next = outfitted (plan_of plan) (stored_of store) budgets
+  Next = launching (plan_of plan) (stored_of store) budgets
 
   abbrev pub Publishes : Steps Replicas
   Publishes = publishing (named plan.files.0) [] plan.script.replicas.0

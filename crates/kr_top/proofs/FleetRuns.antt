@@ -23,9 +23,9 @@ use Rattle.kr_workers.specs.declared.budget.BudgetNo.{BudgetNo}
 use Rattle.kr_workers.specs.declared.budget.BudgetNo.TheVariants as budget
 use Rattle.kr_workers.specs.declared.ending.Ending.{Ending}
 use Rattle.kr_workers.specs.declared.worker.Worker as fleet_worker
-use Rattle.kr_top.specs.Around.{Around, left_of, with_lent_tape, with_world}
+use Rattle.kr_top.specs.Around.{Around, left_of, with_world}
 use Rattle.kr_top.specs.Commands.{tape_for}
-use Rattle.kr_top.specs.FleetAsked.{AsksFleet, IsFleetAsked, AskNoFleet}
+use Rattle.kr_top.specs.FleetAsked.{AsksFleet, AskNoFleet}
 use Rattle.kr_top.specs.FleetFiles.{FleetPlan, planning}
 use Rattle.kr_top.specs.Fleets.{Begun, DidFleet, RanFleet, WritesFleet, budgeting, over_store, parts_of}
 use Rattle.kr_top.specs.Ran.{IsIdle, Receipt, StopsAtOnce, Tells}
@@ -36,7 +36,9 @@ use Rattle.kr_top.specs.declared.refusal.Limit.TheVariants as limit
 use Rattle.kr_top.specs.declared.refusal.Refusal.TheVariants.{Limit}
 use Rattle.kr_top.specs.declared.refusal.Stop.{Stop}
 use Rattle.kr_top.specs.declared.refusal.Stop.TheVariants.{Words, Refused, Fault, NoMemory}
+use Rattle.kr_top.specs.inner.FleetAsked.{IsFleetAsked}
 use Rattle.kr_top.specs.inner.Fleets.{LacksWorkers, LeavesRecord, RunsBy, budget_stop}
+use Rattle.kr_top.specs.inner.Lent.{with_lent_tape}
 use Rattle.kr_top.specs.inner.Phases.{Does}
 use Rattle.kr_top.specs.inner.Tapes.{LentTape, ReturnedTape}
 use Rattle.kr_top.proofs.Goes.{goes_on, home_refl, home_trans, reach, stays_refl, stops}

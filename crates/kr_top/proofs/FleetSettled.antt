@@ -25,9 +25,9 @@ use Rattle.kr_store.specs.declared.rows.LogRow.{LogRow}
 use Rattle.kr_words.specs.Arguments.{program_of}
 use Rattle.kr_top.specs.Around.{Around, left_of}
 use Rattle.kr_top.specs.Commands.{by_result, configuration, silently, with_memory}
-use Rattle.kr_top.specs.FleetFiles.{FleetPlan, IsFleetFile, NamedRows, all_rows, files_in, mentioned, no_file, programs_in, rows_at, script_refusal, unless_read}
+use Rattle.kr_top.specs.FleetFiles.{FleetPlan, IsFleetFile, NamedRows, all_rows, files_in, all_files, no_file, programs_in, rows_at, script_refusal, unless_read}
 use Rattle.kr_top.specs.FleetReady.{IsFleetTold}
-use Rattle.kr_top.specs.Fleets.{AreWithin, Begun, IsStart, Replicas, beginning, borrow_links_of, equipped, equipping, fleet_steps, outfitted, over_store, parts_of, publishes, publishing, rows_of_replica, starting}
+use Rattle.kr_top.specs.Fleets.{AreWithin, Begun, IsStart, Replicas, beginning, borrow_links_of, equipping_all, equipping, fleet_steps, launching, over_store, parts_of, publishes, publishing, rows_of_replica, starting}
 use Rattle.kr_top.specs.Judgements.{start_refusal}
 use Rattle.kr_top.specs.Plugins.{join_program, make_seeds, programs_of}
 use Rattle.kr_top.specs.Ran.{AreTold}
@@ -323,8 +323,8 @@ module _ (words : FleetWords) (old : Around) (told : IsFleetTold words old) wher
       → programs_of words.options (plugin_order (all_rows plan.files)) ≡ Ok plan.programs
       → (stored : Stored) (budgets : List ℕ) (l r : Left) → l.links ≡ old.world.links.told
       → r.links ≡ old.world.links.told
-      → IsSettled (and_then (outfitted plan stored budgets) closing)
-      (and_then (outfitted plan stored budgets) closing) l r
+      → IsSettled (and_then (launching plan stored budgets) closing)
+      (and_then (launching plan stored budgets) closing) l r
   settled_outfits plan e stored budgets l r x y =
       let makes = publishing plan.files [] plan.fleet.replicas in
       subst (λ s. IsSettled s s l r) (sym (regroup makes (starting plan stored budgets) closing))
@@ -346,9 +346,9 @@ module _ (words : FleetWords) (old : Around) (told : IsFleetTold words old) wher
           (sym (own_name words.store)) (told_or_empty (l.tapes words.store) there),
       refl,
       λ bytes a b x y. settled_pair _ _ a b (beginning plan) closing (one_stored bytes a b x y)
-          (λ stored. λ c d u v. settled_pair _ _ c d (equipped plan stored) closing
+          (λ stored. λ c d u v. settled_pair _ _ c d (equipping_all plan stored) closing
           (one_within stored.rows (parts_of plan.fleet) c d u v) (λ budgets.
-          settled_equipping plan.programs (outfitted plan stored budgets) closing
+          settled_equipping plan.programs (launching plan stored budgets) closing
           old.world.links.told (λ s t m n. settled_outfits plan e stored budgets s t m n) 0
           (length plan.fleet.workers) _ _ stays.links stays.links)),
     ),
@@ -376,19 +376,19 @@ module _ (words : FleetWords) (old : Around) (told : IsFleetTold words old) wher
       by (Err why) e = refl
 
   abbrev fleet_by : Fleet → Steps FleetPlan
-  fleet_by fleet = and_then (files_in [] (mentioned fleet)) (plan_of_files fleet)
+  fleet_by fleet = and_then (files_in [] (all_files fleet)) (plan_of_files fleet)
 
   settled_read : (fleet : Fleet) (l : Left) → IsAs (left_of old) l
-      → AreTold old.world.file (mentioned fleet)
+      → AreTold old.world.file (all_files fleet)
       → Alike (and_then (and_then (fleet_by fleet) (over_store words.store)) closing) l
   settled_read fleet l stays names =
-      let reads = files_in [] (mentioned fleet) in
+      let reads = files_in [] (all_files fleet) in
       subst (λ s. Alike s l) (sym (ap (λ s. and_then s closing)
       (regroup reads (plan_of_files fleet) (over_store words.store))
       ∙ regroup reads (λ files. and_then (plan_of_files fleet files) (over_store words.store))
       closing))
-      (settled_files (mentioned fleet) [] (left_of old) l stays
-      (subst (λ f. AreTold f (mentioned fleet)) (sym stays.file) names)
+      (settled_files (all_files fleet) [] (left_of old) l stays
+      (subst (λ f. AreTold f (all_files fleet)) (sym stays.file) names)
       (λ files. and_then (and_then (plan_of_files fleet files) (over_store words.store)) closing)
       (λ files m at. settled_plan fleet files m at))
 
@@ -408,7 +408,7 @@ module _ (words : FleetWords) (old : Around) (told : IsFleetTold words old) wher
       now = with_asked (File words.file) (left_of old)
 
       by : (r : Result Fleet Refusal)
-          → ((fleet : Fleet) → r ≡ Ok fleet → AreTold old.world.file (mentioned fleet))
+          → ((fleet : Fleet) → r ≡ Ok fleet → AreTold old.world.file (all_files fleet))
           → Alike (and_then (and_then (and_then (by_result r) fleet_by)
           (over_store words.store)) closing) now
       by (Ok fleet) names =

@@ -133,17 +133,17 @@ starting plan stored budgets replicas =
     })))
 
 -- once each worker has an outfit, and with one for each
-abbrev pub outfitted : FleetPlan → Stored → List ℕ → Steps Begun
-outfitted plan stored budgets =
+abbrev pub launching : FleetPlan → Stored → List ℕ → Steps Begun
+launching plan stored budgets =
     and_then (publishing plan.files [] plan.fleet.replicas) (starting plan stored budgets)
 
-abbrev pub equipped : FleetPlan → Stored → List ℕ → Steps Begun
-equipped plan stored budgets = equipping plan.programs 0 (length plan.fleet.workers)
-    (outfitted plan stored budgets)
+abbrev pub equipping_all : FleetPlan → Stored → List ℕ → Steps Begun
+equipping_all plan stored budgets = equipping plan.programs 0 (length plan.fleet.workers)
+    (launching plan stored budgets)
 
 abbrev pub beginning : FleetPlan → Stored → Steps Begun
 beginning plan stored =
-    and_then (budgeting stored.rows (parts_of plan.fleet)) (equipped plan stored)
+    and_then (budgeting stored.rows (parts_of plan.fleet)) (equipping_all plan stored)
 
 -- a fleet by its plan, over the store of this name
 abbrev pub over_store : (store : List ℕ) → FleetPlan → Steps Begun

@@ -12,7 +12,6 @@ pub mod Fleets
 pub mod Configuration
 pub mod Inspect
 pub mod Judgements
-pub mod Limits
 pub mod Message
 pub mod Plugins
 pub mod Ran

@@ -11,3 +11,5 @@ pub mod Crews
 pub mod FleetFiles
 pub mod Fleets
 pub mod Plugins
+pub mod Lent
+pub mod FleetAsked

@@ -7,9 +7,9 @@ ghost use Rattle.kr_provider.specs.Names.{names_of as plugin_names};
 ghost use Rattle.kr_rollout.specs.Openings.{AreAmong, IsFirstIn};
 ghost use Rattle.kr_script.specs.Fleets.{fleet_of};
 ghost use Rattle.kr_script.specs.Output.{fleet_output};
-ghost use Rattle.kr_top.specs.Around.{Around, Name, with_lent_tape, with_world};
+ghost use Rattle.kr_top.specs.Around.{Around, with_world};
 ghost use Rattle.kr_top.specs.Commands.{stored_on};
-ghost use Rattle.kr_top.specs.Fleets.{DidFleet, WritesFleet, beginning, equipped, outfitted};
+ghost use Rattle.kr_top.specs.Fleets.{DidFleet, WritesFleet, beginning, equipping_all, launching};
 ghost use Rattle.kr_top.specs.Fleets.{over_store, publishing, starting};
 ghost use Rattle.kr_top.specs.Ran.{receipt};
 ghost use Rattle.kr_top.specs.Steps.{and_then};
@@ -19,6 +19,7 @@ ghost use Rattle.kr_top.specs.inner.Crews.{IsCrew, IsReadyCore, RunsCrew, outfit
 ghost use Rattle.kr_top.specs.inner.FleetFiles.{IsWholePlan, named, plan_of};
 ghost use Rattle.kr_top.specs.inner.Fleets.{ArePublished, IsPublishedBy, RunsBy, budget_stop};
 ghost use Rattle.kr_top.specs.inner.Fleets.{published_in};
+ghost use Rattle.kr_top.specs.inner.Lent.{Name, with_lent_tape};
 ghost use Rattle.kr_top.specs.inner.Outfits.{AreLater, AreNamed, names_in, with_outfits};
 ghost use Rattle.kr_top.specs.inner.Phases.{Does};
 ghost use Rattle.kr_top.specs.inner.Tapes.{stored_of};
@@ -160,7 +161,7 @@ fn fleet_with<R: Threads + Wait + Sync, W: World>(
     requires plan { IsWholePlan (plan_of plan.now) }
     ensures made { (name : Name) (a : Around) → a.truth ≡ W.Link.truth
         → RunsBy W.Tap W.Link.truth W.Link.link W.Rand.left W.Rand.count
-        (equipped (plan_of plan.now) (stored_of store) budgets.now.entries.items) name
+        (equipping_all (plan_of plan.now) (stored_of store) budgets.now.entries.items) name
         (plan_of plan.now)
         (with_lent_tape name store.told store.count (with_world (W.told world.old) a))
         (with_lent_tape name result.1.told result.1.count (with_world (W.told world.new) a))
@@ -203,7 +204,7 @@ fn begin<R: Threads + Wait + Sync, T: Tape + Send, L: Kms + Send, D: Dice + Send
     requires named { AreNamed L.link (names_in plan.now.programs) outfits.0 }
     ensures made { (name : Name) (a : Around) → a.truth ≡ L.truth
         → RunsBy T L.truth L.link D.left D.count
-        (outfitted (plan_of plan.now) (stored_of store) budgets.now.entries.items) name
+        (launching (plan_of plan.now) (stored_of store) budgets.now.entries.items) name
         (plan_of plan.now)
         (with_outfits L.link D.left D.count 0 outfits.0
         (with_lent_tape name store.told store.count a))

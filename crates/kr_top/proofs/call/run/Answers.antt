@@ -3,7 +3,7 @@ use Rattle.std.proofs.Common.{Err, Ok, refl, inl, arith, subst}
 use Rattle.kr_words.specs.Grammar.{texts}
 use Rattle.kr_top.specs.Around.{around}
 use Rattle.kr_top.specs.Ran.{receipt}
-use Rattle.kr_top.specs.FleetAsked.{IsFleetAsked}
+use Rattle.kr_top.specs.inner.FleetAsked.{IsFleetAsked}
 use Rattle.kr_top.proofs.FleetReadings.{fleet_readings}
 use Rattle.kr_top.proofs.FleetRuns.{at_once, for_asked, one_fleet, unread}
 use Rattle.kr_top.proofs.Readings.{readings}

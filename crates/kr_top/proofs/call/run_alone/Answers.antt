@@ -3,7 +3,7 @@ use Rattle.std.proofs.Common.{Err, Ok, refl, inl, arith, subst}
 use Rattle.kr_words.specs.Grammar.{texts}
 use Rattle.kr_top.specs.Around.{around}
 use Rattle.kr_top.specs.Ran.{receipt}
-use Rattle.kr_top.specs.FleetAsked.{IsFleetAsked}
+use Rattle.kr_top.specs.inner.FleetAsked.{IsFleetAsked}
 use Rattle.kr_top.proofs.FleetRuns.{alone_or_memory, at_once}
 use Rattle.kr_top.proofs.Leaving.{tapes_left}
 use Rattle.kr_top.proofs.Readings.{readings}

@@ -4,10 +4,10 @@ use Rattle.std.specs.Prelude.{IfOk}
 use Rattle.kr_rollout.specs.Cores.{CoreState}
 use Rattle.kr_store.specs.Stores.{Kept}
 use Rattle.kr_workers.specs.Budgets.{AreBudgets}
-use Rattle.kr_top.specs.Around.{with_lent_tape}
-use Rattle.kr_top.specs.Fleets.{outfitted, publishing, starting}
+use Rattle.kr_top.specs.Fleets.{launching, publishing, starting}
 use Rattle.kr_top.specs.inner.FleetFiles.{named, plan_of}
 use Rattle.kr_top.specs.inner.Fleets.{ArePublished, published_in}
+use Rattle.kr_top.specs.inner.Lent.{with_lent_tape}
 use Rattle.kr_top.specs.inner.Outfits.{AreNamed, names_in, with_outfits}
 use Rattle.kr_top.specs.inner.Phases.{Does}
 use Rattle.kr_top.specs.inner.Tapes.{stored_of}
@@ -80,7 +80,7 @@ returns-in-Err-start-clause-made g c name a t =
     let does = subst (λ r. Does (publishing (named plan.files.0) [] plan.script.replicas.0)
     (with_outfits link left count 0 olds over) (with_outfits link left count 0 outs over)
     (published_in r)) c.in-Ok.is (c.publish_first-published.ensures.does over t) in
-    inl (subst (λ (k : Kept). Does (outfitted (plan_of plan) (stored_of store) budgets)
+    inl (subst (λ (k : Kept). Does (launching (plan_of plan) (stored_of store) budgets)
     (with_outfits link left count 0 olds over)
     (with_outfits link left count 0 outs (with_lent_tape name k.told k.count a))
     (Err c.in-Err-start.stop)) (sym c.in-Err-start.ensures.back)
