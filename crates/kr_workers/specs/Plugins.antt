@@ -45,17 +45,18 @@ pub record Reseals (path : List ℕ) (e : Entry) : Type 0 where
   pub is : Unseals envelope p.seeds (list_at p old.resource) path old.stored (Ok opened)
   pub sealing : IsSealing p old.resource path opened.plain new.stored
 
--- by this truth the source of the replaced row opens to what it was unwrapped to: the source that
--- the bench read by, which is the plugin's answer as far as links tell the truth. That is asked
--- only where a plugin read the row and may have been asked for its source
+-- by this truth the source of the replaced row opens to the envelope's: a source by which the row
+-- reads as these data. That is asked only where a plugin read the row and may have been asked for
+-- its source
 abbrev pub UnwrappedBy : {path : List ℕ} → {e : Entry} → Opens → Reseals path e → Type 0
 UnwrappedBy opens r =
     MayAsk r.p.seeds (reader_in (list_at r.p r.old.resource) r.old.stored) r.envelope.object
     → IsEnvelopeOf opens (list_at r.p r.old.resource) r.old.stored r.envelope
 
 -- By any truth by which plugins unwrap what they wrapped the history is honest: by which each seed
--- of each configuration is what its source opens to, and each source that was unwrapped for a row
--- that was replaced opens to what it was unwrapped to. That rewrites keep their data follows
+-- of each configuration is what its source opens to, and each row that was replaced has a source
+-- that opens to the one by which it reads as what was sealed anew. That rewrites keep their data
+-- follows
 pub record FollowsPlugins (o : Opening) (history : List Entry) : Type 0 where
   pub reseals : (front : List Entry) (e : Entry) (rest : List Entry) (path : List ℕ)
       → history ≡ front ++ e ∷ rest → IsReplaced path e → Reseals path e
