@@ -51,7 +51,9 @@ pub fn both_read<L: Kms + Drop + Send, R: Threads + Wait + Sync>(
 ) -> Option<u32> {
     let parts = gets(alloc)?;
     let parts = parts.as_slice();
-    let budgets = budgets_of(alloc, store.live_count(), parts).ok()?;
+    let Ok(budgets) = budgets_of(alloc, store.live_count(), parts) else {
+        return None;
+    };
     let room = budgets.entries.iter().sum::<u64>();
     let core = core(alloc, store, budgets.reloads.as_slice(), room)?;
     let workers = hire(alloc, first, second)?;

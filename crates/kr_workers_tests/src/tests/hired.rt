@@ -40,15 +40,19 @@ fn both<L: Kms + Drop>(
     ensures { IfSome result (λ workers. AreHired L.link workers.items) }
 {
     let mut workers = List::new(alloc);
-    if workers.reserve(2).is_err() {
-        workers.end();
-        let _told = told_by(first);
-        let _told = told_by(second);
-        return None;
+    match workers.reserve(2) {
+        Ok(()) => {
+            workers.push_in_room(first);
+            workers.push_in_room(second);
+            Some(workers.into_vec())
+        }
+        Err(_) => {
+            workers.end();
+            let _told = told_by(first);
+            let _told = told_by(second);
+            None
+        }
     }
-    workers.push_in_room(first);
-    workers.push_in_room(second);
-    Some(workers.into_vec())
 }
 
 /// A worker for each link.
