@@ -1,89 +1,72 @@
--- What the workers begin with, and what they leave.
-use Rattle.std.proofs.Common.{◌≡◌, ℕ, zero, suc, ◌<◌, ◌≤◌, List, [], ◌∷◌, ◌++◌, length, get_or, All, None, refl, sym, ap, subst, ◌∙◌, arith}
-use Rattle.std.proofs.lemmas.List.Elements.{All-cons, All-head, All-nil, All-tail}
-use Rattle.kr_kms.specs.Calls.{Link}
+-- A core over one replica whose configuration names the plugin `p` alone.
+use Rattle.std.proofs.Common.{◌≡◌, ℕ, suc, List, [], ◌∷◌, length, Option, Some, Result, Ok, ap, refl, sym, subst, ◌∙◌, arith, Contains, All}
+use Rattle.std.specs.Prelude.{IfSome}
+use Rattle.std.proofs.lemmas.List.Elements.{All-cons, All-nil}
+use Rattle.kr_config.specs.Kept.{Row, plugins_in, rows_of}
+use Rattle.kr_config.specs.declared.settings.Settings.{Settings}
+use Rattle.kr_provider.specs.Names.{HasLinks}
+use Rattle.kr_provider.specs.Publication.{Publication}
 use Rattle.kr_rollout.specs.declared.opening.Opening.{Opening}
-use Rattle.kr_script.specs.declared.script.Part.{Part}
-use Rattle.kr_script.specs.declared.script.ScriptLine.{ScriptLine}
-use Rattle.kr_script.specs.declared.script.ScriptLine.TheVariants as line
-use Rattle.kr_workers.specs.Budgets.{all_reloads}
-use Rattle.kr_workers.specs.ScriptLines.{MayDo}
-use Rattle.kr_workers.specs.Workers.{MayBegin}
-use Rattle.kr_workers.specs.declared.files.SettingsFile.{SettingsFile}
-use Rattle.kr_workers.specs.declared.worker.Worker.{Worker}
-use Rattle.kr_workers_tests.specs.Ready.{AreGets, AreHired, IsGet, IsHired, one_name}
-use Rattle.kr_workers_tests.proofs.Naming.{served}
+use Rattle.kr_rollout.specs.declared.opening_board.StartNo.{StartNo}
+use Rattle.kr_rollout.specs.Cores.{CoreState}
+use Rattle.kr_rollout.specs.Openings.{AreAmong, IsFirstIn, NamesAmong}
+use Rattle.kr_rollout.specs.Starts.{Starts}
+use Rattle.kr_store.specs.Stores.{IsLiveCount}
+use Rattle.kr_workers_tests.specs.Ready.{IsNamed, IsNewCore, one_name}
 
-module _ (parts : List Part) (gets : AreGets parts) where
-  pub two_parts : length parts ≡ 2
-  two_parts = ap (λ (ps : List Part). length ps) gets.parts_are
+-- ---- the configuration
 
-  pub two_reloads : length (all_reloads parts) ≡ 2
-  two_reloads = ap (λ (ps : List Part). length (all_reloads ps)) gets.parts_are
+there_later : {X : Type 0} (xs : List X) (x y : X) → Contains xs y → Contains (x ∷ xs) y
+there_later xs x y c = (suc c.0, omega (arith, c.1), c.2)
 
-abbrev May : Opening → List SettingsFile → Part → Type 0
-May o files part = (part.replica < length o.replicas) × All (MayDo o files) part.lines.0
+from_each : {X : Type 0} (P : X → Type 0) (xs : List X) → ((x : X) → Contains xs x → P x) → All P xs
+from_each P [] h = All-nil P
+from_each P (x ∷ xs) h = All-cons P x xs (h x (0, omega arith, refl))
+    (from_each P xs (λ y c. h y (there_later xs x y c)))
 
-one_may : (o : Opening) (files : List SettingsFile) (part : Part) → length o.replicas ≡ 1
-    → IsGet part → May o files part
-one_may o files part one get = (
-  omega (arith, get.replica_is, one),
-  subst (λ (lines : List ScriptLine). All (MayDo o files) lines) (sym get.lines_are)
-      (All-cons (MayDo o files) (line.Get get.path) [] get.is_path (All-nil (MayDo o files))),
-)
+pub serves : (linked : List (List ℕ)) (asked settings : Settings) → asked ≡ settings
+    → HasLinks linked (rows_of asked.entries.0) → HasLinks linked (rows_of settings.entries.0)
+serves linked asked settings same h =
+    subst (λ (s : Settings). HasLinks linked (rows_of s.entries.0)) same h
 
-pub all_may : (o : Opening) (files : List SettingsFile) (parts : List Part)
-    → length o.replicas ≡ 1 → AreGets parts
-    → All (λ part. (part.replica < length o.replicas) × All (MayDo o files) part.lines.0) parts
-all_may o files parts one gets =
-    subst (λ (ps : List Part). All (May o files) ps) (sym gets.parts_are)
-    (All-cons (May o files) gets.first (gets.second ∷ [])
-    (one_may o files gets.first one gets.first_is)
-    (All-cons (May o files) gets.second [] (one_may o files gets.second one gets.second_is)
-    (All-nil (May o files))))
+-- what just this link serves names no other plugin
+pub names_it : (linked : List (List ℕ)) (p : Publication) (rows : List Row) → linked ≡ one_name
+    → p.rows ≡ rows → HasLinks linked rows → NamesAmong one_name p.rows
+names_it linked p rows e same h = subst (NamesAmong one_name) (sym same)
+    (from_each (λ name. Contains one_name name) (plugins_in rows)
+    (λ name c. subst (λ l. Contains l name) e (h name c)))
 
-module _ {T L D : Type 0} (link : L → Link) (names : List (List ℕ)) (named : names ≡ one_name) where
-  one_begins : (part : Part) (worker : Worker T L D) → IsGet part → IsHired link worker
-      → MayBegin link names part worker
-  one_begins part worker get hired =
-      let one : length part.lines.0 ≡ 1 =
-      ap (λ (lines : List ScriptLine). length lines) get.lines_are in
-      let room = hired.room in record {
-        no_seat = hired.no_seat;
-        none_told = hired.none_told;
-        room = omega (arith, one, room);
-        links = served names _ named hired.links;
-        pages = hired.pages;
-      }
+-- ---- the core
 
-  two_begin : (first second : Part) (own other : Worker T L D) → IsGet first → IsGet second
-      → IsHired link own → IsHired link other → (i : ℕ) (part : Part) (worker : Worker T L D)
-      → i < 2 → MayBegin link names (get_or (first ∷ (second ∷ [])) i part)
-      (get_or (own ∷ (other ∷ [])) i worker)
-  two_begin first second own other f s o t zero part worker l = one_begins first own f o
-  two_begin first second own other f s o t (suc zero) part worker l = one_begins second other s t
-  two_begin first second own other f s o t (suc (suc i)) part worker l = absurd (omega (arith, l))
+pub first_in : (replicas : List (Option Publication)) → IsNamed replicas → IsFirstIn replicas
+first_in replicas one =
+    subst (λ (rs : List (Option Publication)). IsFirstIn rs) (sym one.replicas_are) refl
 
-  pub all_begin : (parts : List Part) (workers : List (Worker T L D)) → AreGets parts
-      → AreHired link workers → (i : ℕ) (part : Part) (worker : Worker T L D) → i < length parts
-      → MayBegin link names (get_or parts i part) (get_or workers i worker)
-  all_begin parts workers gets hired i part worker l =
-      let two = two_parts parts gets in
-      subst (λ (ps : List Part). MayBegin link names (get_or ps i part) (get_or workers i worker))
-      (sym gets.parts_are)
-      (subst (λ (ws : List (Worker T L D)). MayBegin link names
-      (get_or (gets.first ∷ (gets.second ∷ [])) i part) (get_or ws i worker))
-      (sym hired.workers_are)
-      (two_begin gets.first gets.second hired.first hired.second gets.first_is gets.second_is
-      hired.first_is hired.second_is i part worker (omega (arith, l, two))))
+pub one_long : (replicas : List (Option Publication)) → IsNamed replicas → length replicas ≡ 1
+one_long replicas one = ap (λ (rs : List (Option Publication)). length rs) one.replicas_are
 
-  pub two_workers : (workers : List (Worker T L D)) → AreHired link workers → length workers ≡ 2
-  two_workers workers hired = ap (λ (ws : List (Worker T L D)). length ws) hired.workers_are
+pub among : (names : List (List ℕ)) (replicas : List (Option Publication)) → names ≡ one_name
+    → IsNamed replicas → AreAmong names replicas
+among names replicas n one =
+    let Named : Option Publication → Type 0 =
+    λ replica. IfSome replica (λ q. NamesAmong one_name q.rows) in
+    subst (λ ns. AreAmong ns replicas) (sym n)
+    (subst (AreAmong one_name) (sym one.replicas_are)
+    (All-cons Named (Some one.published) [] one.named (All-nil Named)))
 
--- of workers without seats the last has none, nor have those before it
-pub all_split : {X : Type 0} (P : X → Type 0) (xs : List X) (x : X) → All P (xs ++ x ∷ [])
-    → All P xs × P x
-all_split P [] x a = (All-nil P, All-head P x [] a)
-all_split P (y ∷ xs) x a =
-    let rest = all_split P xs x (All-tail P y (xs ++ x ∷ []) a) in
-    (All-cons P y xs (All-head P y (xs ++ x ∷ []) a) rest.0, rest.1)
+pub new_core : {S : Type 0} (o : Opening) (live : ℕ) (core : CoreState)
+    (result : Result CoreState (StartNo × S)) → result ≡ Ok core → Starts {S = S} o 6 result
+    → o.names ≡ one_name → IsNamed o.replicas → o.reloads ≡ 0 ∷ (0 ∷ []) → IsLiveCount o.rows live
+    → IsNewCore core
+new_core {S} o live core result is starts named one two count =
+    let at : Starts {S = S} o 6 (Ok core) =
+    subst (λ (r : Result CoreState (StartNo × S)). Starts {S = S} o 6 r) is starts in record {
+      names = ap (λ (c : CoreState). c.opening.names) at.1 ∙ named;
+      replicas_are = ap (λ (c : CoreState). length c.opening.replicas) at.1
+          ∙ one_long o.replicas one;
+      reloads_are = ap (λ (c : CoreState). c.opening.reloads) at.1 ∙ two;
+      live = live;
+      live_is = subst (λ (c : CoreState). IsLiveCount c.opening.rows live) (sym at.1) count;
+      history = ap (λ (c : CoreState). c.history) at.1;
+      room_is = ap (λ (c : CoreState). c.room) at.1;
+    }

@@ -1,13 +1,15 @@
 //! A core over a store of two rows, with one replica and two seats.
-ghost use Rattle.std.specs.Prelude.{◌≡◌, ◌≤◌, ◌∷◌, [], length, sum, IfSome, IsTrue, Some};
-ghost use Rattle.kr_config.specs.Kept.{rows_of};
+ghost use Rattle.std.specs.Prelude.{◌≡◌, ◌∷◌, [], IfSome};
+ghost use Rattle.kr_provider.specs.Names.{names_of};
 ghost use Rattle.kr_rollout.specs.Openings.{NamesAmong};
-ghost use Rattle.kr_workers_tests.specs.Ready.{IsNewCore, one_name};
+ghost use Rattle.kr_workers_tests.specs.Ready.{IsNamed, IsNewCore, one_name};
 
-use crate::tests::linked::{names_one, one_link, plugin};
-use kr_base::{Bytes, List, MemDice, MemTape, Shared, Text};
-use kr_config::{Settings, read};
-use kr_provider::{Published, publish};
+use crate::tests::linked::{one_link, plugin};
+use crate::tests::single::{one_in, shared, text};
+use kr_base::{Bytes, Dice, List, MemDice, MemTape, Shared, Tape, Text};
+use kr_config::read;
+use kr_kms::Kms;
+use kr_provider::{Links, Published, publish};
 use kr_rollout::Core;
 use kr_store::Store;
 use std::alloc::Global;
@@ -18,94 +20,117 @@ const FILE: &str = r#"{"apiVersion":"apiserver.config.k8s.io/v1","kind":"Encrypt
 
 /// `/s` with `hello` and `/t` with `there`, sealed under two sources that the plugin `p` wrapped. The
 /// data was sealed by AES-GCM of Python's cryptography.
-const ROWS: &str =
-    "4b5253544f52453101000000000000000100022f73000773656372657473000000726b38733a656e633a6b6d733a76323a703a0a21000000000000000000000000d750f4b01ac0d19301197c8b4826c71d6d0067318a12026b311a209c9c9c9c9c9c9c9c9c9c9c9c9c9c9c9c9c9c9c9c9c9c9c9c9c9c9c9c9c9c9c9c22160a11746573742e6b6d73726573742f73616c7412010101000000000000000200022f74000773656372657473000000726b38733a656e633a6b6d733a76323a703a0a210000000000000000000000002e1a5fbc802e5f847dcfe44494084e7079ffaffdae12026b311a209f9f9f9f9f9f9f9f9f9f9f9f9f9f9f9f9f9f9f9f9f9f9f9f9f9f9f9f9f9f9f9f22160a11746573742e6b6d73726573742f73616c74120101";
+const ROWS: &[u8] =
+    b"KRSTORE1\x01\0\0\0\0\0\0\0\x01\0\x02/s\0\x07secrets\0\0\0rk8s:enc:kms:v2:p:\n!\0\0\0\0\0\0\0\0\0\0\0\0\xd7P\xf4\xb0\x1a\xc0\xd1\x93\x01\x19|\x8bH&\xc7\x1dm\0g1\x8a\x12\x02k1\x1a \x9c\x9c\x9c\x9c\x9c\x9c\x9c\x9c\x9c\x9c\x9c\x9c\x9c\x9c\x9c\x9c\x9c\x9c\x9c\x9c\x9c\x9c\x9c\x9c\x9c\x9c\x9c\x9c\x9c\x9c\x9c\x9c\"\x16\n\x11test.kmsrest/salt\x12\x01\x01\x01\0\0\0\0\0\0\0\x02\0\x02/t\0\x07secrets\0\0\0rk8s:enc:kms:v2:p:\n!\0\0\0\0\0\0\0\0\0\0\0\0.\x1a_\xbc\x80._\x84}\xcf\xe4D\x94\x08Npy\xff\xaf\xfd\xae\x12\x02k1\x1a \x9f\x9f\x9f\x9f\x9f\x9f\x9f\x9f\x9f\x9f\x9f\x9f\x9f\x9f\x9f\x9f\x9f\x9f\x9f\x9f\x9f\x9f\x9f\x9f\x9f\x9f\x9f\x9f\x9f\x9f\x9f\x9f\"\x16\n\x11test.kmsrest/salt\x12\x01\x01";
 
-/// The store with both rows, whose file may have 1,000 bytes.
-pub fn store(alloc: Global) -> Option<Store<MemTape>> {
-    let rows = Bytes::from_vec(hex::decode(alloc, ROWS).ok()?);
-    let tape = MemTape::new(rows, 1000, List::new(alloc), List::new(alloc)).ok()?;
-    Store::load(alloc, tape, 1000).ok()
+/// What a published seed is made of.
+const RANDOM: &[u8] = b"0123456789abcdef0123456789abcdef";
+
+/// The core, whose journal has room for six lines.
+pub fn core(alloc: Global) -> Option<Core<MemTape>>
+    ensures { IfSome result IsNewCore }
+{
+    started(alloc, store(alloc)?)
 }
 
-/// Publishes the settings by the plugin `p`.
-fn publish_by_one(alloc: Global, settings: Shared<Settings>) -> Option<Published>
-    requires { NamesAmong one_name (rows_of settings.entries.0) }
-    ensures { IfSome result (λ p. NamesAmong one_name p.rows) }
-{
-    let link = plugin(alloc)?;
-    let mut links = one_link(alloc, link)?;
-    let random = Bytes::from_vec(vec![in alloc; 7; 1000].ok()?);
-    let mut dice = MemDice::new(random, List::new(alloc));
-    match publish(alloc, settings, &mut links, &mut dice) {
-        Ok(published) => Some(published),
+/// The store with both rows, whose file may have 1,000 bytes.
+fn store(alloc: Global) -> Option<Store<MemTape>> {
+    let rows = Bytes::copy(alloc, ROWS).ok()?;
+    let tape = MemTape::new(rows, 1000, List::new(alloc), List::new(alloc)).ok()?;
+    loaded(alloc, tape)
+}
+
+fn loaded<T: Tape + Drop>(alloc: Global, tape: T) -> Option<Store<T>> {
+    match Store::load(alloc, tape, 1000) {
+        Ok(store) => Some(store),
         Err(_) => None,
     }
+}
+
+/// A core over the store. Where there is none the store goes too.
+fn started<T: Tape + Drop>(alloc: Global, store: Store<T>) -> Option<Core<T>>
+    ensures { IfSome result IsNewCore }
+{
+    match names_and_replicas(alloc) {
+        Some((names, replicas)) => started_with(alloc, store, names, replicas, &[0, 0]),
+        None => {
+            let _tape = store.close();
+            None
+        }
+    }
+}
+
+#[tactic(auto, using(crate::proofs::Beginning::first_in, crate::proofs::Beginning::one_long, crate::proofs::Beginning::among))]
+fn started_with<T: Tape + Drop>(
+    alloc: Global,
+    store: Store<T>,
+    names: List<Text>,
+    replicas: List<Option<Shared<Published>>>,
+    reloads: &[u32],
+) -> Option<Core<T>>
+    requires names { names.0 ≡ one_name }
+    requires replicas { IsNamed replicas.0 }
+    requires reloads { reloads.now ≡ 0 ∷ 0 ∷ [] }
+    ensures { IfSome result IsNewCore }
+{
+    let _live = store.live_count();
+    match Core::start(alloc, store, replicas, names, 2, 6, reloads) {
+        Ok(core) => Some(core),
+        Err((why, store)) => {
+            drop(why);
+            let _tape = store.close();
+            None
+        }
+    }
+}
+
+/// The name of the plugin, and the configuration of one replica alone.
+fn names_and_replicas(alloc: Global) -> Option<(List<Text>, List<Option<Shared<Published>>>)>
+    ensures { IfSome result (λ both. (both.0.0 ≡ one_name) × IsNamed both.1.0) }
+{
+    let names = one_in(alloc, text(alloc, "p")?)?;
+    let replicas = one_in(alloc, Some(published(alloc)?))?;
+    Some((names, replicas))
 }
 
 /// The configuration of the file.
 fn published(alloc: Global) -> Option<Shared<Published>>
     ensures { IfSome result (λ p. NamesAmong one_name p.rows) }
 {
-    let settings = read(alloc, FILE.as_bytes()).ok()?;
-    let settings = Shared::new(alloc, settings).ok()?;
-    let known = names_one(alloc, &settings)?;
-    if !known {
+    let random = Bytes::copy(alloc, RANDOM).ok()?;
+    let link = plugin(alloc)?;
+    shared(
+        alloc,
+        published_by(alloc, link, MemDice::new(random, List::new(alloc)))?,
+    )
+}
+
+fn published_by<L: Kms + Drop, D: Dice + Drop>(alloc: Global, link: L, dice: D) -> Option<Published>
+    ensures { IfSome result (λ p. NamesAmong one_name p.rows) }
+{
+    let mut dice = dice;
+    let mut links = one_link(alloc, link)?;
+    publish_file(alloc, &mut links, &mut dice)
+}
+
+/// Publishes the file's settings, if they name the plugin of the link alone.
+fn publish_file<L: Kms, D: Dice>(
+    alloc: Global,
+    links: &mut Links<L>,
+    dice: &mut D,
+) -> Option<Published>
+    requires { names_of L.link links.old ≡ one_name }
+    ensures { IfSome result (λ p. NamesAmong one_name p.rows) }
+{
+    let settings = shared(alloc, read(alloc, FILE.as_bytes()).ok()?)?;
+    if !links.serve(settings.get()) {
         return None;
     }
-    let published = publish_by_one(alloc, settings)?;
-    match Shared::new(alloc, published) {
+    match publish(alloc, settings, links, dice) {
         Ok(published) => Some(published),
-        Err(_) => None,
-    }
-}
-
-/// The configuration of one replica alone.
-fn alone(alloc: Global, published: Shared<Published>) -> Option<List<Option<Shared<Published>>>>
-    ensures { IfSome result (λ replicas. replicas.0 ≡ Some published ∷ []) }
-{
-    Some(List::from_vec(vec![in alloc; Some(published)].ok()?))
-}
-
-/// The name of the plugin, in a list.
-fn its_name(alloc: Global) -> Option<List<Text>>
-    ensures { IfSome result (λ names. names.0 ≡ one_name) }
-{
-    let name = Text::copy(alloc, "p").ok()?;
-    Some(List::from_vec(vec![in alloc; name].ok()?))
-}
-
-/// The core over the store, with room for so many lines.
-pub fn core(
-    alloc: Global,
-    store: Store<MemTape>,
-    reloads: &[u32],
-    room: u64,
-) -> Option<Core<MemTape>>
-    requires two { length reloads.now ≡ 2 }
-    requires room { (sum reloads.now ≤ room) × (room ≤ 4000000) }
-    ensures { IfSome result (λ core. IsNewCore store.rows reloads.now room core) }
-{
-    let published = published(alloc)?;
-    started(alloc, store, published, reloads, room)
-}
-
-fn started(
-    alloc: Global,
-    store: Store<MemTape>,
-    published: Shared<Published>,
-    reloads: &[u32],
-    room: u64,
-) -> Option<Core<MemTape>>
-    requires named { NamesAmong one_name published.rows }
-    requires two { length reloads.now ≡ 2 }
-    requires room { (sum reloads.now ≤ room) × (room ≤ 4000000) }
-    ensures { IfSome result (λ core. IsNewCore store.rows reloads.now room core) }
-{
-    let replicas = alone(alloc, published)?;
-    let names = its_name(alloc)?;
-    match Core::start(alloc, store, replicas, names, 2, room, reloads) {
-        Ok(core) => Some(core),
-        Err(_) => None,
+        Err(why) => {
+            drop(why);
+            None
+        }
     }
 }

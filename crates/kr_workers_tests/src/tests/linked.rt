@@ -1,22 +1,18 @@
 //! Links to the plugin `p` alone.
-ghost use Rattle.std.specs.Prelude.{◌≡◌, IfSome, IsTrue, codes, [], ◌∷◌};
-ghost use Rattle.kr_config.specs.Kept.{rows_of};
+ghost use Rattle.std.specs.Prelude.{◌≡◌, IfSome};
 ghost use Rattle.kr_provider.specs.Names.{names_of};
-ghost use Rattle.kr_rollout.specs.Openings.{NamesAmong};
 ghost use Rattle.kr_workers_tests.specs.Ready.{one_name};
 
-use kr_base::{List, Shared, Text};
-use kr_config::Settings;
+use crate::tests::single::{both_of, text};
+use kr_base::List;
 use kr_kms::{Kms, TablePlugin};
 use kr_provider::Links;
 use std::alloc::Global;
 
 /// The plugin `p` in memory, which wraps by the key `k1`.
 pub fn plugin(alloc: Global) -> Option<TablePlugin> {
-    let name = Text::copy(alloc, "p").ok()?;
-    let key_id = Text::copy(alloc, "k1").ok()?;
-    let version = Text::copy(alloc, "v2").ok()?;
-    let healthz = Text::copy(alloc, "ok").ok()?;
+    let (name, key_id) = both_of(text(alloc, "p"), text(alloc, "k1"))?;
+    let (version, healthz) = both_of(text(alloc, "v2"), text(alloc, "ok"))?;
     Some(TablePlugin::new(name, key_id, 1, version, healthz, List::new(alloc)))
 }
 
@@ -32,14 +28,4 @@ pub fn one_link<L: Kms + Drop>(alloc: Global, link: L) -> Option<Links<L>>
         Ok(()) => Some(links),
         Err(_) => None,
     }
-}
-
-/// Whether the settings name no other plugin.
-pub fn names_one(alloc: Global, settings: &Shared<Settings>) -> Option<bool>
-    ensures { IfSome result (λ one. IsTrue one
-        → NamesAmong one_name (rows_of settings.now.entries.0)) }
-{
-    let link = plugin(alloc)?;
-    let links = one_link(alloc, link)?;
-    Some(links.serve(settings.get()))
 }

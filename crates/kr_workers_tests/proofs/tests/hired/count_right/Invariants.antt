@@ -1,6 +1,5 @@
 -- `count_right`: the workers that are left have no seat.
-use Rattle.std.proofs.Common.{◌≡◌, length, None}
-use Rattle.std.specs.Prelude.{All}
+use Rattle.std.proofs.Common.{◌≡◌, length, None, All}
 use Rattle.kr_workers_tests.proofs.tests.hired.count_right.Given as goal
 
 abbrev pub invariant-loop-worker : goal.invariant-loop-worker
