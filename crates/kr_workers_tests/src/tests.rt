@@ -4,6 +4,7 @@ mod fleet;
 mod hired;
 mod linked;
 mod parts;
+mod published;
 mod single;
 mod waiting;
 

@@ -1,30 +1,19 @@
 //! A core over a store of two rows, with one replica and two seats.
 ghost use Rattle.std.specs.Prelude.{◌≡◌, ◌∷◌, [], IfSome};
-ghost use Rattle.kr_provider.specs.Names.{names_of};
-ghost use Rattle.kr_rollout.specs.Openings.{NamesAmong};
 ghost use Rattle.kr_workers_tests.specs.Ready.{IsNamed, IsNewCore, one_name};
 
-use crate::tests::linked::{one_link, plugin};
-use crate::tests::single::{one_in, shared, text};
-use kr_base::{Bytes, Dice, List, MemDice, MemTape, Shared, Tape, Text};
-use kr_config::read;
-use kr_kms::Kms;
-use kr_provider::{Links, Published, publish};
+use crate::tests::published::published;
+use crate::tests::single::{one_in, text};
+use kr_base::{Bytes, List, MemTape, Shared, Tape, Text};
+use kr_provider::Published;
 use kr_rollout::Core;
 use kr_store::Store;
 use std::alloc::Global;
-
-const FILE: &str = r#"{"apiVersion":"apiserver.config.k8s.io/v1","kind":"EncryptionConfiguration",
-"resources":[{"resources":["secrets"],"providers":[{"kms":{"apiVersion":"v2","name":"p",
-"endpoint":"unix:///p"}}]}]}"#;
 
 /// `/s` with `hello` and `/t` with `there`, sealed under two sources that the plugin `p` wrapped. The
 /// data was sealed by AES-GCM of Python's cryptography.
 const ROWS: &[u8] =
     b"KRSTORE1\x01\0\0\0\0\0\0\0\x01\0\x02/s\0\x07secrets\0\0\0rk8s:enc:kms:v2:p:\n!\0\0\0\0\0\0\0\0\0\0\0\0\xd7P\xf4\xb0\x1a\xc0\xd1\x93\x01\x19|\x8bH&\xc7\x1dm\0g1\x8a\x12\x02k1\x1a \x9c\x9c\x9c\x9c\x9c\x9c\x9c\x9c\x9c\x9c\x9c\x9c\x9c\x9c\x9c\x9c\x9c\x9c\x9c\x9c\x9c\x9c\x9c\x9c\x9c\x9c\x9c\x9c\x9c\x9c\x9c\x9c\"\x16\n\x11test.kmsrest/salt\x12\x01\x01\x01\0\0\0\0\0\0\0\x02\0\x02/t\0\x07secrets\0\0\0rk8s:enc:kms:v2:p:\n!\0\0\0\0\0\0\0\0\0\0\0\0.\x1a_\xbc\x80._\x84}\xcf\xe4D\x94\x08Npy\xff\xaf\xfd\xae\x12\x02k1\x1a \x9f\x9f\x9f\x9f\x9f\x9f\x9f\x9f\x9f\x9f\x9f\x9f\x9f\x9f\x9f\x9f\x9f\x9f\x9f\x9f\x9f\x9f\x9f\x9f\x9f\x9f\x9f\x9f\x9f\x9f\x9f\x9f\"\x16\n\x11test.kmsrest/salt\x12\x01\x01";
-
-/// What a published seed is made of.
-const RANDOM: &[u8] = b"0123456789abcdef0123456789abcdef";
 
 /// The core, whose journal has room for six lines.
 pub fn core(alloc: Global) -> Option<Core<MemTape>>
@@ -91,46 +80,4 @@ fn names_and_replicas(alloc: Global) -> Option<(List<Text>, List<Option<Shared<P
     let names = one_in(alloc, text(alloc, "p")?)?;
     let replicas = one_in(alloc, Some(published(alloc)?))?;
     Some((names, replicas))
-}
-
-/// The configuration of the file.
-fn published(alloc: Global) -> Option<Shared<Published>>
-    ensures { IfSome result (λ p. NamesAmong one_name p.rows) }
-{
-    let random = Bytes::copy(alloc, RANDOM).ok()?;
-    let link = plugin(alloc)?;
-    shared(
-        alloc,
-        published_by(alloc, link, MemDice::new(random, List::new(alloc)))?,
-    )
-}
-
-fn published_by<L: Kms + Drop, D: Dice + Drop>(alloc: Global, link: L, dice: D) -> Option<Published>
-    ensures { IfSome result (λ p. NamesAmong one_name p.rows) }
-{
-    let mut dice = dice;
-    let mut links = one_link(alloc, link)?;
-    publish_file(alloc, &mut links, &mut dice)
-}
-
-/// Publishes the file's settings, if they name the plugin of the link alone.
-fn publish_file<L: Kms, D: Dice>(
-    alloc: Global,
-    links: &mut Links<L>,
-    dice: &mut D,
-) -> Option<Published>
-    requires { names_of L.link links.old ≡ one_name }
-    ensures { IfSome result (λ p. NamesAmong one_name p.rows) }
-{
-    let settings = shared(alloc, read(alloc, FILE.as_bytes()).ok()?)?;
-    if !links.serve(settings.get()) {
-        return None;
-    }
-    match publish(alloc, settings, links, dice) {
-        Ok(published) => Some(published),
-        Err(why) => {
-            drop(why);
-            None
-        }
-    }
 }
