@@ -51,12 +51,12 @@ module _ (parts : List Part) (gets : AreGets parts) where
   pub reloads : (core : CoreState) → IsNewCore core → core.opening.reloads ≡ all_reloads parts
   reloads core new = new.reloads_are ∙ sym (by_lines reloads_of 0 (λ path. refl) parts gets)
 
-  pub budgets : (core : CoreState) → IsNewCore core
-      → AreBudgets core.opening.rows parts (3 ∷ (3 ∷ []))
-  budgets core new = (
+  pub budgets : (core : CoreState) (lines : List ℕ) → IsNewCore core → lines ≡ 3 ∷ (3 ∷ [])
+      → AreBudgets core.opening.rows parts lines
+  budgets core lines new three = (
     new.live,
     new.live_is,
-    sym (by_lines (budget_of (new.live + put_lines parts)) 3 (λ path. refl) parts gets),
+    three ∙ sym (by_lines (budget_of (new.live + put_lines parts)) 3 (λ path. refl) parts gets),
   )
 
 -- ---- workers

@@ -1,5 +1,5 @@
 //! A fleet of two workers with a `get` each.
-ghost use Rattle.std.specs.Prelude.{◌≡◌, All, None};
+ghost use Rattle.std.specs.Prelude.{◌≡◌, ◌∷◌, [], All, None};
 ghost use Rattle.kr_workers_tests.specs.Ready.{AreGets, IsHired, IsNewCore};
 
 use crate::tests::beginning::core;
@@ -24,7 +24,7 @@ pub fn both_read<R: Threads + Wait + Sync, L: Kms + Drop + Send>(
     let parts = parts(alloc)?;
     let core = core(alloc)?;
     let mut workers = hire(alloc, first, second);
-    let core = both_work(rt, alloc, core, parts.as_slice(), &mut workers);
+    let core = both_work(rt, alloc, core, &[3, 3], parts.as_slice(), &mut workers);
     end_core(core);
     Some(count_right(workers))
 }
@@ -34,10 +34,12 @@ fn both_work<R: Threads + Wait + Sync, T: Tape + Send, L: Kms + Send, D: Dice + 
     rt: &R,
     alloc: Global,
     core: Core<T>,
+    budgets: &[u64],
     parts: &[Part],
     workers: &mut Vec<Worker<T, L, D>>,
 ) -> Core<T>
     requires core { IsNewCore core }
+    requires budgets { budgets.now ≡ 3 ∷ 3 ∷ [] }
     requires parts { AreGets parts.now }
     requires workers { All (λ worker. IsHired L.link worker) workers.old.items }
     ensures { All (λ worker. worker.seat ≡ None) workers.new.items }
@@ -45,7 +47,7 @@ fn both_work<R: Threads + Wait + Sync, T: Tape + Send, L: Kms + Send, D: Dice + 
     if workers.len() != 2 {
         return core;
     }
-    match run_fleet(rt, alloc, core, &[3, 3], &[], parts, workers) {
+    match run_fleet(rt, alloc, core, budgets, &[], parts, workers) {
         Ok(core) => core,
         Err((_, core)) => core,
     }
