@@ -1,6 +1,6 @@
 -- What the workers begin with, and what they leave.
 use Rattle.std.proofs.Common.{◌≡◌, ℕ, ◌+◌, ◌<◌, List, [], ◌∷◌, ◌++◌, length, map, get_or, All, Contains, None, refl, sym, ap, subst, ◌∙◌, arith}
-use Rattle.std.proofs.lemmas.List.Elements.{All-cons, All-contains_itself, All-get_or, All-head, All-nil, All-tail, All-weaker}
+use Rattle.std.proofs.lemmas.List.Elements.{All-cons, All-contains_itself, All-get_or, All-nil, All-weaker}
 use Rattle.kr_kms.specs.Calls.{Link}
 use Rattle.kr_rollout.specs.Calls.{AreServed}
 use Rattle.kr_rollout.specs.Cores.{CoreState}
@@ -95,11 +95,3 @@ module _ {T L D : Type 0} (link : L → Link) where
       → All (λ worker. worker.seat ≡ None) workers
   none_seated workers hired = All-weaker (λ w. IsHired link w) (λ w. w.seat ≡ None)
       (λ worker is. is.no_seat) workers hired
-
--- of workers without seats the last has none, nor have those before it
-pub all_split : {X : Type 0} (P : X → Type 0) (xs : List X) (x : X) → All P (xs ++ x ∷ [])
-    → All P xs × P x
-all_split P [] x a = (All-nil P, All-head P x [] a)
-all_split P (y ∷ xs) x a =
-    let rest = all_split P xs x (All-tail P y (xs ++ x ∷ []) a) in
-    (All-cons P y xs (All-head P y (xs ++ x ∷ []) a) rest.0, rest.1)
