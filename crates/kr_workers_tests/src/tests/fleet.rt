@@ -9,7 +9,7 @@ use kr_base::{Dice, Tape};
 use kr_kms::Kms;
 use kr_rollout::Core;
 use kr_script::Part;
-use kr_workers::{Worker, run_fleet};
+use kr_workers::{SettingsFile, Worker, run_fleet};
 use std::alloc::Global;
 use std::sync::Wait;
 use std::thread::Threads;
@@ -24,7 +24,15 @@ pub fn both_read<R: Threads + Wait + Sync, L: Kms + Drop + Send>(
     let parts = parts(alloc)?;
     let core = core(alloc)?;
     let mut workers = hire(alloc, first, second);
-    let core = both_work(rt, alloc, core, &[3, 3], parts.as_slice(), &mut workers);
+    let core = both_work(
+        rt,
+        alloc,
+        core,
+        &[3, 3],
+        &[],
+        parts.as_slice(),
+        &mut workers,
+    );
     end_core(core);
     Some(count_right(workers))
 }
@@ -35,6 +43,7 @@ fn both_work<R: Threads + Wait + Sync, T: Tape + Send, L: Kms + Send, D: Dice + 
     alloc: Global,
     core: Core<T>,
     budgets: &[u64],
+    files: &[SettingsFile],
     parts: &[Part],
     workers: &mut Vec<Worker<T, L, D>>,
 ) -> Core<T>
@@ -47,7 +56,7 @@ fn both_work<R: Threads + Wait + Sync, T: Tape + Send, L: Kms + Send, D: Dice + 
     if workers.len() != 2 {
         return core;
     }
-    match run_fleet(rt, alloc, core, budgets, &[], parts, workers) {
+    match run_fleet(rt, alloc, core, budgets, files, parts, workers) {
         Ok(core) => core,
         Err((_, core)) => core,
     }
