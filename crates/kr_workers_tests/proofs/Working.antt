@@ -1,5 +1,5 @@
 -- What the workers begin with, and what they leave.
-use Rattle.std.proofs.Common.{◌≡◌, ℕ, ◌+◌, ◌<◌, List, [], ◌∷◌, ◌++◌, length, map, get_or, All, Contains, None, refl, sym, ap, subst, ◌∙◌, arith}
+use Rattle.std.proofs.Common.{◌≡◌, ℕ, ◌+◌, ◌<◌, List, [], ◌∷◌, length, map, get_or, All, Contains, None, refl, sym, ap, subst, ◌∙◌, arith}
 use Rattle.std.proofs.lemmas.List.Elements.{All-cons, All-contains_itself, All-get_or, All-nil, All-weaker}
 use Rattle.kr_kms.specs.Calls.{Link}
 use Rattle.kr_rollout.specs.Calls.{AreServed}
