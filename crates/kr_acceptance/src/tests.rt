@@ -6,6 +6,7 @@ use std::alloc::Global;
 use std::test::Fail;
 
 mod config;
+mod load;
 mod pages;
 mod values;
 mod yaml;

@@ -3,6 +3,7 @@ use Rattle.std.specs.Prelude.{◌≡◌, ℕ, ◌≤◌, List, codes, Some}
 use Rattle.kr_words.specs.Grammar.{IsWithinSize, Means, replica_limit, replicas_of}
 use Rattle.kr_words.specs.Options.{value_of}
 use Rattle.kr_words.specs.declared.command.Verb.TheVariants as verbs
+use Rattle.kr_top.specs.LoadAsked.{AskNoLoad}
 use Rattle.kr_top.specs.declared.fleet_words.FleetWords.{FleetWords}
 
 -- the words are those of `fleet`; its options name the fleet file and the store
@@ -15,3 +16,7 @@ pub record AsksFleet (words : List (List ℕ)) (asked : FleetWords) : Type 0 whe
 
 abbrev pub AskNoFleet : List (List ℕ) → Type 0
 AskNoFleet words = (asked : FleetWords) → AsksFleet words asked → ⊥
+
+-- they ask for neither a fleet nor a load, so nothing waits
+abbrev pub AskAlone : List (List ℕ) → Type 0
+AskAlone words = AskNoFleet words × AskNoLoad words

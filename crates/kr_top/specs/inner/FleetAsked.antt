@@ -4,6 +4,7 @@ use Rattle.kr_words.specs.Options.{value_of}
 use Rattle.kr_words.specs.declared.command.Verb.{Verb}
 use Rattle.kr_words.specs.declared.command.Verb.TheVariants as verbs
 use Rattle.kr_top.specs.Command.{AskBadly}
+use Rattle.kr_top.specs.LoadAsked.{AskNoLoad}
 use Rattle.kr_top.specs.declared.fleet_words.FleetWords.{FleetWords}
 use Rattle.kr_top.specs.declared.refusal.Stop.{Stop}
 use Rattle.kr_top.specs.declared.refusal.Stop.TheVariants.{Words, NoMemory}
@@ -13,7 +14,8 @@ use Rattle.kr_top.specs.FleetAsked.{AsksFleet, AskNoFleet}
 abbrev pub IsFleetAsked : List (List ℕ) → Result (Option FleetWords) Stop → Type 0
 IsFleetAsked words (Ok (Some asked)) = AsksFleet words asked
 IsFleetAsked words (Ok None) = AskNoFleet words
-IsFleetAsked words (Err (Words why)) = AskBadly why words × AskNoFleet words
+IsFleetAsked words (Err (Words why)) =
+    AskBadly why words × AskNoFleet words × AskNoLoad words
 IsFleetAsked words (Err NoMemory) = ⊤
 IsFleetAsked words (Err stop) = ⊥
 
