@@ -1,12 +1,13 @@
 -- Each put of a load that was done has its row: a sealing of its data by the load's configurations.
 use Rattle.std.specs.Prelude.{All, Contains, cond, ⊤}
-use Rattle.std.specs.List.{find, slice_get}
+use Rattle.std.specs.List.{find, slice_get, slice_index}
 use Rattle.std.specs.Option.{option_map}
 use Rattle.std.specs.Str.{bytes_eq}
 use Rattle.std.proofs.Common.{◌≡◌, ℕ, zero, suc, ◌+◌, ◌<◌, Bool, true, false, List, [], ◌∷◌, ◌++◌, codes, length, map, Option, None, Some, Result, refl, ap, sym, subst, ◌∙◌, append-nil, arith}
 use Rattle.std.proofs.lemmas.List.{append_assoc}
 use Rattle.std.proofs.lemmas.List.Elements.{All-append, All-cons, All-head, All-nil, All-tail}
 use Rattle.std.proofs.lemmas.Option.{none-some, same_Some, slice_get_within}
+use Rattle.kr_base.specs.Lines.{of_seat}
 use Rattle.kr_config.specs.Kept.{Row, rows_of}
 use Rattle.kr_kms.specs.Calls.{Link}
 use Rattle.kr_kms.specs.Truth.{Truth}
@@ -296,15 +297,98 @@ module _ (seed size worker number revision : ℕ) (o : Opening) (front : List En
 
 -- ---- a reply
 
+module _ (T : Type 0) {L D : Type 0} (truth : Truth) (link : L → Link)
+    (left : D → Option (List ℕ)) (count : D → ℕ) (seed size : ℕ) (files : List SettingsFile)
+    (history : List Entry) (o : Opening) (parts : List Part) (budgets : List ℕ)
+    (old new : List (Worker T L D))
+    (r : IsLoadRun truth link left count seed size files history o parts budgets old new) where
+  brought : (worker : ℕ) → worker < 4
+      → All (λ (e : Entry). Brings seed e.line.did) (of_seat seat_of worker history)
+  brought worker few =
+      let part = its_part T truth link left count seed size files history o parts budgets old new
+      r worker few in
+      let before = was T truth link left count seed size files history o parts budgets old new r
+      worker few in
+      let after = now T truth link left count seed size files history o parts budgets old new r
+      worker few in
+      entries_owned truth link left count files history o seed size worker
+      (slice_index budgets worker) part.x before.x.bench after.x.bench after.x.told.0
+      (run_of T truth link left count seed size files history o parts budgets old new r worker
+      few).stands
+      (its_lines T truth link left count seed size files history o parts budgets old new r worker
+      few) (Brings seed)
+      (λ asked own done is. brings_of seed files r.files_are asked done is)
+
+  all_brought : All (λ (e : Entry). Brings seed e.line.did) history
+  all_brought = own_there (λ seat e. Brings seed e.line.did) history
+      (of_four T truth link left count seed size files history o parts budgets old new r) brought
+
+  opening : All (LoadGeneration seed) (start_of o).generations
+  opening = opening_all seed 0 o.replicas (subst
+      (λ l. All (λ (rows : Option (List Row)). (own : List Row) → rows ≡ Some own
+      → OfLoad seed own) l) (sym r.opens) both)
+    where
+      one : (own : List Row) → Some (opening_rows seed) ≡ Some own → OfLoad seed own
+      one own is = (0, omega arith, same_Some (opening_rows seed) own is)
+
+      both : All (λ (rows : Option (List Row)). (own : List Row) → rows ≡ Some own
+          → OfLoad seed own) (Some (opening_rows seed) ∷ (Some (opening_rows seed) ∷ []))
+      both =
+          let Is : Option (List Row) → Type 0 =
+          λ rows. (own : List Row) → rows ≡ Some own → OfLoad seed own in
+          All-cons Is (Some (opening_rows seed)) (Some (opening_rows seed) ∷ []) one
+          (All-cons Is (Some (opening_rows seed)) [] one (All-nil Is))
+
+  module _ (worker at number revision : ℕ)
+      (rep : Replies parts new worker at (load.put_of seed size worker number)
+      (told.Put revision)) where
+    few : worker < 4
+    few =
+        let l = slice_get_within parts worker rep.part rep.part_is in
+        let four = four_parts T truth link left count seed size files history o parts budgets old
+        new r in omega (arith, l, four)
+
+    kept : HasRow seed size (state_of o history).rows worker number revision
+    kept =
+        let part = its_part T truth link left count seed size files history o parts budgets old
+        new r worker few in
+        let before = was T truth link left count seed size files history o parts budgets old new
+        r worker few in
+        let after = now T truth link left count seed size files history o parts budgets old new r
+        worker few in
+        let stands = (run_of T truth link left count seed size files history o parts budgets old
+        new r worker few).stands in
+        let lines = its_lines T truth link left count seed size files history o parts budgets old
+        new r worker few in
+        let same_part : part.x ≡ rep.part =
+        same_Some part.x rep.part (sym part.is ∙ rep.part_is) in
+        let same_worker : after.x ≡ rep.worker =
+        same_Some after.x rep.worker (sym after.is ∙ rep.worker_is) in
+        let d = done_at stands.run at (load.put_of seed size worker number) (told.Put revision)
+        (ap (λ l. slice_get l at) (stands.lines_are ∙ ap (λ (p : Part). p.lines.0) same_part)
+        ∙ rep.line_is)
+        (ap (λ l. slice_get l at) (sym stands.replies_are
+        ∙ ap (λ (w : Worker T L D). w.told.0) same_worker) ∙ rep.reply_is) in
+        let tells = put_told truth link left count files history o seed size worker
+        (slice_index budgets worker) part.x before.x.bench after.x.bench after.x.told.0 stands
+        lines d.done d.there number d.line_is in
+        let written : HasWritten secrets (path_of worker number)
+        (plain_of seed size worker number) d.done.part revision =
+        subst (λ (t : Told). TellsPut secrets (path_of worker number)
+        (plain_of seed size worker number) d.done.part t) d.reply_is tells in
+        let at_it = parted history written.entry
+        (entry_in truth link left count files history o seed size worker
+        (slice_index budgets worker) part.x before.x.bench after.x.bench after.x.told.0 stands
+        lines d.done d.there written.entry written.there) in
+        subst (λ (l : List Entry). HasRow seed size (state_of o l).rows worker number revision)
+        (sym at_it.is)
+        (has_row seed size worker number revision o at_it.front written.entry at_it.rest
+        (subst (IsRun o (start_of o)) at_it.is r.one.legal.runs) opening
+        (subst (λ l. All (λ (e : Entry). Brings seed e.line.did) l) at_it.is all_brought)
+        written.did_is written.gave_is)
+
 pub puts_are_kept : (T : Type 0) → {L D : Type 0} → (truth : Truth) (link : L → Link)
     (left : D → Option (List ℕ)) (count : D → ℕ) → PutsAreKept T truth link left count
-puts_are_kept T {L} {D} truth link left count seed size files history o parts budgets old new r
-    worker at number revision rep = by written.entry written.did_is written.gave_is
-    (entry_in truth link left count files history o seed size worker
-    (slice_index budgets worker) part.x (was_it).x.bench now_it.x.bench now_it.x.told.0 stands
-    lines d.done d.there written.entry written.there)
-  where
-    few : worker < 4
-    few = let l = slice_get_within parts worker rep.part rep.part_is in
-        omega (arith, l, four_parts T truth link left count seed size files history o parts
-        budgets old new r)
+puts_are_kept T truth link left count seed size files history o parts budgets old new r worker at
+    number revision rep = kept T truth link left count seed size files history o parts budgets
+    old new r worker at number revision rep

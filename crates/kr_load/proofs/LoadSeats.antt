@@ -202,12 +202,6 @@ module _ {L D : Type 0} (truth : Truth) (link : L → Link) (left : D → Option
         gets_numbered : All (IsNumbered (get_of worker) size) q.rest
         gets_numbered = numbered_all (get_of worker) size q.rest q.rest_is
 
-        was_done : (done : LineDone) → Contains s.run done
-            → WasDone truth link left count files part.replica done
-        was_done done c = All-contains (WasDone truth link left count files part.replica) s.run done
-            (all_done truth link left count files part.replica (first_place o worker budget bench)
-            s.run s.last s.does) c
-
         put_part : (done : LineDone) → Contains s.run done → (number : ℕ)
             → done.line ≡ put_of seed size worker number
             → TellsPut secrets (path_of worker number) (plain_of seed size worker number) done.part
