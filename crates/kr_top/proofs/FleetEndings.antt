@@ -96,9 +96,9 @@ name_there link links it (k, below, is) = (
   get_or-map (λ l. (link l).name) links k it (link it).name below ∙ ap (λ l. (link l).name) is,
 )
 
-module _ {T L D : Type 0} {truth : Truth} {link : L → Link} {left : D → Option (List ℕ)}
-    {count : D → ℕ} (words : FleetWords) (old : Around) (ready : IsReady words old)
-    (new : Around) (output errors : Receipt)
+module _ (T : Type 0) {L D : Type 0} (truth : Truth) (link : L → Link)
+    (left : D → Option (List ℕ)) (count : D → ℕ) (words : FleetWords) (old : Around)
+    (ready : IsReady words old) (new : Around) (output errors : Receipt)
     (none : NoneRose old new output errors) where
   -- a worker's link is the seat's, and no seat's count rose
   module _ (programs : List Program) (seat : ℕ) (a : Around) (links : List L) (dice : D)

@@ -34,5 +34,6 @@ module _ (T : Type 0) {L D : Type 0} (truth : Truth) (link : L → Link)
     causes = causes (fleet_steps words) words.store Began old new output errors
         (λ e s. (s.begun, (s.reaches.end, s.reaches.goes))) breaks (IsFleetTold words old)
         (settled_fleet words old) status ran.result ran.did.home ran.did.did ran.tells;
-    complete = λ ready none. completed words old ready new output errors none status ran;
+    complete = λ ready none.
+        completed T truth link left count words old ready new output errors none status ran;
   }

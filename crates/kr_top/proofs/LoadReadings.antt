@@ -31,8 +31,8 @@ module _ (T : Type 0) {L : Type 0} (truth : Truth) (link : L → Link) (words : 
       → LoadReadings T truth link words old new output errors status
   load_readings status small ran = record {
     causes = causes (load_steps words) words.store Began (with_streams old) (with_streams new)
-        output errors (λ e s. (s.begun, (s.reaches.end, s.reaches.goes))) breaks (TellsTape words old)
-        (settled_load words old) status ran.result
+        output errors (λ e s. (s.begun, (s.reaches.end, s.reaches.goes))) breaks
+        (TellsTape words old) (settled_load words old) status ran.result
         (home_seeded old new ran.did.others ran.did.home) ran.did.did ran.tells;
     complete = λ blank none.
         full_load T truth link words old new output errors small blank none status ran;

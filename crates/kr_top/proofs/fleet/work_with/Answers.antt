@@ -5,7 +5,7 @@ use Rattle.kr_store.specs.Stores.{Kept}
 use Rattle.kr_workers.specs.Budgets.{AreBudgets}
 use Rattle.kr_top.specs.Fleets.{launching, publishing, starting}
 use Rattle.kr_top.specs.inner.FleetFiles.{named, plan_of}
-use Rattle.kr_top.specs.inner.Outfits.{AreNamed, names_in, with_outfits}
+use Rattle.kr_top.specs.inner.Outfits.{AreLater, AreNamed, names_in}
 use Rattle.kr_top.specs.inner.Phases.{Does}
 use Rattle.kr_top.specs.inner.Tapes.{stored_of}
 use Rattle.kr_top.specs.inner.Workings.{with_crew}
@@ -55,6 +55,10 @@ returns-in-Err-clause-made g c name a olds t p =
     (starting (plan_of plan) (stored_of store) budgets) c.args.replicas.0 p.does
     (c.in-Err.ensures.does (with_crew link left count name store outs a))))
 
+pub returns-in-Err-clause-later : goal.returns-in-Err-clause-later
+returns-in-Err-clause-later g c =
+    later_refl g.L.Kms.link g.D.Dice.left g.D.Dice.count c.args.outfits.0
+
 pub hire-requires : goal.hire-requires
 hire-requires g c = record {
   many = c.requires.seats ∙ sym (ap length c.as_slice.ensures);
@@ -79,6 +83,11 @@ returns-in-Err-hire-clause-made g c name a olds t p =
     p.later c.requires.published c.requires.store c.args.budgets.now.reloads.items
     c.requires.reloads core.opening (ap (λ (k : CoreState). k.opening) c.in-Ok.ensures.core)
     g.row.T.Denot kept k c.in-Err-hire.outfits.0 c.in-Err-hire.ensures.returned)
+
+pub returns-in-Err-hire-clause-later : goal.returns-in-Err-hire-clause-later
+returns-in-Err-hire-clause-later g c = subst (λ os. AreLater g.L.Kms.link g.D.Dice.count
+    c.args.outfits.0 os) (sym c.in-Err-hire.ensures.returned)
+    (later_refl g.L.Kms.link g.D.Dice.left g.D.Dice.count c.args.outfits.0)
 
 pub run_crew-requires-clause-core : goal.run_crew-requires-clause-core
 run_crew-requires-clause-core g c = λ κs lives.

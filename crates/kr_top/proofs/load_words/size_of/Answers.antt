@@ -2,6 +2,9 @@
 use Rattle.std.proofs.Common.{codes, arith}
 use Rattle.kr_words.specs.Options.{value_of}
 use Rattle.kr_top.proofs.LoadAsked.{size_fits}
+use Rattle.kr_top.proofs.LoadReadings.{load_readings}
+use Rattle.kr_top.proofs.FleetReadings.{fleet_readings}
+use Rattle.kr_top.proofs.LoadRuns.{load_ran}
 use Rattle.kr_top.proofs.load_words.size_of.Goals as goal
 
 pub overflow_cast-result : goal.overflow_cast-result
