@@ -6,6 +6,7 @@ mod configurations;
 mod digest;
 mod ending;
 mod laws;
+mod lists;
 mod load;
 mod pieces;
 mod script;
