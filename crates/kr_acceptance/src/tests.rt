@@ -1,3 +1,4 @@
+//! What the tests of this crate share: configurations, and calls over a world in memory.
 use kr_base::{Bytes, List, MemDice, MemSink, MemSource, NoMemory, Text};
 use kr_kms::TablePlugin;
 use kr_top::{MemWorld, run_alone};

@@ -31,6 +31,7 @@ impl Page {
         }
     }
 
+    /// Adds a verdict, as a reload's line has it.
     fn verdict(&mut self, alloc: Global, verdict: &Verdict) -> Result<(), Wrong> {
         let mut sink = MemSink::new(Bytes::new(alloc), ROOM, List::new(alloc))?;
         if verdict.write(&mut sink).is_err() {
@@ -42,6 +43,7 @@ impl Page {
         }
     }
 
+    /// Adds the revision, the data and whether the value is stale.
     pub fn told_read(&mut self, alloc: Global, done: &Done<Read>) -> Result<(), Wrong> {
         match done {
             Ok(Read::Absent) => self.word("absent"),
@@ -61,6 +63,7 @@ impl Page {
         }
     }
 
+    /// Adds the revision.
     pub fn told_write(&mut self, done: &Done<u64>) -> Result<(), Wrong> {
         match done {
             Ok(revision) => self.counted("written", *revision),
@@ -68,6 +71,7 @@ impl Page {
         }
     }
 
+    /// Adds the revision, or that there was nothing.
     pub fn told_delete(&mut self, done: &Done<Option<u64>>) -> Result<(), Wrong> {
         match done {
             Ok(Some(revision)) => self.counted("deleted", *revision),
@@ -76,6 +80,7 @@ impl Page {
         }
     }
 
+    /// Adds the generation that the replica had.
     pub fn told_leave(&mut self, done: &Done<Option<u32>>) -> Result<(), Wrong> {
         match done {
             Ok(Some(generation)) => self.counted("departed", *generation as u64),
@@ -84,6 +89,7 @@ impl Page {
         }
     }
 
+    /// Adds the generation, or why there is no new one.
     pub fn told_load(&mut self, alloc: Global, done: &Done<Loaded>) -> Result<(), Wrong> {
         match done {
             Ok(Loaded::Generation(number)) => self.counted("generation", *number as u64),
@@ -94,6 +100,7 @@ impl Page {
         }
     }
 
+    /// Adds the generation, or why the replica didn't join.
     pub fn told_join(&mut self, alloc: Global, done: &Done<Joining>) -> Result<(), Wrong> {
         match done {
             Ok(Joining::Generation(number)) => self.counted("generation", *number as u64),
@@ -103,6 +110,7 @@ impl Page {
         }
     }
 
+    /// Adds what became of the object, and its path.
     pub fn told_step(&mut self, done: &Done<Step>) -> Result<(), Wrong> {
         match done {
             Ok(Step::End) => self.word("end"),

@@ -19,20 +19,27 @@ use std::mem;
 /// A store, or a core over it.
 #[derive(Drop)]
 pub enum Stage {
+    /// Neither.
     Empty,
+    /// A store with no core.
     Stored(Store<MemTape>),
+    /// A core of several seats.
     Running(Table),
+    /// A core of an only caller.
     Alone(Alone),
 }
 
 /// The configurations that were named, and the stage.
 #[derive(Drop)]
 pub struct Play {
+    /// The configurations by their names.
     pub named: Named,
+    /// What events would be made of.
     pub stage: Stage,
 }
 
 impl Play {
+    /// No configuration, and nothing on the stage.
     pub fn new(alloc: Global) -> Play {
         Play {
             named: Named::new(alloc),
@@ -54,6 +61,7 @@ impl Play {
         self.put(Stage::Stored(store));
     }
 
+    /// Puts this stage in the place of the one that is there, which it ends.
     fn put(&mut self, stage: Stage) {
         end_stage(self.exchange(stage));
     }
@@ -210,6 +218,7 @@ fn add_ending(
     add_rows(page, store)
 }
 
+/// Adds the lines of a journal.
 fn add_lines(alloc: Global, page: &mut Page, lines: &[Line]) -> Result<(), Wrong> {
     for line in lines {
         add_line(alloc, page, line)?;

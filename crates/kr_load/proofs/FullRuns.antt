@@ -39,7 +39,8 @@ use Rattle.kr_workers.specs.declared.files.SettingsFile.{SettingsFile}
 use Rattle.kr_workers.specs.declared.worker.Worker.{Worker}
 use Rattle.kr_workers.proofs.Sentencing.{histories_tell}
 use Rattle.kr_load.specs.Endings.{ending_of_load}
-use Rattle.kr_load.specs.FullLoads.{AreFull, IsBlankRun, LoadsAreFull, opening_rows}
+use Rattle.kr_load.specs.FullLoads.{AreFull, IsBlankRun, LoadsAreFull}
+use Rattle.kr_load.specs.LoadRuns.{IsLoadRun, opening_rows}
 use Rattle.kr_load.specs.Loads.{get_of, lines_of, load_fleet, load_worker, put_of, reloads_of}
 use Rattle.kr_load.specs.Summaries.{Replies, gets_in, objects_of, puts_in}
 use Rattle.kr_load.specs.inner.Refusing.{refuses, some_refuses}
@@ -54,9 +55,9 @@ use Rattle.kr_load.proofs.RunParts.{four_seats, own_there, parted, split_lines}
 -- ---- lists
 
 -- what stands at a place
-record There {X : Type 0} (xs : List X) (i : ℕ) : Type 0 where
-  x : X
-  is : slice_get xs i ≡ Some x
+pub record There {X : Type 0} (xs : List X) (i : ℕ) : Type 0 where
+  pub x : X
+  pub is : slice_get xs i ≡ Some x
 
 there : {X : Type 0} (xs : List X) (i : ℕ) → i < length xs → There xs i
 there [] i below = absurd (omega (arith, below))
@@ -180,11 +181,11 @@ module _ (T : Type 0) {L D : Type 0} (truth : Truth) (link : L → Link)
     (left : D → Option (List ℕ)) (count : D → ℕ) (seed size : ℕ) (files : List SettingsFile)
     (history : List Entry) (o : Opening) (parts : List Part) (budgets : List ℕ)
     (old new : List (Worker T L D))
-    (r : IsBlankRun truth link left count seed size files history o parts budgets old new) where
+    (r : IsLoadRun truth link left count seed size files history o parts budgets old new) where
   tells : RepliesAreTrue truth link left count files history o parts budgets old new
   tells = histories_tell T truth link left count files history o parts budgets old new r.one
 
-  four_parts : length parts ≡ 4
+  pub four_parts : length parts ≡ 4
   four_parts = sym (length-map parts worker_of) ∙ ap length r.parts_are
 
   four_old : length old ≡ 4
@@ -193,22 +194,22 @@ module _ (T : Type 0) {L D : Type 0} (truth : Truth) (link : L → Link)
   four_new : length new ≡ 4
   four_new = r.one.many ∙ four_old
 
-  of_four : All (λ e. seat_of e < 4) history
+  pub of_four : All (λ e. seat_of e < 4) history
   of_four = subst (λ n. All (λ e. seat_of e < n) history) four_parts r.one.no_other
 
   -- ---- one worker
 
   module _ (worker : ℕ) (few : worker < 4) where
-    its_part : There parts worker
+    pub its_part : There parts worker
     its_part = there parts worker (omega (arith, few, four_parts))
 
-    was : There old worker
+    pub was : There old worker
     was = there old worker (omega (arith, few, four_old))
 
-    now : There new worker
+    pub now : There new worker
     now = there new worker (omega (arith, few, four_new))
 
-    its_lines : its_part.x.lines.0 ≡ lines_of seed size worker
+    pub its_lines : its_part.x.lines.0 ≡ lines_of seed size worker
     its_lines =
         let p = its_part.x in
         let w = worker_of p in
@@ -222,7 +223,7 @@ module _ (T : Type 0) {L D : Type 0} (truth : Truth) (link : L → Link)
         ∙ ap (load_worker seed size) (get_or-range_with_len 0 4 worker 0 few ∙ same) in
         ap (λ (v : fleet_worker). v.lines) e
 
-    run_of : TellsRun truth link left count files o history worker its_part.x
+    pub run_of : TellsRun truth link left count files o history worker its_part.x
         (first_place o worker (slice_index budgets worker) was.x.bench) now.x.told.0 now.x.bench
     run_of = tells.gets worker its_part.x was.x now.x its_part.is was.is now.is
 
@@ -231,7 +232,7 @@ module _ (T : Type 0) {L D : Type 0} (truth : Truth) (link : L → Link)
     owned = entries_owned truth link left count files history o seed size worker
         (slice_index budgets worker) its_part.x was.x.bench now.x.bench now.x.told.0
         run_of.stands its_lines
-        (λ asked own e is. of_load seed files r.files_are size worker asked own e.line.did is)
+        (IsLoads seed size worker) (of_load seed files r.files_are size worker)
 
     few_there : length (of_seat seat_of worker history) ≤ 3 * (2 * size + 4)
     few_there = seat_few truth link left count files history o seed size worker
@@ -245,199 +246,200 @@ module _ (T : Type 0) {L D : Type 0} (truth : Truth) (link : L → Link)
       let asks = own_there (λ seat e. IsLoads seed size seat e.line.did) history of_four owned in
       λ k d below. record { seat = of_four k d below; asks = asks k d below }
 
-  history_few : length history ≤ 300000
-  history_few = omega (
-    arith,
-    four_seats history of_four,
-    few_there 0 (omega arith),
-    few_there 1 (omega arith),
-    few_there 2 (omega arith),
-    few_there 3 (omega arith),
-    r.few,
-  )
+  module _ (b : IsBlankRun link count size history o old new) where
+    history_few : length history ≤ 300000
+    history_few = omega (
+      arith,
+      four_seats history of_four,
+      few_there 0 (omega arith),
+      few_there 1 (omega arith),
+      few_there 2 (omega arith),
+      few_there 3 (omega arith),
+      b.few,
+    )
 
-  opens : OpensKeyed seed size r.few o
-  opens = record {
-    rows = opening_rows seed;
-    keyed = opening_keyed seed;
-    settings = r.opens;
-    blank = r.blank;
-    limit = r.limit;
-  }
-
-  no_names : (front rest : List Entry) → history ≡ front ++ rest → NamesNoPlugin o front
-  no_names front rest is = no_names_no_plugin o front
-      (front_law o front rest (subst (IsLegal o) is r.one.legal)) r.bare
-
-  -- ---- each worker's replies
-
-  module _ (worker : ℕ) (few : worker < 4) where
-    calm : IsCalm link count history
-        (first_place o worker (slice_index budgets worker) (was worker few).x.bench)
-        (now worker few).x.bench.dice
-    calm = record {
-      here = λ front e rest is replica says. is_not_gone seed size r.few o opens history all_load
-          r.one.legal.runs history_few front e rest is replica says;
-      room = λ front e rest is needed says. is_not_full seed size r.few o opens history all_load
-          r.one.legal.runs history_few front e rest is needed says;
-      stored = λ front e rest is says. r.stored
-          (subst (λ (l : List Entry). Rose o.count (state_of o l).count) (sym is)
-          (store_rose o (start_of o) front e rest
-          (subst (IsRun o (start_of o)) is r.one.legal.runs) says));
-      keyed = λ e c p is. let at = parted history e c in
-          names_keyed seed size r.few o opens history all_load r.one.legal.runs history_few
-          at.front e at.rest at.is p is;
-      bare = r.links worker (was worker few).x (was worker few).is;
-      drawn = r.drawn worker (was worker few).x (now worker few).x (was worker few).is
-          (now worker few).is;
+    opens : OpensKeyed seed size b.few o
+    opens = record {
+      rows = opening_rows seed;
+      keyed = opening_keyed seed;
+      settings = r.opens;
+      blank = b.blank;
+      limit = b.limit;
     }
 
-    quiet : list_any (of_kind ending.Fault) (now worker few).x.told.0 ≡ false
-    quiet =
-        let t = run_of worker few in
-        list_any_none (of_kind ending.Fault) (now worker few).x.told.0
-        (none_failed truth link left count files history o seed size worker
-        (slice_index budgets worker) (its_part worker few).x (was worker few).x.bench
-        (now worker few).x.bench (now worker few).x.told.0 t.stands (its_lines worker few) t.tell
-        r.few few calm all_load no_names)
+    no_names : (front rest : List Entry) → history ≡ front ++ rest → NamesNoPlugin o front
+    no_names front rest is = no_names_no_plugin o front
+        (front_law o front rest (subst (IsLegal o) is r.one.legal)) b.bare
 
-    full : list_any (of_kind ending.Memory) (now worker few).x.told.0 ≡ false
-        → IsFullWorker seed size worker (now worker few).x.told.0
-    full enough =
-        let t = run_of worker few in
-        let s = t.stands in
-        let lines = s.lines_are ∙ its_lines worker few in
-        let puts = map (put_of seed size worker) (range_with_len 0 size) in
-        let gets = map (get_of worker) (range_with_len 0 size) in
-        let p = split_lines s.run puts (reloads_of worker ++ gets) lines in
-        let q = split_lines p.rest (reloads_of worker) gets p.rest_is in
-        let none = replies_all (λ reply. of_kind ending.Memory reply ≡ false) s.run
-        (subst (λ l. All (λ reply. of_kind ending.Memory reply ≡ false) l) s.replies_are
-        (none_passes (of_kind ending.Memory) (now worker few).x.told.0 enough)) in
-        let all = run_full truth link left count files history o seed size worker
-        (slice_index budgets worker) (its_part worker few).x (was worker few).x.bench
-        (now worker few).x.bench (now worker few).x.told.0 s (its_lines worker few) t.tell
-        r.few few calm all_load no_names p q
-        (λ done c is. false≢true (sym (All-contains
-        (λ (d : LineDone). of_kind ending.Memory d.reply ≡ false) s.run done none c)
-        ∙ ap (of_kind ending.Memory) is)) in
-        full_worker seed size worker s.run all p q
-        (reloads_lines truth link left count files history o seed size worker
-        (slice_index budgets worker) (its_part worker few).x (was worker few).x.bench
-        (now worker few).x.bench (now worker few).x.told.0 s (its_lines worker few) t.tell
-        r.few few calm all_load no_names p q) (now worker few).x.told.0 s.replies_are lines
+    -- ---- each worker's replies
 
-  -- ---- all four
+    module _ (worker : ℕ) (few : worker < 4) where
+      calm : IsCalm link count history
+          (first_place o worker (slice_index budgets worker) (was worker few).x.bench)
+          (now worker few).x.bench.dice
+      calm = record {
+        here = λ front e rest is replica says. is_not_gone seed size b.few o opens history all_load
+            r.one.legal.runs history_few front e rest is replica says;
+        room = λ front e rest is needed says. is_not_full seed size b.few o opens history all_load
+            r.one.legal.runs history_few front e rest is needed says;
+        stored = λ front e rest is says. b.stored
+            (subst (λ (l : List Entry). Rose o.count (state_of o l).count) (sym is)
+            (store_rose o (start_of o) front e rest
+            (subst (IsRun o (start_of o)) is r.one.legal.runs) says));
+        keyed = λ e c p is. let at = parted history e c in
+            names_keyed seed size b.few o opens history all_load r.one.legal.runs history_few
+            at.front e at.rest at.is p is;
+        bare = b.links worker (was worker few).x (was worker few).is;
+        drawn = b.drawn worker (was worker few).x (now worker few).x (was worker few).is
+            (now worker few).is;
+      }
 
-  abbrev told_at : (worker : ℕ) → worker < 4 → List Told × ℕ
-  told_at worker few = (now worker few).x.told
+      quiet : list_any (of_kind ending.Fault) (now worker few).x.told.0 ≡ false
+      quiet =
+          let t = run_of worker few in
+          list_any_none (of_kind ending.Fault) (now worker few).x.told.0
+          (none_failed truth link left count files history o seed size worker
+          (slice_index budgets worker) (its_part worker few).x (was worker few).x.bench
+          (now worker few).x.bench (now worker few).x.told.0 t.stands (its_lines worker few) t.tell
+          b.few few calm all_load no_names)
 
-  abbrev all_told : Replies
-  all_told = map (λ (w : Worker T L D). w.told) new
+      full : list_any (of_kind ending.Memory) (now worker few).x.told.0 ≡ false
+          → IsFullWorker seed size worker (now worker few).x.told.0
+      full enough =
+          let t = run_of worker few in
+          let s = t.stands in
+          let lines = s.lines_are ∙ its_lines worker few in
+          let puts = map (put_of seed size worker) (range_with_len 0 size) in
+          let gets = map (get_of worker) (range_with_len 0 size) in
+          let p = split_lines s.run puts (reloads_of worker ++ gets) lines in
+          let q = split_lines p.rest (reloads_of worker) gets p.rest_is in
+          let none = replies_all (λ reply. of_kind ending.Memory reply ≡ false) s.run
+          (subst (λ l. All (λ reply. of_kind ending.Memory reply ≡ false) l) s.replies_are
+          (none_passes (of_kind ending.Memory) (now worker few).x.told.0 enough)) in
+          let all = run_full truth link left count files history o seed size worker
+          (slice_index budgets worker) (its_part worker few).x (was worker few).x.bench
+          (now worker few).x.bench (now worker few).x.told.0 s (its_lines worker few) t.tell
+          b.few few calm all_load no_names p q
+          (λ done c is. false≢true (sym (All-contains
+          (λ (d : LineDone). of_kind ending.Memory d.reply ≡ false) s.run done none c)
+          ∙ ap (of_kind ending.Memory) is)) in
+          full_worker seed size worker s.run all p q
+          (reloads_lines truth link left count files history o seed size worker
+          (slice_index budgets worker) (its_part worker few).x (was worker few).x.bench
+          (now worker few).x.bench (now worker few).x.told.0 s (its_lines worker few) t.tell
+          b.few few calm all_load no_names p q) (now worker few).x.told.0 s.replies_are lines
 
-  at_place : (f : Four new) (worker : ℕ) (few : worker < 4) (w : Worker T L D)
-      → slice_get (f.a ∷ (f.b ∷ (f.c ∷ (f.d ∷ [])))) worker ≡ Some w
-      → w.told ≡ (now worker few).x.told
-  at_place f worker few w is = ap (λ (v : Worker T L D). v.told)
-      (same_Some w (now worker few).x
-      (sym is ∙ sym (ap (λ l. slice_get l worker) f.is) ∙ (now worker few).is))
+    -- ---- all four
 
-  told_are : map (λ (w : Worker T L D). w.told) new ≡ told_at 0 zero_in
-      ∷ (told_at 1 one_in ∷ (told_at 2 two_in ∷ (told_at 3 three_in ∷ [])))
-  told_are =
-      let f = four_of new four_new in
-      ap (map (λ (w : Worker T L D). w.told)) f.is
-      ∙ (λ i. at_place f 0 zero_in f.a refl i ∷ (at_place f 1 one_in f.b refl i
-      ∷ (at_place f 2 two_in f.c refl i ∷ (at_place f 3 three_in f.d refl i ∷ []))))
+    abbrev told_at : (worker : ℕ) → worker < 4 → List Told × ℕ
+    told_at worker few = (now worker few).x.told
 
-  some_at : (kind : Ending) → some_is kind all_told
-      ≡ (list_any (of_kind kind) (told_at 0 zero_in).0
-      || (list_any (of_kind kind) (told_at 1 one_in).0
-      || (list_any (of_kind kind) (told_at 2 two_in).0
-      || (list_any (of_kind kind) (told_at 3 three_in).0 || false))))
-  some_at kind = ap (some_is kind) told_are
+    abbrev all_told : Replies
+    all_told = map (λ (w : Worker T L D). w.told) new
 
-  none_at : (kind : Ending)
-      → list_any (of_kind kind) (told_at 0 zero_in).0 ≡ false
-      → list_any (of_kind kind) (told_at 1 one_in).0 ≡ false
-      → list_any (of_kind kind) (told_at 2 two_in).0 ≡ false
-      → list_any (of_kind kind) (told_at 3 three_in).0 ≡ false
-      → some_is kind all_told ≡ false
-  none_at kind a b c d = some_at kind ∙ (λ i. a i || (b i || (c i || (d i || false))))
+    at_place : (f : Four new) (worker : ℕ) (few : worker < 4) (w : Worker T L D)
+        → slice_get (f.a ∷ (f.b ∷ (f.c ∷ (f.d ∷ [])))) worker ≡ Some w
+        → w.told ≡ (now worker few).x.told
+    at_place f worker few w is = ap (λ (v : Worker T L D). v.told)
+        (same_Some w (now worker few).x
+        (sym is ∙ sym (ap (λ l. slice_get l worker) f.is) ∙ (now worker few).is))
 
-  no_faults : some_is ending.Fault all_told ≡ false
-  no_faults = none_at ending.Fault (quiet 0 zero_in) (quiet 1 one_in) (quiet 2 two_in)
-      (quiet 3 three_in)
+    told_are : map (λ (w : Worker T L D). w.told) new ≡ told_at 0 zero_in
+        ∷ (told_at 1 one_in ∷ (told_at 2 two_in ∷ (told_at 3 three_in ∷ [])))
+    told_are =
+        let f = four_of new four_new in
+        ap (map (λ (w : Worker T L D). w.told)) f.is
+        ∙ (λ i. at_place f 0 zero_in f.a refl i ∷ (at_place f 1 one_in f.b refl i
+        ∷ (at_place f 2 two_in f.c refl i ∷ (at_place f 3 three_in f.d refl i ∷ []))))
 
-  -- memory lacked for none
-  module _ (enough : some_is ending.Memory all_told ≡ false) where
-    tests : (list_any (of_kind ending.Memory) (told_at 0 zero_in).0
-        || (list_any (of_kind ending.Memory) (told_at 1 one_in).0
-        || (list_any (of_kind ending.Memory) (told_at 2 two_in).0
-        || (list_any (of_kind ending.Memory) (told_at 3 three_in).0 || false)))) ≡ false
-    tests = sym (some_at ending.Memory) ∙ enough
+    some_at : (kind : Ending) → some_is kind all_told
+        ≡ (list_any (of_kind kind) (told_at 0 zero_in).0
+        || (list_any (of_kind kind) (told_at 1 one_in).0
+        || (list_any (of_kind kind) (told_at 2 two_in).0
+        || (list_any (of_kind kind) (told_at 3 three_in).0 || false))))
+    some_at kind = ap (some_is kind) told_are
 
-    first_test : (list_any (of_kind ending.Memory) (told_at 0 zero_in).0 ≡ false)
-        × ((list_any (of_kind ending.Memory) (told_at 1 one_in).0
-        || (list_any (of_kind ending.Memory) (told_at 2 two_in).0
-        || (list_any (of_kind ending.Memory) (told_at 3 three_in).0 || false))) ≡ false)
-    first_test = neither _ _ tests
+    none_at : (kind : Ending)
+        → list_any (of_kind kind) (told_at 0 zero_in).0 ≡ false
+        → list_any (of_kind kind) (told_at 1 one_in).0 ≡ false
+        → list_any (of_kind kind) (told_at 2 two_in).0 ≡ false
+        → list_any (of_kind kind) (told_at 3 three_in).0 ≡ false
+        → some_is kind all_told ≡ false
+    none_at kind a b c d = some_at kind ∙ (λ i. a i || (b i || (c i || (d i || false))))
 
-    second_test : (list_any (of_kind ending.Memory) (told_at 1 one_in).0 ≡ false)
-        × ((list_any (of_kind ending.Memory) (told_at 2 two_in).0
-        || (list_any (of_kind ending.Memory) (told_at 3 three_in).0 || false)) ≡ false)
-    second_test = neither _ _ first_test.1
+    no_faults : some_is ending.Fault all_told ≡ false
+    no_faults = none_at ending.Fault (quiet 0 zero_in) (quiet 1 one_in) (quiet 2 two_in)
+        (quiet 3 three_in)
 
-    third_test : (list_any (of_kind ending.Memory) (told_at 2 two_in).0 ≡ false)
-        × ((list_any (of_kind ending.Memory) (told_at 3 three_in).0 || false) ≡ false)
-    third_test = neither _ _ second_test.1
+    -- memory lacked for none
+    module _ (enough : some_is ending.Memory all_told ≡ false) where
+      tests : (list_any (of_kind ending.Memory) (told_at 0 zero_in).0
+          || (list_any (of_kind ending.Memory) (told_at 1 one_in).0
+          || (list_any (of_kind ending.Memory) (told_at 2 two_in).0
+          || (list_any (of_kind ending.Memory) (told_at 3 three_in).0 || false)))) ≡ false
+      tests = sym (some_at ending.Memory) ∙ enough
 
-    w0 : IsFullWorker seed size 0 (told_at 0 zero_in).0
-    w0 = full 0 zero_in first_test.0
+      first_test : (list_any (of_kind ending.Memory) (told_at 0 zero_in).0 ≡ false)
+          × ((list_any (of_kind ending.Memory) (told_at 1 one_in).0
+          || (list_any (of_kind ending.Memory) (told_at 2 two_in).0
+          || (list_any (of_kind ending.Memory) (told_at 3 three_in).0 || false))) ≡ false)
+      first_test = neither _ _ tests
 
-    w1 : IsFullWorker seed size 1 (told_at 1 one_in).0
-    w1 = full 1 one_in second_test.0
+      second_test : (list_any (of_kind ending.Memory) (told_at 1 one_in).0 ≡ false)
+          × ((list_any (of_kind ending.Memory) (told_at 2 two_in).0
+          || (list_any (of_kind ending.Memory) (told_at 3 three_in).0 || false)) ≡ false)
+      second_test = neither _ _ first_test.1
 
-    w2 : IsFullWorker seed size 2 (told_at 2 two_in).0
-    w2 = full 2 two_in third_test.0
+      third_test : (list_any (of_kind ending.Memory) (told_at 2 two_in).0 ≡ false)
+          × ((list_any (of_kind ending.Memory) (told_at 3 three_in).0 || false) ≡ false)
+      third_test = neither _ _ second_test.1
 
-    w3 : IsFullWorker seed size 3 (told_at 3 three_in).0
-    w3 = full 3 three_in (neither _ _ third_test.1).0
+      w0 : IsFullWorker seed size 0 (told_at 0 zero_in).0
+      w0 = full 0 zero_in first_test.0
 
-    none_of : (kind : Ending) → IsElse (of_kind kind) → some_is kind all_told ≡ false
-    none_of kind e = none_at kind (w0.quiet (of_kind kind) e) (w1.quiet (of_kind kind) e)
-        (w2.quiet (of_kind kind) e) (w3.quiet (of_kind kind) e)
+      w1 : IsFullWorker seed size 1 (told_at 1 one_in).0
+      w1 = full 1 one_in second_test.0
 
-    none_refuse : some_refuses all_told ≡ false
-    none_refuse = ap some_refuses told_are ∙ (λ i. w0.quiet refuses else_refused i
-        || (w1.quiet refuses else_refused i || (w2.quiet refuses else_refused i
-        || (w3.quiet refuses else_refused i || false))))
+      w2 : IsFullWorker seed size 2 (told_at 2 two_in).0
+      w2 = full 2 two_in third_test.0
 
-    all_full : AreFull seed size all_told
-    all_full = record {
-      ended = load_picks all_told ∙ (λ i. pick (no_faults i) (enough i)
-          (none_of ending.Full else_full i) (none_of ending.Unhealthy else_unhealthy i)
-          (none_refuse i));
-      puts = (let e = ap puts_in told_are in
-          omega (arith, e, w0.puts, w1.puts, w2.puts, w3.puts));
-      gets = (let e = ap gets_in told_are in
-          omega (arith, e, w0.gets, w1.gets, w2.gets, w3.gets));
-      objects = ap (objects_of (load_fleet seed size).workers) told_are
-          ∙ (λ i. w0.objects i ++ (w1.objects i ++ (w2.objects i ++ (w3.objects i ++ []))));
-    }
+      w3 : IsFullWorker seed size 3 (told_at 3 three_in).0
+      w3 = full 3 three_in (neither _ _ third_test.1).0
 
-  by_memory : (b : Bool) → some_is ending.Memory all_told ≡ b
-      → (ending_of_load all_told ≡ ending.Memory) ⊎ AreFull seed size all_told
-  by_memory true lacks = inl (load_picks all_told ∙ (λ i. pick (no_faults i) (lacks i)
-      (some_is ending.Full all_told) (some_is ending.Unhealthy all_told)
-      (some_refuses all_told)))
-  by_memory false enough = inr (all_full enough)
+      none_of : (kind : Ending) → IsElse (of_kind kind) → some_is kind all_told ≡ false
+      none_of kind e = none_at kind (w0.quiet (of_kind kind) e) (w1.quiet (of_kind kind) e)
+          (w2.quiet (of_kind kind) e) (w3.quiet (of_kind kind) e)
 
-  pub load_is_full : (ending_of_load (map (λ (w : Worker T L D). w.told) new) ≡ ending.Memory)
-      ⊎ AreFull seed size (map (λ (w : Worker T L D). w.told) new)
-  load_is_full = by_memory (some_is ending.Memory all_told) refl
+      none_refuse : some_refuses all_told ≡ false
+      none_refuse = ap some_refuses told_are ∙ (λ i. w0.quiet refuses else_refused i
+          || (w1.quiet refuses else_refused i || (w2.quiet refuses else_refused i
+          || (w3.quiet refuses else_refused i || false))))
+
+      all_full : AreFull seed size all_told
+      all_full = record {
+        ended = load_picks all_told ∙ (λ i. pick (no_faults i) (enough i)
+            (none_of ending.Full else_full i) (none_of ending.Unhealthy else_unhealthy i)
+            (none_refuse i));
+        puts = (let e = ap puts_in told_are in
+            omega (arith, e, w0.puts, w1.puts, w2.puts, w3.puts));
+        gets = (let e = ap gets_in told_are in
+            omega (arith, e, w0.gets, w1.gets, w2.gets, w3.gets));
+        objects = ap (objects_of (load_fleet seed size).workers) told_are
+            ∙ (λ i. w0.objects i ++ (w1.objects i ++ (w2.objects i ++ (w3.objects i ++ []))));
+      }
+
+    by_memory : (b : Bool) → some_is ending.Memory all_told ≡ b
+        → (ending_of_load all_told ≡ ending.Memory) ⊎ AreFull seed size all_told
+    by_memory true lacks = inl (load_picks all_told ∙ (λ i. pick (no_faults i) (lacks i)
+        (some_is ending.Full all_told) (some_is ending.Unhealthy all_told)
+        (some_refuses all_told)))
+    by_memory false enough = inr (all_full enough)
+
+    pub load_is_full : (ending_of_load (map (λ (w : Worker T L D). w.told) new) ≡ ending.Memory)
+        ⊎ AreFull seed size (map (λ (w : Worker T L D). w.told) new)
+    load_is_full = by_memory (some_is ending.Memory all_told) refl
 
 pub loads_are_full : (T : Type 0) → {L D : Type 0} → (truth : Truth) (link : L → Link)
     (left : D → Option (List ℕ)) (count : D → ℕ) → LoadsAreFull T truth link left count
-loads_are_full T truth link left count seed size files history o parts budgets old new r =
-    load_is_full T truth link left count seed size files history o parts budgets old new r
+loads_are_full T truth link left count seed size files history o parts budgets old new r b =
+    load_is_full T truth link left count seed size files history o parts budgets old new r b

@@ -14,6 +14,7 @@ mod FullReplies
 pub mod FullRuns
 mod Gathering
 mod Joining
+pub mod KeptPuts
 mod Keeping
 mod OneListing
 mod Passing

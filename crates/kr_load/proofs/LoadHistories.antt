@@ -76,7 +76,7 @@ module _ (seed size : ℕ) where
 
 -- ---- lists
 
-step_there : (o : Opening) (st : State) (front : List Entry) (e : Entry) (rest : List Entry)
+pub step_there : (o : Opening) (st : State) (front : List Entry) (e : Entry) (rest : List Entry)
     → IsRun o st (front ++ e ∷ rest) → IsStep o (state_from st front) e
 step_there o st [] e rest r = r.0
 step_there o st (x ∷ front) e rest r = step_there o (after st x) front e rest r.1

@@ -18,7 +18,7 @@ use Rattle.kr_script.specs.declared.script.ScriptLine.TheVariants as line
 use Rattle.kr_workers.specs.Budgets.{budget_of, entries_of}
 use Rattle.kr_workers.specs.Files.{rows_at}
 use Rattle.kr_workers.specs.declared.files.SettingsFile.{SettingsFile}
-use Rattle.kr_load.specs.FullLoads.{opening_rows}
+use Rattle.kr_load.specs.LoadRuns.{opening_rows}
 use Rattle.kr_load.specs.Loads.{configurations, g1, g2, get_of, lines_of, named_rows, of_secrets, put_of, reloads_of}
 use Rattle.kr_load.specs.Streams.{piece}
 use Rattle.kr_load.proofs.LineParts.{IsOf, IsSimple}

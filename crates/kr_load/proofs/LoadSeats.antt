@@ -11,6 +11,7 @@ use Rattle.kr_provider.specs.BenchState.{BenchState}
 use Rattle.kr_rollout.specs.ContentLaws.{NamesNoPlugin}
 use Rattle.kr_rollout.specs.Contents.{last_change, puts}
 use Rattle.kr_rollout.specs.Entries.{seat_of}
+use Rattle.kr_rollout.specs.declared.line.Did.{Did}
 use Rattle.kr_rollout.specs.declared.opening.Entry.{Entry}
 use Rattle.kr_rollout.specs.declared.opening.Opening.{Opening}
 use Rattle.kr_script.specs.declared.script.Part.{Part}
@@ -28,7 +29,7 @@ use Rattle.kr_workers.specs.declared.ending.Ending.TheVariants as ending
 use Rattle.kr_workers.specs.declared.files.SettingsFile.{SettingsFile}
 use Rattle.kr_workers.proofs.CausingRuns.{replies_have_causes}
 use Rattle.kr_load.specs.Loads.{get_of, lines_of, path_of, plain_of, put_of, reloads_of}
-use Rattle.kr_load.proofs.LineParts.{OfLine, line_makes}
+use Rattle.kr_load.proofs.LineParts.{IsOf, line_makes}
 use Rattle.kr_load.proofs.LoadContents.{stays_put}
 use Rattle.kr_load.proofs.LoadHistories.{IsLoadEntry, IsLoads, at_middle, front_all, secrets}
 use Rattle.kr_load.proofs.LoadLines.{IsLoadLine, IsReloading, lines_are, lines_few, load_simple, reloading}
@@ -77,29 +78,47 @@ module _ {L D : Type 0} (truth : Truth) (link : L → Link) (left : D → Option
   run_done = all_done truth link left count files part.replica
       (first_place o worker budget bench) s.run s.last s.does
 
-  module _ (files_are : (asked : ScriptLine) → IsLoadLine seed size worker asked
-      → (e : Entry) → OfLine truth link left count files asked e
-      → IsLoads seed size worker e.line.did) where
+  -- what each of them does is so, where it is by its line
+  module _ (P : Did → Type 0) (of_line : (asked : ScriptLine)
+      → IsLoadLine seed size worker asked → (done : Did) → IsOf files asked done → P done) where
     part_owned : (done : LineDone) → IsLoadLine seed size worker done.line
         → WasDone truth link left count files part.replica done
-        → All (λ (e : Entry). IsLoads seed size worker e.line.did) done.part
+        → All (λ (e : Entry). P e.line.did) done.part
     part_owned done own w =
         let m = line_makes truth link left count files done.line part.replica done.line refl
         (load_simple seed size worker done.line own) w.old w.new (Ok done.reply) w.is.does in
         let same : done.part ≡ m.part =
         part_is w.old.caller w.new.caller done.part m.part w.is.adds m.mine_is in
-        subst (λ l. All (λ (e : Entry). IsLoads seed size worker e.line.did) l) (sym same)
-        (λ k d below. files_are done.line own (get_or m.part k d) (m.all k d below))
+        subst (λ l. All (λ (e : Entry). P e.line.did) l) (sym same)
+        (λ k d below. of_line done.line own (get_or m.part k d).line.did (m.all k d below))
 
-    -- they are those of a load's worker
-    pub entries_owned : All (λ (e : Entry). IsLoads seed size worker e.line.did)
-        (of_seat seat_of worker history)
+    pub entries_owned : All (λ (e : Entry). P e.line.did) (of_seat seat_of worker history)
     entries_owned =
-        let P : Entry → Type 0 = λ e. IsLoads seed size worker e.line.did in
-        subst (λ l. All P l) s.parts_are (all_entries P s.run
+        let Is : Entry → Type 0 = λ e. P e.line.did in
+        subst (λ l. All Is l) s.parts_are (all_entries Is s.run
         (both_all (λ (done : LineDone). IsLoadLine seed size worker done.line)
         (WasDone truth link left count files part.replica)
-        (λ (done : LineDone). All P done.part) s.run part_owned run_lines run_done))
+        (λ (done : LineDone). All Is done.part) s.run part_owned run_lines run_done))
+
+  -- what the reply to a put tells of its line's part
+  pub put_told : (done : LineDone) → Contains s.run done → (number : ℕ)
+      → done.line ≡ put_of seed size worker number
+      → TellsPut secrets (path_of worker number) (plain_of seed size worker number) done.part
+      done.reply
+  put_told done there number is =
+      let w = All-contains (WasDone truth link left count files part.replica) s.run done run_done
+      there in
+      let does = subst (λ (l : ScriptLine). Does truth link left count files part.replica l w.old
+      (Ok done.reply) w.new) is w.is.does in
+      put_tells left count secrets (path_of worker number) (plain_of seed size worker number)
+      part.replica w.old.caller w.new.caller done.part w.is.adds w.old.dice w.new.dice
+      w.old.caller.seat does.0 done.reply does.1 does.2
+
+  -- an entry of a line stands in the history
+  pub entry_in : (done : LineDone) → Contains s.run done → (e : Entry) → Contains done.part e
+      → Contains history e
+  entry_in done there e c = passed_there (λ (x : Entry). seat_of x == worker) history e
+      (subst (λ l. Contains l e) s.parts_are (entry_there s.run done e there c))
 
   part_few : (done : LineDone) → IsLoadLine seed size worker done.line
       → WasDone truth link left count files part.replica done → length done.part ≤ 3
@@ -183,29 +202,17 @@ module _ {L D : Type 0} (truth : Truth) (link : L → Link) (left : D → Option
         gets_numbered : All (IsNumbered (get_of worker) size) q.rest
         gets_numbered = numbered_all (get_of worker) size q.rest q.rest_is
 
-        was_done : (done : LineDone) → Contains s.run done
-            → WasDone truth link left count files part.replica done
-        was_done done c = All-contains (WasDone truth link left count files part.replica) s.run done
-            (all_done truth link left count files part.replica (first_place o worker budget bench)
-            s.run s.last s.does) c
-
-        -- what the reply tells of the line's part
-        put_told : (done : LineDone) → Contains s.run done → (number : ℕ)
+        put_part : (done : LineDone) → Contains s.run done → (number : ℕ)
             → done.line ≡ put_of seed size worker number
             → TellsPut secrets (path_of worker number) (plain_of seed size worker number) done.part
             done.reply
-        put_told done there number is =
-            let w = was_done done there in
-            let does = subst (λ (l : ScriptLine). Does truth link left count files part.replica l w.old
-            (Ok done.reply) w.new) is w.is.does in
-            put_tells left count secrets (path_of worker number) (plain_of seed size worker number)
-            part.replica w.old.caller w.new.caller done.part w.is.adds w.old.dice w.new.dice
-            w.old.caller.seat does.0 done.reply does.1 does.2
+        put_part = put_told truth link left count files history o seed size worker budget part bench
+            after replies s lines
 
-        entry_in : (done : LineDone) → Contains s.run done → (e : Entry) → Contains done.part e
+        inside : (done : LineDone) → Contains s.run done → (e : Entry) → Contains done.part e
             → Contains history e
-        entry_in done there e c = passed_there (λ (x : Entry). seat_of x == worker) history e
-            (subst (λ l. Contains l e) s.parts_are (entry_there s.run done e there c))
+        inside = entry_in truth link left count files history o seed size worker budget part bench
+            after replies s lines
 
         put_replied : (done : LineDone) → Contains s.run done
             → IsNumbered (put_of seed size worker) size done → IsLine seed size worker done
@@ -213,11 +220,11 @@ module _ {L D : Type 0} (truth : Truth) (link : L → Link) (left : D → Option
             (λ (l : ScriptLine). IsReply (IsSaid seed size worker) l done.reply) (sym n.line_is)
             (put_ends link count history (first_place o worker budget bench) after.links after.dice calm (IsSaid seed size worker) (path_of worker n.number)
             (plain_of seed size worker n.number)
-            (piece_long seed (2 + worker * size + n.number)) done.part (entry_in done there)
+            (piece_long seed (2 + worker * size + n.number)) done.part (inside done there)
             done.reply
             (subst (λ (l : ScriptLine). HasCause link count l (first_place o worker budget bench)
             done.reply history after.links after.dice) n.line_is (caused done there))
-            (put_told done there n.number n.line_is))
+            (put_part done there n.number n.line_is))
 
         -- ---- the reloads
 
@@ -297,7 +304,7 @@ module _ {L D : Type 0} (truth : Truth) (link : L → Link) (left : D → Option
               known upto fetch more adopt there its =
                   let w = has_written own_put.0 number own_put.2
                   (All-contains (IsFullLine seed size worker) p.front own_put.0 puts_full own_put.1)
-                  (put_told own_put.0 (front_there own_put.0 own_put.1) number own_put.2) in
+                  (put_part own_put.0 (front_there own_put.0 own_put.1) number own_put.2) in
                   let e = w.1.entry in
                   let ahead : Contains (entries_in (p.front ++ (q.front ++ front))) e =
                   subst (λ l. Contains l e) (sym (entries_behind p.front (q.front ++ front)))

@@ -3,23 +3,19 @@ use Rattle.std.specs.Prelude.{◌≡◌, ℕ, ◌*◌, ◌≤◌, ◌⊎◌, Lis
 use Rattle.std.specs.List.{flat_map, range_with_len, slice_get}
 use Rattle.kr_base.specs.Faults.{Rose}
 use Rattle.kr_base.specs.Limits.{store_limit}
-use Rattle.kr_config.specs.Kept.{Row}
-use Rattle.kr_config.specs.declared.who.Who.TheVariants.{Identity}
 use Rattle.kr_kms.specs.Calls.{Link}
 use Rattle.kr_kms.specs.Truth.{Truth}
 use Rattle.kr_provider.specs.Names.{names_of}
 use Rattle.kr_rollout.specs.Histories.{state_of}
-use Rattle.kr_rollout.specs.Openings.{settings_of}
 use Rattle.kr_rollout.specs.declared.opening.Entry.{Entry}
 use Rattle.kr_rollout.specs.declared.opening.Opening.{Opening}
-use Rattle.kr_script.specs.Fleets.{worker_of}
 use Rattle.kr_script.specs.declared.script.Part.{Part}
-use Rattle.kr_workers.specs.Histories.{IsOneHistory}
 use Rattle.kr_workers.specs.declared.ending.Ending.TheVariants as ending
 use Rattle.kr_workers.specs.declared.files.SettingsFile.{SettingsFile}
 use Rattle.kr_workers.specs.declared.worker.Worker.{Worker}
 use Rattle.kr_load.specs.Endings.{ending_of_load}
-use Rattle.kr_load.specs.Loads.{configurations, g1, load_fleet, named_rows, of_secrets, path_of, plain_of}
+use Rattle.kr_load.specs.LoadRuns.{IsLoadRun}
+use Rattle.kr_load.specs.Loads.{load_fleet, path_of, plain_of}
 use Rattle.kr_load.specs.Summaries.{Objects, IsDigest, Replies, gets_in, objects_of, puts_in, text_of}
 
 -- ---- the summary
@@ -56,26 +52,15 @@ pub record AreFull (seed size : ℕ) (replies : Replies) : Type 0 where
 abbrev pub size_limit : ℕ
 size_limit = 10000
 
--- what both replicas open with
-abbrev pub opening_rows : (seed : ℕ) → List Row
-opening_rows seed = of_secrets (g1 seed ∷ (Identity ∷ []))
-
-module _ {T L D : Type 0} (truth : Truth) (link : L → Link) (left : D → Option (List ℕ))
-    (count : D → ℕ) where
-  -- the workers of a load did their lines over a store that had no rows, with no plugins; neither
-  -- the count of the store's tape rose nor that of a worker's random source
-  pub record IsBlankRun (seed size : ℕ) (files : List SettingsFile) (history : List Entry)
-      (o : Opening) (parts : List Part) (budgets : List ℕ) (old new : List (Worker T L D))
-      : Type 0 where
+module _ {T L D : Type 0} (link : L → Link) (count : D → ℕ) where
+  -- the store had no rows, there are no plugins, and neither the count of the store's tape rose nor
+  -- that of a worker's random source
+  pub record IsBlankRun (size : ℕ) (history : List Entry) (o : Opening)
+      (old new : List (Worker T L D)) : Type 0 where
     pub few : size ≤ size_limit
-    pub parts_are : map worker_of parts ≡ (load_fleet seed size).workers
-    pub files_are : map named_rows files ≡ configurations seed
     pub blank : o.rows ≡ []
-    pub opens : settings_of o.replicas
-        ≡ Some (opening_rows seed) ∷ (Some (opening_rows seed) ∷ [])
     pub bare : o.names ≡ []
     pub limit : o.limit ≡ store_limit
-    pub one : IsOneHistory truth link left count files history o parts budgets old new
     pub links : (number : ℕ) (worker : Worker T L D) → slice_get old number ≡ Some worker
         → names_of link worker.bench.links ≡ []
     pub stored : Rose o.count (state_of o history).count → ⊥
@@ -89,6 +74,7 @@ abbrev pub LoadsAreFull : (T : Type 0) → {L D : Type 0} → Truth → (L → L
 LoadsAreFull T {L} {D} truth link left count = (seed size : ℕ) (files : List SettingsFile)
     (history : List Entry) (o : Opening) (parts : List Part) (budgets : List ℕ)
     (old new : List (Worker T L D))
-    → IsBlankRun truth link left count seed size files history o parts budgets old new
+    → IsLoadRun truth link left count seed size files history o parts budgets old new
+    → IsBlankRun link count size history o old new
     → (ending_of_load (map (λ (worker : Worker T L D). worker.told) new) ≡ ending.Memory)
     ⊎ AreFull seed size (map (λ (worker : Worker T L D). worker.told) new)

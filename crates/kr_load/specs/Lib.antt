@@ -4,4 +4,6 @@ pub mod Loads
 pub mod Summaries
 pub mod Endings
 pub mod FullLoads
+pub mod KeptPuts
+pub mod LoadRuns
 pub mod inner

@@ -32,8 +32,8 @@ abbrev pub of_secrets : List Who → List Row
 of_secrets providers =
     record { patterns = Exact (codes "secrets") ∷ []; providers = providers } ∷ []
 
--- each by the name of its file: objects are written by one key, where the other is read too or not,
--- and by the other where the one is
+-- each by the name of its file. A: the one key writes. B: it writes, and the other is read too. C:
+-- the other way round
 abbrev pub configurations_by : (one other : Who) → List (List ℕ × List Row)
 configurations_by one other =
     (codes "A", of_secrets (one ∷ (Identity ∷ [])))

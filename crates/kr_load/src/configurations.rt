@@ -4,6 +4,7 @@ ghost use Rattle.kr_config.specs.Kept.{keeps, rows_of};
 ghost use Rattle.kr_config.specs.declared.who.Who.TheVariants.{Aesgcm, Identity};
 ghost use Rattle.kr_load.specs.Loads.{configurations_by, named_rows, of_secrets};
 
+use crate::lists::add;
 use kr_base::{Bytes, List, NoMemory, Shared, Text};
 use kr_config::{Entry, Pattern, Settings, Who};
 use kr_workers::SettingsFile;
@@ -108,14 +109,4 @@ fn entries_of(alloc: Global, providers: List<Who>) -> Result<List<Entry>, NoMemo
         },
     )?;
     Ok(entries)
-}
-
-/// Puts the item at the end.
-pub fn add<T: Drop>(list: &mut List<T>, item: T) -> Result<(), NoMemory>
-    ensures { OnOk result (list.new.0 ≡ list.old.0 ++ item ∷ []) }
-{
-    match list.push(item) {
-        Ok(()) => Ok(()),
-        Err(_) => Err(NoMemory),
-    }
 }

@@ -1,11 +1,12 @@
 //! The digest over what the workers of a load got.
 ghost use Rattle.std.specs.Prelude.{◌≡◌, ◌++◌, IfOk, OnOk, map};
 ghost use Rattle.std.specs.List.{flat_map};
+ghost use Rattle.std.specs.List.Sorted.{IsPermutation, IsSorted};
 ghost use Rattle.sha2.specs.Hashers.{Holds256};
 ghost use Rattle.sha2.specs.Sha256.{sha256};
 ghost use Rattle.kr_script.specs.Fleets.{worker_of};
-ghost use Rattle.kr_load.specs.Summaries.{IsDigest, object_lines, objects_by, objects_in};
-ghost use Rattle.kr_load.specs.Summaries.{objects_of};
+ghost use Rattle.kr_load.specs.Summaries.{IsDigest, object_cmp, object_lines, objects_by};
+ghost use Rattle.kr_load.specs.Summaries.{objects_in, objects_of};
 ghost use Rattle.kr_load.specs.inner.Listing.{Bytes, lent_list, lent_pairs};
 
 use kr_base::{List, NoMemory};
@@ -27,8 +28,17 @@ pub fn digest_of(
 {
     let mut all = Vec::new(alloc);
     add_all(parts, replies, &mut all)?;
-    all.sort_unstable();
+    order(&mut all);
     Ok(digest_over(all.as_slice()))
+}
+
+/// Brings them into the order of the listing.
+#[tactic(auto, using(crate::proofs::Gathering::same_objects, crate::proofs::Gathering::sorted_objects))]
+fn order(all: &mut Vec<Object<'_>>)
+    ensures same { IsPermutation (lent_pairs all.old.items) (lent_pairs all.new.items) }
+    ensures sorted { IsSorted object_cmp (lent_pairs all.new.items) }
+{
+    all.sort_unstable();
 }
 
 fn add_all<'a>(

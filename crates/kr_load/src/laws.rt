@@ -1,5 +1,6 @@
 //! Laws of the definitions, for a reader and for callers' proofs. The functions do nothing.
 ghost use Rattle.kr_load.specs.FullLoads.{FullIsOne, LoadsAreFull};
+ghost use Rattle.kr_load.specs.KeptPuts.{PutsAreKept};
 ghost use Rattle.kr_load.specs.Loads.{LoadsKeepRules};
 ghost use Rattle.kr_load.specs.Summaries.{OneDigest};
 
@@ -21,4 +22,10 @@ pub fn loads_are_full<T: Tape, L: Kms, D: Dice>()
 pub fn summaries_are_one()
     ensures digest { OneDigest }
     ensures full { FullIsOne }
+{}
+
+/// Each put of a load that was done has its row: a sealing of its data by a configuration of the
+/// load.
+pub fn puts_are_kept<T: Tape, L: Kms, D: Dice>()
+    ensures { PutsAreKept T L.truth L.link D.left D.count }
 {}

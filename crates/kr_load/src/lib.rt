@@ -6,6 +6,7 @@ mod configurations;
 mod digest;
 mod ending;
 mod laws;
+mod lists;
 mod load;
 mod pieces;
 mod script;
@@ -13,7 +14,7 @@ mod stream;
 mod summary;
 
 pub use ending::ending_of_load;
-pub use laws::{loads_are_full, loads_keep_rules, summaries_are_one};
+pub use laws::{loads_are_full, loads_keep_rules, puts_are_kept, summaries_are_one};
 pub use load::{Load, load_of};
 pub use stream::source_of;
 pub use summary::write_summary;

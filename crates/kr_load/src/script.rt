@@ -5,7 +5,8 @@ ghost use Rattle.kr_script.specs.Fleets.{fleet_of, worker_of};
 ghost use Rattle.kr_script.specs.declared.script.ScriptLine.TheVariants.{Reload};
 ghost use Rattle.kr_load.specs.Loads.{get_of, load_fleet, load_worker, path_of, put_of, reloads_of};
 
-use crate::configurations::{BOTH, FIRST, RESOURCE, TURNED, add};
+use crate::configurations::{BOTH, FIRST, RESOURCE, TURNED};
+use crate::lists::add;
 use crate::pieces::Pieces;
 use kr_base::{List, NoMemory, Text};
 use kr_script::{Part, Script, ScriptLine};

@@ -21,10 +21,12 @@ use Rattle.kr_kms.specs.Calls.{Link}
 use Rattle.kr_kms.specs.Outside.{same_seat}
 use Rattle.kr_kms.specs.Truth.{Truth}
 use Rattle.kr_load.specs.Endings.{ending_of_load}
-use Rattle.kr_load.specs.FullLoads.{AreFull, IsBlankRun, opening_rows}
+use Rattle.kr_load.specs.FullLoads.{AreFull, IsBlankRun}
+use Rattle.kr_load.specs.LoadRuns.{IsLoadRun, opening_rows}
 use Rattle.kr_load.specs.Loads.{g1, lines_of, load_fleet}
 use Rattle.kr_load.specs.Summaries.{IsDigest, Replies, objects_of, text_of}
 use Rattle.kr_load.proofs.FullRuns.{loads_are_full}
+use Rattle.kr_load.proofs.KeptPuts.{puts_are_kept}
 use Rattle.kr_load.proofs.LoadLines.{budget_few}
 use Rattle.kr_provider.specs.Names.{names_of}
 use Rattle.kr_provider.specs.Readers.{writer_of}
@@ -47,7 +49,7 @@ use Rattle.kr_top.specs.Causes.{NoneRose}
 use Rattle.kr_top.specs.Commands.{by_result, with_memory}
 use Rattle.kr_top.specs.FleetFiles.{FleetPlan}
 use Rattle.kr_top.specs.Fleets.{AreWithin, Begun, IsStart, Replicas, StopsBefore, TellsFleet, launching, opening_of, parts_of, rows_of_replica, starting}
-use Rattle.kr_top.specs.FullLoads.{IsBlank, IsFullLoad}
+use Rattle.kr_top.specs.FullLoads.{IsBlank, IsFullLoad, KeepsPuts}
 use Rattle.kr_top.specs.GeneratedLoads.{RanLoad, StartsLoad, load_beginning, load_plan, load_steps, no_faults, nothing_told, with_streams}
 use Rattle.kr_top.specs.Judgements.{start_refusal}
 use Rattle.kr_top.specs.Message.{status_of as stop_status}
@@ -223,6 +225,30 @@ beside_streams false false false false before now rose = rose
 abbrev Source : Type 0
 Source = SeededDice ChaCha
 
+-- they are those of the load
+pub load_run : (T : Type 0) → {L : Type 0} → (truth : Truth) (link : L → Link)
+    (words : LoadWords) (old new : Around) (output : Receipt) (result : Result Ending Stop)
+    → (s : StartsLoad T truth link words old new output result)
+    → IsLoadRun truth link nothing_told no_faults words.seed words.size s.runs.files s.history
+    (opening_of words.store s.begun s.mid) s.runs.parts s.begun.budgets s.runs.workers s.ended
+load_run T truth link words old new output result s = record {
+  parts_are = s.runs.parts_are ∙ ap (λ (p : FleetPlan). p.fleet.workers) s.plan_is;
+  files_are = s.runs.files_are ∙ ap (λ (p : FleetPlan). p.files) s.plan_is;
+  opens = s.runs.published
+      ∙ ap (λ (p : FleetPlan). map (rows_of_replica p.files) p.fleet.replicas) s.plan_is;
+  one = s.runs.one;
+}
+
+-- so each put that was done has its row
+pub keeps_puts : (T : Type 0) → {L : Type 0} → (truth : Truth) (link : L → Link)
+    (words : LoadWords) (old new : Around) (output : Receipt) (result : Result Ending Stop)
+    → (s : StartsLoad T truth link words old new output result)
+    → KeepsPuts T truth link words old new output result s
+keeps_puts T truth link words old new output result s = puts_are_kept T truth link nothing_told
+    no_faults words.seed words.size s.runs.files s.history (opening_of words.store s.begun s.mid)
+    s.runs.parts s.begun.budgets s.runs.workers s.ended
+    (load_run T truth link words old new output result s)
+
 module _ (T : Type 0) {L : Type 0} (truth : Truth) (link : L → Link) (words : LoadWords)
     (old new : Around) (output errors : Receipt) (small : words.size ≤ 10000)
     (blank : IsBlank words old)
@@ -251,19 +277,13 @@ module _ (T : Type 0) {L : Type 0} (truth : Truth) (link : L → Link) (words : 
     no_programs : s.begun.plan.programs ≡ []
     no_programs = ap (λ (p : FleetPlan). p.programs) s.plan_is
 
-    blank_run : IsBlankRun truth link nothing_told no_faults words.seed words.size s.runs.files
-        s.history (opening_of words.store s.begun s.mid) s.runs.parts s.begun.budgets
-        s.runs.workers s.ended
+    blank_run : IsBlankRun link no_faults words.size s.history
+        (opening_of words.store s.begun s.mid) s.runs.workers s.ended
     blank_run = record {
       few = small;
-      parts_are = s.runs.parts_are ∙ ap (λ (p : FleetPlan). p.fleet.workers) s.plan_is;
-      files_are = s.runs.files_are ∙ ap (λ (p : FleetPlan). p.files) s.plan_is;
       blank = rows_none;
-      opens = s.runs.published
-          ∙ ap (λ (p : FleetPlan). map (rows_of_replica p.files) p.fleet.replicas) s.plan_is;
       bare = ap (map (λ (program : Program). program.plugin)) no_programs;
       limit = refl;
-      one = s.runs.one;
       links = λ number worker is.
           let had = s.runs.before number worker
           (slice_get_within s.runs.workers number worker is) in
@@ -283,7 +303,8 @@ module _ (T : Type 0) {L : Type 0} (truth : Truth) (link : L → Link) (words : 
         ⊎ AreFull words.seed words.size told_by
     full_run = loads_are_full T truth link nothing_told no_faults words.seed words.size
         s.runs.files s.history (opening_of words.store s.begun s.mid) s.runs.parts
-        s.begun.budgets s.runs.workers s.ended blank_run
+        s.begun.budgets s.runs.workers s.ended
+        (load_run T truth link words old new output result s) blank_run
 
   abbrev Ends : ℕ → Type 0
   Ends status = IsFullLoad words output errors status

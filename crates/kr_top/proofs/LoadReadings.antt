@@ -11,7 +11,7 @@ use Rattle.kr_top.specs.declared.load_words.LoadWords.{LoadWords}
 use Rattle.kr_top.specs.declared.refusal.Stop.{Stop}
 use Rattle.kr_top.specs.declared.refusal.Stop.TheVariants.{Words, Refused, Fault, NoMemory}
 use Rattle.kr_top.proofs.Causes.{BreaksOff, causes}
-use Rattle.kr_top.proofs.FullLoads.{full_load}
+use Rattle.kr_top.proofs.FullLoads.{full_load, keeps_puts}
 use Rattle.kr_top.proofs.Generating.{home_seeded}
 use Rattle.kr_top.proofs.LoadSettled.{settled_load}
 
@@ -36,4 +36,5 @@ module _ (T : Type 0) {L : Type 0} (truth : Truth) (link : L → Link) (words : 
         (home_seeded old new ran.did.others ran.did.home) ran.did.did ran.tells;
     complete = λ blank none.
         full_load T truth link words old new output errors small blank none status ran;
+    kept = λ result s. keeps_puts T truth link words old new output result s;
   }

@@ -5,7 +5,7 @@ use Rattle.kr_kms.specs.Truth.{Truth}
 use Rattle.kr_workers.specs.declared.ending.Ending.{Ending}
 use Rattle.kr_top.specs.Around.{Around}
 use Rattle.kr_top.specs.Causes.{Causes, NoneRose}
-use Rattle.kr_top.specs.FullLoads.{IsBlank, IsFullLoad}
+use Rattle.kr_top.specs.FullLoads.{IsBlank, IsFullLoad, KeepsPuts}
 use Rattle.kr_top.specs.GeneratedLoads.{StartsLoad, load_steps, with_streams}
 use Rattle.kr_top.specs.Ran.{Receipt}
 use Rattle.kr_top.specs.declared.load_words.LoadWords.{LoadWords}
@@ -27,3 +27,6 @@ module _ (T : Type 0) {L : Type 0} (truth : Truth) (link : L → Link) (words : 
     -- told; or memory lacked
     pub complete : IsBlank words old → NoneRose old new output errors
         → IsFullLoad words output errors status
+    -- each put that was done has its row, a sealing of its data by a configuration of the load
+    pub kept : (result : Result Ending Stop) → (s : HasStarted result)
+        → KeepsPuts T truth link words old new output result s

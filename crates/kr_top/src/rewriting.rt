@@ -36,10 +36,8 @@ use kr_provider::{Bench, Links, Published};
 use kr_rewrite::{Report, drive};
 use kr_rollout::{Acts, CallNo, Core, Solo};
 use kr_store::Store;
+use kr_workers::JOURNAL_LIMIT;
 use std::alloc::Global;
-
-/// The most entries of a journal.
-const JOURNAL_LIMIT: u64 = 4_000_000;
 
 /// How many keys the bench holds expanded, and how many unwrapped seeds.
 const PAGES: u32 = 64;

@@ -3,7 +3,7 @@ use Rattle.std.specs.Prelude.{ℕ, List, [], ◌∷◌, map, Option, None, Some}
 use denote.Ref.{Bor}
 use Rattle.kr_load.specs.Summaries.{Objects}
 
--- a file's clauses name kr_base's `List`, so this is the name of antt's there
+-- `List ℕ`, where a file means kr_base's `List` by that name
 abbrev pub Bytes : Type 0
 Bytes = List ℕ
 
