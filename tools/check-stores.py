@@ -408,7 +408,7 @@ def fleets(checks, folder, _dice):
 
 
 def generated(checks, seed, size):
-    """A load on an absent store has the reference's summary, and its store the generated data, sealed by one of its two keys."""
+    """A load on an absent store has the reference's summary, and its store the generated data, sealed by one of its two keys with its worker's nonces."""
     checks.name.unlink(missing_ok=True)
     words_of_load = [checks.kmsrest, "gen", "--seed", str(seed), "--size", str(size), "--store", checks.name]
     checks.expect(f"gen {seed} {size}", (0, load.summary(seed, size).encode(), ""), run(words_of_load))
@@ -418,6 +418,8 @@ def generated(checks, seed, size):
     found = {row.path: values.unseal(providers, row.path, row.value)[0] for row in rows}
     checks.expect(f"the objects of gen {seed} {size}", load.objects(seed, size), found)
     checks.expect(f"the rows of gen {seed} {size}", 4 * size, len(rows))
+    nonces = {row.path: row.value.split(b":", 5)[5][: load.NONCE] for row in rows}
+    checks.expect(f"the nonces of gen {seed} {size}", load.nonces(seed, size), nonces)
 
 
 def loads(checks, _folder, _dice):

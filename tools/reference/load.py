@@ -7,6 +7,7 @@ from . import fleet
 
 WORKERS = 4
 PIECE = 32
+NONCE = 12
 
 
 def rotated(word, by):
@@ -58,6 +59,12 @@ def objects(seed, size):
     left = pieces(seed)
     next(left), next(left)
     return {path(worker, number): next(left) for worker in range(WORKERS) for number in range(size)}
+
+
+def nonces(seed, size):
+    """The nonce of each path's value, where each put seals once: 12 bytes each of the worker's own stream."""
+    own = [stream(seed, 1 + worker) for worker in range(WORKERS)]
+    return {path(worker, number): bytes(next(own[worker]) for _ in range(NONCE)) for worker in range(WORKERS) for number in range(size)}
 
 
 def summary(seed, size, missing=()):

@@ -20,7 +20,7 @@ use Rattle.kr_top.specs.Around.{Around, IsHome, left_of, with_world}
 use Rattle.kr_top.specs.Commands.{tape_for}
 use Rattle.kr_top.specs.FleetFiles.{FleetPlan}
 use Rattle.kr_top.specs.Fleets.{Begun, Replicas, starting}
-use Rattle.kr_top.specs.GeneratedLoads.{AreSeeded, LeavesOthers, no_faults, with_streams, seeded_dice, seeded_world, nothing_told}
+use Rattle.kr_top.specs.GeneratedLoads.{LeavesOthers, no_faults, with_streams, seeded_dice, seeded_world, nothing_told}
 use Rattle.kr_top.specs.Steps.{Steps, and_then}
 use Rattle.kr_top.specs.StoreFiles.{Stored}
 use Rattle.kr_top.specs.declared.fleet.Record.{Record}
@@ -28,7 +28,7 @@ use Rattle.kr_top.specs.declared.outfit.Outfit.{Outfit}
 use Rattle.kr_top.specs.declared.refusal.Stop.{Stop}
 use Rattle.kr_top.specs.declared.refusal.Stop.TheVariants.{Words, Refused, Fault, NoMemory}
 use Rattle.kr_top.specs.inner.Crews.{outfit_of, outfits_of}
-use Rattle.kr_top.specs.inner.GeneratedLoads.{AreGenerated, LeavesLoad, RunsLoad}
+use Rattle.kr_top.specs.inner.GeneratedLoads.{AreGenerated, AreSeeded, RunsLoad}
 use Rattle.kr_top.specs.inner.Lent.{with_lent_dice, with_lent_links, with_lent_tape}
 use Rattle.kr_top.specs.inner.Outfits.{AreLater, AreNamed, with_outfits}
 use Rattle.kr_top.specs.inner.Phases.{AskedUnless, Does}

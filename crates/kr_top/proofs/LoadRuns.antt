@@ -151,7 +151,6 @@ module _ (T : Type 0) {L : Type 0} (truth : Truth) (link : L → Link) where
             history = l.history;
             ended = l.ended;
             runs = l.runs;
-            sources = r.sources;
             writes = subst (λ p. WritesLoad asked p.fleet.workers told output result)
                 (sym l.plan_is) by_replies;
           });

@@ -1,5 +1,5 @@
 -- `gen`: the steps up to its workers, and what a call did once they were started.
-use Rattle.std.specs.Prelude.{◌≡◌, ℕ, suc, zero, ◌+◌, ◌<◌, ◌≤◌, ◌⊎◌, true, List, [], length, map, get_or, Option, None, Result, Ok, Err, ⊤}
+use Rattle.std.specs.Prelude.{◌≡◌, ℕ, suc, zero, ◌+◌, ◌≤◌, ◌⊎◌, true, List, [], map, Option, None, Result, Ok, Err}
 use Rattle.std.specs.Io.KnownBytes.{Appends, Keeps}
 use Rattle.kr_base.specs.Faults.{Rose}
 use Rattle.kr_base.specs.Streams.{AppendsFront}
@@ -9,7 +9,6 @@ use Rattle.kr_kms.specs.Outside.{Objects, Outside, same_seat}
 use Rattle.kr_kms.specs.Truth.{Truth}
 use Rattle.kr_load.specs.Endings.{ending_of_load}
 use Rattle.kr_load.specs.Loads.{configurations, load_fleet}
-use Rattle.kr_load.specs.Streams.{stream}
 use Rattle.kr_load.specs.Summaries.{IsSummary, Replies}
 use Rattle.kr_rollout.specs.declared.opening.Entry.{Entry}
 use Rattle.kr_script.specs.Fleets.{Worker}
@@ -66,13 +65,6 @@ seeded_world world = record world { dice = seeded_dice 0 4 world.dice }
 abbrev pub with_streams : Around → Around
 with_streams a = with_world (seeded_world a.world) a
 
--- each worker began with a stream of its own
-abbrev pub AreSeeded : {T L : Type 0} → (seed : ℕ)
-    → List (fleet_worker.Worker T L (SeededDice ChaCha)) → Type 0
-AreSeeded {T} {L} seed workers = (seat : ℕ) (d : fleet_worker.Worker T L (SeededDice ChaCha))
-    → seat < length workers
-    → (get_or workers seat d).bench.dice.rng ≡ stream seed (1 + seat)
-
 -- ---- once the workers were started
 
 -- the summary was written, and the replies decide the status; or the output failed behind a prefix
@@ -102,7 +94,8 @@ abbrev pub no_faults : SeededDice ChaCha → ℕ
 no_faults dice = 0
 
 module _ (T : Type 0) {L : Type 0} (truth : Truth) (link : L → Link) where
-  -- the workers were started, each with its stream
+  -- the workers were started; from what each of them draws isn't said here, since its source tells
+  -- nothing
   pub record StartsLoad (words : LoadWords) (old new : Around) (output : Receipt)
       (result : Result Ending Stop) : Type 0 where
     pub begun : Begun
@@ -114,7 +107,6 @@ module _ (T : Type 0) {L : Type 0} (truth : Truth) (link : L → Link) where
     pub ended : List (fleet_worker.Worker T L (SeededDice ChaCha))
     pub runs : RunsFleet truth link nothing_told no_faults words.store begun mid
         (with_streams new) history ended
-    pub sources : AreSeeded words.seed runs.workers
     pub writes : WritesLoad words begun.plan.fleet.workers
         (map (λ (w : fleet_worker.Worker T L (SeededDice ChaCha)). w.told) ended) output result
 

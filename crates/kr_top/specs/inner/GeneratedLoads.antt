@@ -4,11 +4,12 @@ use Rattle.kr_base.specs.declared.seeded_dice.SeededDice.{SeededDice}
 use Rattle.kr_kms.specs.Calls.{Link}
 use Rattle.kr_kms.specs.Truth.{Truth}
 use Rattle.kr_load.specs.Streams.{stream}
+use Rattle.kr_workers.specs.declared.worker.Worker as fleet_worker
 use Rattle.rand_chacha.specs.ChaCha.{ChaCha}
 use Rattle.kr_top.specs.Around.{Around}
 use Rattle.kr_top.specs.FleetFiles.{FleetPlan}
 use Rattle.kr_top.specs.Fleets.{Begun}
-use Rattle.kr_top.specs.GeneratedLoads.{AreSeeded, no_faults, nothing_told}
+use Rattle.kr_top.specs.GeneratedLoads.{no_faults, nothing_told}
 use Rattle.kr_top.specs.Steps.{Steps}
 use Rattle.kr_top.specs.declared.fleet.Record.{Record}
 use Rattle.kr_top.specs.declared.fleet_file.Plan.{Plan}
@@ -18,6 +19,13 @@ use Rattle.kr_top.specs.inner.FleetFiles.{IsWholePlan, plan_of}
 use Rattle.kr_top.specs.inner.Fleets.{LacksWorkers, LeavesRecord}
 use Rattle.kr_top.specs.inner.Phases.{Does}
 use Rattle.kr_top.specs.inner.Workings.{Outfits}
+
+-- each worker began with the stream of its number
+abbrev pub AreSeeded : {T L : Type 0} → (seed : ℕ)
+    → List (fleet_worker.Worker T L (SeededDice ChaCha)) → Type 0
+AreSeeded {T} {L} seed workers = (seat : ℕ) (d : fleet_worker.Worker T L (SeededDice ChaCha))
+    → seat < length workers
+    → (get_or workers seat d).bench.dice.rng ≡ stream seed (1 + seat)
 
 module _ (T : Type 0) {L : Type 0} (truth : Truth) (link : L → Link) (seed : ℕ) where
   -- the workers ran, each with its stream
