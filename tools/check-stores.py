@@ -408,7 +408,7 @@ def fleets(checks, folder, _dice):
 
 
 def generated(checks, seed, size):
-    """A load on an absent store has the reference's summary, and its store the generated data, sealed by one of its two keys with its worker's nonces."""
+    """A load on an absent store has the reference's summary, and its store the generated data, sealed by one of two keys with its worker's nonces."""
     checks.name.unlink(missing_ok=True)
     words_of_load = [checks.kmsrest, "gen", "--seed", str(seed), "--size", str(size), "--store", checks.name]
     checks.expect(f"gen {seed} {size}", (0, load.summary(seed, size).encode(), ""), run(words_of_load))

@@ -1,5 +1,5 @@
 -- What the status of a call comes from whose steps lead to workers, by how the call ended.
-use Rattle.std.proofs.Common.{◌≡◌, ℕ, ◌⊎◌, List, Option, Result, Ok, Err, sym, subst, inl, inr, arith}
+use Rattle.std.proofs.Common.{◌≡◌, ℕ, ◌⊎◌, List, Result, Ok, Err, sym, subst, inl, inr, arith}
 use Rattle.std.specs.Prelude.{⊤}
 use Rattle.std.specs.Io.KnownBytes.{Appends}
 use Rattle.kr_base.specs.Faults.{Rose}
@@ -10,7 +10,7 @@ use Rattle.kr_top.specs.Around.{Around, IsHome, left_of}
 use Rattle.kr_top.specs.Causes.{Causes, HasEnded, HasFailed, HasRefused, IsDecidedBy, WouldBegin}
 use Rattle.kr_top.specs.Fleets.{Begun, StopsBefore, TellsFleet}
 use Rattle.kr_top.specs.Message.{line_of, status_of as stop_status, status_of_refusal}
-use Rattle.kr_top.specs.Ran.{IsIdle, Receipt}
+use Rattle.kr_top.specs.Ran.{Receipt}
 use Rattle.kr_top.specs.Steps.{Call, Point, Steps, amid, and_then, awaits, gives, refuses}
 use Rattle.kr_top.specs.declared.refusal.Refusal.{Refusal}
 use Rattle.kr_top.specs.declared.refusal.Stop.{Stop}

@@ -24,7 +24,7 @@ use Rattle.kr_rollout.specs.Histories.{IsRun, state_of}
 use Rattle.kr_rollout.specs.Openings.{start_of}
 use Rattle.kr_rollout.specs.Parts.{AddsWithin}
 use Rattle.kr_rewrite.specs.Drives as drives
-use Rattle.kr_rewrite.specs.Drives.{CopiesNoPath, Drives, EndsBy, IsCut, Walks, count_of, is_changed, is_fresh, is_left, is_rewritten, last_of, path_of, report_at}
+use Rattle.kr_rewrite.specs.Drives.{CopiesNoPath, Drives, EndsBy, IsCut, Walks, count_of, is_changed, is_fresh, is_left, is_rewritten, last_of, path_of}
 use Rattle.kr_rewrite.specs.declared.outcome.Report.{Report}
 use Rattle.kr_rewrite.specs.declared.outcome.Step.{Step}
 use Rattle.kr_rewrite.specs.declared.outcome.Step.TheVariants as step

@@ -1,5 +1,5 @@
 -- A load over a store: its workers' random sources stand as if they were those of their seats.
-use Rattle.std.proofs.Common.{◌≡◌, ℕ, zero, suc, ◌+◌, ◌<◌, ◌≤◌, List, [], ◌∷◌, ◌++◌, length, get_or, map, Option, None, Some, Result, Ok, Err, refl, sym, ◌∙◌, ap, subst, inl, inr, arith}
+use Rattle.std.proofs.Common.{◌≡◌, ℕ, ◌+◌, ◌<◌, List, [], ◌∷◌, ◌++◌, length, get_or, Option, None, Result, Ok, Err, refl, sym, ◌∙◌, ap, subst, inl, inr, arith}
 use Rattle.std.specs.Prelude.{All, Bool, true, ◌⊎◌}
 use Rattle.std.proofs.lemmas.List.{get_or_append_left, length-append, length-map}
 use Rattle.std.proofs.lemmas.List.Elements.{All-append, All-cons, All-head, All-nil, All-tail}
@@ -16,7 +16,7 @@ use Rattle.kr_provider.specs.Names.{names_of}
 use Rattle.kr_store.specs.Stores.{Kept}
 use Rattle.kr_workers.specs.declared.worker.Worker as fleet_worker
 use Rattle.rand_chacha.specs.ChaCha.{ChaCha}
-use Rattle.kr_top.specs.Around.{Around, IsHome, left_of, with_world}
+use Rattle.kr_top.specs.Around.{Around, IsHome, with_world}
 use Rattle.kr_top.specs.Commands.{tape_for}
 use Rattle.kr_top.specs.FleetFiles.{FleetPlan}
 use Rattle.kr_top.specs.Fleets.{Begun, Replicas, starting}
@@ -33,11 +33,11 @@ use Rattle.kr_top.specs.inner.Lent.{with_lent_dice, with_lent_links, with_lent_t
 use Rattle.kr_top.specs.inner.Outfits.{AreLater, AreNamed, with_outfits}
 use Rattle.kr_top.specs.inner.Phases.{AskedUnless, Does}
 use Rattle.kr_top.specs.inner.Tapes.{LentTape, NoTape, ReturnedTape}
-use Rattle.kr_top.specs.inner.Workings.{LeavesCrew, Outfits, RunsWith, with_crew}
+use Rattle.kr_top.specs.inner.Workings.{Outfits, RunsWith, with_crew}
 use Rattle.kr_top.proofs.FleetRuns.{before, ends_before}
 use Rattle.kr_top.proofs.Goes.{home_refl, reach}
 use Rattle.kr_top.proofs.Lending.{home_same}
-use Rattle.kr_top.proofs.Outfits.{later_many, later_named}
+use Rattle.kr_top.proofs.Outfits.{later_named}
 use Rattle.kr_top.proofs.Tapes.{came_back, lent, not_lent, nothing}
 
 -- ---- outfits

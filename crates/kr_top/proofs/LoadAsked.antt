@@ -1,5 +1,5 @@
 -- What words that ask for a load are, and which ask for none.
-use Rattle.std.proofs.Common.{◌≡◌, ℕ, ◌+◌, ◌≤◌, ◌<◌, List, [], ◌∷◌, length, codes, get_or, Option, None, Some, Ok, Err, sym, ◌∙◌, ap, subst, inl, inr, arith}
+use Rattle.std.proofs.Common.{◌≡◌, ℕ, ◌≤◌, List, [], ◌∷◌, length, codes, get_or, Option, None, Some, Ok, Err, sym, ◌∙◌, ap, subst, inl, inr, arith}
 use Rattle.std.specs.Prelude.{IfSome, IsSomeAnd}
 use Rattle.kr_words.specs.Arguments.{IsNumberAt}
 use Rattle.kr_words.specs.Grammar.{IsWithinSize, Means, Reads, replica_limit, replicas_of}

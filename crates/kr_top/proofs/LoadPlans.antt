@@ -1,5 +1,5 @@
 -- What is known of the plan of a load.
-use Rattle.std.proofs.Common.{◌≡◌, ℕ, zero, suc, ◌+◌, ◌<◌, ◌^◌, List, [], ◌∷◌, ◌++◌, codes, length, map, refl, sym, ◌∙◌, ap, subst, arith}
+use Rattle.std.proofs.Common.{◌≡◌, ℕ, zero, suc, ◌+◌, ◌<◌, ◌^◌, List, [], ◌∷◌, ◌++◌, codes, length, map, refl, sym, ◌∙◌, ap, subst}
 use Rattle.std.specs.Prelude.{All, IsSome}
 use Rattle.std.specs.List.{flat_map, range_with_len}
 use Rattle.std.proofs.lemmas.Grind.{flat_map-append}
@@ -9,12 +9,11 @@ use Rattle.std.proofs.lemmas.List.Folds.{flat_map-map}
 use Rattle.kr_load.specs.Loads.{configurations, get_of, lines_of, load_fleet, load_worker, put_of, reloads_of}
 use Rattle.kr_load.proofs.Ruling.{keeps_rules}
 use Rattle.kr_script.specs.Fleets.{Fleet, Worker, fleet_of, worker_of}
-use Rattle.kr_workers.specs.declared.files.SettingsFile.{SettingsFile}
-use Rattle.kr_top.specs.FleetFiles.{FleetPlan, NamedRows, file_in, file_of_replica, all_files, named_rows, rows_at}
+use Rattle.kr_top.specs.FleetFiles.{file_in, file_of_replica, all_files, named_rows, rows_at}
 use Rattle.kr_top.specs.GeneratedLoads.{load_plan}
 use Rattle.kr_top.specs.declared.fleet_file.Plan.{Plan}
 use Rattle.kr_top.specs.declared.load_words.LoadWords.{LoadWords}
-use Rattle.kr_top.specs.inner.FleetFiles.{IsWholePlan, named, plan_of}
+use Rattle.kr_top.specs.inner.FleetFiles.{IsWholePlan, plan_of}
 use Rattle.kr_top.specs.inner.GeneratedLoads.{IsLoadPlan}
 
 abbrev IsRead : (seed : ℕ) → List ℕ → Type 0

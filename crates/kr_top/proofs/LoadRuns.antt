@@ -1,5 +1,5 @@
 -- How a call of `run` goes by what `gen` did.
-use Rattle.std.proofs.Common.{◌≡◌, ℕ, List, [], map, Option, Some, Result, Ok, Err, refl, sym, ◌∙◌, ap, subst, inl, inr}
+use Rattle.std.proofs.Common.{◌≡◌, ℕ, List, map, Result, Ok, Err, refl, sym, ◌∙◌, subst, inl, inr}
 use Rattle.std.specs.Prelude.{◌⊎◌}
 use Rattle.kr_base.specs.declared.seeded_dice.SeededDice.{SeededDice}
 use Rattle.kr_kms.specs.Calls.{Link}
@@ -10,7 +10,7 @@ use Rattle.rand_chacha.specs.ChaCha.{ChaCha}
 use Rattle.kr_top.specs.Around.{Around, left_of}
 use Rattle.kr_top.specs.FleetAsked.{AskAlone, AskNoFleet}
 use Rattle.kr_top.specs.FleetFiles.{FleetPlan}
-use Rattle.kr_top.specs.GeneratedLoads.{DidLoad, LeavesOthers, RanLoad, WritesLoad, load_over, load_plan, load_steps, with_streams}
+use Rattle.kr_top.specs.GeneratedLoads.{DidLoad, LeavesOthers, RanLoad, WritesLoad, load_over, load_plan, with_streams}
 use Rattle.kr_top.specs.LoadAsked.{AsksLoad}
 use Rattle.kr_top.specs.Message.{line_of, status_of as stop_status}
 use Rattle.kr_top.specs.Ran.{IsIdle, Receipt, StopsAtOnce, Tells}

@@ -1,5 +1,5 @@
 -- Over a told tape the steps of a load up to its workers come to one end, whatever they draw.
-use Rattle.std.proofs.Common.{◌≡◌, ℕ, ◌<◌, List, [], length, Contains, Option, None, Some, refl, sym, ap, subst, arith}
+use Rattle.std.proofs.Common.{◌≡◌, ℕ, ◌<◌, List, [], Contains, Some, refl, sym, subst, arith}
 use Rattle.std.specs.Prelude.{IsSome, if◌then◌else◌}
 use Rattle.kr_config.specs.Kept.{Row, plugins_in}
 use Rattle.kr_load.specs.Loads.{configurations}

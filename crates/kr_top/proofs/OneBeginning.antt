@@ -1,8 +1,8 @@
 -- Steps up to workers that go one way over what is told: they refuse in one way, or begin.
-use Rattle.std.proofs.Common.{◌≡◌, ℕ, List, [], Result, Ok, Err, refl}
+use Rattle.std.proofs.Common.{◌≡◌, [], Ok, Err, refl}
 use Rattle.kr_top.specs.Commands.{silently}
 use Rattle.kr_top.specs.Fleets.{Begun}
-use Rattle.kr_top.specs.Steps.{Goes, Left, Point, Steps, and_then, give, gives, refuses}
+use Rattle.kr_top.specs.Steps.{Goes, Left, Steps, and_then, give, gives, refuses}
 use Rattle.kr_top.specs.declared.refusal.Done.TheVariants.{Silent}
 use Rattle.kr_top.specs.declared.refusal.Outcome.{Outcome}
 use Rattle.kr_top.specs.declared.refusal.Refusal.{Refusal}

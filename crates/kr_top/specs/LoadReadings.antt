@@ -1,5 +1,5 @@
 -- What follows from a load's relation for readers: what its status comes from.
-use Rattle.std.specs.Prelude.{ℕ, List, IsSome, Result}
+use Rattle.std.specs.Prelude.{ℕ, IsSome, Result}
 use Rattle.kr_kms.specs.Calls.{Link}
 use Rattle.kr_kms.specs.Truth.{Truth}
 use Rattle.kr_workers.specs.declared.ending.Ending.{Ending}

@@ -1,10 +1,9 @@
 -- `load_with`: what the replicas publish, the outfits, and the workers.
-use Rattle.std.proofs.Common.{◌≡◌, [], Err, Ok, None, ap, inl, length, refl, sym, subst, ◌∙◌, arith}
-use Rattle.std.specs.Prelude.{All}
+use Rattle.std.proofs.Common.{◌≡◌, [], Ok, ap, inl, length, sym, subst, ◌∙◌, arith}
 use Rattle.kr_top.specs.Fleets.{launching, publishing, starting}
 use Rattle.kr_top.specs.GeneratedLoads.{no_faults, with_streams, nothing_told}
 use Rattle.kr_top.specs.inner.FleetFiles.{named, plan_of}
-use Rattle.kr_top.specs.inner.Lent.{with_lent_dice, with_lent_tape}
+use Rattle.kr_top.specs.inner.Lent.{with_lent_tape}
 use Rattle.kr_top.specs.inner.Outfits.{AreNamed, names_in}
 use Rattle.kr_top.specs.inner.Phases.{Does}
 use Rattle.kr_top.specs.inner.Tapes.{stored_of}

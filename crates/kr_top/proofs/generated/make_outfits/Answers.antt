@@ -1,5 +1,5 @@
 -- `make_outfits`: each turn adds one more.
-use Rattle.std.proofs.Common.{◌+◌, ap, arith, length, refl, ◌∙◌}
+use Rattle.std.proofs.Common.{◌+◌, ap, arith, length, ◌∙◌}
 use Rattle.std.proofs.lemmas.List.{length_push}
 use Rattle.kr_top.proofs.Generating.{generated_more, generated_none}
 use Rattle.kr_top.proofs.generated.make_outfits.Goals as goal
