@@ -69,7 +69,7 @@ module _ {words : List (List ℕ)} {verb : Verb} {options : List (List ℕ × Li
   asks_nothing small none other o m =
       let same = mean_one words verb other options o means m in (
         ap (λ v. command_of v o) (sym same.0) ∙ ap (λ p. command_of verb p) (sym same.1)
-        ∙ sym is ∙ none,
+            ∙ sym is ∙ none,
         λ large. one_size (value_of o (codes "size")) (subst IsWithinSize same.1 small) large,
       )
 
