@@ -3,7 +3,7 @@ use Rattle.std.specs.Prelude.{All, Contains, cond, ⊤}
 use Rattle.std.specs.List.{find, slice_get, slice_index}
 use Rattle.std.specs.Option.{option_map}
 use Rattle.std.specs.Str.{bytes_eq}
-use Rattle.std.proofs.Common.{◌≡◌, ℕ, zero, suc, ◌+◌, ◌<◌, Bool, true, false, List, [], ◌∷◌, ◌++◌, codes, length, map, Option, None, Some, Result, refl, ap, sym, subst, ◌∙◌, append-nil, arith}
+use Rattle.std.proofs.Common.{◌≡◌, ℕ, zero, suc, ◌+◌, ◌<◌, Bool, true, false, List, [], ◌∷◌, ◌++◌, length, map, Option, None, Some, refl, ap, sym, subst, ◌∙◌, append-nil, arith}
 use Rattle.std.proofs.lemmas.List.{append_assoc}
 use Rattle.std.proofs.lemmas.List.Elements.{All-append, All-cons, All-head, All-nil, All-tail}
 use Rattle.std.proofs.lemmas.Option.{none-some, same_Some, slice_get_within}
@@ -12,7 +12,6 @@ use Rattle.kr_config.specs.Kept.{Row, rows_of}
 use Rattle.kr_kms.specs.Calls.{Link}
 use Rattle.kr_kms.specs.Truth.{Truth}
 use Rattle.kr_provider.specs.Publication.{Publication}
-use Rattle.kr_provider.specs.Sealing.{IsSealing}
 use Rattle.kr_rollout.specs.Answers.{IsAnswer}
 use Rattle.kr_rollout.specs.Checks.{written_check}
 use Rattle.kr_rollout.specs.Entries.{generation_named_in, published_at, seat_of}
@@ -46,7 +45,6 @@ use Rattle.kr_load.specs.Loads as load
 use Rattle.kr_load.proofs.FullRuns.{four_parts, its_lines, its_part, now, of_four, run_of, was}
 use Rattle.kr_load.proofs.LineParts.{IsOf}
 use Rattle.kr_load.proofs.LoadHistories.{at_middle, front_all, secrets, step_there}
-use Rattle.kr_load.proofs.LoadLines.{IsLoadLine}
 use Rattle.kr_load.proofs.LoadSeats.{entries_owned, entry_in, put_told}
 use Rattle.kr_load.proofs.PutParts.{HasWritten, TellsPut}
 use Rattle.kr_load.proofs.RunParts.{own_there, parted}

@@ -69,12 +69,14 @@ no_identity name secret e = absurd (false≢true (sym (ap is_named e)))
     is_named other = true
 
 module _ {L D : Type 0} (link : L → Link) (count : D → ℕ) (history : List Entry)
-    (first : Workplace L D) (links : List L) (dice : D) (calm : IsCalm link count history first dice)
+    (first : Workplace L D) (links : List L) (dice : D)
+    (calm : IsCalm link count history first dice)
   where
     no_link : (it : L) → Contains first.links it → ⊥
     no_link it (k, below, is) =
         let e = ap length calm.bare in
-        let many = length-map first.links (λ l. (link l).name) in absurd (omega (arith, below, e, many))
+        let many = length-map first.links (λ l. (link l).name) in
+        absurd (omega (arith, below, e, many))
 
     abbrev Caused : ScriptLine → Told → Type 0
     Caused asked reply = HasCause link count asked first reply history links dice

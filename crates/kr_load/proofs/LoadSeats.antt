@@ -31,7 +31,7 @@ use Rattle.kr_workers.proofs.CausingRuns.{replies_have_causes}
 use Rattle.kr_load.specs.Loads.{get_of, lines_of, path_of, plain_of, put_of, reloads_of}
 use Rattle.kr_load.proofs.LineParts.{IsOf, line_makes}
 use Rattle.kr_load.proofs.LoadContents.{stays_put}
-use Rattle.kr_load.proofs.LoadHistories.{IsLoadEntry, IsLoads, at_middle, front_all, secrets}
+use Rattle.kr_load.proofs.LoadHistories.{IsLoadEntry, at_middle, front_all, secrets}
 use Rattle.kr_load.proofs.LoadLines.{IsLoadLine, IsReloading, lines_are, lines_few, load_simple, reloading}
 use Rattle.kr_load.proofs.LoadReplies.{IsCalm, IsFullReply, IsReply, get_ends, no_fault, put_ends, reload_ends}
 use Rattle.kr_load.proofs.LoadTexts.{one_number}
@@ -123,9 +123,11 @@ module _ {L D : Type 0} (truth : Truth) (link : L → Link) (left : D → Option
   part_few : (done : LineDone) → IsLoadLine seed size worker done.line
       → WasDone truth link left count files part.replica done → length done.part ≤ 3
   part_few done (inl (number, below, is)) w =
-      subst (λ (asked : ScriptLine). length done.part ≤ entries_of (length done.part) asked) is w.is.within.few
+      subst (λ (asked : ScriptLine). length done.part ≤ entries_of (length done.part) asked) is
+      w.is.within.few
   part_few done (inr (inl (number, below, is))) w =
-      subst (λ (asked : ScriptLine). length done.part ≤ entries_of (length done.part) asked) is w.is.within.few
+      subst (λ (asked : ScriptLine). length done.part ≤ entries_of (length done.part) asked) is
+      w.is.within.few
   part_few done (inr (inr (replica, file, is, named))) w =
       let one : length done.part ≤ 1 =
       subst (λ (asked : ScriptLine). length done.part ≤ entries_of (length done.part) asked) is
@@ -218,7 +220,8 @@ module _ {L D : Type 0} (truth : Truth) (link : L → Link) (left : D → Option
             → IsNumbered (put_of seed size worker) size done → IsLine seed size worker done
         put_replied done there n = subst
             (λ (l : ScriptLine). IsReply (IsSaid seed size worker) l done.reply) (sym n.line_is)
-            (put_ends link count history (first_place o worker budget bench) after.links after.dice calm (IsSaid seed size worker) (path_of worker n.number)
+            (put_ends link count history (first_place o worker budget bench) after.links
+            after.dice calm (IsSaid seed size worker) (path_of worker n.number)
             (plain_of seed size worker n.number)
             (piece_long seed (2 + worker * size + n.number)) done.part (inside done there)
             done.reply
@@ -232,7 +235,8 @@ module _ {L D : Type 0} (truth : Truth) (link : L → Link) (left : D → Option
             → IsLine seed size worker done
         reload_replied done there (replica, file, is, named) = subst
             (λ (l : ScriptLine). IsReply (IsSaid seed size worker) l done.reply) (sym is)
-            (reload_ends link count history (first_place o worker budget bench) after.links after.dice calm (IsSaid seed size worker) replica file done.reply
+            (reload_ends link count history (first_place o worker budget bench) after.links
+            after.dice calm (IsSaid seed size worker) replica file done.reply
             (subst (λ (l : ScriptLine). HasCause link count l (first_place o worker budget bench)
             done.reply history after.links after.dice) is (caused done there)))
 
@@ -265,12 +269,14 @@ module _ {L D : Type 0} (truth : Truth) (link : L → Link) (left : D → Option
             -- the put's own entry
             has_written : (done : LineDone) (number : ℕ)
                 → done.line ≡ put_of seed size worker number → IsFullLine seed size worker done
-                → TellsPut secrets (path_of worker number) (plain_of seed size worker number) done.part
+                → TellsPut secrets (path_of worker number) (plain_of seed size worker number)
+                done.part
                 done.reply
                 → (revision : ℕ) × HasWritten secrets (path_of worker number)
                 (plain_of seed size worker number) done.part revision
             has_written done number is full tells = by done.reply
-                (subst (λ (l : ScriptLine). IsFullReply (IsSaid seed size worker) l done.reply) is full)
+                (subst (λ (l : ScriptLine). IsFullReply (IsSaid seed size worker) l done.reply) is
+                full)
                 tells
               where
                 by : (reply : Told) → IsFullReply (IsSaid seed size worker)
@@ -310,7 +316,8 @@ module _ {L D : Type 0} (truth : Truth) (link : L → Link) (left : D → Option
                   subst (λ l. Contains l e) (sym (entries_behind p.front (q.front ++ front)))
                   (Contains-append_left (entries_in p.front) (entries_in (q.front ++ front)) e
                   (entry_there p.front own_put.0 e own_put.1 w.1.there)) in
-                  let in_it : Contains upto e = passed_there (λ (x : Entry). seat_of x == worker) upto e
+                  let in_it : Contains upto e = passed_there (λ (x : Entry). seat_of x == worker)
+                  upto e
                   (subst (λ l. Contains l e) (sym its)
                   (Contains-append_left (entries_in (p.front ++ (q.front ++ front))) (adopt ∷ []) e
                   ahead)) in
@@ -332,10 +339,14 @@ module _ {L D : Type 0} (truth : Truth) (link : L → Link) (left : D → Option
                   (0, omega arith, refl)) in
                   full_of done there (subst
                   (λ (l : ScriptLine). IsReply (IsSaid seed size worker) l done.reply) (sym asked)
-                  (get_ends link count history (first_place o worker budget bench) after.links after.dice calm (IsSaid seed size worker) truth o worker (path_of worker number)
+                  (get_ends link count history (first_place o worker budget bench) after.links
+                  after.dice calm (IsSaid seed size worker) truth o worker
+                  (path_of worker number)
                   (plain_of seed size worker number)
-                  (entries_in (p.front ++ (q.front ++ front))) done.part no_names known said done.reply
-                  (subst (λ (l : ScriptLine). HasCause link count l (first_place o worker budget bench)
+                  (entries_in (p.front ++ (q.front ++ front))) done.part no_names known said
+                  done.reply
+                  (subst (λ (l : ScriptLine).
+                  HasCause link count l (first_place o worker budget bench)
                   done.reply history after.links after.dice) asked (caused done there))
                   (tell (p.front ++ (q.front ++ front)) done rest run_is (path_of worker number)
                   asked)))

@@ -3,18 +3,18 @@ use Rattle.std.specs.Prelude.{Contains}
 use Rattle.std.specs.Cmp.{IsTotalOrder}
 use Rattle.std.specs.List.{flat_map}
 use Rattle.std.specs.List.Sorted.{IsPermutation, IsSorted}
-use Rattle.std.specs.Ordering.{is_eq, is_lt, nat_cmp, ordering_reverse}
+use Rattle.std.specs.Ordering.{is_eq, is_lt, ordering_reverse}
 use Rattle.std.specs.declared.cmp.Ordering.{Ordering}
 use Rattle.std.specs.declared.cmp.Ordering.TheVariants.{Less, Equal, Greater}
-use Rattle.std.proofs.Common.{◌≡◌, ℕ, zero, suc, ◌+◌, ◌*◌, ◌<◌, ◌≤◌, Bool, true, false, cond, List, [], ◌∷◌, length, get_or, sum_by, refl, sym, ap, subst, ◌∙◌, arith}
+use Rattle.std.proofs.Common.{◌≡◌, ℕ, suc, ◌*◌, ◌<◌, ◌≤◌, true, false, cond, List, [], ◌∷◌, length, get_or, sum_by, refl, sym, ap, subst, ◌∙◌, arith}
 use Rattle.std.proofs.lemmas.Bool.{false≢true}
 use Rattle.std.proofs.lemmas.Cmp.{nat_list_cmp_total, on_total, then_total, tied_itself}
 use Rattle.std.proofs.lemmas.List.Sorted.{IsPermutation-sym, IsPermutation-trans, ranks_by, sorted_far, sum_by-IsPermutation}
 use Rattle.std.proofs.lemmas.List.Sums.{sum_by-cons}
 use Rattle.std.proofs.lemmas.Map.Lookups.{CmpEqualImpliesEq, exact_bytes, exact_pairs}
 use Rattle.sha2.specs.Sha256.{sha256}
-use Rattle.kr_load.specs.FullLoads.{FullIsOne, IsFull, all_objects}
-use Rattle.kr_load.specs.Summaries.{IsDigest, Objects, OneDigest, object_cmp, object_lines, text_of}
+use Rattle.kr_load.specs.FullLoads.{FullIsOne, all_objects}
+use Rattle.kr_load.specs.Summaries.{OneDigest, object_cmp, object_lines, text_of}
 
 -- ---- two lists in order that have the same sums
 
@@ -29,7 +29,8 @@ module _ {X : Type 0} {R : X → X → Ordering} (o : IsTotalOrder R) (exact : C
     SameSums xs ys = (f : X → ℕ) → sum_by f ys ≡ sum_by f xs
 
     tail_rises : (x : X) (xs : List X) → Rises (x ∷ xs) → Rises xs
-    tail_rises x xs r = λ i j d up below. r (suc i) (suc j) d (omega (arith, up)) (omega (arith, below))
+    tail_rises x xs r = λ i j d up below.
+        r (suc i) (suc j) d (omega (arith, up)) (omega (arith, below))
 
     -- whether it is this element
     abbrev is_it : X → X → ℕ

@@ -1,5 +1,5 @@
 -- A load of which nothing lacks: each object was put, and each `get` told what was put.
-use Rattle.std.specs.Prelude.{◌≡◌, ℕ, ◌*◌, ◌≤◌, ◌⊎◌, List, [], ◌∷◌, map, Option, Some}
+use Rattle.std.specs.Prelude.{◌≡◌, ℕ, ◌*◌, ◌≤◌, ◌⊎◌, List, [], map, Option, Some}
 use Rattle.std.specs.List.{flat_map, range_with_len, slice_get}
 use Rattle.kr_base.specs.Faults.{Rose}
 use Rattle.kr_base.specs.Limits.{store_limit}

@@ -1,12 +1,10 @@
 -- A load over a store without rows ends with its whole summary, or memory lacked.
-use Rattle.std.proofs.Common.{◌≡◌, ℕ, zero, suc, ◌+◌, ◌*◌, ◌<◌, ◌≤◌, ◌⊎◌, Bool, true, false, List, [], ◌∷◌, ◌++◌, codes, length, map, get_or, sum, Contains, Option, None, Some, Result, Ok, Err, refl, sym, ◌∙◌, ap, subst, inl, inr, arith}
+use Rattle.std.proofs.Common.{◌≡◌, ℕ, zero, suc, ◌+◌, ◌*◌, ◌≤◌, ◌⊎◌, Bool, true, false, List, [], ◌∷◌, codes, map, sum, Contains, Option, Some, Result, Ok, Err, refl, sym, ◌∙◌, ap, subst, inl, inr, arith}
 use Rattle.std.specs.Prelude.{if◌then◌else◌}
-use Rattle.std.specs.List.{list_any, slice_get}
-use Rattle.std.proofs.lemmas.List.{length-map}
+use Rattle.std.specs.List.{list_any}
 use Rattle.std.proofs.lemmas.List.Sums.{sum_by-cons}
-use Rattle.std.proofs.lemmas.Option.{get_or_from_slice_get, none-some, same_Some, slice_get_within}
+use Rattle.std.proofs.lemmas.Option.{get_or_from_slice_get, none-some, slice_get_within}
 use Rattle.kr_base.specs.Faults.{Rose}
-use Rattle.kr_base.specs.Told.{Agrees}
 use Rattle.kr_base.proofs.Counting.{Rose-later}
 use Rattle.kr_config.specs.Kept.{Row}
 use Rattle.kr_config.specs.Lists.{class_list, first_list}
@@ -15,7 +13,6 @@ use Rattle.kr_config.specs.declared.class.Class.{Class}
 use Rattle.kr_config.specs.declared.class.Class.TheVariants as classes
 use Rattle.kr_config.specs.declared.pattern.Pattern.{Pattern}
 use Rattle.kr_config.specs.declared.pattern.Pattern.TheVariants.{Exact}
-use Rattle.kr_config.specs.declared.who.Who.{Who}
 use Rattle.kr_config.specs.declared.who.Who.TheVariants.{Identity}
 use Rattle.kr_kms.specs.Calls.{Link}
 use Rattle.kr_kms.specs.Outside.{same_seat}
@@ -34,8 +31,6 @@ use Rattle.kr_rollout.specs.Openings.{settings_of}
 use Rattle.kr_rollout.specs.Starts.{MayStart}
 use Rattle.kr_rollout.specs.declared.opening_board.StartNo.TheVariants as no
 use Rattle.kr_rollout.proofs.Judging.{refusal_is_exact}
-use Rattle.kr_script.specs.Fleets.{Worker}
-use Rattle.kr_script.specs.declared.script.Part.{Part}
 use Rattle.kr_store.specs.Rows.{live}
 use Rattle.kr_workers.specs.Budgets.{budget_of, budgets_of, put_lines}
 use Rattle.kr_workers.specs.Endings.{status_of}

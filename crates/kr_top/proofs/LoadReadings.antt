@@ -1,5 +1,5 @@
 -- What readers take from the relation of a load.
-use Rattle.std.proofs.Common.{ℕ, ◌≤◌, List, Result, Ok, Err}
+use Rattle.std.proofs.Common.{ℕ, ◌≤◌, List, Result, Err}
 use Rattle.kr_kms.specs.Calls.{Link}
 use Rattle.kr_kms.specs.Truth.{Truth}
 use Rattle.kr_workers.specs.declared.ending.Ending.{Ending}
