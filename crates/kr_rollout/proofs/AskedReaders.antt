@@ -29,7 +29,8 @@ asked_within link names more (x ∷ xs) (y ∷ ys) t a = (
       (λ name c. t name (there_later (names_of link xs) (link x).name name c)) a.2,
 )
 
-asked_all : {L : Type 0} (link : L → Link) (names : List (List ℕ)) (olds news : List L)
+-- whoever was asked is one of the links
+pub asked_all : {L : Type 0} (link : L → Link) (names : List (List ℕ)) (olds news : List L)
     → AskedOnly link names olds news → AskedOnly link (names_of link olds) olds news
 asked_all link names olds news a =
     asked_within link names (names_of link olds) olds news (λ name c. c) a

@@ -4,8 +4,8 @@ use Rattle.std.specs.Prelude.{IfSome}
 use Rattle.kr_base.specs.Limits.{path_limit, value_limit}
 use Rattle.kr_provider.specs.Publication.{list_at}
 use Rattle.kr_provider.specs.Unsealing.{UnsealsBy}
-use Rattle.kr_fleet.proofs.Finding.{unsealed_all}
-use Rattle.kr_fleet.proofs.reading.unseal.Goals as goal
+use Rattle.kr_rollout.proofs.AskedReaders.{unsealed_all}
+use Rattle.kr_rollout.proofs.sealing.unseal.Goals as goal
 
 pub unseal-requires-clause-path : goal.unseal-requires-clause-path
 unseal-requires-clause-path g c =

@@ -7,7 +7,7 @@ use kr_base::NoMemory;
 
 /// Why a line isn't taken.
 #[derive(Clone, Copy)]
-pub enum LineNo {
+pub enum LineError {
     /// It can't stand there.
     Form,
     /// It is the 17th replica.
@@ -19,27 +19,27 @@ pub enum LineNo {
     NoMemory,
 }
 
-impl LineNo {
+impl LineError {
     /// The refusal of the file, where the line has this number.
     pub fn at(self, line: u64) -> ScriptNo
         ensures { result ≡ at_line line self }
     {
         match self {
-            LineNo::Form => ScriptNo::Breach { line },
-            LineNo::Replicas => ScriptNo::Replicas,
-            LineNo::Workers => ScriptNo::Workers,
-            LineNo::TooLarge => ScriptNo::TooLarge,
-            LineNo::NoMemory => ScriptNo::NoMemory,
+            LineError::Form => ScriptNo::Breach { line },
+            LineError::Replicas => ScriptNo::Replicas,
+            LineError::Workers => ScriptNo::Workers,
+            LineError::TooLarge => ScriptNo::TooLarge,
+            LineError::NoMemory => ScriptNo::NoMemory,
         }
     }
 }
 
-impl From<NoMemory> for LineNo {
-    ghost use Rattle.kr_script.specs.declared.line_no.LineNo.{LineNo};
+impl From<NoMemory> for LineError {
+    ghost use Rattle.kr_script.specs.declared.line_error.LineError.{LineError};
 
-    ghost from_gives = { λ _ why. why ≡ LineNo.NoMemory };
+    ghost from_gives = { λ _ why. why ≡ LineError.NoMemory };
 
-    fn from(_none: NoMemory) -> LineNo {
-        LineNo::NoMemory
+    fn from(_none: NoMemory) -> LineError {
+        LineError::NoMemory
     }
 }
