@@ -114,9 +114,9 @@ abbrev pub new_store : List LogRow → Stored
 new_store rows = record { format = Two; rows = rows }
 
 -- the tape that a migration writes was empty, or was made: the write of a row failed, so that the
--- tape's count rose and the status is 4, and it begins with the file of the rows before that one; or
--- it has the file of the rows that were copied, all of them, and then the status is 0, or 4 where
--- then the output failed; or not all, and then the status isn't 0
+-- tape's count rose and the status is 4, and it begins with the file of the rows before; or it has
+-- the file of the rows that were copied, all of them, and then the status is 0, or 4 where then the
+-- output failed; or not all, and then the status isn't 0
 pub record IsCopied (words : Migration) (status : ℕ) (old new : Outside) : Type 0 where
   pub copied : List LogRow
   pub rest : List LogRow
