@@ -11,6 +11,7 @@
 //!                                          this number of the first one, counted from here
 //!
 //! A case of lines `settings NAME JSON` names settings for those behind it.
+ghost use Rattle.std.specs.Prelude.{IfOk};
 ghost use Rattle.kr_provider.specs.Names.{names_of};
 ghost use Rattle.kr_calls.specs.Desks.{IsBench, IsCore};
 
@@ -124,6 +125,9 @@ fn play<L: Spelled, R: Wait>(
     }
 }
 
+/// Two benches of one kind.
+type Benches<L: Spelled> = (Bench<L, MemDice>, Bench<L, MemDice>);
+
 /// The calls of two callers, of which the second one has a bench like the first one's.
 fn play_with_rival<L: Spelled, R: Wait>(
     rt: &R,
@@ -139,8 +143,23 @@ fn play_with_rival<L: Spelled, R: Wait>(
     requires core { IsCore budget core }
     requires bench { IsBench (names_of L.link bench.links) bench.pages }
 {
+    let (bench, other) = two_benches(alloc, bench, words, page)?;
+    play_seated(rt, alloc, named, core, budget, bench, other, calls, page)
+}
+
+/// The bench, and another one like it; where that can't be made, it is ended.
+fn two_benches<L: Spelled>(
+    alloc: Global,
+    bench: Bench<L, MemDice>,
+    words: &str,
+    page: &mut Page,
+) -> Result<Benches<L>, Wrong>
+    requires { IsBench (names_of L.link bench.links) bench.pages }
+    ensures own { IfOk result (λ two. IsBench (names_of L.link two.0.links) two.0.pages) }
+    ensures other { IfOk result (λ two. IsBench (names_of L.link two.1.links) two.1.pages) }
+{
     match bench_of(alloc, words) {
-        Ok(other) => play_seated(rt, alloc, named, core, budget, bench, other, calls, page),
+        Ok(other) => Ok((bench, other)),
         Err(why) => {
             end_bench(bench, page)?;
             Err(why)

@@ -23,16 +23,19 @@ impl Play {
         let (seat, event) = two_words(rest)?;
         let seat = number_of(seat)?;
         let request = request_of(alloc, &self.named, event)?;
+        self.ask(alloc, seat, request)?;
+        match &self.stage {
+            Stage::Running(table) => add_last(alloc, page, table, seat),
+            _ => Ok(()),
+        }
+    }
+
+    /// Asks this of the core for the seat, if it may ask for it.
+    fn ask(&mut self, alloc: Global, seat: u32, request: Request) -> Result<(), Wrong> {
         match &mut self.stage {
-            Stage::Running(table) => {
-                table.ask(alloc, seat, request)?;
-                add_last(alloc, page, table, seat)
-            }
-            Stage::Alone(alone) => match seat {
-                0 => alone.ask(alloc, request),
-                _ => Err(Wrong::Form),
-            },
-            _ => Err(Wrong::Form),
+            Stage::Running(table) => table.ask(alloc, seat, request),
+            Stage::Alone(alone) => alone.ask(alloc, seat, request),
+            _ => request.refused(),
         }
     }
 
@@ -45,10 +48,11 @@ impl Play {
         let (first, second) = two_words(names)?;
         let seat = number_of(seat)?;
         let replica = number_of(replica)?;
+        self.table()?;
         for turn in 0..number_of(times)? {
             let name = if turn % 2 == 0 { first } else { second };
             let request = reload_of(&self.named, replica, name, None)?;
-            self.table()?.ask(alloc, seat, request)?;
+            self.ask(alloc, seat, request)?;
         }
         let table = self.table()?;
         add_last(alloc, page, table, seat)?;

@@ -1,7 +1,8 @@
 //! What a seat asks, and as which event its hand lets it ask that.
-ghost use Rattle.std.specs.Prelude.{◌≡◌, ◌⊎◌, IsTrue, [], IfOk};
+ghost use Rattle.std.specs.Prelude.{◌≡◌, ◌⊎◌, IsTrue, [], Err, IfOk};
 ghost use Rattle.kr_base.specs.Rules.{IsPath, IsResource};
 ghost use Rattle.kr_cores.specs.Hands.{CanBring, Permits};
+ghost use Rattle.kr_cores.specs.declared.words.Wrong.TheVariants.{Form};
 
 use crate::hand::Hand;
 use crate::sealing::{is_plain, resealed, sealed};
@@ -24,6 +25,15 @@ pub enum Request {
     },
     /// To put the row that it found last, sealed anew by what it holds.
     Replace,
+}
+
+impl Request {
+    /// Lets it go, since nobody may ask for it.
+    pub fn refused<T>(self) -> Result<T, Wrong>
+        ensures { result ≡ Err Form }
+    {
+        Err(Wrong::Form)
+    }
 }
 
 impl Hand {
