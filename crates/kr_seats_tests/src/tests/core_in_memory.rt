@@ -58,6 +58,16 @@ fn alone(alloc: Global, published: Shared<Published>) -> Option<List<Option<Shar
     }
 }
 
+/// The one replica, with the configuration of the file.
+fn replicas(alloc: Global) -> Option<List<Option<Shared<Published>>>>
+    ensures { IfSome result (λ replicas. IsOneBare replicas.0) }
+{
+    match published(alloc) {
+        Some(published) => alone(alloc, published),
+        None => None,
+    }
+}
+
 /// An empty store, whose file may have 1,000 bytes.
 fn store(alloc: Global) -> Option<Store<MemTape>> {
     let tape = MemTape::new(Bytes::new(alloc), 1000, List::new(alloc), List::new(alloc)).ok()?;
@@ -69,10 +79,11 @@ pub fn core(alloc: Global, room: u64) -> Option<Core<MemTape>>
     requires { room ≤ 4000000 }
     ensures { IfSome result (λ core. IsNewCore room core) }
 {
-    let store = store(alloc)?;
-    let published = published(alloc)?;
-    let replicas = alone(alloc, published)?;
-    started(alloc, store, replicas, &[0, 0], room)
+    let replicas = replicas(alloc)?;
+    match store(alloc) {
+        Some(store) => started(alloc, store, replicas, &[0, 0], room),
+        None => None,
+    }
 }
 
 #[tactic(auto, using(crate::proofs::Bare::first_in, crate::proofs::Bare::one_long, crate::proofs::Bare::among))]

@@ -171,8 +171,15 @@ fn closed(alloc: Global, fleet: Fleet<MemTape>, pair: Pair) -> Option<Core<MemTa
     }
 }
 
+/// Whether the journal has 400 lines, of each seat those that it made. The core is closed.
+pub fn have_adopted(core: Core<MemTape>) -> bool {
+    let done = core.journal().len() == 400 && lines_of(&core, 0) && lines_of(&core, 1);
+    let (_store, _journal) = core.close();
+    done
+}
+
 /// Whether the seat's lines are an Adopt and a LetGo by turns, and are 200.
-pub fn lines_of(core: &Core<MemTape>, seat: u32) -> bool {
+fn lines_of(core: &Core<MemTape>, seat: u32) -> bool {
     let mut count = 0u64;
     for line in core.journal() {
         if line.seat == seat {
