@@ -2,7 +2,7 @@
 ghost use Rattle.std.specs.Prelude.{◌≡◌, ◌<◌, ◌⊎◌, [], false, IsTrue};
 ghost use Rattle.kr_base.specs.Rules.{IsPath};
 ghost use Rattle.kr_provider.specs.Names.{names_of};
-ghost use Rattle.kr_calls.specs.Desks.{IsBench, IsCallerOf, is_spent, parted};
+ghost use Rattle.kr_calls.specs.Desks.{IsBench, IsCallerOf, is_spent, parts_of};
 
 use crate::between::{Between, Planned};
 use crate::linked::{Spelled, names_one};
@@ -279,7 +279,7 @@ impl<A: Acts, B: Acts, L: Spelled> Desk<Between<A, B, L>, L> {
 
 /// The report, and why the drive was cut short.
 fn parted(driven: Result<Report, (Report, CallNo)>) -> (Report, Done<()>)
-    ensures { result ≡ parted driven }
+    ensures { result ≡ parts_of driven }
 {
     match driven {
         Ok(report) => (report, Ok(())),

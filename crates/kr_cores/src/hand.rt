@@ -1,6 +1,6 @@
 //! What the program keeps of a seat.
 ghost use Rattle.std.specs.Prelude.{◌≡◌, Some, IfOk};
-ghost use Rattle.kr_cores.specs.Hands.{kind_of, gain_of, taken};
+ghost use Rattle.kr_cores.specs.Hands.{kind_of, gain_of, hand_after};
 
 use crate::words::Wrong;
 use kr_base::Shared;
@@ -112,7 +112,7 @@ impl Hand {
 
     /// Takes what came of an event of this kind.
     pub fn take(&mut self, kind: Kind, gain: Gain)
-        ensures { self.new ≡ taken kind gain self.old }
+        ensures { self.new ≡ hand_after kind gain self.old }
     {
         match kind {
             Kind::Forgets => self.found = None,
