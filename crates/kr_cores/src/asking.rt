@@ -51,14 +51,23 @@ impl Play {
         self.table()?;
         for turn in 0..number_of(times)? {
             let name = if turn % 2 == 0 { first } else { second };
-            let request = reload_of(&self.named, replica, name, None)?;
-            self.ask(alloc, seat, request)?;
+            self.turn(alloc, seat, replica, name)?;
         }
-        let table = self.table()?;
-        add_last(alloc, page, table, seat)?;
-        page.counted(b"lines", table.journal().len() as u64)?;
-        page.end_line()
+        add_turns(alloc, page, self.table()?, seat)
     }
+
+    /// Reloads the replica with the configuration.
+    fn turn(&mut self, alloc: Global, seat: u32, replica: u32, name: &str) -> Result<(), Wrong> {
+        let request = reload_of(&self.named, replica, name, None)?;
+        self.ask(alloc, seat, request)
+    }
+}
+
+/// The last line of the journal, and how many there are.
+fn add_turns(alloc: Global, page: &mut Page, table: &Table, seat: u32) -> Result<(), Wrong> {
+    add_last(alloc, page, table, seat)?;
+    page.counted(b"lines", table.journal().len() as u64)?;
+    page.end_line()
 }
 
 fn request_of(alloc: Global, named: &Named, event: &str) -> Result<Request, Wrong> {
