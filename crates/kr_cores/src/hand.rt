@@ -73,7 +73,10 @@ pub fn gain_of(answer: Answer) -> Gain
         Answer::Adopted { published, .. } => Gain::Held(published),
         Answer::Found(row) => Gain::Found(row),
         Answer::Released => Gain::Released,
-        _ => Gain::Nothing,
+        other => {
+            drop(other);
+            Gain::Nothing
+        }
     }
 }
 

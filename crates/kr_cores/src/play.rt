@@ -156,7 +156,7 @@ impl Play {
             }
             Err((why, store)) => {
                 self.begin(store);
-                add_refusal(alloc, page, &why)
+                add_refusal(alloc, page, why)
             }
         }
     }
@@ -203,7 +203,8 @@ fn end_stage(stage: Stage) {
         Stage::Stored(store) => end_store(store),
         Stage::Running(table) => end_store(table.close()),
         Stage::Alone(alone) => {
-            let (store, _lines) = alone.close();
+            let (store, lines) = alone.close();
+            drop(lines);
             end_store(store)
         }
     }
@@ -211,7 +212,7 @@ fn end_stage(stage: Stage) {
 
 /// Lets a store go with its tape.
 fn end_store(store: Store<MemTape>) {
-    let _tape = store.close();
+    drop(store.close());
 }
 
 /// A core over the store.

@@ -32,6 +32,7 @@ impl Request {
     pub fn refused<T>(self) -> Result<T, Wrong>
         ensures { result ≡ Err Form }
     {
+        drop(self);
         Err(Wrong::Form)
     }
 }
@@ -57,6 +58,7 @@ impl Hand {
         ensures { IfOk result (λ event. Permits self.now event) }
     {
         if !self.permits(&event) {
+            drop(event);
             return Err(Wrong::Form);
         }
         Ok(event)

@@ -124,7 +124,8 @@ impl Table {
 
     /// Gives the store up.
     pub fn close(self) -> Store<MemTape> {
-        let (store, _journal) = self.core.close();
+        let (store, journal) = self.core.close();
+        drop(journal);
         store
     }
 }
