@@ -18,10 +18,15 @@ const FILE: &str = r#"{"apiVersion":"apiserver.config.k8s.io/v1","kind":"Encrypt
 fn publish_bare(alloc: Global, settings: Shared<Settings>) -> Option<Published> {
     let mut links = Links::<TablePlugin>::new(alloc);
     if !links.serve(settings.get()) {
+        drop(settings);
+        drop(links);
         return None;
     }
     let mut dice = MemDice::new(Bytes::new(alloc), List::new(alloc));
-    publish(alloc, settings, &mut links, &mut dice).ok()
+    let published = publish(alloc, settings, &mut links, &mut dice);
+    drop(links);
+    drop(dice);
+    published.ok()
 }
 
 /// Whether the configuration names no plugin.
@@ -40,6 +45,7 @@ fn published(alloc: Global) -> Option<Shared<Published>>
     let published = publish_bare(alloc, settings)?;
     let shared = Shared::new(alloc, published).ok()?;
     if !is_bare(shared.get()) {
+        drop(shared);
         return None;
     }
     Some(shared)
@@ -82,7 +88,10 @@ pub fn core(alloc: Global, room: u64) -> Option<Core<MemTape>>
     let replicas = replicas(alloc)?;
     match store(alloc) {
         Some(store) => started(alloc, store, replicas, &[0, 0], room),
-        None => None,
+        None => {
+            drop(replicas);
+            None
+        }
     }
 }
 
@@ -101,6 +110,9 @@ fn started(
 {
     match Core::start(alloc, store, replicas, List::new(alloc), 2, room, reloads) {
         Ok(core) => Some(core),
-        Err(_) => None,
+        Err(refused) => {
+            drop(refused);
+            None
+        }
     }
 }

@@ -22,7 +22,7 @@ pub fn both_left(alloc: Global, core: Core<MemTape>) -> bool
 {
     let mut core = core;
     let done = both_leave_in(alloc, &mut core);
-    let (_store, _journal) = core.close();
+    drop(core.close());
     done
 }
 
