@@ -73,19 +73,10 @@ pub fn gain_of(answer: Answer) -> Gain
         Answer::Adopted { published, .. } => Gain::Held(published),
         Answer::Found(row) => Gain::Found(row),
         Answer::Released => Gain::Released,
-        Answer::Gone { .. } => Gain::Nothing,
-        Answer::Absent => Gain::Nothing,
-        Answer::Written { .. } => Gain::Nothing,
-        Answer::Changed { .. } => Gain::Nothing,
-        Answer::StoreFailed => Gain::Nothing,
-        Answer::StoreFull { .. } => Gain::Nothing,
-        Answer::Reloaded { .. } => Gain::Nothing,
-        Answer::Joined { .. } => Gain::Nothing,
-        Answer::Refused(_) => Gain::Nothing,
-        Answer::Moved { .. } => Gain::Nothing,
-        Answer::Present { .. } => Gain::Nothing,
-        Answer::Departed { .. } => Gain::Nothing,
-        Answer::NoMemory => Gain::Nothing,
+        other => {
+            drop(other);
+            Gain::Nothing
+        }
     }
 }
 

@@ -81,7 +81,13 @@ fn add_gave(alloc: Global, page: &mut Page, gave: &Gave) -> Result<(), Wrong> {
 }
 
 /// A line that tells why no core started.
-pub fn add_refusal(alloc: Global, page: &mut Page, why: &StartNo) -> Result<(), Wrong> {
+pub fn add_refusal(alloc: Global, page: &mut Page, why: StartNo) -> Result<(), Wrong> {
+    let printed = add_start_no(alloc, page, &why);
+    drop(why);
+    printed
+}
+
+fn add_start_no(alloc: Global, page: &mut Page, why: &StartNo) -> Result<(), Wrong> {
     match why {
         StartNo::Stray { path } => page.named(b"stray", path.as_str())?,
         StartNo::OtherSecret { path } => page.named(b"other-secret", path.as_str())?,
