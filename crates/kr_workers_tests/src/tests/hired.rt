@@ -86,9 +86,8 @@ pub fn count_right<T: Tape, L: Kms + Drop, D: Dice + Drop>(workers: Vec<Worker<T
     let mut workers = List::from_vec(workers);
     let mut right = 0u32;
     while let Some(worker) = workers.pop() {
-        if told_right(workers.as_slice().len(), worker) {
-            right = right.wrapping_add(1);
-        }
+        let number = workers.as_slice().len();
+        right = right.wrapping_add(u32::from(told_right(number, worker)));
     }
     workers.end();
     right

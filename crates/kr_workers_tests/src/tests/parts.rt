@@ -2,18 +2,17 @@
 ghost use Rattle.std.specs.Prelude.{IfSome};
 ghost use Rattle.kr_workers_tests.specs.Ready.{AreGets, IsGet};
 
-use crate::tests::single::{one_in, text};
-use kr_base::{Text, path_ok};
+use crate::tests::single::{one_in, text, with};
+use kr_base::{List, Text, path_ok};
 use kr_script::{Part, ScriptLine};
 use std::alloc::Global;
 
 /// The parts of both workers.
-pub fn parts(alloc: Global) -> Option<Vec<Part>>
-    ensures { IfSome result (λ parts. AreGets parts.items) }
+pub fn parts(alloc: Global) -> Option<List<Part>>
+    ensures { IfSome result (λ parts. AreGets parts.0) }
 {
-    let first = part(alloc, "/s")?;
-    let second = part(alloc, "/t")?;
-    vec![in alloc; first, second].ok()
+    let first = one_in(alloc, part(alloc, "/s")?)?;
+    with(first, part(alloc, "/t")?)
 }
 
 /// A worker's part: it gets the path.

@@ -1,5 +1,5 @@
 //! Values that find memory, or none.
-ghost use Rattle.std.specs.Prelude.{◌≡◌, ◌∷◌, [], IfSome};
+ghost use Rattle.std.specs.Prelude.{◌≡◌, ◌∷◌, ◌++◌, [], IfSome};
 
 use kr_base::{List, Shared, Text};
 use std::alloc::Global;
@@ -15,7 +15,14 @@ pub fn text(alloc: Global, text: &str) -> Option<Text>
 pub fn one_in<T: Drop>(alloc: Global, item: T) -> Option<List<T>>
     ensures { IfSome result (λ list. list.0 ≡ item ∷ []) }
 {
-    let mut list = List::new(alloc);
+    with(List::new(alloc), item)
+}
+
+/// The list with one more item at the end.
+pub fn with<T: Drop>(list: List<T>, item: T) -> Option<List<T>>
+    ensures { IfSome result (λ longer. longer.0 ≡ list.0 ++ item ∷ []) }
+{
+    let mut list = list;
     match list.push(item) {
         Ok(()) => Some(list),
         Err(_) => None,

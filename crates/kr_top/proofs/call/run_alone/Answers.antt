@@ -21,9 +21,17 @@ returns-in-Ok-Some g c = (
 )
 
 pub other_alone-requires : goal.other_alone-requires
-other_alone-requires g c =
-    subst (λ o. IsFleetAsked (texts c.args.words.now) (Ok o)) c.in-Ok-None.field-0-is
-    c.in-Ok-None.ensures
+other_alone-requires g c = (
+  c.type_bounds.send-W-Tap,
+  (
+    c.type_bounds.send-W-Rand,
+    (
+      c.type_bounds.send-W-Link,
+      subst (λ o. IsFleetAsked (texts c.args.words.now) (Ok o)) c.in-Ok-None.field-0-is
+          c.in-Ok-None.ensures,
+    ),
+  ),
+)
 
 pub returns-in-Ok-None : goal.returns-in-Ok-None
 returns-in-Ok-None g c = c.other_alone.ensures
