@@ -30,7 +30,7 @@ def add_all(book):
     load(book, "other_seed", seed=2)
     load(book, "greatest_seed", seed=2**64 - 1, size=1)
     load(book, "thirteen_each", size=13)
-    load(book, "thousand_each", size=1000, step=4096)
+    load(book, "hundred_each", size=100, step=4096)
     # a random source of the world stays as it was
     load(book, "world_with_dice", dice=((0, bytes(range(64))), (1, b"")))
     load(book, "no_file", fails=(("files", 1),))
