@@ -53,8 +53,8 @@ def limited(size):
     return limit
 
 
-def run(command, data=b"", limit=None):
-    done = subprocess.run(command, input=data, capture_output=True, timeout=60, check=False, preexec_fn=limit)
+def run(command, data=b"", limit=None, seconds=60):
+    done = subprocess.run(command, input=data, capture_output=True, timeout=seconds, check=False, preexec_fn=limit)
     return done.returncode, done.stdout, done.stderr.decode()
 
 
@@ -411,7 +411,8 @@ def generated(checks, seed, size):
     """A load on an absent store has the reference's summary, and its store the generated data, sealed by one of two keys with its worker's nonces."""
     checks.name.unlink(missing_ok=True)
     words_of_load = [checks.kmsrest, "gen", "--seed", str(seed), "--size", str(size), "--store", checks.name]
-    checks.expect(f"gen {seed} {size}", (0, load.summary(seed, size).encode(), ""), run(words_of_load))
+    # a worker that waits for its turn yields, which takes long where other programs have the processors
+    checks.expect(f"gen {seed} {size}", (0, load.summary(seed, size).encode(), ""), run(words_of_load, seconds=600))
     pieces = load.pieces(seed)
     providers = [("aesgcm", name, next(pieces)) for name in ("g1", "g2")]
     rows = store.read(checks.held())[1]
