@@ -1,10 +1,11 @@
 #!/usr/bin/env python3
 """Runs the built kmsrest's `put` under a full file system, killed at random moments, fifty at once, and at the limit of a store,
-its `migrate` at the limits of its target, its `rewrite` at the limits of a journal and of a store, and a fleet at that of a store.
+its `migrate` at the limits of its target, its `rewrite` at the limits of a journal and of a store, a fleet at that of a store,
+and generated loads.
 
-    tools/check-stores.py [full] [killed] [crowd] [large] [migrates] [rewrites] [fleets] [--kmsrest PATH] [--seed N]
+    tools/check-stores.py [full] [killed] [crowd] [large] [migrates] [rewrites] [fleets] [loads] [--kmsrest PATH] [--seed N]
 
-No name of a check means all seven. After each run the store is read by tools/reference, which is no part of kmsrest: every
+No name of a check means all eight. After each run the store is read by tools/reference, which is no part of kmsrest: every
 row that was answered by its revision is there, whole and at that revision. It answers 0 where that always held."""
 import argparse
 import os
@@ -20,7 +21,7 @@ from pathlib import Path
 
 TOP = Path(__file__).resolve().parent.parent
 sys.path.insert(0, str(TOP / "tools"))
-from reference import store  # noqa: E402  (its folder is known only now)
+from reference import load, store, values  # noqa: E402  (their folder is known only now)
 
 CONFIG = TOP / "examples" / "identity.json"
 CROWD = 50
@@ -52,8 +53,8 @@ def limited(size):
     return limit
 
 
-def run(command, data=b"", limit=None):
-    done = subprocess.run(command, input=data, capture_output=True, timeout=60, check=False, preexec_fn=limit)
+def run(command, data=b"", limit=None, seconds=60):
+    done = subprocess.run(command, input=data, capture_output=True, timeout=seconds, check=False, preexec_fn=limit)
     return done.returncode, done.stdout, done.stderr.decode()
 
 
@@ -406,6 +407,31 @@ def fleets(checks, folder, _dice):
     checks.expect("its rows", before + store.row_bytes(2, MANY + 1, store.Row(b"/large/0")), checks.held())
 
 
+def generated(checks, seed, size):
+    """A load on an absent store has the reference's summary, and its store the generated data, sealed by one of two keys with its worker's nonces."""
+    checks.name.unlink(missing_ok=True)
+    words_of_load = [checks.kmsrest, "gen", "--seed", str(seed), "--size", str(size), "--store", checks.name]
+    # a worker that waits for its turn yields, which takes long where other programs have the processors
+    checks.expect(f"gen {seed} {size}", (0, load.summary(seed, size).encode(), ""), run(words_of_load, seconds=600))
+    pieces = load.pieces(seed)
+    providers = [("aesgcm", name, next(pieces)) for name in ("g1", "g2")]
+    rows = store.read(checks.held())[1]
+    found = {row.path: values.unseal(providers, row.path, row.value)[0] for row in rows}
+    checks.expect(f"the objects of gen {seed} {size}", load.objects(seed, size), found)
+    checks.expect(f"the rows of gen {seed} {size}", 4 * size, len(rows))
+    nonces = {row.path: row.value.split(b":", 5)[5][: load.NONCE] for row in rows}
+    checks.expect(f"the nonces of gen {seed} {size}", load.nonces(seed, size), nonces)
+
+
+def loads(checks, _folder, _dice):
+    """The same at each run of one seed and size; what they write is listed."""
+    for seed, size in ((1, 1000), (1, 1000), (2, 10), (1, 2)):
+        generated(checks, seed, size)
+    status, output, said = run(words(checks.kmsrest, "list", checks.name))
+    paths = [line.split(b" ")[2].decode() for line in output.splitlines()]
+    checks.expect("list behind gen 1 2", (0, [path.decode() for path in load.objects(1, 2)], ""), (status, paths, said))
+
+
 CHECKS = {
     "full": full,
     "killed": killed,
@@ -414,6 +440,7 @@ CHECKS = {
     "migrates": migrates,
     "rewrites": rewrites,
     "fleets": fleets,
+    "loads": loads,
 }
 
 

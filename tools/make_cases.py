@@ -8,7 +8,7 @@ from pathlib import Path
 
 sys.dont_write_bytecode = True
 
-from cases_tables import call_tables, configuration_tables, fleet_tables, migrate_tables, plugin_tables, rewrite_tables, store_tables, stored_tables, word_tables, yaml_tables
+from cases_tables import call_tables, configuration_tables, fleet_tables, gen_tables, migrate_tables, plugin_tables, rewrite_tables, store_tables, stored_tables, word_tables, yaml_tables
 from cases_tables.form import Book
 
 STORED = Path(__file__).resolve().parent.parent / "crates" / "kr_cases" / "stdin"
@@ -16,7 +16,7 @@ STORED = Path(__file__).resolve().parent.parent / "crates" / "kr_cases" / "stdin
 
 def main():
     book = Book()
-    for part in (word_tables, configuration_tables, yaml_tables, call_tables, store_tables, plugin_tables, stored_tables, migrate_tables, rewrite_tables, fleet_tables):
+    for part in (word_tables, configuration_tables, yaml_tables, call_tables, store_tables, plugin_tables, stored_tables, migrate_tables, rewrite_tables, fleet_tables, gen_tables):
         part.add_all(book)
     if sys.argv[1:] != ["check"]:
         STORED.write_text(book.text())

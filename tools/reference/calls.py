@@ -3,7 +3,7 @@
 import functools
 from contextlib import suppress
 
-from . import configuration, fleet, plugins, store
+from . import configuration, fleet, load, plugins, store
 from .board import Board
 from .outside import Stop, load_settings, programs_of
 from .values import Refused, check_of, inspected, reader_of, seal, unseal
@@ -220,6 +220,8 @@ def answer(words, world, source, output):
             return get(options, world, output)
         if command == "fleet":
             return fleet.run(options, world, output)
+        if command == "gen":
+            return load.run(options, world, output)
         if command == "rewrite":
             return rewrite(options, world, output)
         if command == "migrate":

@@ -17,7 +17,6 @@ OPTIONS = {
     "fleet": (("file", "store"), ("plugin",)),
     "gen": (("seed", "size", "store"), ()),
 }
-BUILT = ("encrypt", "decrypt", "check", "inspect", "put", "get", "list", "migrate", "judge", "rewrite", "fleet")
 REPEATED = ("plugin", "replica")
 MOST_REPLICAS = 16
 MOST_SIZE = 10_000
@@ -25,7 +24,7 @@ MOST_SEED = 2**64 - 1
 
 
 class Usage(Exception):
-    """The words mean no command that is built."""
+    """The words mean no command."""
 
 
 class WordsLimit(Exception):
@@ -123,6 +122,4 @@ def command_of(words):
         raise WordsLimit(f"replicas {MOST_REPLICAS}")
     if command == "gen" and number(found["size"][0]) > MOST_SIZE:
         raise WordsLimit(f"size {MOST_SIZE}")
-    if command not in BUILT:
-        raise Usage
     return command, {name: values if name in REPEATED else values[0] for name, values in found.items()}

@@ -1,3 +1,4 @@
+//! What the tests of this crate share: configurations, and calls over a world in memory.
 use kr_base::{Bytes, List, MemDice, MemSink, MemSource, NoMemory, Text};
 use kr_kms::TablePlugin;
 use kr_top::{MemWorld, run_alone};
@@ -5,6 +6,7 @@ use std::alloc::Global;
 use std::test::Fail;
 
 mod config;
+mod load;
 mod pages;
 mod values;
 mod yaml;

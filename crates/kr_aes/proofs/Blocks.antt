@@ -36,7 +36,8 @@ affine-lt b = byte_of-lt (λ i.
     (bit_at b i + bit_at b ((i + 4) % 8) + bit_at b ((i + 5) % 8) + bit_at b ((i + 6) % 8)
     + bit_at b ((i + 7) % 8) + bit_at 0x63 i) % 2) (λ i. mod-lt _ (omega arith))
 
--- the inverse of the affine map, whose constant is 05 hex: bit i is the sum of three bits and of the constant's
+-- the inverse of the affine map, whose constant is 05 hex: bit i is the sum of three bits and of
+-- the constant's
 abbrev pub inverse_affine : ℕ → ℕ
 inverse_affine b = byte_of (λ i.
     (bit_at b ((i + 2) % 8) + bit_at b ((i + 5) % 8) + bit_at b ((i + 7) % 8) + bit_at 5 i) % 2)

@@ -3,42 +3,19 @@ use Rattle.std.proofs.Common.{◌≡◌, ℕ, zero, suc, ◌+◌, ◌-◌, ◌*�
 use Rattle.std.proofs.lemmas.Bool.Decides.{nat_tests}
 use Rattle.std.proofs.lemmas.List.FromFn.{get_or-map-range_with_len}
 use Rattle.kr_aes.specs.declared.Rounds.{Rounds}
-use Rattle.kr_aes.specs.Field.{polynomial_product, product, remainder}
+use Rattle.kr_aes.specs.Field.{product}
 use Rattle.kr_aes.specs.Cipher.{add_round_key, matrix_product, round_count, word_byte}
 use Rattle.kr_aes.specs.InverseCipher.{after_inverse_rounds, inverse_cipher, inverse_mix_columns, inverse_shift_rows, inverse_sub_bytes}
 use Rattle.kr_aes.specs.EquivalentInverse.{after_equivalent_rounds, equivalent_inverse_cipher, inverse_mixed_word, inverse_schedule, inverse_word}
 use Rattle.kr_aes.proofs.Blocks.{word_byte-lt}
-use Rattle.kr_aes.proofs.Cases.{bytes_below}
 use Rattle.kr_aes.proofs.ColumnWords.{word_byte-from_be_bytes}
 use Rattle.kr_aes.proofs.Linear.{product-xor}
+use Rattle.kr_aes.proofs.MixedBack.{inverse_sum, inverse_sum-lt}
 use Rattle.kr_aes.proofs.Rows.{same16}
 use Rattle.kr_aes.proofs.RoundCounts.{few_rounds, some_rounds}
-use Rattle.kr_aes.proofs.Sums.{sum4, sum4-lt, sum4-same, sum4-xor}
+use Rattle.kr_aes.proofs.Sums.{sum4, sum4-same, sum4-xor}
 
 -- ---- InvMixColumns of a word
-
-product_14-lt : (b : ℕ) → b < 256 → product 14 b < 256
-unfolding product polynomial_product remainder
-product_14-lt = bytes_below 256 (product 14) refl
-
-product_11-lt : (b : ℕ) → b < 256 → product 11 b < 256
-unfolding product polynomial_product remainder
-product_11-lt = bytes_below 256 (product 11) refl
-
-product_13-lt : (b : ℕ) → b < 256 → product 13 b < 256
-unfolding product polynomial_product remainder
-product_13-lt = bytes_below 256 (product 13) refl
-
-product_9-lt : (b : ℕ) → b < 256 → product 9 b < 256
-unfolding product polynomial_product remainder
-product_9-lt = bytes_below 256 (product 9) refl
-
--- the sum with the inverse factors
-abbrev inverse_sum : ℕ → ℕ → ℕ → ℕ → ℕ
-inverse_sum x y z w = sum4 (product 14 x) (product 11 y) (product 13 z) (product 9 w)
-
-inverse_sum-lt : (x y z w : ℕ) → x < 256 → y < 256 → z < 256 → w < 256 → inverse_sum x y z w < 256
-inverse_sum-lt x y z w hx hy hz hw = sum4-lt _ _ _ _ (product_14-lt x hx) (product_11-lt y hy) (product_13-lt z hz) (product_9-lt w hw)
 
 -- the sum at a row of a word
 abbrev word_sum : ℕ → ℕ → ℕ

@@ -1,3 +1,4 @@
+-- The lemmas that the answers cite.
 pub mod Cases
 pub mod Linear
 pub mod Products

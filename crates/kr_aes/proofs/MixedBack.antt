@@ -27,7 +27,7 @@ unfolding sum4 product polynomial_product remainder
 third_row = same_below 256 (λ b. sum4 (product 2 (product 9 b)) (product 3 (product 13 b)) (product 1 (product 11 b)) (product 1 (product 14 b))) (λ b. 0) refl
 
 -- the sum with the inverse factors
-abbrev inverse_sum : ℕ → ℕ → ℕ → ℕ → ℕ
+abbrev pub inverse_sum : ℕ → ℕ → ℕ → ℕ → ℕ
 inverse_sum x y z w = sum4 (product 14 x) (product 11 y) (product 13 z) (product 9 w)
 
 -- the sum with the factors of the sums with the inverse factors, each from one row further down
@@ -63,7 +63,7 @@ product_9-lt : (b : ℕ) → b < 256 → product 9 b < 256
 unfolding product polynomial_product remainder
 product_9-lt = bytes_below 256 (product 9) refl
 
-inverse_sum-lt : (x y z w : ℕ) → x < 256 → y < 256 → z < 256 → w < 256 → inverse_sum x y z w < 256
+pub inverse_sum-lt : (x y z w : ℕ) → x < 256 → y < 256 → z < 256 → w < 256 → inverse_sum x y z w < 256
 inverse_sum-lt x y z w hx hy hz hw = sum4-lt _ _ _ _ (product_14-lt x hx) (product_11-lt y hy) (product_13-lt z hz) (product_9-lt w hw)
 
 -- ---- the columns

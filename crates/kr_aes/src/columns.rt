@@ -8,7 +8,7 @@ ghost use Rattle.kr_aes.specs.inner.Columns.{IsKeyed, block_of_columns, sbox_col
 
 use crate::cells;
 
-// The word of the bytes, added to the key's.
+/// The word of the bytes, added to the key's.
 #[inline(always)]
 fn keyed(a: u8, b: u8, c: u8, d: u8, key: u32) -> u32
     ensures { IsKeyed (slice_index (a ∷ b ∷ c ∷ d ∷ [])) key result }
@@ -16,7 +16,7 @@ fn keyed(a: u8, b: u8, c: u8, d: u8, key: u32) -> u32
     u32::from_be_bytes([a, b, c, d]) ^ key
 }
 
-// The column that a round makes of one byte of each word.
+/// The column that a round makes of one byte of each word.
 #[inline(always)]
 fn forward(a: u32, b: u32, c: u32, d: u32, key: u32) -> u32
     ensures { IsKeyed (forward_byte a b c d) key result }
@@ -28,7 +28,7 @@ fn forward(a: u32, b: u32, c: u32, d: u32, key: u32) -> u32
         ^ key
 }
 
-// The same in the last round, which doesn't mix columns.
+/// The same in the last round, which doesn't mix columns.
 #[inline(always)]
 fn last_forward(a: u32, b: u32, c: u32, d: u32, key: u32) -> u32
     ensures { IsKeyed (slice_index (sbox_column sbox a b c d)) key result }
@@ -42,7 +42,7 @@ fn last_forward(a: u32, b: u32, c: u32, d: u32, key: u32) -> u32
     )
 }
 
-// The column that a round of the equivalent inverse cipher makes of one byte of each word.
+/// The column that a round of the equivalent inverse cipher makes of one byte of each word.
 #[inline(always)]
 fn inverse(a: u32, b: u32, c: u32, d: u32, key: u32) -> u32
     ensures { IsKeyed (inverse_byte a b c d) key result }
@@ -54,7 +54,7 @@ fn inverse(a: u32, b: u32, c: u32, d: u32, key: u32) -> u32
         ^ key
 }
 
-// The same in the last round, which doesn't mix columns.
+/// The same in the last round, which doesn't mix columns.
 #[inline(always)]
 fn last_inverse(a: u32, b: u32, c: u32, d: u32, key: u32) -> u32
     ensures { IsKeyed (slice_index (sbox_column inverse_sbox a b c d)) key result }
@@ -68,7 +68,7 @@ fn last_inverse(a: u32, b: u32, c: u32, d: u32, key: u32) -> u32
     )
 }
 
-// The columns of a block with a round's key added.
+/// The columns of a block with a round's key added.
 #[inline(always)]
 pub(crate) fn first(words: &[u32; 60], round: usize, block: &[u8; 16]) -> [u32; 4]
     requires { round < 15 }
@@ -168,7 +168,7 @@ pub(crate) fn block_of(columns: [u32; 4]) -> [u8; 16]
     ]
 }
 
-// InvMixColumns of a word: the inverse S-box in the tables takes back the S-box of each byte.
+/// InvMixColumns of a word: the inverse S-box in the tables takes back the S-box of each byte.
 pub(crate) fn inverse_mixed_word(word: u32) -> u32
     ensures { result ≡ inverse_mixed_word word }
 {

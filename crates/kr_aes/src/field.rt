@@ -3,7 +3,7 @@
 ghost use Rattle.std.specs.Prelude.{◌≡◌};
 ghost use Rattle.kr_aes.specs.Field.{inverse, product};
 
-// x times a byte: shifted, and less the modulus where a bit came out.
+/// x times a byte: shifted, and less the modulus where a bit came out.
 fn double(b: u8) -> u8
     ensures { result ≡ product 2 b }
 {
@@ -24,7 +24,7 @@ pub(crate) fn product(a: u8, b: u8) -> u8
     sum
 }
 
-// The power 254, as a product of the powers 2, 4 and so on to 128.
+/// The power 254, as a product of the powers 2, 4 and so on to 128.
 pub(crate) fn inverse(b: u8) -> u8
     ensures { result ≡ inverse b }
 {

@@ -27,7 +27,7 @@ pub enum Rounds {
 }
 
 impl Rounds {
-    // The rounds of a key of so many bytes.
+    /// The rounds of a key of so many bytes.
     fn of_key(size: usize) -> Option<Rounds>
         ensures { MatchOption result (¬ IsKeyLength size) (IsKeyOf size) }
     {

@@ -32,7 +32,7 @@ pub(crate) fn shift_rows(block: &mut [u8; 16])
     ];
 }
 
-// The sum of a column's cells, from one row downwards in a ring, each times its factor.
+/// The sum of a column's cells, from one row downwards in a ring, each times its factor.
 fn column_sum(factors: &[u8; 4], state: &[u8; 16], row: usize, column: usize) -> u8
     requires row { row < 4 }
     requires column { column < 4 }

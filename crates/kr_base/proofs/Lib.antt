@@ -1,3 +1,4 @@
+-- The lemmas that the answers cite.
 pub mod Counting
 pub mod Labels
 pub mod Places

@@ -119,7 +119,8 @@ pub sorted_nil : IsSortedByKey []
 unfolding IsStrictlySortedBy
 sorted_nil = tt
 
--- a search among sorted pairs: the keys before low are less than the key, and those from high on aren't
+-- a search among sorted pairs: the keys before low are less than the key, and those from high on
+-- aren't
 pub record Between (key : List ℕ) (es : Pairs) (low high : ℕ) : Type 0 where
   pub sorted : IsSortedByKey es
   pub ordered : low ≤ high

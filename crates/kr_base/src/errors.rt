@@ -16,7 +16,7 @@ impl From<AllocError> for NoMemory {
     }
 }
 
-// The value that found no memory is dropped.
+/// The value that found no memory is dropped.
 impl<T: Drop> From<AllocFailed<T>> for NoMemory {
     ghost from_gives = { λ _ e. e ≡ record {} };
 

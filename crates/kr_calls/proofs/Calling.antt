@@ -23,7 +23,7 @@ use Rattle.kr_rollout.specs.Parts.{AddsWithin}
 use Rattle.kr_rollout.proofs.PartsAdd.{parts_add_up, same_within}
 use Rattle.kr_rewrite.specs.Drives.{IsDrive, IsIdleAtEnd}
 use Rattle.kr_rewrite.specs.declared.outcome.Report.{Report}
-use Rattle.kr_calls.specs.Desks.{IsBench, IsCallerOf, is_spent, one_name, parted}
+use Rattle.kr_calls.specs.Desks.{IsBench, IsCallerOf, is_spent, one_name, parts_of}
 use Rattle.kr_calls.proofs.Lists.{from_each}
 
 -- ---- lists of names
@@ -126,7 +126,7 @@ idle_after (Err NoMemory) new spent i e f = i
 -- ---- a drive
 
 pub idle_at_end : (driven : Result Report (Report × CallNo)) (new : Caller) (spent : Bool)
-    → IsIdleAtEnd driven new → spent ≡ is_spent ((parted driven).1) → spent ≡ false
+    → IsIdleAtEnd driven new → spent ≡ is_spent ((parts_of driven).1) → spent ≡ false
     → holding new.mine ≡ None
 idle_at_end (Ok report) new spent i e f = i
 idle_at_end (Err cut) new spent i e f = idle_after {T = Unit {0}} (Err cut.1) new spent i e f

@@ -41,6 +41,6 @@ is_spent (Err Spent) = true
 is_spent (Err why) = false
 
 -- a drive's report, and how it ended
-abbrev pub parted : Result Report (Report × CallNo) → Report × Result (Unit {0}) CallNo
-parted (Ok report) = (report, Ok tt)
-parted (Err cut) = (cut.0, Err cut.1)
+abbrev pub parts_of : Result Report (Report × CallNo) → Report × Result (Unit {0}) CallNo
+parts_of (Ok report) = (report, Ok tt)
+parts_of (Err cut) = (cut.0, Err cut.1)

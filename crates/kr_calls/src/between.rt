@@ -14,7 +14,9 @@ use std::alloc::Global;
 /// A call that is made before the event of this number of another caller, the first being 1.
 #[derive(Drop)]
 pub struct Planned {
+    /// Before which of the other caller's next events it is made, from 1 on.
     pub number: u32,
+    /// What the rival asks.
     pub call: Call,
 }
 
@@ -29,6 +31,7 @@ pub struct Between<A: Acts, B: Acts, L: Spelled> {
 }
 
 impl<A: Acts, B: Acts, L: Spelled> Between<A, B, L> {
+    /// A caller whose rival has no call planned.
     pub fn new(alloc: Global, own: A, rival: Desk<B, L>) -> Between<A, B, L>
         ensures { result.own ≡ own }
     {

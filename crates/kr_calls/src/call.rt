@@ -161,7 +161,7 @@ fn serve_object<A: Acts, L: Kms>(
     match call {
         ObjectCall::Read { replica, path } => {
             let done = desk.read(alloc, replica, path.as_str())?;
-            page.told_read(alloc, &done)
+            page.told_read(alloc, done)
         }
         ObjectCall::Write {
             replica,
@@ -170,11 +170,11 @@ fn serve_object<A: Acts, L: Kms>(
             plain,
         } => {
             let done = desk.write(alloc, replica, resource.as_str(), path.as_str(), plain)?;
-            page.told_write(&done)
+            page.told_write(done)
         }
         ObjectCall::Delete { path } => {
             let done = desk.delete(alloc, path.as_str())?;
-            page.told_delete(&done)
+            page.told_delete(done)
         }
     }
 }
@@ -189,19 +189,19 @@ fn serve_load<A: Acts, L: Kms>(
     match call {
         LoadCall::Leave { replica } => {
             let done = desk.leave(replica)?;
-            page.told_leave(&done)
+            page.told_leave(done)
         }
         LoadCall::Reload { replica, settings } => {
             let done = desk.reload(alloc, replica, settings)?;
-            page.told_load(alloc, &done)
+            page.told_load(alloc, done)
         }
         LoadCall::Join { replica, settings } => {
             let done = desk.join(alloc, replica, settings)?;
-            page.told_join(alloc, &done)
+            page.told_join(alloc, done)
         }
         LoadCall::Refresh { replica } => {
             let done = desk.refresh(alloc, replica)?;
-            page.told_load(alloc, &done)
+            page.told_load(alloc, done)
         }
     }
 }
@@ -214,11 +214,11 @@ fn serve_rewrite<A: Acts, L: Kms>(
     page: &mut Page,
 ) -> Result<(), Wrong> {
     if call.all {
-        let told = desk.drive(alloc, call.replica, call.after.as_str())?;
-        return page.told_drive(&told.0, &told.1);
+        let (report, done) = desk.drive(alloc, call.replica, call.after.as_str())?;
+        return page.told_drive(report, done);
     }
     let done = desk.step(alloc, call.replica, call.after.as_str())?;
-    page.told_step(&done)
+    page.told_step(done)
 }
 
 /// Makes the call, and prints what it answered.

@@ -77,16 +77,36 @@ fn begin<L: Spelled, R: Wait>(
     let (second, rest) = two_lines(rest)?;
     let (third, calls) = two_lines(rest)?;
     let (kind, third) = two_words(third)?;
-    let terms = terms_of(named, third)?;
-    let store = load(alloc, behind("store", second)?)?;
-    let beginning = Beginning {
-        store,
-        terms,
-        with_rival: kind == "two",
-    };
+    let stored = behind("store", second)?;
+    let beginning = beginning_of(alloc, named, stored, third, kind == "two")?;
     match bench_of::<L>(alloc, words) {
         Ok(bench) => play(rt, alloc, named, beginning, bench, words, calls, page),
-        Err(why) => Err(why),
+        Err(why) => {
+            drop(beginning);
+            Err(why)
+        }
+    }
+}
+
+/// A store, and the terms of a core over it.
+fn beginning_of(
+    alloc: Global,
+    named: &Named,
+    stored: &str,
+    words: &str,
+    with_rival: bool,
+) -> Result<Beginning, Wrong> {
+    let terms = terms_of(named, words)?;
+    match load(alloc, stored) {
+        Ok(store) => Ok(Beginning {
+            store,
+            terms,
+            with_rival,
+        }),
+        Err(why) => {
+            drop(terms);
+            Err(why)
+        }
     }
 }
 
@@ -142,6 +162,7 @@ fn play_with_rival<L: Spelled, R: Wait>(
     match bench_of(alloc, words) {
         Ok(other) => play_seated(rt, alloc, named, core, budget, bench, other, calls, page),
         Err(why) => {
+            drop(core);
             end_bench(bench, page)?;
             Err(why)
         }
@@ -190,10 +211,23 @@ fn play_alone<L: Spelled>(
     let mut desk = Desk::new(solo, bench, 2, budget.reloads);
     let done = serve_all(alloc, named, &mut desk, calls, page);
     let (solo, bench) = desk.into_parts();
-    let (store, _lines) = solo.into_core().close();
+    let (store, lines) = solo.into_core().close();
+    drop(lines);
+    let ended = add_ending(bench, done, &store, page);
+    drop(store);
+    ended
+}
+
+/// Adds how the bench ended and, where all calls were made, the store's rows.
+fn add_ending<L: Spelled>(
+    bench: Bench<L, MemDice>,
+    done: Result<(), Wrong>,
+    store: &Store<MemTape>,
+    page: &mut Page,
+) -> Result<(), Wrong> {
     end_bench(bench, page)?;
     done?;
-    add_rows(page, &store)
+    add_rows(page, store)
 }
 
 /// Makes the calls, one behind another.

@@ -2,7 +2,7 @@
 ghost use Rattle.std.specs.Prelude.{◌≡◌, ◌<◌, ◌⊎◌, [], false, IsTrue};
 ghost use Rattle.kr_base.specs.Rules.{IsPath};
 ghost use Rattle.kr_provider.specs.Names.{names_of};
-ghost use Rattle.kr_calls.specs.Desks.{IsBench, IsCallerOf, is_spent, parted};
+ghost use Rattle.kr_calls.specs.Desks.{IsBench, IsCallerOf, is_spent, parts_of};
 
 use crate::between::{Between, Planned};
 use crate::linked::{Spelled, names_one};
@@ -78,6 +78,7 @@ fn is_spent<T>(done: &Done<T>) -> bool
 }
 
 impl<A: Acts, L: Kms> Desk<A, L> {
+    /// A caller of a core of so many replicas, which may bring so many configurations still.
     pub fn new(acts: A, bench: Bench<L, MemDice>, replicas: u32, left: u32) -> Desk<A, L>
         requires caller { IsCallerOf (A.caller acts) replicas left false }
         requires bench { IsBench (names_of L.link bench.links) bench.pages }
@@ -110,6 +111,8 @@ impl<A: Acts, L: Kms> Desk<A, L> {
         mem::replace(&mut self.bench, bench)
     }
 
+    /// The object at the path. Where the seat is spent, or there is no such replica or path, no
+    /// call is made, as with those below.
     pub fn read(&mut self, alloc: Global, replica: u32, path: &str) -> Result<Done<Read>, Wrong> {
         if !may(self.ended, self.replicas, replica) {
             return Err(Wrong::Form);
@@ -122,6 +125,7 @@ impl<A: Acts, L: Kms> Desk<A, L> {
         Ok(done)
     }
 
+    /// Its revision, once the data were sealed and put.
     pub fn write(
         &mut self,
         alloc: Global,
@@ -149,6 +153,7 @@ impl<A: Acts, L: Kms> Desk<A, L> {
         Ok(done)
     }
 
+    /// The revision of the delete, or that there was nothing.
     pub fn delete(&mut self, alloc: Global, path: &str) -> Result<Done<Option<u64>>, Wrong> {
         if self.ended {
             return Err(Wrong::Form);
@@ -160,6 +165,7 @@ impl<A: Acts, L: Kms> Desk<A, L> {
         Ok(done)
     }
 
+    /// The generation that the replica had, if it was in.
     pub fn leave(&mut self, replica: u32) -> Result<Done<Option<u32>>, Wrong> {
         if !may(self.ended, self.replicas, replica) {
             return Err(Wrong::Form);
@@ -168,6 +174,7 @@ impl<A: Acts, L: Kms> Desk<A, L> {
         Ok(done)
     }
 
+    /// What became of a new configuration, which may name no plugin but `p`.
     pub fn reload(
         &mut self,
         alloc: Global,
@@ -189,6 +196,7 @@ impl<A: Acts, L: Kms> Desk<A, L> {
         Ok(done)
     }
 
+    /// What became of the configuration of a replica that was out.
     pub fn join(
         &mut self,
         alloc: Global,
@@ -210,6 +218,7 @@ impl<A: Acts, L: Kms> Desk<A, L> {
         Ok(done)
     }
 
+    /// Whether a key of a plugin changed, and what became of the configuration then.
     pub fn refresh(&mut self, alloc: Global, replica: u32) -> Result<Done<Loaded>, Wrong> {
         if !may(self.ended, self.replicas, replica) {
             return Err(Wrong::Form);
@@ -223,6 +232,7 @@ impl<A: Acts, L: Kms> Desk<A, L> {
         Ok(done)
     }
 
+    /// What became of the first object behind this path.
     pub fn step(&mut self, alloc: Global, replica: u32, after: &str) -> Result<Done<Step>, Wrong> {
         if !may(self.ended, self.replicas, replica) {
             return Err(Wrong::Form);
@@ -269,7 +279,7 @@ impl<A: Acts, B: Acts, L: Spelled> Desk<Between<A, B, L>, L> {
 
 /// The report, and why the drive was cut short.
 fn parted(driven: Result<Report, (Report, CallNo)>) -> (Report, Done<()>)
-    ensures { result ≡ parted driven }
+    ensures { result ≡ parts_of driven }
 {
     match driven {
         Ok(report) => (report, Ok(())),

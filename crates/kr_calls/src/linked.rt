@@ -121,13 +121,20 @@ pub fn bench_around<L: Kms + Drop>(
 /// Ends a bench, and prints how often its link and its random source failed.
 pub fn end_bench<L: Kms + Drop>(bench: Bench<L, MemDice>, page: &mut Page) -> Result<(), Wrong> {
     let faults = bench.dice_faults();
-    let (mut links, _dice) = bench.close();
+    let (mut links, dice) = bench.close();
+    drop(dice);
+    let link = links.take();
+    drop(links);
+    add_faults(link, faults, page)
+}
+
+/// Adds how often the link and the random source failed.
+fn add_faults<L: Kms + Drop>(link: Option<L>, dice: u64, page: &mut Page) -> Result<(), Wrong> {
     page.word("faults")?;
-    match links.take() {
-        Some(link) => page.counted("link", link.faults())?,
-        None => {}
+    if let Some(link) = link {
+        page.counted("link", link.faults())?;
     }
-    page.counted("dice", faults)?;
+    page.counted("dice", dice)?;
     page.end_line()
 }
 

@@ -113,9 +113,22 @@ pub fn core_of<L: Kms>(
         second,
         budget,
     } = terms;
-    let first = published(alloc, bench, first)?;
-    let second = published_some(alloc, bench, second)?;
-    started(alloc, store, first, second, budget)
+    let first = match published(alloc, bench, first) {
+        Ok(first) => first,
+        Err(why) => {
+            drop(store);
+            drop(second);
+            return Err(why);
+        }
+    };
+    match published_some(alloc, bench, second) {
+        Ok(second) => started(alloc, store, first, second, budget),
+        Err(why) => {
+            drop(store);
+            drop(first);
+            Err(why)
+        }
+    }
 }
 
 /// The name of the plugin, in a list.
@@ -150,6 +163,9 @@ fn started(
 {
     let Budget { reloads, room } = budget;
     if room > 4_000_000 || reloads > room / 2 {
+        drop(store);
+        drop(first);
+        drop(second);
         return Err(Wrong::Form);
     }
     let replicas = replicas_of(alloc, first, second)?;
@@ -157,6 +173,9 @@ fn started(
     let each = [reloads, reloads];
     match Core::start(alloc, store, replicas, names, 2, room as u64, &each) {
         Ok(core) => Ok(core),
-        Err(_) => Err(Wrong::Form),
+        Err(refused) => {
+            drop(refused);
+            Err(Wrong::Form)
+        }
     }
 }

@@ -12,6 +12,7 @@ pub struct Page {
 }
 
 impl Page {
+    /// No line.
     pub fn new(alloc: Global) -> Page {
         Page {
             bytes: Vec::new(alloc),
@@ -30,6 +31,7 @@ impl Page {
         Ok(())
     }
 
+    /// Adds a number as a word of its own.
     pub fn number(&mut self, number: u64) -> Result<(), Wrong> {
         let mut digits = Buffer::new();
         self.word(digits.format(number))
@@ -47,6 +49,7 @@ impl Page {
         self.word(text)
     }
 
+    /// Ends the line, so that the next word begins another.
     pub fn end_line(&mut self) -> Result<(), Wrong> {
         self.begun = false;
         self.bytes.extend_from_slice(b"\n")?;
@@ -59,6 +62,7 @@ impl Page {
         Ok(())
     }
 
+    /// All that was added.
     pub fn bytes(&self) -> &[u8] {
         self.bytes.as_slice()
     }

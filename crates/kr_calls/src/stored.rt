@@ -22,7 +22,10 @@ pub fn load(alloc: Global, words: &str) -> Result<Store<MemTape>, Wrong> {
     let tape = MemTape::new(Bytes::from_vec(content), ROOM, List::new(alloc), fails)?;
     match Store::load(alloc, tape, limit as u64) {
         Ok(store) => Ok(store),
-        Err(_) => Err(Wrong::Form),
+        Err(refused) => {
+            drop(refused);
+            Err(Wrong::Form)
+        }
     }
 }
 

@@ -31,6 +31,7 @@ impl Page {
         }
     }
 
+    /// Adds a verdict, as a reload's line has it.
     fn verdict(&mut self, alloc: Global, verdict: &Verdict) -> Result<(), Wrong> {
         let mut sink = MemSink::new(Bytes::new(alloc), ROOM, List::new(alloc))?;
         if verdict.write(&mut sink).is_err() {
@@ -42,7 +43,14 @@ impl Page {
         }
     }
 
-    pub fn told_read(&mut self, alloc: Global, done: &Done<Read>) -> Result<(), Wrong> {
+    /// Adds the revision, the data and whether the value is stale.
+    pub fn told_read(&mut self, alloc: Global, done: Done<Read>) -> Result<(), Wrong> {
+        let told = self.add_read(alloc, &done);
+        drop(done);
+        told
+    }
+
+    fn add_read(&mut self, alloc: Global, done: &Done<Read>) -> Result<(), Wrong> {
         match done {
             Ok(Read::Absent) => self.word("absent"),
             Ok(
@@ -61,14 +69,28 @@ impl Page {
         }
     }
 
-    pub fn told_write(&mut self, done: &Done<u64>) -> Result<(), Wrong> {
+    /// Adds the revision.
+    pub fn told_write(&mut self, done: Done<u64>) -> Result<(), Wrong> {
+        let told = self.add_write(&done);
+        drop(done);
+        told
+    }
+
+    fn add_write(&mut self, done: &Done<u64>) -> Result<(), Wrong> {
         match done {
             Ok(revision) => self.counted("written", *revision),
             Err(why) => self.refusal(why),
         }
     }
 
-    pub fn told_delete(&mut self, done: &Done<Option<u64>>) -> Result<(), Wrong> {
+    /// Adds the revision, or that there was nothing.
+    pub fn told_delete(&mut self, done: Done<Option<u64>>) -> Result<(), Wrong> {
+        let told = self.add_delete(&done);
+        drop(done);
+        told
+    }
+
+    fn add_delete(&mut self, done: &Done<Option<u64>>) -> Result<(), Wrong> {
         match done {
             Ok(Some(revision)) => self.counted("deleted", *revision),
             Ok(None) => self.word("absent"),
@@ -76,7 +98,14 @@ impl Page {
         }
     }
 
-    pub fn told_leave(&mut self, done: &Done<Option<u32>>) -> Result<(), Wrong> {
+    /// Adds the generation that the replica had.
+    pub fn told_leave(&mut self, done: Done<Option<u32>>) -> Result<(), Wrong> {
+        let told = self.add_leave(&done);
+        drop(done);
+        told
+    }
+
+    fn add_leave(&mut self, done: &Done<Option<u32>>) -> Result<(), Wrong> {
         match done {
             Ok(Some(generation)) => self.counted("departed", *generation as u64),
             Ok(None) => self.word("absent"),
@@ -84,7 +113,14 @@ impl Page {
         }
     }
 
-    pub fn told_load(&mut self, alloc: Global, done: &Done<Loaded>) -> Result<(), Wrong> {
+    /// Adds the generation, or why there is no new one.
+    pub fn told_load(&mut self, alloc: Global, done: Done<Loaded>) -> Result<(), Wrong> {
+        let told = self.add_load(alloc, &done);
+        drop(done);
+        told
+    }
+
+    fn add_load(&mut self, alloc: Global, done: &Done<Loaded>) -> Result<(), Wrong> {
         match done {
             Ok(Loaded::Generation(number)) => self.counted("generation", *number as u64),
             Ok(Loaded::Refused(verdict)) => self.verdict(alloc, verdict),
@@ -94,7 +130,14 @@ impl Page {
         }
     }
 
-    pub fn told_join(&mut self, alloc: Global, done: &Done<Joining>) -> Result<(), Wrong> {
+    /// Adds the generation, or why the replica didn't join.
+    pub fn told_join(&mut self, alloc: Global, done: Done<Joining>) -> Result<(), Wrong> {
+        let told = self.add_join(alloc, &done);
+        drop(done);
+        told
+    }
+
+    fn add_join(&mut self, alloc: Global, done: &Done<Joining>) -> Result<(), Wrong> {
         match done {
             Ok(Joining::Generation(number)) => self.counted("generation", *number as u64),
             Ok(Joining::Refused(verdict)) => self.verdict(alloc, verdict),
@@ -103,7 +146,14 @@ impl Page {
         }
     }
 
-    pub fn told_step(&mut self, done: &Done<Step>) -> Result<(), Wrong> {
+    /// Adds what became of the object, and its path.
+    pub fn told_step(&mut self, done: Done<Step>) -> Result<(), Wrong> {
+        let told = self.add_step(&done);
+        drop(done);
+        told
+    }
+
+    fn add_step(&mut self, done: &Done<Step>) -> Result<(), Wrong> {
         match done {
             Ok(Step::End) => self.word("end"),
             Ok(Step::Rewritten(path)) => self.named("rewritten", path.as_str()),
@@ -115,7 +165,14 @@ impl Page {
     }
 
     /// Adds the counts and the last path, and why the drive was cut short, if it was.
-    pub fn told_drive(&mut self, report: &Report, done: &Done<()>) -> Result<(), Wrong> {
+    pub fn told_drive(&mut self, report: Report, done: Done<()>) -> Result<(), Wrong> {
+        let told = self.add_drive(&report, &done);
+        drop(report);
+        drop(done);
+        told
+    }
+
+    fn add_drive(&mut self, report: &Report, done: &Done<()>) -> Result<(), Wrong> {
         self.counted("rewritten", report.rewritten)?;
         self.counted("fresh", report.fresh)?;
         self.counted("changed", report.changed)?;

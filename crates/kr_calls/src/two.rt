@@ -33,7 +33,10 @@ pub fn seated(alloc: Global, core: Core<MemTape>, budget: Budget) -> Option<Seat
     let half = (budget.room / 2) as u64;
     match Fleet::new(alloc, core, &[half, half]) {
         Ok(made) => two_of(made),
-        Err(_) => None,
+        Err(refused) => {
+            drop(refused);
+            None
+        }
     }
 }
 
@@ -44,6 +47,8 @@ fn two_of(made: (Fleet<MemTape>, List<Seat<MemTape>>)) -> Option<Seated>
 {
     let (fleet, mut seats) = made;
     let Some(second) = seats.pop() else {
+        drop(fleet);
+        drop(seats);
         return None;
     };
     with_first(fleet, seats, second)
@@ -59,8 +64,12 @@ fn with_first(
         × (two.2 ≡ second)) }
 {
     let Some(first) = seats.pop() else {
+        drop(fleet);
+        drop(seats);
+        drop(second);
         return None;
     };
+    drop(seats);
     Some((fleet, first, second))
 }
 
@@ -90,8 +99,9 @@ pub fn play_two<L: Spelled, R: Wait>(
     let done = serve_both(alloc, named, &mut desk, calls, page);
     let (between, bench) = desk.into_parts();
     let (own, rival, other) = between.into_parts();
-    let _first = own.into_seat();
-    let _second = rival.into_seat();
+    drop(own.into_seat());
+    drop(rival.into_seat());
+    drop(fleet);
     end_benches(bench, other, page)?;
     done
 }

@@ -7,6 +7,7 @@ use std::alloc::{AllocError, AllocFailed, Global};
 pub enum Wrong {
     /// It isn't of the form, or it asks for what a call doesn't allow.
     Form,
+    /// There is no memory for it.
     Memory,
 }
 
@@ -60,6 +61,7 @@ pub fn behind<'a>(key: &str, line: &'a str) -> Result<&'a str, Wrong> {
     }
 }
 
+/// A number of 32 bits in digits.
 pub fn number_of(text: &str) -> Result<u32, Wrong> {
     match text.parse::<u32>() {
         Ok(number) => Ok(number),
@@ -67,6 +69,7 @@ pub fn number_of(text: &str) -> Result<u32, Wrong> {
     }
 }
 
+/// A number of 64 bits in digits.
 fn long_of(text: &str) -> Result<u64, Wrong> {
     match text.parse::<u64>() {
         Ok(number) => Ok(number),

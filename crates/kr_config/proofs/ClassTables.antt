@@ -18,7 +18,8 @@ use Rattle.kr_config.specs.Patterns.{group_of, matches, covers_group, covers_res
 use Rattle.kr_config.specs.Kept.{Row}
 use Rattle.kr_config.specs.Lists.{first_list, list_of, class_list}
 use Rattle.kr_config.specs.Classes.{class_cmp, class_made, classes_made, classes_in, IsTableOf}
-use Rattle.kr_config.specs.Classes.{class_in, is_exact, is_group, is_rest, or_rest}
+use Rattle.kr_config.specs.Classes.{class_in, is_exact, is_group, is_rest}
+use Rattle.kr_config.specs.inner.ClassTables.{or_rest}
 use Rattle.kr_config.proofs.Places.{rest_is}
 
 none_in_nil : {X : Type 0} (x : X) → Contains [] x → ⊥

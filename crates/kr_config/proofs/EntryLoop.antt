@@ -12,7 +12,7 @@ use Rattle.kr_config.specs.declared.refusal.ConfigNo.{ConfigNo}
 use Rattle.kr_config.specs.Providers.{is_key, is_kms}
 use Rattle.kr_config.specs.Kept.{Row, row_of, rows_of, patterns_in, keys_in, kms_in}
 use Rattle.kr_base.specs.Numbering.{next_place}
-use Rattle.kr_config.specs.Walk.{and_then, counts_of, walk, entry_of, entry_step}
+use Rattle.kr_config.specs.Walk.{and_then, counts_in, counts_of, walk, entry_of, entry_step}
 use Rattle.kr_config.proofs.KeptRows.{KeptRow, KeptRows, entry_kept, step_kept}
 use Rattle.kr_config.proofs.Trees.{walk_more, walk_stops, walk_ends}
 
@@ -46,6 +46,15 @@ rows_push : (entries : List Entry) (entry : Entry)
 rows_push [] entry = refl
 rows_push (x ∷ entries) entry = ap (λ l. row_of x ∷ l) (rows_push entries entry)
 
+-- the numbers that the loop keeps are those of the entries so far
+counts_kept : (values : List Value) (i e : ℕ) (entries : List Entry) (p k m : ℕ)
+    → Reading values i e entries p k m → counts_in (rows_of entries) ≡ counts_of p k m
+counts_kept values i e entries p k m r =
+    ap (λ n. counts_of n (keys_in (rows_of entries)) (kms_in (rows_of entries)))
+    (sym r.patterns_met)
+    ∙ ap (λ n. counts_of p n (kms_in (rows_of entries))) (sym r.keys_met)
+    ∙ ap (λ n. counts_of p k n) (sym r.plugins_met)
+
 -- the step of the walk, with the numbers that the loop keeps
 step_goes : (values : List Value) (i e : ℕ) (entries : List Entry) (p k m : ℕ) (d : Data)
     (row : Row)
@@ -53,26 +62,16 @@ step_goes : (values : List Value) (i e : ℕ) (entries : List Entry) (p k m : �
     → entry_step e (rows_of entries) d ≡ Ok (rows_of entries ++ row ∷ [])
 unfolding entry_step
 step_goes values i e entries p k m d row r h =
-    ap (λ n. and_then (entry_of (counts_of n (keys_in (rows_of entries)) (kms_in (rows_of entries)))
-    e d) (λ x. Ok (rows_of entries ++ x ∷ []))) (sym r.patterns_met)
-    ∙ ap (λ n. and_then (entry_of (counts_of p n (kms_in (rows_of entries))) e d)
-    (λ x. Ok (rows_of entries ++ x ∷ []))) (sym r.keys_met)
-    ∙ ap (λ n. and_then (entry_of (counts_of p k n) e d) (λ x. Ok (rows_of entries ++ x ∷ [])))
-    (sym r.plugins_met)
-    ∙ ap (λ o. and_then o (λ x. Ok (rows_of entries ++ x ∷ []))) h
+    ap (λ o. and_then o (λ x. Ok (rows_of entries ++ x ∷ [])))
+    (ap (λ counts. entry_of counts e d) (counts_kept values i e entries p k m r) ∙ h)
 
 step_refuses : (values : List Value) (i e : ℕ) (entries : List Entry) (p k m : ℕ) (d : Data)
     (why : ConfigNo) → Reading values i e entries p k m → entry_of (counts_of p k m) e d ≡ Err why
     → entry_step e (rows_of entries) d ≡ Err why
 unfolding entry_step
 step_refuses values i e entries p k m d why r h =
-    ap (λ n. and_then (entry_of (counts_of n (keys_in (rows_of entries)) (kms_in (rows_of entries)))
-    e d) (λ x. Ok (rows_of entries ++ x ∷ []))) (sym r.patterns_met)
-    ∙ ap (λ n. and_then (entry_of (counts_of p n (kms_in (rows_of entries))) e d)
-    (λ x. Ok (rows_of entries ++ x ∷ []))) (sym r.keys_met)
-    ∙ ap (λ n. and_then (entry_of (counts_of p k n) e d) (λ x. Ok (rows_of entries ++ x ∷ [])))
-    (sym r.plugins_met)
-    ∙ ap (λ o. and_then o (λ x. Ok (rows_of entries ++ x ∷ []))) h
+    ap (λ o. and_then o (λ x. Ok (rows_of entries ++ x ∷ [])))
+    (ap (λ counts. entry_of counts e d) (counts_kept values i e entries p k m r) ∙ h)
 
 pub reading_more : (values : List Value) (i e : ℕ) (entries : List Entry) (p k m : ℕ) (v : Value)
     (entry : Entry) (q l n : ℕ) → Reading values i e entries p k m → i < length values

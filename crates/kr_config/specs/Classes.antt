@@ -45,11 +45,6 @@ pub record IsTableOf (added : List (List Row)) (classes : List Class) : Type 0 w
   pub members : (class : Class)
       → Contains classes class ↔ Contains (Rest ∷ flat_map classes_in added) class
 
--- the classes, or where there are none the rest alone
-abbrev pub or_rest : List Class → List Class
-or_rest [] = Rest ∷ []
-or_rest (class ∷ classes) = class ∷ classes
-
 abbrev pub is_exact : List ℕ → Class → Bool
 is_exact resource (Exact text) = bytes_eq text resource
 is_exact resource (Group group) = false

@@ -1,3 +1,4 @@
 -- The definitions that inner contracts alone need.
 pub mod Reads
 pub mod Finds
+pub mod ClassTables

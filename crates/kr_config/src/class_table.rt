@@ -34,7 +34,8 @@ impl Model for ClassTable {
     ghost use Rattle.std.specs.List.{list_any};
     ghost use Rattle.kr_config.specs.declared.class.Class.{Class};
     ghost use Rattle.kr_config.specs.declared.class.Class.TheVariants.{Rest};
-    ghost use Rattle.kr_config.specs.Classes.{is_rest, or_rest};
+    ghost use Rattle.kr_config.specs.Classes.{is_rest};
+    ghost use Rattle.kr_config.specs.inner.ClassTables.{or_rest};
 
     ghost Value = { List Class };
 

@@ -27,7 +27,7 @@ use Rattle.kr_rollout.specs.Callers.{Allows, IsResealing, MayAsk, Records, Shows
 use Rattle.kr_rollout.specs.Cores.{CoreState, Applies}
 use Rattle.kr_cores.specs.declared.hand.Hand.{Hand}
 use Rattle.kr_cores.specs.declared.words.Wrong.{Wrong}
-use Rattle.kr_cores.specs.Hands.{AreHands, IsHand, Permits, found_after, gain_of, held_after, kind_of, left_after, row_in, taken}
+use Rattle.kr_cores.specs.Hands.{AreHands, IsHand, Permits, found_after, gain_of, held_after, kind_of, left_after, row_in, hand_after}
 
 -- ---- lists
 
@@ -136,7 +136,7 @@ left_is o seat own (event.Leave replica) n h a = omega (arith, h)
 module _ (o : Opening) (seat : ℕ) (own : List Entry) (asked : Event) (given : Answer) (e : Entry)
     (r : Records seat asked given e) (may : Allows o seat own asked) where
   pub hand_taken : (hand : Hand) → IsHand o seat own hand
-      → IsHand o seat (own ++ e ∷ []) (taken (kind_of asked) (gain_of given) hand)
+      → IsHand o seat (own ++ e ∷ []) (hand_after (kind_of asked) (gain_of given) hand)
   hand_taken hand h = record {
     held = ap (option_map (λ x. x.1)) (holding_more None own e
         ∙ ap (λ g. holding_then g e.published (holding own)) r.gave_is)
@@ -162,7 +162,7 @@ caller_taken : (old new : Caller) (seen : List Entry) (left : ℕ) (asked : Even
       mine = old.mine ++ e ∷ [];
       left = left;
     } → Records old.seat asked given e → MayAsk old.opening old.seat old.mine asked
-    → next ≡ taken (kind_of asked) (gain_of given) hand
+    → next ≡ hand_after (kind_of asked) (gain_of given) hand
     → IsHand old.opening old.seat old.mine hand → IsHand new.opening new.seat new.mine next
 caller_taken old new seen left asked given e hand next is r may next_is h =
     subst (λ (c : Caller). IsHand c.opening c.seat c.mine next) (sym is)
@@ -195,7 +195,7 @@ module _ (old new : CoreState) (seat : ℕ) (asked : Event) (given : Answer)
 
   hands_taken : (hands : List Hand) (hand : Hand) → slice_get hands seat ≡ Some hand
       → AreHands old hands
-      → AreHands new (slice_set hands seat (taken (kind_of asked) (gain_of given) hand))
+      → AreHands new (slice_set hands seat (hand_after (kind_of asked) (gain_of given) hand))
   hands_taken hands hand there h = record {
     many = length-set hands seat next ∙ h.many
         ∙ ap (λ (o : Opening). length o.reloads) (sym opening_is);
@@ -203,7 +203,7 @@ module _ (old new : CoreState) (seat : ℕ) (asked : Event) (given : Answer)
   }
     where
       next : Hand
-      next = taken (kind_of asked) (gain_of given) hand
+      next = hand_after (kind_of asked) (gain_of given) hand
 
       by : (place : ℕ) → (seat ≡ place) ⊎ (seat ≡ place → ⊥) → (other : Hand)
           → slice_get (slice_set hands seat next) place ≡ Some other
@@ -299,7 +299,7 @@ pub act_taken : (view old new : CoreState) (seat : ℕ) (asked : Event) (given :
     (hands : List Hand) (hand next : Hand) → old ≡ view
     → MayAsk view.opening seat (of_seat seat_of seat view.history) asked
     → Applies old seat asked given new → hand ≡ get_or hands seat hand
-    → next ≡ taken (kind_of asked) (gain_of given) hand
+    → next ≡ hand_after (kind_of asked) (gain_of given) hand
     → AreHands old hands → AreHands new (slice_set hands seat next)
 act_taken view old new seat asked given hands hand next is may a e next_is h =
     let own_may = subst (λ (c : CoreState). MayAsk c.opening seat (of_seat seat_of seat c.history)
@@ -351,7 +351,7 @@ caller_may view caller hand (Ok asked) is l h m =
 
 pub caller_acted : (view old new : Caller) (asked : Event) (given : Answer) (hand next : Hand)
     → old ≡ view → MayAsk view.opening view.seat view.mine asked → AddsEntry old asked given new
-    → next ≡ taken (kind_of asked) (gain_of given) hand
+    → next ≡ hand_after (kind_of asked) (gain_of given) hand
     → IsHand old.opening old.seat old.mine hand → IsHand new.opening new.seat new.mine next
 caller_acted view old new asked given hand next is may a next_is h =
     let own_may = subst (λ (c : Caller). MayAsk c.opening c.seat c.mine asked) (sym is) may in

@@ -84,8 +84,8 @@ abbrev pub left_after : Kind → ℕ → ℕ
 left_after Brings left = left - 1
 left_after kind left = left
 
-abbrev pub taken : Kind → Gain → Hand → Hand
-taken kind gain hand = record {
+abbrev pub hand_after : Kind → Gain → Hand → Hand
+hand_after kind gain hand = record {
   held = held_after gain hand.held;
   found = found_after kind gain hand.found;
   left = left_after kind hand.left;

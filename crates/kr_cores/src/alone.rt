@@ -57,8 +57,11 @@ impl Alone {
         }
     }
 
-    /// Asks this, if the seat may ask for it.
-    pub fn ask(&mut self, alloc: Global, request: Request) -> Result<(), Wrong> {
+    /// Asks this, if it is seat 0 and may ask for it.
+    pub fn ask(&mut self, alloc: Global, seat: u32, request: Request) -> Result<(), Wrong> {
+        if seat != 0 {
+            return request.refused();
+        }
         let event = self.event_for(alloc, request)?;
         self.act(event)
     }

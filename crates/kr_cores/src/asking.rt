@@ -23,16 +23,19 @@ impl Play {
         let (seat, event) = two_words(rest)?;
         let seat = number_of(seat)?;
         let request = request_of(alloc, &self.named, event)?;
+        self.ask(alloc, seat, request)?;
+        match &self.stage {
+            Stage::Running(table) => add_last(alloc, page, table, seat),
+            _ => Ok(()),
+        }
+    }
+
+    /// Asks this of the core for the seat, if it may ask for it.
+    fn ask(&mut self, alloc: Global, seat: u32, request: Request) -> Result<(), Wrong> {
         match &mut self.stage {
-            Stage::Running(table) => {
-                table.ask(alloc, seat, request)?;
-                add_last(alloc, page, table, seat)
-            }
-            Stage::Alone(alone) => match seat {
-                0 => alone.ask(alloc, request),
-                _ => Err(Wrong::Form),
-            },
-            _ => Err(Wrong::Form),
+            Stage::Running(table) => table.ask(alloc, seat, request),
+            Stage::Alone(alone) => alone.ask(alloc, seat, request),
+            _ => request.refused(),
         }
     }
 
@@ -45,16 +48,26 @@ impl Play {
         let (first, second) = two_words(names)?;
         let seat = number_of(seat)?;
         let replica = number_of(replica)?;
+        self.table()?;
         for turn in 0..number_of(times)? {
             let name = if turn % 2 == 0 { first } else { second };
-            let request = reload_of(&self.named, replica, name, None)?;
-            self.table()?.ask(alloc, seat, request)?;
+            self.turn(alloc, seat, replica, name)?;
         }
-        let table = self.table()?;
-        add_last(alloc, page, table, seat)?;
-        page.counted(b"lines", table.journal().len() as u64)?;
-        page.end_line()
+        add_turns(alloc, page, self.table()?, seat)
     }
+
+    /// Reloads the replica with the configuration.
+    fn turn(&mut self, alloc: Global, seat: u32, replica: u32, name: &str) -> Result<(), Wrong> {
+        let request = reload_of(&self.named, replica, name, None)?;
+        self.ask(alloc, seat, request)
+    }
+}
+
+/// The last line of the journal, and how many there are.
+fn add_turns(alloc: Global, page: &mut Page, table: &Table, seat: u32) -> Result<(), Wrong> {
+    add_last(alloc, page, table, seat)?;
+    page.counted(b"lines", table.journal().len() as u64)?;
+    page.end_line()
 }
 
 fn request_of(alloc: Global, named: &Named, event: &str) -> Result<Request, Wrong> {

@@ -25,8 +25,12 @@ pub fn add_board(
         return Err(Wrong::Form);
     }
     match board_of(alloc, store, replicas, room) {
-        Ok(board) => add_live(page, board.live()),
-        Err(why) => add_refusal(alloc, page, &why),
+        Ok(board) => {
+            let printed = add_live(page, board.live());
+            drop(board);
+            printed
+        }
+        Err(why) => add_refusal(alloc, page, why),
     }
 }
 

@@ -1,6 +1,6 @@
 //! What the program keeps of a seat.
 ghost use Rattle.std.specs.Prelude.{◌≡◌, Some, IfOk};
-ghost use Rattle.kr_cores.specs.Hands.{kind_of, gain_of, taken};
+ghost use Rattle.kr_cores.specs.Hands.{kind_of, gain_of, hand_after};
 
 use crate::words::Wrong;
 use kr_base::Shared;
@@ -8,13 +8,16 @@ use kr_provider::Published;
 use kr_rollout::{Answer, Event};
 use kr_store::Row;
 
-/// What a seat holds, what it found last, how many configurations it may still bring, and how many
-/// replicas there are.
+/// What is kept of a seat between its events.
 #[derive(Drop)]
 pub struct Hand {
+    /// The generation that it holds.
     pub held: Option<Shared<Published>>,
+    /// The row that it found last.
     pub found: Option<Shared<Row>>,
+    /// How many configurations it may still bring.
     pub left: u32,
+    /// How many replicas the core has.
     pub replicas: u32,
 }
 
@@ -27,18 +30,24 @@ pub enum Kind {
     Looks,
     /// One configuration less may be brought.
     Brings,
+    /// It leaves all as it is.
     Leaves,
 }
 
 /// What an answer puts into a hand, or takes from it.
 #[derive(Drop)]
 pub enum Gain {
+    /// A generation to hold.
     Held(Shared<Published>),
+    /// A row that was found.
     Found(Shared<Row>),
+    /// Nothing is held any more.
     Released,
+    /// It says nothing of the hand.
     Nothing,
 }
 
+/// What this event does to a hand.
 pub fn kind_of(event: &Event) -> Kind
     ensures { result ≡ kind_of event.now }
 {
@@ -56,6 +65,7 @@ pub fn kind_of(event: &Event) -> Kind
     }
 }
 
+/// What this answer puts into a hand.
 pub fn gain_of(answer: Answer) -> Gain
     ensures { result ≡ gain_of answer }
 {
@@ -63,19 +73,10 @@ pub fn gain_of(answer: Answer) -> Gain
         Answer::Adopted { published, .. } => Gain::Held(published),
         Answer::Found(row) => Gain::Found(row),
         Answer::Released => Gain::Released,
-        Answer::Gone { .. } => Gain::Nothing,
-        Answer::Absent => Gain::Nothing,
-        Answer::Written { .. } => Gain::Nothing,
-        Answer::Changed { .. } => Gain::Nothing,
-        Answer::StoreFailed => Gain::Nothing,
-        Answer::StoreFull { .. } => Gain::Nothing,
-        Answer::Reloaded { .. } => Gain::Nothing,
-        Answer::Joined { .. } => Gain::Nothing,
-        Answer::Refused(_) => Gain::Nothing,
-        Answer::Moved { .. } => Gain::Nothing,
-        Answer::Present { .. } => Gain::Nothing,
-        Answer::Departed { .. } => Gain::Nothing,
-        Answer::NoMemory => Gain::Nothing,
+        other => {
+            drop(other);
+            Gain::Nothing
+        }
     }
 }
 
@@ -102,7 +103,7 @@ impl Hand {
 
     /// Takes what came of an event of this kind.
     pub fn take(&mut self, kind: Kind, gain: Gain)
-        ensures { self.new ≡ taken kind gain self.old }
+        ensures { self.new ≡ hand_after kind gain self.old }
     {
         match kind {
             Kind::Forgets => self.found = None,

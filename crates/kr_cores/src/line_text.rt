@@ -10,6 +10,7 @@ use std::alloc::Global;
 /// How many bytes a verdict's text may have.
 const ROOM: usize = 4096;
 
+/// Adds a line of the journal, without its end.
 pub fn add_line(alloc: Global, page: &mut Page, line: &Line) -> Result<(), Wrong> {
     page.number(line.seat as u64)?;
     page.option(line.held)?;
@@ -20,6 +21,7 @@ pub fn add_line(alloc: Global, page: &mut Page, line: &Line) -> Result<(), Wrong
     page.number(line.faults)
 }
 
+/// Adds what the seat did.
 fn add_did(page: &mut Page, did: &Did) -> Result<(), Wrong> {
     match did {
         Did::Adopt { replica } => page.counted(b"adopt", *replica as u64),
@@ -53,6 +55,7 @@ fn add_did(page: &mut Page, did: &Did) -> Result<(), Wrong> {
     }
 }
 
+/// Adds what the core gave.
 fn add_gave(alloc: Global, page: &mut Page, gave: &Gave) -> Result<(), Wrong> {
     match gave {
         Gave::Adopted { generation } => page.counted(b"adopted", *generation as u64),
@@ -78,7 +81,13 @@ fn add_gave(alloc: Global, page: &mut Page, gave: &Gave) -> Result<(), Wrong> {
 }
 
 /// A line that tells why no core started.
-pub fn add_refusal(alloc: Global, page: &mut Page, why: &StartNo) -> Result<(), Wrong> {
+pub fn add_refusal(alloc: Global, page: &mut Page, why: StartNo) -> Result<(), Wrong> {
+    let printed = add_start_no(alloc, page, &why);
+    drop(why);
+    printed
+}
+
+fn add_start_no(alloc: Global, page: &mut Page, why: &StartNo) -> Result<(), Wrong> {
     match why {
         StartNo::Stray { path } => page.named(b"stray", path.as_str())?,
         StartNo::OtherSecret { path } => page.named(b"other-secret", path.as_str())?,
@@ -91,6 +100,7 @@ pub fn add_refusal(alloc: Global, page: &mut Page, why: &StartNo) -> Result<(), 
     page.end_line()
 }
 
+/// Adds why a configuration isn't fit.
 fn add_verdict(alloc: Global, page: &mut Page, verdict: &Verdict) -> Result<(), Wrong> {
     let mut sink = MemSink::new(Bytes::new(alloc), ROOM, List::new(alloc))?;
     match verdict.write(&mut sink) {

@@ -12,6 +12,7 @@ pub struct Page {
 }
 
 impl Page {
+    /// No line.
     pub fn new(alloc: Global) -> Page {
         Page {
             bytes: Vec::new(alloc),
@@ -37,6 +38,7 @@ impl Page {
         }
     }
 
+    /// Adds a number as a word of its own.
     pub fn number(&mut self, number: u64) -> Result<(), Wrong> {
         let mut digits = Buffer::new();
         self.word(digits.format(number).as_bytes())
@@ -62,12 +64,14 @@ impl Page {
         self.text(text)
     }
 
+    /// Ends the line, so that the next word begins another.
     pub fn end_line(&mut self) -> Result<(), Wrong> {
         self.begun = false;
         self.bytes.extend_from_slice(b"\n")?;
         Ok(())
     }
 
+    /// All that was added.
     pub fn into_bytes(self) -> Vec<u8> {
         self.bytes
     }

@@ -1,4 +1,5 @@
 //! What there is between two lines: configurations, and a store or a core over it.
+ghost use Rattle.std.specs.Prelude.{IfOk};
 ghost use Rattle.kr_cores.specs.Hands.{AreTerms};
 
 use crate::alone::Alone;
@@ -19,20 +20,27 @@ use std::mem;
 /// A store, or a core over it.
 #[derive(Drop)]
 pub enum Stage {
+    /// Neither.
     Empty,
+    /// A store with no core.
     Stored(Store<MemTape>),
+    /// A core of several seats.
     Running(Table),
+    /// A core of an only caller.
     Alone(Alone),
 }
 
 /// The configurations that were named, and the stage.
 #[derive(Drop)]
 pub struct Play {
+    /// The configurations by their names.
     pub named: Named,
+    /// What events would be made of.
     pub stage: Stage,
 }
 
 impl Play {
+    /// No configuration, and nothing on the stage.
     pub fn new(alloc: Global) -> Play {
         Play {
             named: Named::new(alloc),
@@ -54,6 +62,7 @@ impl Play {
         self.put(Stage::Stored(store));
     }
 
+    /// Puts this stage in the place of the one that is there, which it ends.
     fn put(&mut self, stage: Stage) {
         end_stage(self.exchange(stage));
     }
@@ -106,13 +115,40 @@ impl Play {
         is_alone: bool,
         rest: &str,
     ) -> Result<(), Wrong> {
-        let (room, rest) = two_words(rest)?;
+        let terms = self.terms(alloc, rest)?;
+        match self.take_store() {
+            Ok(store) => self.start_with(alloc, page, store, terms, is_alone),
+            Err(why) => Err(why),
+        }
+    }
+
+    /// What a core is started with.
+    fn terms(&self, alloc: Global, words: &str) -> Result<Terms, Wrong>
+        ensures { IfOk result (λ terms.
+            AreTerms terms.replicas.0 terms.reloads.items terms.room) }
+    {
+        let (room, rest) = two_words(words)?;
         let (reloads, names) = two_words(rest)?;
         let room = long_of(room)?;
         let reloads = numbers_of(alloc, reloads)?;
-        let replicas = self.named.replicas(alloc, names)?;
-        let terms = Terms::new(replicas, reloads, room)?;
-        match started(alloc, self.take_store()?, terms, is_alone) {
+        match self.named.replicas(alloc, names) {
+            Ok(replicas) => Terms::new(replicas, reloads, room),
+            Err(why) => Err(why),
+        }
+    }
+
+    /// Starts a core over the store, which takes its place, or stays there where none starts.
+    fn start_with(
+        &mut self,
+        alloc: Global,
+        page: &mut Page,
+        store: Store<MemTape>,
+        terms: Terms,
+        is_alone: bool,
+    ) -> Result<(), Wrong>
+        requires { AreTerms terms.replicas.0 terms.reloads.items terms.room }
+    {
+        match started(alloc, store, terms, is_alone) {
             Ok(stage) => {
                 self.put(stage);
                 page.word(b"started")?;
@@ -120,7 +156,7 @@ impl Play {
             }
             Err((why, store)) => {
                 self.begin(store);
-                add_refusal(alloc, page, &why)
+                add_refusal(alloc, page, why)
             }
         }
     }
@@ -167,7 +203,8 @@ fn end_stage(stage: Stage) {
         Stage::Stored(store) => end_store(store),
         Stage::Running(table) => end_store(table.close()),
         Stage::Alone(alone) => {
-            let (store, _lines) = alone.close();
+            let (store, lines) = alone.close();
+            drop(lines);
             end_store(store)
         }
     }
@@ -175,7 +212,7 @@ fn end_stage(stage: Stage) {
 
 /// Lets a store go with its tape.
 fn end_store(store: Store<MemTape>) {
-    let _tape = store.close();
+    drop(store.close());
 }
 
 /// A core over the store.
@@ -210,6 +247,7 @@ fn add_ending(
     add_rows(page, store)
 }
 
+/// Adds the lines of a journal.
 fn add_lines(alloc: Global, page: &mut Page, lines: &[Line]) -> Result<(), Wrong> {
     for line in lines {
         add_line(alloc, page, line)?;

@@ -1,7 +1,8 @@
 //! What a seat asks, and as which event its hand lets it ask that.
-ghost use Rattle.std.specs.Prelude.{◌≡◌, ◌⊎◌, IsTrue, [], IfOk};
+ghost use Rattle.std.specs.Prelude.{◌≡◌, ◌⊎◌, IsTrue, [], Err, IfOk};
 ghost use Rattle.kr_base.specs.Rules.{IsPath, IsResource};
 ghost use Rattle.kr_cores.specs.Hands.{CanBring, Permits};
+ghost use Rattle.kr_cores.specs.declared.words.Wrong.TheVariants.{Form};
 
 use crate::hand::Hand;
 use crate::sealing::{is_plain, resealed, sealed};
@@ -26,6 +27,16 @@ pub enum Request {
     Replace,
 }
 
+impl Request {
+    /// Lets it go, since nobody may ask for it.
+    pub fn refused<T>(self) -> Result<T, Wrong>
+        ensures { result ≡ Err Form }
+    {
+        drop(self);
+        Err(Wrong::Form)
+    }
+}
+
 impl Hand {
     /// The event as which the seat may ask for this now.
     pub fn event_for(&self, alloc: Global, request: Request) -> Result<Event, Wrong>
@@ -47,6 +58,7 @@ impl Hand {
         ensures { IfOk result (λ event. Permits self.now event) }
     {
         if !self.permits(&event) {
+            drop(event);
             return Err(Wrong::Form);
         }
         Ok(event)

@@ -137,5 +137,5 @@ fn adopted(mut bench: PlainBench, published: Shared<Published>) -> Result<PlainB
 
 /// Lets a bench go.
 fn end(bench: PlainBench) {
-    let (_links, _dice) = bench.close();
+    drop(bench.close());
 }

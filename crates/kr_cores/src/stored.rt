@@ -21,7 +21,10 @@ pub fn load(alloc: Global, rest: &str) -> Result<Store<MemTape>, Wrong> {
     let tape = MemTape::new(Bytes::from_vec(content), ROOM, List::new(alloc), fails)?;
     match Store::load(alloc, tape, limit as u64) {
         Ok(store) => Ok(store),
-        Err(_) => Err(Wrong::Form),
+        Err(refused) => {
+            drop(refused);
+            Err(Wrong::Form)
+        }
     }
 }
 
@@ -46,7 +49,10 @@ pub fn put_row(
         Ok(revision) => page.counted(b"written", revision)?,
         Err(PutNo::Failed) => page.word(b"failed")?,
         Err(PutNo::Full { needed }) => page.counted(b"full", needed)?,
-        Err(_) => return Err(Wrong::Memory),
+        Err(refused) => {
+            drop(refused);
+            return Err(Wrong::Memory);
+        }
     }
     page.end_line()
 }

@@ -85,10 +85,10 @@ impl Table {
             × MayAsk self.now.opening seat (of_seat seat_of seat self.now.history) event) }
     {
         let Some(hand) = self.hands.get(seat as usize) else {
-            return Err(Wrong::Form);
+            return request.refused();
         };
         if self.core.is_full() {
-            return Err(Wrong::Form);
+            return request.refused();
         }
         hand.event_for(alloc, request)
     }
@@ -124,7 +124,8 @@ impl Table {
 
     /// Gives the store up.
     pub fn close(self) -> Store<MemTape> {
-        let (store, _journal) = self.core.close();
+        let (store, journal) = self.core.close();
+        drop(journal);
         store
     }
 }

@@ -7,6 +7,7 @@ use std::alloc::{AllocError, Global};
 pub enum Wrong {
     /// It isn't of the form, or it asks for what the core doesn't allow.
     Form,
+    /// There is no memory for it.
     Memory,
 }
 
@@ -36,6 +37,7 @@ pub fn two_words(text: &str) -> Result<(&str, &str), Wrong> {
     }
 }
 
+/// A number of 32 bits in digits.
 pub fn number_of(text: &str) -> Result<u32, Wrong> {
     match text.parse::<u32>() {
         Ok(number) => Ok(number),
@@ -43,6 +45,7 @@ pub fn number_of(text: &str) -> Result<u32, Wrong> {
     }
 }
 
+/// A number of 64 bits in digits.
 pub fn long_of(text: &str) -> Result<u64, Wrong> {
     match text.parse::<u64>() {
         Ok(number) => Ok(number),

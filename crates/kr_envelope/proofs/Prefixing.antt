@@ -18,7 +18,11 @@ use Rattle.kr_envelope.specs.declared.prefix.Kind.{Kind}
 use Rattle.kr_envelope.specs.declared.prefix.Kind.TheVariants.{Aescbc, Aesgcm, Kms}
 use Rattle.kr_envelope.specs.declared.prefix.Tagged.TheVariants.{Plain, Known, Strange}
 use Rattle.kr_envelope.specs.inner.Parting.{IsParted}
-use Rattle.kr_envelope.specs.Prefixes.{mark, head, prefix, Begins, IsSplit, begins, is_marked, has_prefix}
+use Rattle.kr_envelope.specs.Prefixes.{mark, head, prefix, Begins, IsSplit, begins, is_marked}
+
+-- the prefix of a kind and a name, as a test that computes
+abbrev pub has_prefix : Kind → List ℕ → List ℕ → Bool
+has_prefix kind name bytes = begins (prefix kind name) bytes
 
 -- a name is text, and has no colon
 pub text_of_name : (name : List ℕ) → IsName name → IsUtf8 name

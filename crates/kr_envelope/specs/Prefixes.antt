@@ -50,6 +50,3 @@ begins start bytes = bytes_eq (take (length start) bytes) start
 
 abbrev pub is_marked : List ℕ → Bool
 is_marked bytes = begins mark bytes
-
-abbrev pub has_prefix : Kind → List ℕ → List ℕ → Bool
-has_prefix kind name bytes = begins (prefix kind name) bytes

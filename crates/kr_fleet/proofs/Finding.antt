@@ -1,18 +1,14 @@
 -- What `read` finds is the content at its path.
 use Rattle.std.proofs.Common.{◌≡◌, inl, inr, ℕ, true, List, ◌++◌, length, Option, None, Some, Result, Ok, Err, refl, sym, ap, subst, ◌∙◌}
-use Rattle.std.specs.Prelude.{IfOk, IfSome, IsSome, ◌≤◌}
-use Rattle.std.proofs.lemmas.Bool.{false≢true}
+use Rattle.std.specs.Prelude.{IfOk, IfSome, ◌≤◌}
 use Rattle.kr_base.specs.Limits.{value_limit}
 use Rattle.kr_base.specs.Lines.{of_seat}
 use Rattle.kr_config.specs.Lists.{list_of}
 use Rattle.kr_kms.specs.Calls.{Link}
 use Rattle.kr_kms.specs.Truth.{Opens, Truth}
 use Rattle.kr_provider.specs.Publication.{Publication, list_at}
-use Rattle.kr_provider.specs.Readers.{reader_in}
 use Rattle.kr_provider.specs.Reading.{Reading, data_of, refused, HasReading, HasSomeReading}
-use Rattle.kr_provider.specs.Unsealing.{UnsealsBy, plugin_reading}
-use Rattle.kr_provider.specs.AskedLinks.{AskedOnly}
-use Rattle.kr_provider.specs.Names.{names_of}
+use Rattle.kr_provider.specs.Unsealing.{UnsealsBy}
 use Rattle.kr_provider.specs.declared.refusal.Opened.{Opened}
 use Rattle.kr_provider.specs.declared.refusal.UnsealNo.{UnsealNo}
 use Rattle.kr_provider.specs.declared.refusal.UnsealNo.TheVariants as unsealing
@@ -43,23 +39,8 @@ use Rattle.kr_fleet.specs.ReadCalls.{FindsRow, Finds, IsContentOf, IsKnownConten
 use Rattle.kr_fleet.specs.inner.Answering.{FetchesBy}
 use Rattle.kr_fleet.specs.inner.Stages.{Fetches, HoldsAdopted, value_of}
 use Rattle.kr_fleet.proofs.Allowed.{refused_allowed}
-use Rattle.kr_fleet.proofs.Asked.{asked_all, unsealed_asks}
 use Rattle.kr_fleet.proofs.Bare.{reads_bare}
 use Rattle.kr_rollout.proofs.Nexts.{front_own, found_row, legal_now}
-
--- ---- what a configuration that a bench may have adopted has
-
--- whatever was asked is one of the links
-pub unsealed_all : {L : Type 0} (truth : Truth) (link : L → Link) (resource path bytes : List ℕ)
-    (olds news : List L) (published : Option Publication) (result : Result Opened UnsealNo)
-    → IsSome published
-    → IfSome published (λ p. UnsealsBy truth link p.seeds (list_at p resource) path bytes olds
-    result news)
-    → AskedOnly link (names_of link olds) olds news
-unsealed_all truth link resource path bytes olds news None result is u = absurd (false≢true is)
-unsealed_all truth link resource path bytes olds news (Some p) result is u =
-    asked_all link (plugin_reading (reader_in (list_at p resource) bytes)) olds news
-    (unsealed_asks link truth p.seeds (list_at p resource) path bytes olds news result u)
 
 -- ---- what the bench answers is the answer
 

@@ -1,3 +1,4 @@
+-- The lemmas of kr_fleet: of what may be asked, of reading, writing, loading and refreshing.
 pub mod Allowed
 pub mod Asked
 pub mod Bare

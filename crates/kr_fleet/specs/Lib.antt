@@ -1,3 +1,4 @@
+-- The definitions that public contracts and laws name.
 pub mod SingleCalls
 pub mod ReadCalls
 pub mod WriteCalls

@@ -1,12 +1,10 @@
 //! The data at a path.
 ghost use Rattle.std.specs.Prelude.{◌≡◌, ◌<◌, ◌≤◌, [], length, None, Some, IfSome, IfOk, IsSome};
 ghost use Rattle.kr_base.specs.Rules.{IsPath};
-ghost use Rattle.kr_base.specs.Limits.{path_limit, value_limit};
+ghost use Rattle.kr_base.specs.Limits.{value_limit};
 ghost use Rattle.kr_provider.specs.AskedLinks.{AskedOnly};
 ghost use Rattle.kr_provider.specs.KeyPages.{size_of};
 ghost use Rattle.kr_provider.specs.Names.{names_of};
-ghost use Rattle.kr_provider.specs.Publication.{list_at};
-ghost use Rattle.kr_provider.specs.Unsealing.{UnsealsBy};
 ghost use Rattle.kr_rollout.specs.Callers.{holding};
 ghost use Rattle.kr_rollout.specs.Calls.{AreServed, IsIdle, KeepsHonesty};
 ghost use Rattle.kr_rollout.specs.Parts.{AddsWithin};
@@ -18,7 +16,7 @@ use crate::outcome::Read;
 use kr_base::{Dice, Shared, Spent, Text};
 use kr_kms::Kms;
 use kr_provider::{Bench, Opened, UnsealNo};
-use kr_rollout::{Acts, Answer, CallNo, Event, adopt, let_go, take_up};
+use kr_rollout::{Acts, Answer, CallNo, Event, adopt, let_go, take_up, unseal};
 use kr_store::Row;
 use std::alloc::Global;
 
@@ -91,31 +89,6 @@ fn find<A: Acts, L: Kms, D: Dice>(
     let lent = row.get();
     let opened = unseal(alloc, bench, lent);
     value_of(lent.revision, opened)
-}
-
-/// What the row's value holds, by the configuration that the bench adopted.
-fn unseal<L: Kms, D: Dice>(
-    alloc: Global,
-    bench: &mut Bench<L, D>,
-    row: &Row,
-) -> Result<Opened, UnsealNo>
-    requires adopted { IsSome bench.old.published }
-    requires path { length row.now.path ≤ path_limit }
-    requires fits { length row.now.stored ≤ value_limit }
-    ensures opened { IfSome bench.old.published (λ p. UnsealsBy L.truth L.link p.seeds
-        (list_at p row.now.resource) row.now.path row.now.stored bench.old.links result
-        bench.new.links) }
-    ensures asked { AskedOnly L.link (names_of L.link bench.old.links) bench.old.links
-        bench.new.links }
-    ensures kept { bench.new
-        ≡ record bench.old { links = bench.new.links; cache = bench.new.cache } }
-{
-    bench.unseal(
-        alloc,
-        row.resource.as_str(),
-        row.path.as_str(),
-        row.stored.as_slice(),
-    )
 }
 
 /// The path's live row.

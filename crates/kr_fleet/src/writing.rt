@@ -1,11 +1,8 @@
 //! Data that are put under a path.
-ghost use Rattle.std.specs.Prelude.{◌≡◌, ◌<◌, ◌≤◌, [], ◌∷◌, length, None, IfOk, IfSome, IsSome};
+ghost use Rattle.std.specs.Prelude.{◌≡◌, ◌<◌, ◌≤◌, [], ◌∷◌, length, None, IfSome};
 ghost use Rattle.kr_base.specs.Rules.{IsPath, IsResource};
-ghost use Rattle.kr_base.specs.Limits.{path_limit};
 ghost use Rattle.kr_provider.specs.KeyPages.{size_of};
 ghost use Rattle.kr_provider.specs.Names.{names_of};
-ghost use Rattle.kr_provider.specs.Publication.{writer_at};
-ghost use Rattle.kr_provider.specs.Sealing.{IsSealing, Seals};
 ghost use Rattle.kr_rollout.specs.declared.line.Did.TheVariants.{Put};
 ghost use Rattle.kr_rollout.specs.Callers.{holding};
 ghost use Rattle.kr_rollout.specs.Calls.{AreServed, IsIdle, KeepsHonesty};
@@ -17,7 +14,7 @@ ghost use Rattle.kr_fleet.specs.inner.Stages.{HoldsAdopted, seal_refusal};
 use kr_base::{Bytes, Dice, Spent, Text};
 use kr_kms::Kms;
 use kr_provider::{Bench, SealNo, ValueNo};
-use kr_rollout::{Acts, Answer, CallNo, Event, adopt, let_go, take_up};
+use kr_rollout::{Acts, Answer, CallNo, Event, adopt, let_go, seal, take_up};
 use std::alloc::Global;
 
 /// Puts the data under the path, as an object of the resource, sealed by the replica's current
@@ -99,26 +96,6 @@ fn put<A: Acts, L: Kms, D: Dice>(
         Ok(answer) => written(answer),
         Err(Spent) => Err(CallNo::Spent),
     }
-}
-
-/// Seals the data by the configuration that the bench adopted.
-fn seal<L: Kms, D: Dice>(
-    alloc: Global,
-    bench: &mut Bench<L, D>,
-    resource: &Text,
-    path: &Text,
-    plain: &Bytes,
-) -> Result<Bytes, SealNo>
-    requires adopted { IsSome bench.old.published }
-    requires path { length path.now ≤ path_limit }
-    ensures sealed { IfSome bench.old.published (λ p. Seals D.left D.count p.seeds
-        (writer_at p resource.now) path.now plain.now bench.old.dice bench.new.dice result) }
-    ensures sealing { IfSome bench.old.published (λ p. IfOk result
-        (λ value. IsSealing p resource.now path.now plain.now value)) }
-    ensures later { D.count bench.old.dice ≤ D.count bench.new.dice }
-    ensures kept { bench.new ≡ record bench.old { dice = bench.new.dice } }
-{
-    bench.seal(alloc, resource.as_str(), path.as_str(), plain.as_slice())
 }
 
 /// The revision of the row that was written.

@@ -1,3 +1,4 @@
+-- The lemmas that the answers cite.
 pub mod Parts
 pub mod Lists
 pub mod Needs

@@ -1,4 +1,5 @@
--- What comes next among the classes of the new settings and of the live generations, one after another.
+-- What comes next among the classes of the new settings and of the live generations, one after
+-- another.
 use Rattle.std.proofs.Common.{◌≡◌, ◌≢◌, ℕ, ◌<◌, ◌≤◌, ◌+◌, true, false, List, [], ◌∷◌, ◌++◌, Option, None, Some, All, Contains, length, get_or, take, map, sym, ap, subst, ◌∙◌, inl, inr, arith, append-nil}
 use Rattle.std.specs.List.{filter, flat_map, slice_get}
 use Rattle.std.specs.declared.cmp.Ordering.TheVariants.{Less}

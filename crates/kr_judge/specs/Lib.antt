@@ -1,3 +1,4 @@
+-- The definitions that public contracts and laws name.
 pub mod Boards
 pub mod Providers
 pub mod Tables

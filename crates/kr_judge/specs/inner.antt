@@ -1,3 +1,4 @@
+-- Definitions that serve inner contracts alone.
 pub mod Earliest
 pub mod Indexes
 pub mod Lives

@@ -1,3 +1,4 @@
+-- The lemmas that the answers and the laws cite.
 pub mod Pieces
 pub mod Halves
 pub mod Steps

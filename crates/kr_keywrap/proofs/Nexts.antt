@@ -1,5 +1,5 @@
 -- What is made of the next line.
-use Rattle.std.proofs.Common.{◌≡◌, ◌==◌, ℕ, zero, suc, true, false, ◌+◌, ◌<◌, ◌≤◌, inl, inr, List, [], ◌∷◌, ◌++◌, length, take, drop, Option, Some, None, Ok, Err, refl, sym, ap, subst, ◌∙◌, arith}
+use Rattle.std.proofs.Common.{◌≡◌, ◌==◌, ℕ, zero, suc, true, false, ◌+◌, ◌<◌, ◌≤◌, inl, inr, List, [], ◌∷◌, ◌++◌, length, take, drop, Option, Some, None, Result, Ok, Err, refl, sym, ap, subst, ◌∙◌, arith}
 use Rattle.std.proofs.KnownBytes.{Appends-nil}
 use Rattle.std.specs.Io.KnownBytes.{Appends, IsAtEnd}
 use Rattle.std.proofs.lemmas.Bool.Decides.{Decides-eqb}
@@ -11,7 +11,7 @@ use Rattle.kr_keywrap.specs.Answer.{Plugin, answer}
 use Rattle.kr_keywrap.specs.Serving.{HasNoBreak, Serves, answers, last_line, line_limit, lines_limit}
 use Rattle.kr_keywrap.specs.declared.serving.Served.{Served}
 use Rattle.kr_keywrap.specs.declared.serving.Served.TheVariants.{Done, Failed, NoMemory, TooLong}
-use Rattle.kr_keywrap.specs.inner.Lines.{Finds, Goes, Grows, IsBreak, ServesLast, ServesLine, ServesNext, ServesOne, WritesAnswer}
+use Rattle.kr_keywrap.specs.inner.Lines.{Finds, Goes, Grows, IsBreak, ServesLast, ServesLine, ServesNext, ServesOne, WritesAnswer, WritesLast}
 use Rattle.kr_keywrap.proofs.Lines.{grows_none, no_break, no_break_all}
 use Rattle.kr_keywrap.proofs.Loops.{goes_none, served_end, served_failed, served_long, served_starved}
 
@@ -41,9 +41,15 @@ one_answer plugin [] some = absurd (omega arith)
 one_answer plugin (byte ∷ bytes) some = sym (flat_map-cons (answer plugin) (byte ∷ bytes) [] ∙ append-nil (answer plugin (byte ∷ bytes)))
 
 -- a last line
-pub last_written : (plugin : Plugin) (held_old held : Option (List ℕ)) (last : List ℕ) → 0 < length last → Appends held_old held (answer plugin last)
+last_written : (plugin : Plugin) (held_old held : Option (List ℕ)) (last : List ℕ) → 0 < length last → Appends held_old held (answer plugin last)
     → Appends held_old held (answers plugin (last_line last))
 last_written plugin held_old held last some wrote = subst (Appends held_old held) (one_answer plugin last some) wrote
+
+-- or why it isn't written
+pub last_answered : (plugin : Plugin) (held_old held : Option (List ℕ)) (last : List ℕ) → 0 < length last → (Q : Type 0) (result : Result (Unit {0}) Served)
+    → WritesAnswer plugin last held_old held Q result → WritesLast plugin last held_old held Q result
+last_answered plugin held_old held last some Q (Ok done) writes = last_written plugin held_old held last some writes
+last_answered plugin held_old held last some Q (Err why) writes = writes
 
 pub nothing_written : (plugin : Plugin) (held : Option (List ℕ)) (last : List ℕ) → length last ≡ 0 → Appends held held (answers plugin (last_line last))
 nothing_written plugin held last none =

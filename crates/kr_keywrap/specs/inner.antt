@@ -1,1 +1,2 @@
+-- Definitions that inner contracts alone cite.
 pub mod Lines

@@ -140,22 +140,15 @@ fn serve_next<S: Source, K: Sink>(
     ensures source { S.count source.old ≤ S.count source.new }
     ensures sink { K.count sink.old ≤ K.count sink.new }
 {
-    let found = match next_line(source, pending) {
-        Ok(found) => found,
-        Err(why) => return Err(why),
-    };
+    let found = next_line(source, pending)?;
     match found {
         Some(place) => {
-            match serve_line(alloc, words, rounds, key_id, pending, place, sink) {
-                Ok(()) => return Ok(Next::Answered),
-                Err(why) => return Err(why),
-            }
+            serve_line(alloc, words, rounds, key_id, pending, place, sink)?;
+            Ok(Next::Answered)
         }
         None => {
-            match serve_last(alloc, words, rounds, key_id, pending.as_slice(), sink) {
-                Ok(()) => return Ok(Next::Ended),
-                Err(why) => return Err(why),
-            }
+            serve_last(alloc, words, rounds, key_id, pending.as_slice(), sink)?;
+            Ok(Next::Ended)
         }
     }
 }
@@ -179,10 +172,7 @@ fn serve_line<K: Sink>(
     ensures left { OnOk result (pending.new ≡ drop (place + 1) pending.old) }
     ensures sink { K.count sink.old ≤ K.count sink.new }
 {
-    match write_answer(alloc, words, rounds, key_id, pending.front(place), sink) {
-        Ok(()) => {}
-        Err(why) => return Err(why),
-    }
+    write_answer(alloc, words, rounds, key_id, pending.front(place), sink)?;
     pending.drop_front(place + 1);
     Ok(())
 }
@@ -205,10 +195,7 @@ fn serve_last<K: Sink>(
     if last.is_empty() {
         return Ok(());
     }
-    match write_answer(alloc, words, rounds, key_id, last, sink) {
-        Ok(()) => return Ok(()),
-        Err(why) => return Err(why),
-    }
+    write_answer(alloc, words, rounds, key_id, last, sink)
 }
 
 /// Writes the answer of a line.

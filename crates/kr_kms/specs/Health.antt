@@ -25,11 +25,6 @@ breach_in status = if bytes_eq status.version (codes "v2") then
 abbrev pub HasBreach : Link → Option (Field × List ℕ) → Type 0
 HasBreach link breach = (status : Status) × Agrees link.status status × (breach_in status ≡ breach)
 
--- what is told breaks no rule; where nothing is told this says nothing
-abbrev pub MayBeHealthy : Option Status → Type 0
-MayBeHealthy None = ⊤
-MayBeHealthy (Some status) = breach_in status ≡ None
-
 -- the key id of a healthy plugin, or why there is none
 abbrev pub TellsKeyId : Link → Result (List ℕ) SeedNo → Link → Type 0
 TellsKeyId old (Ok key_id) new = (status : Status) × Agrees old.status status

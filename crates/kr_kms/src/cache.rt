@@ -64,10 +64,7 @@ impl SeedCache {
         if let Some(kept) = self.copy_of(alloc, &key) {
             return kept;
         }
-        let seed = match link.unwrap_source(alloc, key_id, annotations, source) {
-            Ok(seed) => seed,
-            Err(why) => return Err(why),
-        };
+        let seed = link.unwrap_source(alloc, key_id, annotations, source)?;
         self.keep(alloc, key, &seed);
         Ok(seed)
     }

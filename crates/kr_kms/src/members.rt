@@ -261,10 +261,7 @@ fn read_pairs(alloc: Global, members: &Map<String, Value>) -> Result<Annotations
 {
     let mut found = Annotations::new(alloc);
     for (key, value) in members.iter() {
-        let bytes = match bytes_in(alloc, value) {
-            Ok(bytes) => bytes,
-            Err(why) => return Err(why),
-        };
+        let bytes = bytes_in(alloc, value)?;
         match add_pair(alloc, &mut found, key.as_str(), bytes) {
             Ok(()) => {}
             Err(_) => return Err(ShapeNo::NoMemory),

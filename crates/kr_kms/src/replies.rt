@@ -95,36 +95,18 @@ fn read_shape(alloc: Global, asked: Asked, value: &Value) -> Result<Reply, Shape
     ensures { Reads (shaped_reply asked (view value.now)) result }
 {
     match asked {
-        Asked::Status => match read_status(alloc, value) {
-            Ok(status) => Ok(Reply::Status(status)),
-            Err(why) => Err(why),
-        },
-        Asked::Encrypt => match read_wrapped(alloc, value) {
-            Ok(wrapped) => Ok(Reply::Encrypt(wrapped)),
-            Err(why) => Err(why),
-        },
-        Asked::Decrypt => match bytes_at(alloc, value, "plaintext") {
-            Ok(plain) => Ok(Reply::Decrypt(plain)),
-            Err(why) => Err(why),
-        },
+        Asked::Status => Ok(Reply::Status(read_status(alloc, value)?)),
+        Asked::Encrypt => Ok(Reply::Encrypt(read_wrapped(alloc, value)?)),
+        Asked::Decrypt => Ok(Reply::Decrypt(bytes_at(alloc, value, "plaintext")?)),
     }
 }
 
 fn read_status(alloc: Global, value: &Value) -> Result<Status, ShapeNo>
     ensures { Reads (status_in (view value.now)) result }
 {
-    let version = match own_text_at(alloc, value, "version") {
-        Ok(version) => version,
-        Err(why) => return Err(why),
-    };
-    let healthz = match own_text_at(alloc, value, "healthz") {
-        Ok(healthz) => healthz,
-        Err(why) => return Err(why),
-    };
-    let key_id = match own_text_at(alloc, value, "key_id") {
-        Ok(key_id) => key_id,
-        Err(why) => return Err(why),
-    };
+    let version = own_text_at(alloc, value, "version")?;
+    let healthz = own_text_at(alloc, value, "healthz")?;
+    let key_id = own_text_at(alloc, value, "key_id")?;
     Ok(Status {
         version,
         healthz,
@@ -135,18 +117,9 @@ fn read_status(alloc: Global, value: &Value) -> Result<Status, ShapeNo>
 fn read_wrapped(alloc: Global, value: &Value) -> Result<Wrapped, ShapeNo>
     ensures { Reads (wrapped_in (view value.now)) result }
 {
-    let key_id = match own_text_at(alloc, value, "key_id") {
-        Ok(key_id) => key_id,
-        Err(why) => return Err(why),
-    };
-    let annotations = match read_annotations(alloc, value) {
-        Ok(annotations) => annotations,
-        Err(why) => return Err(why),
-    };
-    let cipher = match bytes_at(alloc, value, "ciphertext") {
-        Ok(cipher) => cipher,
-        Err(why) => return Err(why),
-    };
+    let key_id = own_text_at(alloc, value, "key_id")?;
+    let annotations = read_annotations(alloc, value)?;
+    let cipher = bytes_at(alloc, value, "ciphertext")?;
     Ok(Wrapped {
         cipher,
         key_id,

@@ -168,10 +168,7 @@ fn read_call(alloc: Global, value: &Value) -> Result<Request, ShapeNo>
 fn read_encrypt(alloc: Global, value: &Value) -> Result<Request, ShapeNo>
     ensures { Reads (encrypt_in (view value.now)) result }
 {
-    let plain = match bytes_at(alloc, value, "plaintext") {
-        Ok(plain) => plain,
-        Err(why) => return Err(why),
-    };
+    let plain = bytes_at(alloc, value, "plaintext")?;
     match number_at(value, "uid") {
         Some(uid) => Ok(Request::Encrypt { plain, uid }),
         None => Err(ShapeNo::Shape),
@@ -181,18 +178,9 @@ fn read_encrypt(alloc: Global, value: &Value) -> Result<Request, ShapeNo>
 fn read_decrypt(alloc: Global, value: &Value) -> Result<Request, ShapeNo>
     ensures { Reads (decrypt_in (view value.now)) result }
 {
-    let source = match bytes_at(alloc, value, "ciphertext") {
-        Ok(source) => source,
-        Err(why) => return Err(why),
-    };
-    let key_id = match own_text_at(alloc, value, "key_id") {
-        Ok(key_id) => key_id,
-        Err(why) => return Err(why),
-    };
-    let annotations = match pairs_at(alloc, value, "annotations") {
-        Ok(annotations) => annotations,
-        Err(why) => return Err(why),
-    };
+    let source = bytes_at(alloc, value, "ciphertext")?;
+    let key_id = own_text_at(alloc, value, "key_id")?;
+    let annotations = pairs_at(alloc, value, "annotations")?;
     match number_at(value, "uid") {
         Some(uid) => Ok(Request::Decrypt {
             source,

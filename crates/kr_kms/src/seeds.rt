@@ -64,10 +64,7 @@ pub fn make_seed<L: Kms, D: Dice>(
         (L.link link.new) dice.new }
     ensures later { D.count dice.old ≤ D.count dice.new }
 {
-    match key_id_of(alloc, link) {
-        Ok(_) => {}
-        Err(why) => return Err(why),
-    }
+    let _key_id = key_id_of(alloc, link)?;
     let Ok(name) = Text::copy(alloc, link.name()) else {
         return Err(SeedNo::NoMemory);
     };
@@ -92,10 +89,8 @@ fn wrap_seed<L: Kms>(alloc: Global, link: &mut L, name: Text, seed: Bytes) -> Re
     ensures asks { Asks (L.link link.old) result (L.link link.new) }
     ensures row { IfOk result (λ row. IsRowOf L.truth name seed row) }
 {
-    match link.wrap(alloc, seed.as_slice()) {
-        Ok(wrapped) => Ok(row_of(name, wrapped, seed)),
-        Err(why) => Err(why),
-    }
+    let wrapped = link.wrap(alloc, seed.as_slice())?;
+    Ok(row_of(name, wrapped, seed))
 }
 
 /// Puts a seed beside what a plugin made of it.

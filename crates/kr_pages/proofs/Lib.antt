@@ -1,1 +1,2 @@
+-- The lemmas that the answers cite.
 pub mod Pools

@@ -1,6 +1,6 @@
 -- A source that the cache has is given without asking a link, and is that of the value's reading.
 use Rattle.std.specs.Prelude.{not, ◌&&◌}
-use Rattle.std.proofs.Common.{◌≡◌, ℕ, Bool, true, false, List, ◌∷◌, ◌++◌, Option, Some, None, Result, Ok, Err, refl, sym, ◌∙◌, ap, subst}
+use Rattle.std.proofs.Common.{◌≡◌, ℕ, Bool, true, false, List, ◌∷◌, ◌++◌, Option, Some, None, Result, Ok, Err, sym, ◌∙◌, ap, subst}
 use Rattle.std.proofs.lemmas.Bool.{false≢true}
 use Rattle.kr_config.specs.declared.who.Who.{Who}
 use Rattle.kr_config.specs.declared.who.Who.TheVariants.{Kms}
@@ -18,12 +18,12 @@ use Rattle.kr_kms.specs.declared.seeds.SeedRow.{SeedRow}
 use Rattle.kr_provider.specs.Envelopes.{Envelope, seed_key}
 use Rattle.kr_provider.specs.Publication.{seed_of}
 use Rattle.kr_provider.specs.Readers.{body_by, reader_in}
-use Rattle.kr_provider.specs.Reading.{Gives, Unseals, is_current, provider_reading, reader_reading, source_reading, value_reading}
+use Rattle.kr_provider.specs.Reading.{Unseals, is_current, provider_reading, reader_reading, source_reading, value_reading}
 use Rattle.kr_provider.specs.Unsealing.{HeedsCache, IsSeedOf, MayAskFor}
 use Rattle.kr_provider.specs.declared.refusal.Opened.{Opened}
 use Rattle.kr_provider.specs.declared.refusal.UnsealNo.{UnsealNo}
 use Rattle.kr_provider.specs.declared.refusal.UnsealNo.TheVariants.{Refused, PluginFailed, NoMemory}
-use Rattle.kr_provider.specs.inner.Sources.{GivesSource, IsObjectIn, IsReadBy}
+use Rattle.kr_provider.specs.inner.Sources.{Gives, GivesSource, IsObjectIn, IsReadBy}
 use Rattle.kr_provider.proofs.ObjectSources.{IsFetched}
 use Rattle.kr_provider.proofs.OneReading.{both_answered}
 use Rattle.kr_provider.proofs.Places.{stale_by_plugin}

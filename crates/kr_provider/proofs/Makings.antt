@@ -16,10 +16,10 @@ use Rattle.kr_kms.specs.declared.health.SeedNo.{SeedNo}
 use Rattle.kr_kms.specs.declared.health.SeedNo.TheVariants as seed
 use Rattle.kr_kms.specs.declared.seeds.SeedRow.{SeedRow}
 use Rattle.kr_provider.specs.AskedLinks.{AskedOnly, HasLinkWith}
-use Rattle.kr_provider.specs.Publishing.{AreSeedsOf, EndsAt, EndsWithin, IsHealthy, Publishes, bytes_of_seeds, refusal_at}
+use Rattle.kr_provider.specs.Publishing.{AreSeedsOf, EndsAt, EndsWithin, IsHealthy, Publishes, bytes_of_seeds}
 use Rattle.kr_provider.specs.declared.refusal.PublishNo.{PublishNo}
 use Rattle.kr_provider.specs.declared.refusal.PublishNo.TheVariants.{PluginFailed, DiceFailed, Unhealthy, NoMemory}
-use Rattle.kr_provider.specs.inner.Making.{MakesAt, MakesOne}
+use Rattle.kr_provider.specs.inner.Making.{MakesAt, MakesOne, refusal_at}
 use Rattle.kr_provider.proofs.AskedLists.{asked_none, asked_one, asked_then, breach_back, had, has_at, rose_at, rose_from, rose_later}
 use Rattle.kr_provider.proofs.NameOrder.{IsStrictlySortedBy-none, ascend_more, before_next, is_before, is_less, neither, none_between, not_itself, then_before, to_false}
 

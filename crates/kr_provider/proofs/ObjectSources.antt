@@ -14,11 +14,11 @@ use Rattle.kr_kms.specs.declared.seeds.SeedRow.{SeedRow}
 use Rattle.kr_kms.proofs.Keys.{same_key}
 use Rattle.kr_provider.specs.AskedLinks.{AsksOne}
 use Rattle.kr_provider.specs.Envelopes.{seed_key}
-use Rattle.kr_provider.specs.Reading.{Gives, source_reading}
+use Rattle.kr_provider.specs.Reading.{source_reading}
 use Rattle.kr_provider.specs.Unsealing.{IsSeedOf}
 use Rattle.kr_provider.specs.declared.refusal.UnsealNo.{UnsealNo}
 use Rattle.kr_provider.specs.declared.refusal.UnsealNo.TheVariants.{Refused, PluginFailed, NoMemory}
-use Rattle.kr_provider.specs.inner.Sources.{OpensSource, UnsealsObject}
+use Rattle.kr_provider.specs.inner.Sources.{Gives, OpensSource, UnsealsObject}
 use Rattle.kr_provider.proofs.AskedLists.{asked_alone, asked_none, rose_at}
 
 -- ---- an object's data are no longer than its bytes

@@ -17,10 +17,10 @@ use Rattle.kr_config.specs.Providers.{is_provider, plugin_of, plugins_among}
 use Rattle.kr_kms.specs.Calls.{Link}
 use Rattle.kr_kms.specs.Truth.{Truth}
 use Rattle.kr_kms.specs.declared.seeds.SeedRow.{SeedRow}
-use Rattle.kr_provider.specs.Publication.{HasSeed, IsPublished, Publication, seed_of}
+use Rattle.kr_provider.specs.Publication.{IsPublished, Publication, seed_of}
 use Rattle.kr_provider.specs.Publishing.{AreSeedsOf}
 use Rattle.kr_provider.specs.Readers.{writer_of}
-use Rattle.kr_provider.specs.inner.Scan.{AreNamedIn, HaveSeeds, IsNamedIn}
+use Rattle.kr_provider.specs.inner.Scan.{AreNamedIn, HasSeed, HaveSeeds, IsNamedIn}
 use Rattle.kr_provider.proofs.Booleans.{and_left, and_right}
 use Rattle.kr_provider.proofs.Lists.{of_row, rows_keep}
 use Rattle.kr_provider.proofs.NameOrder.{is_before}

@@ -16,13 +16,13 @@ use Rattle.kr_provider.specs.AskedLinks.{AskedOnly}
 use Rattle.kr_provider.specs.Envelopes.{Envelope, HasEnvelope, HasObject, IsObjectOf, unknown}
 use Rattle.kr_provider.specs.Publication.{seed_of}
 use Rattle.kr_provider.specs.Readers.{reader_in}
-use Rattle.kr_provider.specs.Reading.{Gives, Unseals, is_current, provider_reading, reader_reading}
+use Rattle.kr_provider.specs.Reading.{Unseals, is_current, provider_reading, reader_reading}
 use Rattle.kr_provider.specs.Unsealing.{IsReading, IsSeedOf, MayAsk, MayAskFor, TakesSeed, UnsealsBy, plugin_reading}
 use Rattle.kr_provider.specs.declared.refusal.Opened.{Opened}
 use Rattle.kr_provider.specs.declared.refusal.UnsealNo.{UnsealNo}
 use Rattle.kr_provider.specs.declared.refusal.UnsealNo.TheVariants.{Refused, PluginFailed, NoMemory}
 use Rattle.kr_provider.specs.declared.refusal.ValueNo.TheVariants as value
-use Rattle.kr_provider.specs.inner.Sources.{IsObjectIn, IsReadBy, ReadsObject, UnsealsObject}
+use Rattle.kr_provider.specs.inner.Sources.{Gives, IsObjectIn, IsReadBy, ReadsObject, UnsealsObject}
 use Rattle.kr_provider.proofs.AskedLists.{asked_none}
 use Rattle.kr_provider.proofs.OneReading.{IsNoPlugin, has_unknown}
 use Rattle.kr_provider.proofs.Places.{stale_by_first, stale_by_plugin}

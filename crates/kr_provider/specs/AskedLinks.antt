@@ -12,8 +12,7 @@ AskedOnly link names (old ∷ olds) (new ∷ news) = IsSameLink (link old) (link
     × ((Contains names (link old).name → ⊥) → new ≡ old) × AskedOnly link names olds news
 
 -- one link was asked, that to the plugin of this name, and the others stay; `Asks` says what was
--- asked
--- of it
+-- asked of it
 pub record AsksOne {L : Type 0} (link : L → Link) (name : List ℕ) (Asks : L → L → Type 0)
     (olds news : List L) : Type 0 where
   pub front : List L

@@ -5,8 +5,7 @@ use Rattle.kr_provider.specs.KeyPages.{KeyPages}
 use Rattle.kr_provider.specs.Publication.{Publication}
 
 -- its links, its random source, the configuration that it adopted last, the pages that its keys
--- have, and
--- the seeds that plugins unwrapped
+-- have, and the seeds that plugins unwrapped
 pub record BenchState (L D : Type 0) : Type 0 where
   pub links : List L
   pub dice : D

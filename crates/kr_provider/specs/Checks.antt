@@ -1,6 +1,5 @@
 -- The check that a store keeps with a value: it tells another secret of the same name, and nothing
--- of the
--- secret itself.
+-- of the secret itself.
 use Rattle.std.specs.Prelude.{ℕ, List, take, replicate}
 use Rattle.kr_config.specs.declared.who.Who.{Who}
 use Rattle.kr_config.specs.declared.who.Who.TheVariants.{Identity, Aescbc, Aesgcm, Kms}

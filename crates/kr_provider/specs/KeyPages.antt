@@ -52,8 +52,7 @@ free_pages size = record {
 }
 
 -- the pages out are one for each secret, in their order; each holds the secret's schedule and zeros
--- behind it; every other
--- page is free and zero
+-- behind it; every other page is free and zero
 pub record HoldKeys (secrets : List (List ℕ)) (pages : KeyPages) : Type 0 where
   pub pool : IsPool pages.pool
   pub distinct : IsDistinct nat_eq pages.out

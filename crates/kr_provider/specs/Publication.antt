@@ -1,5 +1,5 @@
 -- A published configuration: settings with one wrapped seed for each plugin that they name.
-use Rattle.std.specs.Prelude.{◌≡◌, ℕ, ◌≤◌, ◌↔◌, Bool, true, IsTrue, List, length, map, All, Contains, find, Option, Some, IsSome, ⊤}
+use Rattle.std.specs.Prelude.{◌≡◌, ℕ, ◌≤◌, ◌↔◌, Bool, true, IsTrue, List, length, map, All, Contains, find, Option, Some, ⊤}
 use Rattle.std.specs.List.{list_all, list_any}
 use Rattle.std.specs.List.Sorted.{IsStrictlySortedBy}
 use Rattle.std.specs.Ordering.{nat_cmp}
@@ -36,13 +36,6 @@ pub record IsPublished (p : Publication) : Type 0 where
 -- the seed of a plugin
 abbrev pub seed_of : List ℕ → List SeedRow → Option SeedRow
 seed_of name seeds = find (λ row. bytes_eq row.name name) seeds
-
--- a plugin has its seed
-abbrev pub HasSeed : List SeedRow → Who → Type 0
-HasSeed seeds Identity = ⊤
-HasSeed seeds (Aescbc name secret) = ⊤
-HasSeed seeds (Aesgcm name secret) = ⊤
-HasSeed seeds (Kms name) = IsSome (seed_of name seeds)
 
 -- the wrapped source of a plugin's seed opens to the seed
 abbrev pub SeedOpens : Opens → List SeedRow → Who → Type 0

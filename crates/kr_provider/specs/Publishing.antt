@@ -42,8 +42,7 @@ pub record AreSeedsOf {L : Type 0} (truth : Truth) (link : L → Link) (links : 
 module _ {L D : Type 0} (truth : Truth) (link : L → Link) (left : D → Option (List ℕ))
     (count : D → ℕ) where
   -- the plugin of this name ended it: there are seeds of those before, for which bytes were drawn,
-  -- and
-  -- these bytes behind them
+  -- and these bytes behind them
   pub record EndsAt (rows : List Row) (links : List L) (dice after : D) (name drawn : List ℕ)
       : Type 0 where
     pub there : Contains (plugins_in rows) name
@@ -73,13 +72,6 @@ module _ {L D : Type 0} (truth : Truth) (link : L → Link) (left : D → Option
   -- memory may lack at any plugin
   Publishes rows links dice (Err NoMemory) new after =
       (name : List ℕ) × EndsWithin rows links dice after name
-
--- a refusal of the plugin of this name
-abbrev pub refusal_at : List ℕ → SeedNo → PublishNo
-refusal_at name seed.Failed = PluginFailed name
-refusal_at name seed.DiceFailed = DiceFailed
-refusal_at name (seed.Unhealthy field text) = Unhealthy name field text
-refusal_at name seed.NoMemory = NoMemory
 
 -- ---- the key id of one plugin
 

@@ -1,6 +1,5 @@
 -- Which provider of a list reads a stored value (Kubernetes, 'Encrypting Confidential Data at
--- Rest'): the one whose
--- prefix the value begins with, and identity a value that begins with none.
+-- Rest'): the one whose prefix the value begins with, and identity a value that begins with none.
 use Rattle.std.specs.Prelude.{ℕ, Bool, not, List, [], ◌∷◌, length, drop, find, position, Option}
 use Rattle.kr_envelope.specs.declared.prefix.Kind.TheVariants as kind
 use Rattle.kr_envelope.specs.Prefixes.{prefix, begins, is_marked}

@@ -1,6 +1,5 @@
 -- What a stored value reads as, by the providers of a list: data, or the first refusal that
--- applies, or nothing since no
--- plugin opened its source.
+-- applies, or nothing since no plugin opened its source.
 use Rattle.std.specs.Prelude.{◌≡◌, ℕ, ◌==◌, ◌&&◌, ◌||◌, Bool, true, false, not, if◌then◌else◌, List, take, drop, length, Option, Some, None, Result, Ok, Err, ⊤}
 use Rattle.std.specs.Str.{bytes_eq}
 use Rattle.kr_modes.specs.declared.ModeNo.{ModeNo}
@@ -70,8 +69,7 @@ gcm_reading key path body = body_reading (gcm_opened (cipher_under key) (take 12
     (drop 12 body))
 
 -- the body under a source: a source of type 0 is the key itself; one of type 1 is a seed, and in
--- front of
--- the body stands the info of 32 bytes that makes the key
+-- front of the body stands the info of 32 bytes that makes the key
 abbrev pub body_under : SourceKind → (source path encrypted : List ℕ) → Reading
 body_under Key key path encrypted = gcm_reading key path encrypted
 body_under Seed seed path encrypted =
@@ -122,8 +120,7 @@ HasSomeReading list path bytes reading = (envelope : Envelope)
     × (value_reading envelope list path bytes ≡ reading)
 
 -- ---- staleness: another provider than the writer read the value, or it is a plugin whose key id
--- isn't
--- the published one, or its source is of type 0
+-- isn't the published one, or its source is of type 0
 
 abbrev pub is_seed : SourceKind → Bool
 is_seed Key = false
@@ -156,10 +153,3 @@ Unseals envelope seeds list path bytes (Err (Refused why)) = value_reading envel
     ≡ refused why
 Unseals envelope seeds list path bytes (Err (PluginFailed name)) = ⊥
 Unseals envelope seeds list path bytes (Err NoMemory) = ⊤
-
--- the same of the data alone
-abbrev pub Gives : Reading → Result (List ℕ) UnsealNo → Type 0
-Gives reading (Ok plain) = reading ≡ data_of plain
-Gives reading (Err (Refused why)) = reading ≡ refused why
-Gives reading (Err (PluginFailed name)) = ⊥
-Gives reading (Err NoMemory) = ⊤

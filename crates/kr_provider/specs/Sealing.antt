@@ -1,5 +1,5 @@
 -- What a provider makes of an object's data (Kubernetes, 'Encrypting Confidential Data at Rest').
-use Rattle.std.specs.Prelude.{◌≡◌, ◌≢◌, ℕ, ◌+◌, ◌-◌, ◌%◌, ◌≤◌, ◌<◌, true, false, List, [], ◌++◌, length, All, nat_lt, if◌then◌else◌, Option, Some, None, Result, Ok, Err, ⊤}
+use Rattle.std.specs.Prelude.{◌≡◌, ◌≢◌, ℕ, ◌+◌, ◌-◌, ◌%◌, ◌≤◌, ◌<◌, true, List, [], ◌++◌, length, All, nat_lt, if◌then◌else◌, Option, Some, None, Result, Ok, Err}
 use Rattle.std.specs.Option.{option_map, option_map_or}
 use Rattle.std.specs.Io.KnownBytes.{Consumes, Keeps}
 use Rattle.kr_base.specs.Faults.{Rose}
@@ -66,8 +66,7 @@ value_size seeds (Kms name) size = option_map_or
     + length (canonical (frame_of (object_of row [] [] []))))) (seed_of name seeds) 0
 
 -- how a call's answer stands to that: the value is under the drawn bytes, each refusal comes
--- exactly where it applies,
--- and nothing is drawn for a refusal or for want of memory
+-- exactly where it applies, and nothing is drawn for a refusal or for want of memory
 module _ {D : Type 0} (left : D → Option (List ℕ)) (count : D → ℕ) where
   abbrev pub Seals : List SeedRow → Who → (path plain : List ℕ) → (old new : D)
       → Result (List ℕ) SealNo → Type 0
@@ -81,11 +80,3 @@ module _ {D : Type 0} (left : D → Option (List ℕ)) (count : D → ℕ) where
   Seals seeds who path plain old new (Err DiceFailed) = (length plain ≤ data_limit)
       × (who ≢ Identity) × Rose (count old) (count new) × Keeps (left old) (left new)
   Seals seeds who path plain old new (Err NoMemory) = new ≡ old
-
--- the data as they stand, or the refusal
-abbrev pub IsBare : List ℕ → Result (List ℕ) SealNo → Type 0
-IsBare plain (Ok value) = (is_marked plain ≡ false) × (value ≡ plain)
-IsBare plain (Err (TooLarge size)) = ⊥
-IsBare plain (Err LooksEncrypted) = is_marked plain ≡ true
-IsBare plain (Err DiceFailed) = ⊥
-IsBare plain (Err NoMemory) = ⊤

@@ -55,10 +55,8 @@ TakesSeed seeds (Some (Kms name)) envelope = (object : EncryptedObject) (row : S
     → envelope.source ≡ Some row.seed
 
 -- the answer is the reading of an envelope: the object is the value's, whatever the links tell; its
--- source
--- is a published seed where one is the object's; and where the truth is told and the published
--- seeds open
--- to what stands with them, it is what the object's source opens to
+-- source is a published seed where one is the object's; and where the truth is told and the
+-- published seeds open to what stands with them, it is what the object's source opens to
 pub record IsReading {L : Type 0} (truth : Truth) (link : L → Link) (seeds : List SeedRow)
     (list : List Who) (path bytes : List ℕ) (old : List L) (result : Result Opened UnsealNo)
     (new : List L) : Type 0 where

@@ -1,4 +1,5 @@
 -- Definitions that inner contracts alone cite.
+pub mod Bare
 pub mod Making
 pub mod Scan
 pub mod Sources

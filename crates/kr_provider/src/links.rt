@@ -1,5 +1,5 @@
 //! Links to plugins.
-ghost use Rattle.std.specs.Prelude.{◌≡◌, ◌↔◌, ◌≤◌, [], ◌∷◌, ◌++◌, Contains, IsTrue, IfErr, OnOk, OnErr, MatchOption, position};
+ghost use Rattle.std.specs.Prelude.{◌≡◌, ◌↔◌, ◌≤◌, ◌<◌, [], ◌∷◌, ◌++◌, Contains, Some, IsTrue, IfErr, OnOk, OnErr, MatchOption, length, position};
 ghost use Rattle.std.specs.List.{list_all, list_any};
 ghost use Rattle.std.specs.Str.{bytes_eq};
 ghost use Rattle.kr_config.specs.Kept.{rows_of};
@@ -111,9 +111,7 @@ impl<L: Kms> Links<L> {
         ensures { AsksOne L.link name.now
             (λ old new. TellsKeyId (L.link old) result (L.link new)) self.old self.new }
     {
-        let Some(at) = place_in(self.items.as_slice(), name) else {
-            unreachable!();
-        };
+        let at = place_of(self.items.as_slice(), name);
         key_id_of(alloc, &mut self.items[at])
     }
 
@@ -130,9 +128,7 @@ impl<L: Kms> Links<L> {
             dice.new) self.old self.new }
         ensures later { D.count dice.old ≤ D.count dice.new }
     {
-        let Some(at) = place_in(self.items.as_slice(), name) else {
-            unreachable!();
-        };
+        let at = place_of(self.items.as_slice(), name);
         make_seed(alloc, &mut self.items[at], dice)
     }
 
@@ -148,9 +144,7 @@ impl<L: Kms> Links<L> {
             (asked_key name.now object.now.key_id object.now.annotations object.now.source)
             result new cache.new) self.old self.new }
     {
-        let Some(at) = place_in(self.items.as_slice(), name) else {
-            unreachable!();
-        };
+        let at = place_of(self.items.as_slice(), name);
         cache.fetch(
             &mut self.items[at],
             object.key_id.as_str(),
@@ -201,13 +195,24 @@ fn faults_in<L: Kms>(links: &[L], name: &str) -> u64
     requires { Contains (names_of L.link links.now) name.now }
     ensures { HasLinkWith L.link name.now (λ link. result ≡ link.count) links.now }
 {
-    let Some(at) = place_in(links, name) else {
-        unreachable!();
-    };
+    let at = place_of(links, name);
     links[at].faults()
 }
 
-/// Where the link to the plugin of this name stands.
+/// Where the link to the plugin of this name stands, which is there.
+fn place_of<L: Kms>(links: &[L], name: &str) -> usize
+    requires { Contains (names_of L.link links.now) name.now }
+    ensures place { position (λ link. bytes_eq (L.link link).name name.now) links.now
+        ≡ Some result }
+    ensures within { result < length links.now }
+{
+    let Some(at) = place_in(links, name) else {
+        unreachable!();
+    };
+    at
+}
+
+/// Where the link to the plugin of this name stands, if there is one.
 fn place_in<L: Kms>(links: &[L], name: &str) -> Option<usize>
     ensures { result ≡ position (λ link. bytes_eq (L.link link).name name.now) links.now }
 {

@@ -5,8 +5,7 @@ ghost use Rattle.kr_config.specs.Kept.{plugins_in, rows_of};
 ghost use Rattle.kr_provider.specs.AskedLinks.{AskedOnly};
 ghost use Rattle.kr_provider.specs.Names.{HasLinks, names_of};
 ghost use Rattle.kr_provider.specs.Publication.{names_plugin};
-ghost use Rattle.kr_provider.specs.Publishing.{refusal_at};
-ghost use Rattle.kr_provider.specs.inner.Making.{MakesAt, MakesAll};
+ghost use Rattle.kr_provider.specs.inner.Making.{MakesAll, MakesAt, refusal_at};
 
 use crate::links::Links;
 use crate::refusal::PublishNo;
@@ -35,10 +34,7 @@ pub(crate) fn make_seeds<L: Kms, D: Dice>(
     let mut made = List::new(alloc);
     let mut after = "";
     while let Some(name) = settings.next_plugin(after) {
-        let row = match make_one(alloc, name, links, dice) {
-            Ok(row) => row,
-            Err(why) => return Err(why),
-        };
+        let row = make_one(alloc, name, links, dice)?;
         match made.push(row) {
             Ok(()) => {}
             Err(_) => return Err(PublishNo::NoMemory),

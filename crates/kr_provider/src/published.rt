@@ -50,8 +50,8 @@ impl Published {
     ghost use Rattle.kr_config.specs.Providers.{is_provider};
     ghost use Rattle.kr_kms.specs.Seeds.{IsSeedRow};
     ghost use Rattle.kr_provider.specs.KeyPages.{secrets_in};
-    ghost use Rattle.kr_provider.specs.Publication.{HasSeed, IsProviderList, IsPublished, list_at, writer_at};
-    ghost use Rattle.kr_provider.specs.inner.Scan.{AreAmong, AreNamedIn, HaveSeeds, IsAmong};
+    ghost use Rattle.kr_provider.specs.Publication.{IsProviderList, IsPublished, list_at, writer_at};
+    ghost use Rattle.kr_provider.specs.inner.Scan.{AreAmong, AreNamedIn, HasSeed, HaveSeeds, IsAmong};
 
     /// The entries of the settings.
     pub(crate) fn entries(&self) -> &[Entry]

@@ -24,7 +24,8 @@ pub enum SealNo {
 pub struct Opened {
     /// The data.
     pub plain: Bytes,
-    /// Whether it should be written anew: another provider than the list's first read it.
+    /// Whether it should be written anew, since the list's first provider wouldn't write it so
+    /// today.
     pub stale: bool,
 }
 

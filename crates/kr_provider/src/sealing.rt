@@ -12,9 +12,9 @@ ghost use Rattle.kr_modes.specs.Cbc.{cbc};
 ghost use Rattle.kr_modes.specs.Padding.{pad};
 ghost use Rattle.kr_provider.specs.Ciphers.{cipher_under};
 ghost use Rattle.kr_provider.specs.Envelopes.{gcm_body};
-ghost use Rattle.kr_provider.specs.Publication.{HasSeed};
-ghost use Rattle.kr_provider.specs.Sealing.{Seals, IsBare};
-ghost use Rattle.kr_provider.specs.inner.Scan.{HasWords};
+ghost use Rattle.kr_provider.specs.Sealing.{Seals};
+ghost use Rattle.kr_provider.specs.inner.Bare.{IsBare};
+ghost use Rattle.kr_provider.specs.inner.Scan.{HasSeed, HasWords};
 
 use crate::refusal::SealNo;
 use crate::rounds::rounds_of;

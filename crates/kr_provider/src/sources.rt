@@ -2,8 +2,8 @@
 ghost use Rattle.std.specs.Prelude.{◌≡◌, ◌≤◌, length, IfOk};
 ghost use Rattle.kr_base.specs.Limits.{path_limit, value_limit};
 ghost use Rattle.kr_envelope.specs.declared.object.SourceKind.TheVariants.{Seed};
-ghost use Rattle.kr_provider.specs.Reading.{Gives, body_under, gcm_reading, source_reading};
-ghost use Rattle.kr_provider.specs.inner.Sources.{IsObjectIn, IsRefusalOf};
+ghost use Rattle.kr_provider.specs.Reading.{body_under, gcm_reading, source_reading};
+ghost use Rattle.kr_provider.specs.inner.Sources.{Gives, IsObjectIn, IsRefusalOf};
 
 use crate::refusal::{UnsealNo, ValueNo};
 use crate::unsealing::by_aesgcm;

@@ -6,8 +6,9 @@ ghost use Rattle.kr_config.specs.Providers.{is_provider, is_kms};
 ghost use Rattle.kr_modes.specs.Cbc.{cbc_opened};
 ghost use Rattle.kr_provider.specs.Ciphers.{inverse_under};
 ghost use Rattle.kr_provider.specs.Envelopes.{Envelope};
-ghost use Rattle.kr_provider.specs.Reading.{Gives, body_refusal, data_of, gcm_reading, provider_reading, body_reading, refused};
+ghost use Rattle.kr_provider.specs.Reading.{body_refusal, data_of, gcm_reading, provider_reading, body_reading, refused};
 ghost use Rattle.kr_provider.specs.inner.Scan.{HasWords};
+ghost use Rattle.kr_provider.specs.inner.Sources.{Gives};
 
 use crate::refusal::{UnsealNo, ValueNo};
 use crate::rounds::rounds_of;

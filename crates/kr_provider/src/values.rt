@@ -9,10 +9,10 @@ ghost use Rattle.kr_provider.specs.Envelopes.{seed_key};
 ghost use Rattle.kr_provider.specs.KeyPages.{secrets_in};
 ghost use Rattle.kr_provider.specs.Names.{HasAdoptedLinks, names_of};
 ghost use Rattle.kr_provider.specs.Publication.{IsProviderList, list_at, seed_of};
-ghost use Rattle.kr_provider.specs.Reading.{Gives, source_reading};
+ghost use Rattle.kr_provider.specs.Reading.{source_reading};
 ghost use Rattle.kr_provider.specs.Unsealing.{HeedsCache, IsSeedOf, UnsealsBy};
 ghost use Rattle.kr_provider.specs.inner.Scan.{AreAmong, AreNamedIn, HaveSeeds};
-ghost use Rattle.kr_provider.specs.inner.Sources.{GivesSource, IsReadBy, OpensSource, UnsealsObject};
+ghost use Rattle.kr_provider.specs.inner.Sources.{Gives, GivesSource, IsReadBy, OpensSource, UnsealsObject};
 
 use crate::adoption::Adoption;
 use crate::links::Links;
@@ -131,14 +131,8 @@ fn by_plugin<L: Kms>(
         → HeedsCache cache.old.rows seeds list path.now bytes links.old result links.new }
     ensures kept { AreOpen L.truth cache.new.rows }
 {
-    let object = match read_object(alloc, body) {
-        Ok(object) => object,
-        Err(why) => return Err(why),
-    };
-    let plain = match unseal_object(alloc, name, row, &object, links, cache, path) {
-        Ok(plain) => plain,
-        Err(why) => return Err(why),
-    };
+    let object = read_object(alloc, body)?;
+    let plain = unseal_object(alloc, name, row, &object, links, cache, path)?;
     let stale = is_stale(first, row, &object);
     Ok(Opened { plain, stale })
 }
@@ -170,10 +164,7 @@ fn unseal_object<L: Kms>(
     if is_seed_of(row, name, object) {
         return by_source(alloc, object.kind, row.seed.as_slice(), path, encrypted);
     }
-    let source = match open_source(alloc, name, object, links, cache) {
-        Ok(source) => source,
-        Err(why) => return Err(why),
-    };
+    let source = open_source(alloc, name, object, links, cache)?;
     by_source(alloc, object.kind, source.as_slice(), path, encrypted)
 }
 

@@ -1,4 +1,4 @@
-pub mod Asked
+-- The lemmas of kr_rewrite: of one step, of a row that is replaced, and of a whole drive.
 pub mod BetweenSteps
 pub mod Covering
 pub mod Growing

@@ -1,5 +1,5 @@
 -- That a drive needs few entries: it finds each path at most once.
-use Rattle.std.proofs.Common.{◌≡◌, ℕ, zero, suc, ◌+◌, ◌*◌, ◌<◌, ◌≤◌, Bool, true, false, cond, List, [], ◌∷◌, ◌++◌, length, get_or, count_by, Option, Some, Result, Ok, Err, refl, sym, ap, subst, ◌∙◌, inl, inr, arith}
+use Rattle.std.proofs.Common.{◌≡◌, ℕ, ◌+◌, ◌*◌, ◌<◌, ◌≤◌, true, false, List, [], ◌∷◌, ◌++◌, length, count_by, Option, Some, Result, Ok, Err, refl, sym, ap, subst, ◌∙◌, inl, inr, arith}
 use Rattle.std.specs.Prelude.{Contains, IsSome}
 use Rattle.std.specs.Cmp.Lexicographic.{slice_cmp}
 use Rattle.std.specs.Ordering.{is_lt, nat_cmp, ordering_reverse}
@@ -7,7 +7,8 @@ use Rattle.std.specs.declared.cmp.Ordering.{Ordering}
 use Rattle.std.specs.declared.cmp.Ordering.TheVariants.{Less, Equal, Greater}
 use Rattle.std.proofs.lemmas.Cmp.{nat_list_cmp_total}
 use Rattle.std.proofs.lemmas.List.{append_assoc}
-use Rattle.std.proofs.lemmas.List.Sums.{count_by-le-length, sum_by-cons}
+use Rattle.std.proofs.lemmas.List.Sums.{count_by-le-length}
+use Rattle.std.proofs.lemmas.Option.{slice_get-get_or}
 use Rattle.kr_kms.specs.Calls.{Link}
 use Rattle.kr_kms.specs.Truth.{Truth}
 use Rattle.kr_store.specs.Rows.{live}
@@ -19,6 +20,7 @@ use Rattle.kr_rollout.specs.Acting.{Caller}
 use Rattle.kr_rollout.specs.Histories.{state_of}
 use Rattle.kr_rollout.specs.Parts.{AddsWithin}
 use Rattle.kr_rollout.proofs.PartsAdd.{nothing_within}
+use Rattle.kr_rollout.proofs.Walking.{count_less}
 use Rattle.kr_rewrite.specs.DriveLaws.{DrivesNeedFew, LiveAmong}
 use Rattle.kr_rewrite.specs.Drives.{EndsBy, FindsRow, Walks, last_of, path_of}
 use Rattle.kr_rewrite.specs.declared.outcome.Report.{Report}
@@ -30,49 +32,7 @@ use Rattle.kr_rewrite.proofs.Spending.{Spends, StepNeeds, step_needs}
 abbrev path_cmp : List ℕ → List ℕ → Ordering
 path_cmp a b = slice_cmp nat_cmp a b
 
--- ---- how many pass a test
-
-module _ {X : Type 0} (p q : X → Bool) (fewer : (x : X) → q x ≡ true → p x ≡ true) where
-  unit_le : (x : X) → cond (q x) 1 0 ≤ cond (p x) 1 0
-  unit_le x = by (q x) refl
-    where
-      by : (v : Bool) → q x ≡ v → cond v 1 0 ≤ cond (p x) 1 0
-      by true e = subst (λ b. 1 ≤ cond b 1 0) (sym (fewer x e)) (omega arith)
-      by false e = omega arith
-
-  count_le : (xs : List X) → count_by q xs ≤ count_by p xs
-  count_le [] = omega arith
-  count_le (x ∷ xs) = omega (
-    arith,
-    sum_by-cons (λ y. cond (q y) 1 0) x xs,
-    sum_by-cons (λ y. cond (p y) 1 0) x xs,
-    unit_le x,
-    count_le xs,
-  )
-
-  count_less : (xs : List X) (i : ℕ) (x : X) → i < length xs → get_or xs i x ≡ x → p x ≡ true
-      → q x ≡ false → count_by q xs < count_by p xs
-  count_less [] i x l e h n = absurd (omega (arith, l))
-  count_less (y ∷ ys) zero x l e h n =
-      let a = ap {B = ℕ} (λ b. cond b 1 0) (ap p e ∙ h) in
-      let b = ap {B = ℕ} (λ b. cond b 1 0) (ap q e ∙ n) in
-      omega (
-        arith,
-        sum_by-cons (λ z. cond (q z) 1 0) y ys,
-        sum_by-cons (λ z. cond (p z) 1 0) y ys,
-        a,
-        b,
-        count_le ys,
-      )
-  count_less (y ∷ ys) (suc i) x l e h n =
-      let rest = count_less ys i x (omega (arith, l)) e h n in
-      omega (
-        arith,
-        sum_by-cons (λ z. cond (q z) 1 0) y ys,
-        sum_by-cons (λ z. cond (p z) 1 0) y ys,
-        unit_le y,
-        rest,
-      )
+-- ---- paths
 
 lt_is : (a b : List ℕ) → is_lt (path_cmp a b) ≡ true → path_cmp a b ≡ Less
 lt_is a b e = by (path_cmp a b) e
@@ -101,7 +61,8 @@ module _ (paths : List (List ℕ)) where
   fewer_above above path less there =
       count_less (λ p. is_lt (path_cmp above p)) (λ p. is_lt (path_cmp path p))
       (λ p e. ap is_lt (nat_list_cmp_total.trans above path p less (lt_is path p e))) paths there.0
-      path there.1 there.2 (ap is_lt less) (itself path)
+      path (slice_get-get_or paths there.0 path there.1 ∙ ap Some there.2) (ap is_lt less)
+      (itself path)
 
   -- a row that was found is at one of them
   found_among : (above : List ℕ) (old new last : Caller) (row : Row)

@@ -3,15 +3,16 @@ use Rattle.std.proofs.Common.{◌≡◌, ℕ, ◌+◌, Bool, true, false, cond, 
 use Rattle.std.specs.Prelude.{All, count_by}
 use Rattle.std.proofs.lemmas.List.Elements.{All-nil, All-cons}
 use Rattle.std.proofs.lemmas.List.Sums.{sum_by-append, sum_by-cons}
+use Rattle.kr_base.specs.Numbering.{next_number}
 use Rattle.kr_kms.specs.Calls.{Link}
 use Rattle.kr_kms.specs.Truth.{Truth}
 use Rattle.kr_rollout.specs.Acting.{Caller}
-use Rattle.kr_rewrite.specs.Drives.{Counts, FindsRow, IsSettled, Settles, Walks, counted, is_changed, is_fresh, is_left, is_rewritten, last_of, path_of}
+use Rattle.kr_rewrite.specs.Drives.{Counts, FindsRow, IsSettled, Settles, Walks, count_of, is_changed, is_fresh, is_left, is_rewritten, last_of, path_of}
 use Rattle.kr_rewrite.specs.Rewrites.{IsStep}
 use Rattle.kr_rewrite.specs.declared.outcome.Report.{Report}
 use Rattle.kr_rewrite.specs.declared.outcome.Step.{Step}
 use Rattle.kr_rewrite.specs.declared.outcome.Step.TheVariants as step
-use Rattle.kr_rewrite.specs.inner.Stages.{CountsStep, one_more}
+use Rattle.kr_rewrite.specs.inner.Stages.{CountsStep}
 
 -- ---- the path of the last step
 
@@ -23,7 +24,7 @@ last_more above (first ∷ steps) taken = last_more (path_of above first) steps 
 -- ---- counts
 
 module _ (p : Step → Bool) (steps : List Step) (taken : Step) (m : ℕ)
-    (is : m ≡ counted (count_by p steps)) where
+    (is : m ≡ count_of (count_by p steps)) where
   count_more : count_by p (steps ++ taken ∷ []) ≡ count_by p steps + cond (p taken) 1 0
   count_more = omega (
     arith,
@@ -31,24 +32,24 @@ module _ (p : Step → Bool) (steps : List Step) (taken : Step) (m : ℕ)
     sum_by-cons (λ x. cond (p x) 1 0) taken [],
   )
 
-  counts_it : p taken ≡ true → one_more m ≡ counted (count_by p (steps ++ taken ∷ []))
+  counts_it : p taken ≡ true → next_number m ≡ count_of (count_by p (steps ++ taken ∷ []))
   counts_it here =
       let one : cond (p taken) 1 0 ≡ 1 = ap {B = ℕ} (λ b. cond b 1 0) here in
       by m (count_by p steps) (count_by p (steps ++ taken ∷ [])) is (omega (arith, count_more, one))
     where
-      by : (m n k : ℕ) → m ≡ counted n → k ≡ n + 1 → one_more m ≡ counted k
+      by : (m n k : ℕ) → m ≡ count_of n → k ≡ n + 1 → next_number m ≡ count_of k
       by m n k e f = grind arith
 
-  counts_still : p taken ≡ false → m ≡ counted (count_by p (steps ++ taken ∷ []))
+  counts_still : p taken ≡ false → m ≡ count_of (count_by p (steps ++ taken ∷ []))
   counts_still not_here =
       let none : cond (p taken) 1 0 ≡ 0 = ap {B = ℕ} (λ b. cond b 1 0) not_here in
       let same : count_by p steps ≡ count_by p (steps ++ taken ∷ []) =
       omega (arith, count_more, none) in
-      is ∙ ap counted same
+      is ∙ ap count_of same
 
 module _ (above : List ℕ) (steps : List Step) (old new : Report) (c : Counts above steps old) where
   counts_rewritten : (path : List ℕ)
-      → new ≡ record old { rewritten = one_more old.rewritten; last = path }
+      → new ≡ record old { rewritten = next_number old.rewritten; last = path }
       → Counts above (steps ++ step.Rewritten path ∷ []) new
   counts_rewritten path e =
       let s = step.Rewritten path in record {
@@ -62,7 +63,7 @@ module _ (above : List ℕ) (steps : List Step) (old new : Report) (c : Counts a
         last = ap (λ (r : Report). r.last) e ∙ sym (last_more above steps s);
       }
 
-  counts_fresh : (path : List ℕ) → new ≡ record old { fresh = one_more old.fresh; last = path }
+  counts_fresh : (path : List ℕ) → new ≡ record old { fresh = next_number old.fresh; last = path }
       → Counts above (steps ++ step.Fresh path ∷ []) new
   counts_fresh path e =
       let s = step.Fresh path in record {
@@ -77,7 +78,7 @@ module _ (above : List ℕ) (steps : List Step) (old new : Report) (c : Counts a
       }
 
   counts_changed : (path : List ℕ)
-      → new ≡ record old { changed = one_more old.changed; last = path }
+      → new ≡ record old { changed = next_number old.changed; last = path }
       → Counts above (steps ++ step.Changed path ∷ []) new
   counts_changed path e =
       let s = step.Changed path in record {
@@ -91,7 +92,7 @@ module _ (above : List ℕ) (steps : List Step) (old new : Report) (c : Counts a
         last = ap (λ (r : Report). r.last) e ∙ sym (last_more above steps s);
       }
 
-  counts_left : (path : List ℕ) → new ≡ record old { left = one_more old.left; last = path }
+  counts_left : (path : List ℕ) → new ≡ record old { left = next_number old.left; last = path }
       → Counts above (steps ++ step.Left path ∷ []) new
   counts_left path e =
       let s = step.Left path in record {
@@ -212,7 +213,7 @@ module _ {L D : Type 0} (truth : Truth) (link : L → Link) (left : D → Option
       (settles_all (path_of above taken) steps w.middle new w.mids news w.between after w.behind
       (omega (arith, one_left)) (omega (arith, one_changed)))
 
-  none_by : (m n : ℕ) → m ≡ counted n → m ≡ 0 → n ≡ 0
+  none_by : (m n : ℕ) → m ≡ count_of n → m ≡ 0 → n ≡ 0
   none_by m n e z = grind arith
 
   pub settles : (above : List ℕ) (steps : List Step) (report : Report) (old new : Caller)

@@ -67,15 +67,15 @@ last_of above (taken ∷ steps) = last_of (path_of above taken) steps
 -- ---- the report
 
 -- a count stays at the greatest number
-abbrev pub counted : ℕ → ℕ
-counted n = min n (2 ^ 64 - 1)
+abbrev pub count_of : ℕ → ℕ
+count_of n = min n (2 ^ 64 - 1)
 
 -- each step is counted as what it did
 pub record Counts (above : List ℕ) (steps : List Step) (report : Report) : Type 0 where
-  pub rewritten : report.rewritten ≡ counted (count_by is_rewritten steps)
-  pub fresh : report.fresh ≡ counted (count_by is_fresh steps)
-  pub changed : report.changed ≡ counted (count_by is_changed steps)
-  pub left : report.left ≡ counted (count_by is_left steps)
+  pub rewritten : report.rewritten ≡ count_of (count_by is_rewritten steps)
+  pub fresh : report.fresh ≡ count_of (count_by is_fresh steps)
+  pub changed : report.changed ≡ count_of (count_by is_changed steps)
+  pub left : report.left ≡ count_of (count_by is_left steps)
   pub last : report.last ≡ last_of above steps
 
 -- that of no step

@@ -1,3 +1,4 @@
+-- The definitions that public contracts and laws name.
 pub mod Rewrites
 pub mod Drives
 pub mod DriveLaws

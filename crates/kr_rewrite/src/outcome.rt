@@ -1,5 +1,6 @@
 //! What the rewrite answers.
 ghost use Rattle.std.specs.Prelude.{◌≡◌};
+ghost use Rattle.kr_base.specs.Numbering.{next_number};
 ghost use Rattle.kr_rewrite.specs.Drives.{report_at};
 ghost use Rattle.kr_rewrite.specs.inner.Stages.{CountsStep};
 
@@ -54,25 +55,32 @@ impl Report {
         match step {
             Step::End => false,
             Step::Rewritten(path) => {
-                self.rewritten = self.rewritten.saturating_add(1);
+                rise(&mut self.rewritten);
                 self.last = path;
                 true
             }
             Step::Fresh(path) => {
-                self.fresh = self.fresh.saturating_add(1);
+                rise(&mut self.fresh);
                 self.last = path;
                 true
             }
             Step::Changed(path) => {
-                self.changed = self.changed.saturating_add(1);
+                rise(&mut self.changed);
                 self.last = path;
                 true
             }
             Step::Left(path) => {
-                self.left = self.left.saturating_add(1);
+                rise(&mut self.left);
                 self.last = path;
                 true
             }
         }
     }
+}
+
+/// Counts one more, up to the greatest number.
+fn rise(count: &mut u64)
+    ensures { count.new ≡ next_number count.old }
+{
+    *count = count.saturating_add(1);
 }

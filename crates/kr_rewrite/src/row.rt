@@ -1,23 +1,19 @@
 //! The row that was found, rewritten where it is stale.
-ghost use Rattle.std.specs.Prelude.{◌≡◌, ◌≤◌, [], length, IfOk, IfSome, IsSome, Some};
-ghost use Rattle.kr_base.specs.Limits.{path_limit, value_limit};
+ghost use Rattle.std.specs.Prelude.{◌≡◌, ◌≤◌, [], length, IfOk, IfSome, Some};
 ghost use Rattle.kr_provider.specs.AskedLinks.{AskedOnly};
 ghost use Rattle.kr_provider.specs.Names.{names_of};
-ghost use Rattle.kr_provider.specs.Publication.{list_at, writer_at};
-ghost use Rattle.kr_provider.specs.Sealing.{IsSealing, Seals};
-ghost use Rattle.kr_provider.specs.Unsealing.{UnsealsBy};
 ghost use Rattle.kr_store.specs.Rows.{IsRow};
 ghost use Rattle.kr_rollout.specs.Callers.{found_in, holding};
 ghost use Rattle.kr_rollout.specs.Calls.{KeepsToldHonesty};
 ghost use Rattle.kr_rollout.specs.Parts.{AddsWithin};
-ghost use Rattle.kr_rewrite.specs.Rewrites.{CopiesNothing, IsStepTo, Replaces, ReplacesBy, Reseals, Rewrites, unread_step, unsealed_step};
+ghost use Rattle.kr_rewrite.specs.Rewrites.{IsStepTo, ReplacesBy, Rewrites, unread_step, unsealed_step};
 ghost use Rattle.kr_rewrite.specs.inner.Stages.{AnswersReplace, HoldsAdopted, ReadsData, ResealsRow};
 
 use crate::outcome::Step;
 use kr_base::{Bytes, Dice, Spent, Text};
 use kr_kms::Kms;
 use kr_provider::{Bench, Opened, SealNo, UnsealNo};
-use kr_rollout::{Acts, Answer, CallNo, Event};
+use kr_rollout::{Acts, Answer, CallNo, Event, seal, unseal};
 use kr_store::Row;
 use std::alloc::Global;
 
@@ -90,7 +86,7 @@ fn reseal<A: Acts, L: Kms, D: Dice>(
     let Ok(copy) = Text::copy(alloc, row.path.as_str()) else {
         return Err(CallNo::NoMemory);
     };
-    let stored = match seal(alloc, bench, row, &plain) {
+    let stored = match seal(alloc, bench, &row.resource, &row.path, &plain) {
         Ok(stored) => stored,
         Err(why) => return unsealed_step(path, why),
     };
@@ -103,56 +99,6 @@ fn reseal<A: Acts, L: Kms, D: Dice>(
         Ok(answer) => replaced_step(path, answer),
         Err(Spent) => Err(CallNo::Spent),
     }
-}
-
-/// What the row's value holds, by the configuration that the bench adopted.
-fn unseal<L: Kms, D: Dice>(
-    alloc: Global,
-    bench: &mut Bench<L, D>,
-    row: &Row,
-) -> Result<Opened, UnsealNo>
-    requires adopted { IsSome bench.old.published }
-    requires path { length row.now.path ≤ path_limit }
-    requires fits { length row.now.stored ≤ value_limit }
-    ensures opened { IfSome bench.old.published (λ p. UnsealsBy L.truth L.link p.seeds
-        (list_at p row.now.resource) row.now.path row.now.stored bench.old.links result
-        bench.new.links) }
-    ensures asked { AskedOnly L.link (names_of L.link bench.old.links) bench.old.links
-        bench.new.links }
-    ensures kept { bench.new
-        ≡ record bench.old { links = bench.new.links; cache = bench.new.cache } }
-{
-    bench.unseal(
-        alloc,
-        row.resource.as_str(),
-        row.path.as_str(),
-        row.stored.as_slice(),
-    )
-}
-
-/// Seals the data for the row's place, by the configuration that the bench adopted.
-fn seal<L: Kms, D: Dice>(
-    alloc: Global,
-    bench: &mut Bench<L, D>,
-    row: &Row,
-    plain: &Bytes,
-) -> Result<Bytes, SealNo>
-    requires adopted { IsSome bench.old.published }
-    requires path { length row.now.path ≤ path_limit }
-    ensures sealed { IfSome bench.old.published (λ p. Seals D.left D.count p.seeds
-        (writer_at p row.now.resource) row.now.path plain.now bench.old.dice bench.new.dice
-        result) }
-    ensures sealing { IfSome bench.old.published (λ p. IfOk result
-        (λ value. IsSealing p row.now.resource row.now.path plain.now value)) }
-    ensures later { D.count bench.old.dice ≤ D.count bench.new.dice }
-    ensures kept { bench.new ≡ record bench.old { dice = bench.new.dice } }
-{
-    bench.seal(
-        alloc,
-        row.resource.as_str(),
-        row.path.as_str(),
-        plain.as_slice(),
-    )
 }
 
 /// What became of the row.

@@ -1,3 +1,4 @@
+-- The lemmas of kr_rollout: of a core and its opening, its steps and answers, and its laws.
 pub mod Revisions
 pub mod Holders
 pub mod Keeping
@@ -44,3 +45,4 @@ pub mod AdoptedLetGo
 pub mod PartsAdd
 pub mod NoNames
 pub mod LivePuts
+pub mod AskedReaders

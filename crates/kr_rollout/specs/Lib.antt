@@ -1,3 +1,4 @@
+-- The definitions that public contracts and laws name.
 pub mod Checks
 pub mod Entries
 pub mod States

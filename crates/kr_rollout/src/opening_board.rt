@@ -48,10 +48,7 @@ pub fn board_of<T: Tape>(
         Err(NoMemory) => return Err(StartNo::NoMemory),
     };
     let replicas = replicas.as_slice();
-    match note_all(alloc, store, first_of(replicas), &mut board) {
-        Ok(()) => {}
-        Err(why) => return Err(why),
-    }
+    note_all(alloc, store, first_of(replicas), &mut board)?;
     match take_all_up(replicas, &mut board) {
         Ok(()) => Ok(board),
         Err(why) => Err(why),
@@ -178,10 +175,7 @@ fn take_all_up(replicas: &[Option<Shared<Settings>>], board: &mut Board) -> Resu
     ensures { TakesAllUp (rows_in replicas.now) board.old board.new result }
 {
     for (replica, settings) in replicas.iter().enumerate() {
-        match take_up(replica as u32, settings, board) {
-            Ok(()) => {}
-            Err(why) => return Err(why),
-        }
+        take_up(replica as u32, settings, board)?;
     }
     Ok(())
 }

@@ -7,8 +7,8 @@ use Rattle.std.proofs.lemmas.Str.{IsUtf8-from_is_utf8, is_utf8-from_IsUtf8}
 use Rattle.kr_script.specs.declared.script.Script.{Script}
 use Rattle.kr_script.specs.declared.script.ScriptNo.{ScriptNo}
 use Rattle.kr_script.specs.declared.script.ScriptNo.TheVariants.{Breach}
-use Rattle.kr_script.specs.declared.line_no.LineNo.{LineNo}
-use Rattle.kr_script.specs.declared.line_no.LineNo.TheVariants as line_no
+use Rattle.kr_script.specs.declared.line_error.LineError.{LineError}
+use Rattle.kr_script.specs.declared.line_error.LineError.TheVariants as line_error
 use Rattle.kr_script.specs.Fleets.{Fleet}
 use Rattle.kr_script.specs.Rows.{words_of}
 use Rattle.kr_script.specs.inner.Drafts.{Draft}
@@ -18,10 +18,10 @@ use Rattle.kr_script.specs.inner.Reading.{Gives, Moves}
 -- the next line
 next : (n : ℕ) (d : Draft) (ls : List (List ℕ)) (line : List ℕ) (more : List (List ℕ))
     (b : Bool) → ls ≡ line ∷ more → is_utf8 line ≡ b
-    → answer n d ls ≡ goes_on n (if b then row_step d (words_of line) else Err line_no.Form)
+    → answer n d ls ≡ goes_on n (if b then row_step d (words_of line) else Err line_error.Form)
     (λ e. answer (n + 1) e more)
 next n d ls line more b split utf8 = ap (answer n d) split
-    ∙ ap (λ t. goes_on n (if t then row_step d (words_of line) else Err line_no.Form)
+    ∙ ap (λ t. goes_on n (if t then row_step d (words_of line) else Err line_error.Form)
     (λ e. answer (n + 1) e more)) utf8
 
 not_utf8 : (line : List ℕ) (b : Bool) → is_utf8 line ≡ b → (IsUtf8 line → ⊥) → b ≡ false
@@ -43,22 +43,22 @@ pub reading_no_text : (whole : Result Fleet ScriptNo) (n : ℕ) (d : Draft) (ls 
 reading_no_text whole n d ls line more inv split none =
     sym inv ∙ next n d ls line more false split (not_utf8 line (is_utf8 line) refl none)
 
-stops : (whole : Result Fleet ScriptNo) (n : ℕ) (wanted : Result Draft LineNo) (new : Draft)
-    (why : LineNo) (T : Type 0) (rest : Draft → Result Fleet ScriptNo)
+stops : (whole : Result Fleet ScriptNo) (n : ℕ) (wanted : Result Draft LineError) (new : Draft)
+    (why : LineError) (T : Type 0) (rest : Draft → Result Fleet ScriptNo)
     → goes_on n wanted rest ≡ whole → Moves {T = T} wanted new (Err why)
     → Gives whole (Err (at_line n why))
-stops whole n wanted new line_no.Form T rest is moved =
+stops whole n wanted new line_error.Form T rest is moved =
     sym is ∙ ap (λ w. goes_on n w rest) moved
-stops whole n wanted new line_no.Replicas T rest is moved =
+stops whole n wanted new line_error.Replicas T rest is moved =
     sym is ∙ ap (λ w. goes_on n w rest) moved
-stops whole n wanted new line_no.Workers T rest is moved =
+stops whole n wanted new line_error.Workers T rest is moved =
     sym is ∙ ap (λ w. goes_on n w rest) moved
-stops whole n wanted new line_no.TooLarge T rest is moved =
+stops whole n wanted new line_error.TooLarge T rest is moved =
     sym is ∙ ap (λ w. goes_on n w rest) moved
-stops whole n wanted new line_no.NoMemory T rest is moved = tt
+stops whole n wanted new line_error.NoMemory T rest is moved = tt
 
 pub reading_stops : (whole : Result Fleet ScriptNo) (n : ℕ) (d new : Draft) (ls : List (List ℕ))
-    (line text : List ℕ) (more : List (List ℕ)) (why : LineNo) (T : Type 0)
+    (line text : List ℕ) (more : List (List ℕ)) (why : LineError) (T : Type 0)
     → answer n d ls ≡ whole → ls ≡ line ∷ more → text ≡ line → IsUtf8 line
     → Moves {T = T} (row_step d (words_of text)) new (Err why)
     → Gives whole (Err (at_line n why))

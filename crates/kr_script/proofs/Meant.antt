@@ -18,8 +18,8 @@ use Rattle.kr_script.specs.declared.script.ScriptNo.TheVariants.{NoMemory}
 use Rattle.kr_script.specs.declared.script.ScriptLine.{ScriptLine}
 use Rattle.kr_script.specs.declared.statement.Statement.{Statement}
 use Rattle.kr_script.specs.declared.statement.Statement.TheVariants as statement
-use Rattle.kr_script.specs.declared.line_no.LineNo.{LineNo}
-use Rattle.kr_script.specs.declared.line_no.LineNo.TheVariants as line_no
+use Rattle.kr_script.specs.declared.line_error.LineError.{LineError}
+use Rattle.kr_script.specs.declared.line_error.LineError.TheVariants as line_error
 use Rattle.kr_script.specs.Fleets.{Fleet, Worker}
 use Rattle.kr_script.specs.Rows.{Row, words_of, rows_of, is_spoken}
 use Rattle.kr_script.specs.Statements.{WriteAll, statements_of}
@@ -123,17 +123,17 @@ pub one_more : {T : Type 0} (xs : List T) (x : T) → length (xs ++ x ∷ []) �
 one_more xs x = length-append xs (x ∷ [])
 
 -- what a step leaves: within the limits, or past the one that it names
-abbrev pub Left : Option LineNo → Fleet → Type 0
+abbrev pub Left : Option LineError → Fleet → Type 0
 Left None fleet = IsWithin fleet
-Left (Some line_no.Form) fleet = ⊥
-Left (Some line_no.Replicas) fleet = HasReplicas fleet
-Left (Some line_no.Workers) fleet = HasWorkers fleet
-Left (Some line_no.TooLarge) fleet = HasData fleet
-Left (Some line_no.NoMemory) fleet = ⊥
+Left (Some line_error.Form) fleet = ⊥
+Left (Some line_error.Replicas) fleet = HasReplicas fleet
+Left (Some line_error.Workers) fleet = HasWorkers fleet
+Left (Some line_error.TooLarge) fleet = HasData fleet
+Left (Some line_error.NoMemory) fleet = ⊥
 
 left_replica : (d : Draft) (name file : List ℕ) (b : Bool)
     → nat_lt (length d.replicas) replica_limit ≡ b → IsWithin (fleet_in d)
-    → Left (if b then None else Some line_no.Replicas)
+    → Left (if b then None else Some line_error.Replicas)
     (fleet_in (with_statement d (statement.Replica name file)))
 left_replica d name file true e h = record {
   replicas = let l = ltb-true (length d.replicas) replica_limit e in
@@ -147,7 +147,7 @@ left_replica d name file false e h =
 
 left_worker : (d : Draft) (name : List ℕ) (k : ℕ) (b : Bool)
     → nat_lt (length (workers_in d)) worker_limit ≡ b → IsWithin (fleet_in d)
-    → Left (if b then None else Some line_no.Workers)
+    → Left (if b then None else Some line_error.Workers)
     (fleet_in (with_statement d (statement.Worker name k)))
 left_worker d name k true e h = record {
   replicas = h.replicas;
@@ -161,7 +161,7 @@ left_worker d name k false e h =
 
 left_last : (rs : Listed) (ws : List Worker) (w : Worker) (line : ScriptLine) (b : Bool)
     → is_long line ≡ b → IsWithin (record { replicas = rs; workers = ws ++ w ∷ [] })
-    → Left (if b then Some line_no.TooLarge else None)
+    → Left (if b then Some line_error.TooLarge else None)
     (record { replicas = rs; workers = ws ++ with_line line w ∷ [] })
 left_last rs ws w line b e h =
     let parts = long_parts ws w h.lines in
@@ -174,7 +174,7 @@ left_last rs ws w line b e h =
     by : (b : Bool) → list_any is_long (w.lines ++ line ∷ []) ≡ b
         → list_any (λ (x : Worker). list_any is_long x.lines) ws ≡ false
         → length (ws ++ with_line line w ∷ []) ≤ worker_limit
-        → Left (if b then Some line_no.TooLarge else None)
+        → Left (if b then Some line_error.TooLarge else None)
         (record { replicas = rs; workers = ws ++ with_line line w ∷ [] })
     by true long none few = (h.replicas, few, long_here ws (with_line line w) long)
     by false long none few = record {
@@ -186,7 +186,7 @@ left_last rs ws w line b e h =
 left_line : (rs : Listed) (ws : List Worker) (last : Option Worker) (line : ScriptLine)
     → is_some last ≡ true
     → IsWithin (record { replicas = rs; workers = ws ++ option_to_list last })
-    → Left (if is_long line then Some line_no.TooLarge else None)
+    → Left (if is_long line then Some line_error.TooLarge else None)
     (record { replicas = rs; workers = ws ++ option_to_list (option_map (with_line line) last) })
 left_line rs ws None line some h = absurd (both_ways false refl some)
 left_line rs ws (Some w) line some h = left_last rs ws w line (is_long line) refl h
@@ -307,16 +307,16 @@ limit_at text line more d Limit fleet s say limit = (
 )
 
 stopped : (text : Text) (line : List ℕ) (more : Text) (d : Draft) (n : ℕ) (fleet : Fleet)
-    (why : LineNo) → Stood text d → Say (text ++ line ∷ []) fleet → Left (Some why) fleet
+    (why : LineError) → Stood text d → Say (text ++ line ∷ []) fleet → Left (Some why) fleet
     → LinesMean (text ++ line ∷ more) (Err (at_line n why))
-stopped text line more d n fleet line_no.Form s say left = absurd left
-stopped text line more d n fleet line_no.Replicas s say left =
+stopped text line more d n fleet line_error.Form s say left = absurd left
+stopped text line more d n fleet line_error.Replicas s say left =
     limit_at text line more d HasReplicas fleet s say left
-stopped text line more d n fleet line_no.Workers s say left =
+stopped text line more d n fleet line_error.Workers s say left =
     limit_at text line more d HasWorkers fleet s say left
-stopped text line more d n fleet line_no.TooLarge s say left =
+stopped text line more d n fleet line_error.TooLarge s say left =
     limit_at text line more d HasData fleet s say left
-stopped text line more d n fleet line_no.NoMemory s say left = absurd left
+stopped text line more d n fleet line_error.NoMemory s say left = absurd left
 
 -- ---- line by line
 
@@ -428,7 +428,7 @@ spoken_line text line more n d (Some st) read s number utf8 spoke rest =
       rules = h.rules;
     }
 
-    by : (limit : Option LineNo) → Left limit (fleet_in (with_statement d st))
+    by : (limit : Option LineError) → Left limit (fleet_in (with_statement d st))
         → LinesMean (text ++ line ∷ more)
         (goes_on n (draft_within d st limit) (λ e. answer (n + 1) e more))
     by None left = rest (with_statement d st)
@@ -442,7 +442,7 @@ line_by : (text : Text) (line : List ℕ) (more : Text) (n : ℕ) (d : Draft) (u
     → ((e : Draft) → Stood (text ++ line ∷ []) e
     → LinesMean (text ++ line ∷ more) (answer (n + 1) e more))
     → LinesMean (text ++ line ∷ more)
-    (goes_on n (if u then (if v then step d (words_of line) else Ok d) else Err line_no.Form)
+    (goes_on n (if u then (if v then step d (words_of line) else Ok d) else Err line_error.Form)
     (λ e. answer (n + 1) e more))
 line_by text line more n d false v utf8 spoke s number rest =
     breach_at text line more d n s number (not_text text line utf8)

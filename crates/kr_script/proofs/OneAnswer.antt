@@ -17,8 +17,8 @@ use Rattle.kr_script.specs.declared.script.ScriptNo.TheVariants.{NoMemory}
 use Rattle.kr_script.specs.declared.script.ScriptLine.{ScriptLine}
 use Rattle.kr_script.specs.declared.statement.Statement.{Statement}
 use Rattle.kr_script.specs.declared.statement.Statement.TheVariants as statement
-use Rattle.kr_script.specs.declared.line_no.LineNo.{LineNo}
-use Rattle.kr_script.specs.declared.line_no.LineNo.TheVariants as line_no
+use Rattle.kr_script.specs.declared.line_error.LineError.{LineError}
+use Rattle.kr_script.specs.declared.line_error.LineError.TheVariants as line_error
 use Rattle.kr_script.specs.Fleets.{Fleet, Worker}
 use Rattle.kr_script.specs.Rows.{words_of, rows_of, is_spoken}
 use Rattle.kr_script.specs.Rules.{IsWhole, IsWithin, is_long}
@@ -83,20 +83,20 @@ back d (statement.Worker name number) h =
     }
 back d (statement.Line line) h = back_line d.replicas d.workers d.last line h
 
-not_within : (why : LineNo) (fleet : Fleet) → Left (Some why) fleet → IsWithin fleet → ⊥
-not_within line_no.Form fleet left h = left
-not_within line_no.Replicas fleet left h = let k = h.replicas in omega (arith, left, k)
-not_within line_no.Workers fleet left h =
+not_within : (why : LineError) (fleet : Fleet) → Left (Some why) fleet → IsWithin fleet → ⊥
+not_within line_error.Form fleet left h = left
+not_within line_error.Replicas fleet left h = let k = h.replicas in omega (arith, left, k)
+not_within line_error.Workers fleet left h =
     let k = h.workers in let l = left.1 in omega (arith, l, k)
-not_within line_no.TooLarge fleet left h =
+not_within line_error.TooLarge fleet left h =
     both_ways _ h.lines left.2
-not_within line_no.NoMemory fleet left h = left
+not_within line_error.NoMemory fleet left h = left
 
 not_passed : (d : Draft) (st : Statement) → MayCome d st → IsWithin (fleet_in (with_statement d st))
     → passes d st ≡ None
 not_passed d st may h = by (passes d st) (left_by d st (back d st h) may)
   where
-    by : (o : Option LineNo) → Left o (fleet_in (with_statement d st)) → o ≡ None
+    by : (o : Option LineError) → Left o (fleet_in (with_statement d st)) → o ≡ None
     by None left = refl
     by (Some why) left = absurd (not_within why (fleet_in (with_statement d st)) left h)
 
@@ -110,14 +110,14 @@ step_is : (d : Draft) (line : List ℕ) (st : Statement) → is_utf8 line ≡ tr
     → is_spoken (words_of line) ≡ true → statement_of d (words_of line) ≡ Some st
     → passes d st ≡ None → line_step d line ≡ Ok (with_statement d st)
 step_is d line st utf8 spoke read free =
-    ap (λ b. if b then row_step d (words_of line) else Err line_no.Form) utf8
+    ap (λ b. if b then row_step d (words_of line) else Err line_error.Form) utf8
     ∙ ap (λ b. if b then step d (words_of line) else Ok d) spoke
     ∙ ap (step_by d) read ∙ ap (draft_within d st) free
 
 stays : (d : Draft) (line : List ℕ) → is_utf8 line ≡ true → is_spoken (words_of line) ≡ false
     → line_step d line ≡ Ok d
 stays d line utf8 silence =
-    ap (λ b. if b then row_step d (words_of line) else Err line_no.Form) utf8
+    ap (λ b. if b then row_step d (words_of line) else Err line_error.Form) utf8
     ∙ ap (λ b. if b then step d (words_of line) else Ok d) silence
 
 record Ran (n : ℕ) (d : Draft) (front : Text) (e : Draft) : Type 0 where
@@ -198,11 +198,11 @@ ran_none : (text : Text) (d : Draft) → list_all is_utf8 text ≡ true
 ran_none text d utf8 ran none = says text d utf8 (sound (rows_of text) d ran) none
 
 none_stops : (front : Text) (line : List ℕ) (d : Draft) → Stood front d
-    → IsNone (front ++ line ∷ []) → line_step d line ≡ Err line_no.Form
+    → IsNone (front ++ line ∷ []) → line_step d line ≡ Err line_error.Form
 none_stops front line d s none = by (is_utf8 line) refl
   where
     said : is_utf8 line ≡ true → is_spoken (words_of line) ≡ true → (o : Option Statement)
-        → statement_of d (words_of line) ≡ o → step_by d o ≡ Err line_no.Form
+        → statement_of d (words_of line) ≡ o → step_by d o ≡ Err line_error.Form
     said utf8 spoke None read = refl
     said utf8 spoke (Some st) read = absurd (ran_none (front ++ line ∷ []) (with_statement d st)
         (utf8_push front line s.utf8 utf8)
@@ -210,48 +210,48 @@ none_stops front line d s none = by (is_utf8 line) refl
         ∙ ap (option_and_then (λ x. Some (with_statement d x))) read) none)
 
     spoken : is_utf8 line ≡ true → (v : Bool) → is_spoken (words_of line) ≡ v
-        → (if v then step d (words_of line) else Ok d) ≡ Err line_no.Form
+        → (if v then step d (words_of line) else Ok d) ≡ Err line_error.Form
     spoken utf8 true spoke = said utf8 spoke (statement_of d (words_of line)) refl
     spoken utf8 false silence = absurd (ran_none (front ++ line ∷ []) d
         (utf8_push front line s.utf8 utf8) (run_silent front line d s.ran silence) none)
 
     by : (u : Bool) → is_utf8 line ≡ u
-        → (if u then row_step d (words_of line) else Err line_no.Form) ≡ Err line_no.Form
+        → (if u then row_step d (words_of line) else Err line_error.Form) ≡ Err line_error.Form
     by false e = refl
     by true e = spoken e (is_spoken (words_of line)) refl
 
-same_replicas : (why : LineNo) (f : Fleet) → Left (Some why) f → HasReplicas f
-    → why ≡ line_no.Replicas
-same_replicas line_no.Form f left h = absurd left
-same_replicas line_no.Replicas f left h = refl
-same_replicas line_no.Workers f left h = let k = left.0 in absurd (omega (arith, k, h))
-same_replicas line_no.TooLarge f left h = let k = left.0 in absurd (omega (arith, k, h))
-same_replicas line_no.NoMemory f left h = absurd left
+same_replicas : (why : LineError) (f : Fleet) → Left (Some why) f → HasReplicas f
+    → why ≡ line_error.Replicas
+same_replicas line_error.Form f left h = absurd left
+same_replicas line_error.Replicas f left h = refl
+same_replicas line_error.Workers f left h = let k = left.0 in absurd (omega (arith, k, h))
+same_replicas line_error.TooLarge f left h = let k = left.0 in absurd (omega (arith, k, h))
+same_replicas line_error.NoMemory f left h = absurd left
 
-same_workers : (why : LineNo) (f : Fleet) → Left (Some why) f → HasWorkers f
-    → why ≡ line_no.Workers
-same_workers line_no.Form f left h = absurd left
-same_workers line_no.Replicas f left h = let k = h.0 in absurd (omega (arith, k, left))
-same_workers line_no.Workers f left h = refl
-same_workers line_no.TooLarge f left h =
+same_workers : (why : LineError) (f : Fleet) → Left (Some why) f → HasWorkers f
+    → why ≡ line_error.Workers
+same_workers line_error.Form f left h = absurd left
+same_workers line_error.Replicas f left h = let k = h.0 in absurd (omega (arith, k, left))
+same_workers line_error.Workers f left h = refl
+same_workers line_error.TooLarge f left h =
     let k = left.1 in let l = h.1 in absurd (omega (arith, k, l))
-same_workers line_no.NoMemory f left h = absurd left
+same_workers line_error.NoMemory f left h = absurd left
 
-same_data : (why : LineNo) (f : Fleet) → Left (Some why) f → HasData f → why ≡ line_no.TooLarge
-same_data line_no.Form f left h = absurd left
-same_data line_no.Replicas f left h = let k = h.0 in absurd (omega (arith, k, left))
-same_data line_no.Workers f left h =
+same_data : (why : LineError) (f : Fleet) → Left (Some why) f → HasData f → why ≡ line_error.TooLarge
+same_data line_error.Form f left h = absurd left
+same_data line_error.Replicas f left h = let k = h.0 in absurd (omega (arith, k, left))
+same_data line_error.Workers f left h =
     let k = h.1 in let l = left.1 in absurd (omega (arith, k, l))
-same_data line_no.TooLarge f left h = refl
-same_data line_no.NoMemory f left h = absurd left
+same_data line_error.TooLarge f left h = refl
+same_data line_error.NoMemory f left h = absurd left
 
 -- the fleet that a line more writes, past a limit
-limit_stops : (front : Text) (line : List ℕ) (d : Draft) (fleet : Fleet) (limit : LineNo)
+limit_stops : (front : Text) (line : List ℕ) (d : Draft) (fleet : Fleet) (limit : LineError)
     → Stood front d → Say (front ++ line ∷ []) fleet → (IsWithin fleet → ⊥)
-    → ((why : LineNo) → Left (Some why) fleet → why ≡ limit)
+    → ((why : LineError) → Left (Some why) fleet → why ≡ limit)
     → line_step d line ≡ Err limit
 limit_stops front line d fleet limit s say past only =
-    ap (λ b. if b then row_step d (words_of line) else Err line_no.Form) utf8
+    ap (λ b. if b then row_step d (words_of line) else Err line_error.Form) utf8
     ∙ spoken (is_spoken (words_of line)) refl
   where
     utf8 : is_utf8 line ≡ true
@@ -260,7 +260,7 @@ limit_stops front line d fleet limit s say past only =
     reaches : Reaches (rows_of (front ++ line ∷ [])) fleet
     reaches = complete (rows_of (front ++ line ∷ [])) fleet say.written say.rules
 
-    by_limit : (st : Statement) → fleet_in (with_statement d st) ≡ fleet → (o : Option LineNo)
+    by_limit : (st : Statement) → fleet_in (with_statement d st) ≡ fleet → (o : Option LineError)
         → Left o (fleet_in (with_statement d st)) → draft_within d st o ≡ Err limit
     by_limit st same None left = absurd (past (subst IsWithin same left))
     by_limit st same (Some why) left =
@@ -321,7 +321,7 @@ at_line_of (first ∷ text) (suc at) h =
       size = ap suc a.size;
     }
 
-answered_at : (text : Text) (at : ℕ) (a : At text at) (d : Draft) (why : LineNo)
+answered_at : (text : Text) (at : ℕ) (a : At text at) (d : Draft) (why : LineError)
     → Stood a.front d → line_step d a.line ≡ Err why
     → answer 1 start text ≡ Err (at_line (1 + at) why)
 answered_at text at a d why s stops =
@@ -360,7 +360,7 @@ answered text (Ok fleet) (say, within, whole) =
 answered text (Err (Breach n)) (at, number, front, inl (inside, none)) =
     let a = at_line_of text at inside in
     let b = stood a.front (subst IsBegun a.before front) in
-    answered_at text at a b.draft line_no.Form b.stood
+    answered_at text at a b.draft line_error.Form b.stood
     (none_stops a.front a.line b.draft b.stood (subst IsNone a.with none))
     ∙ ap (λ m. Err (Breach m)) (omega (arith, number))
 answered text (Err (Breach n)) (at, number, front, inr (end, none)) =
@@ -380,26 +380,26 @@ answered text (Err (Breach n)) (at, number, front, inr (end, none)) =
 answered text (Err Replicas) (at, front, (inside, (fleet, say, past))) =
     let a = at_line_of text at inside in
     let b = stood a.front (subst IsBegun a.before front) in
-    answered_at text at a b.draft line_no.Replicas b.stood
-    (limit_stops a.front a.line b.draft fleet line_no.Replicas b.stood
+    answered_at text at a b.draft line_error.Replicas b.stood
+    (limit_stops a.front a.line b.draft fleet line_error.Replicas b.stood
     (subst (λ (l : Text). Say l fleet) a.with say)
-    (λ h. not_within line_no.Replicas fleet past h)
+    (λ h. not_within line_error.Replicas fleet past h)
     (λ why left. same_replicas why fleet left past))
 answered text (Err Workers) (at, front, (inside, (fleet, say, past))) =
     let a = at_line_of text at inside in
     let b = stood a.front (subst IsBegun a.before front) in
-    answered_at text at a b.draft line_no.Workers b.stood
-    (limit_stops a.front a.line b.draft fleet line_no.Workers b.stood
+    answered_at text at a b.draft line_error.Workers b.stood
+    (limit_stops a.front a.line b.draft fleet line_error.Workers b.stood
     (subst (λ (l : Text). Say l fleet) a.with say)
-    (λ h. not_within line_no.Workers fleet past h)
+    (λ h. not_within line_error.Workers fleet past h)
     (λ why left. same_workers why fleet left past))
 answered text (Err TooLarge) (at, front, (inside, (fleet, say, past))) =
     let a = at_line_of text at inside in
     let b = stood a.front (subst IsBegun a.before front) in
-    answered_at text at a b.draft line_no.TooLarge b.stood
-    (limit_stops a.front a.line b.draft fleet line_no.TooLarge b.stood
+    answered_at text at a b.draft line_error.TooLarge b.stood
+    (limit_stops a.front a.line b.draft fleet line_error.TooLarge b.stood
     (subst (λ (l : Text). Say l fleet) a.with say)
-    (λ h. not_within line_no.TooLarge fleet past h)
+    (λ h. not_within line_error.TooLarge fleet past h)
     (λ why left. same_data why fleet left past))
 answered text (Err NoMemory) h = absurd h
 

@@ -7,7 +7,7 @@ mod fleet_output;
 mod head;
 mod journal_text;
 mod laws;
-mod line_no;
+mod line_error;
 mod line_text;
 mod lines;
 mod reading;

@@ -13,8 +13,7 @@ use std::str;
 /// Reads a fleet file: UTF-8 in lines that LF or CR LF ends, blank lines and lines that begin with
 /// `#` left out. The first line is `fleet 1`; then come the replicas, and behind them the workers,
 /// each with its lines. The first line that can't stand there is a breach; a 17th replica, a 65th
-/// worker and data above 2,097,152 bytes pass a limit, where their line is no breach. It takes time
-/// in proportion to the file.
+/// worker and data above 2,097,152 bytes pass a limit, where their line is no breach.
 pub fn read_script(alloc: Global, bytes: &[u8]) -> Result<Script, ScriptNo>
     ensures { ReadsScript bytes.now result }
 {

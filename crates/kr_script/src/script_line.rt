@@ -7,7 +7,7 @@ ghost use Rattle.kr_script.specs.inner.Drafts.{place_from, place_of, put_in, get
 ghost use Rattle.kr_script.specs.inner.Drafts.{reload_in, join_in, leave_in, line_in};
 ghost use Rattle.kr_script.specs.inner.Reading.{Finds};
 
-use crate::line_no::LineNo;
+use crate::line_error::LineError;
 use crate::script::ScriptLine;
 use crate::statement::Keyword;
 use crate::words::{is_blank, one_word, three_words, two_words};
@@ -23,46 +23,46 @@ pub fn read_line(
     replicas: &[(Text, Text)],
     keyword: Keyword,
     rest: &str,
-) -> Result<ScriptLine, LineNo>
+) -> Result<ScriptLine, LineError>
     requires { length replicas.now ≤ 16 }
     ensures { Finds (line_in replicas.now keyword (words_of rest.now)) result }
 {
     match keyword {
         Keyword::Put => match three_words(rest) {
             Some((resource, path, word)) => read_put(alloc, resource, path, word),
-            None => Err(LineNo::Form),
+            None => Err(LineError::Form),
         },
         Keyword::Get => match one_word(rest) {
             Some(path) => read_get(alloc, path),
-            None => Err(LineNo::Form),
+            None => Err(LineError::Form),
         },
         Keyword::Delete => match one_word(rest) {
             Some(path) => read_delete(alloc, path),
-            None => Err(LineNo::Form),
+            None => Err(LineError::Form),
         },
         Keyword::Rewrite if is_blank(rest) => Ok(ScriptLine::Rewrite),
         Keyword::Reload => match two_words(rest) {
             Some((name, file)) => read_reload(alloc, replicas, name, file),
-            None => Err(LineNo::Form),
+            None => Err(LineError::Form),
         },
         Keyword::Refresh if is_blank(rest) => Ok(ScriptLine::Refresh),
         Keyword::Join => match two_words(rest) {
             Some((name, file)) => read_join(alloc, replicas, name, file),
-            None => Err(LineNo::Form),
+            None => Err(LineError::Form),
         },
         Keyword::Leave => match one_word(rest) {
             Some(name) => read_leave(replicas, name),
-            None => Err(LineNo::Form),
+            None => Err(LineError::Form),
         },
-        _ => Err(LineNo::Form),
+        _ => Err(LineError::Form),
     }
 }
 
-fn read_put(alloc: Global, resource: &str, path: &str, word: &str) -> Result<ScriptLine, LineNo>
+fn read_put(alloc: Global, resource: &str, path: &str, word: &str) -> Result<ScriptLine, LineError>
     ensures { Finds (put_in (resource.now, path.now, word.now)) result }
 {
     if !resource_ok(resource) || !path_ok(path) {
-        return Err(LineNo::Form);
+        return Err(LineError::Form);
     }
     let plain = read_data(alloc, word)?;
     Ok(ScriptLine::Put {
@@ -73,7 +73,7 @@ fn read_put(alloc: Global, resource: &str, path: &str, word: &str) -> Result<Scr
 }
 
 /// `-`, or the data in strict standard base64.
-fn read_data(alloc: Global, word: &str) -> Result<Bytes, LineNo>
+fn read_data(alloc: Global, word: &str) -> Result<Bytes, LineError>
     ensures { Finds (data_of word.now) result }
 {
     if word == "-" {
@@ -81,27 +81,27 @@ fn read_data(alloc: Global, word: &str) -> Result<Bytes, LineNo>
     }
     match STANDARD.decode(alloc, word.as_bytes()) {
         Ok(plain) => Ok(Bytes::from_vec(plain)),
-        Err(DecodeAllocError::OutOfMemory) => Err(LineNo::NoMemory),
-        Err(DecodeAllocError::DecodeError(_)) => Err(LineNo::Form),
+        Err(DecodeAllocError::OutOfMemory) => Err(LineError::NoMemory),
+        Err(DecodeAllocError::DecodeError(_)) => Err(LineError::Form),
     }
 }
 
-fn read_get(alloc: Global, path: &str) -> Result<ScriptLine, LineNo>
+fn read_get(alloc: Global, path: &str) -> Result<ScriptLine, LineError>
     ensures { Finds (get_in path.now) result }
 {
     if !path_ok(path) {
-        return Err(LineNo::Form);
+        return Err(LineError::Form);
     }
     Ok(ScriptLine::Get {
         path: Text::copy(alloc, path)?,
     })
 }
 
-fn read_delete(alloc: Global, path: &str) -> Result<ScriptLine, LineNo>
+fn read_delete(alloc: Global, path: &str) -> Result<ScriptLine, LineError>
     ensures { Finds (delete_in path.now) result }
 {
     if !path_ok(path) {
-        return Err(LineNo::Form);
+        return Err(LineError::Form);
     }
     Ok(ScriptLine::Delete {
         path: Text::copy(alloc, path)?,
@@ -113,7 +113,7 @@ fn read_reload(
     replicas: &[(Text, Text)],
     name: &str,
     file: &str,
-) -> Result<ScriptLine, LineNo>
+) -> Result<ScriptLine, LineError>
     requires { length replicas.now ≤ 16 }
     ensures { Finds (reload_in replicas.now (name.now, file.now)) result }
 {
@@ -122,7 +122,7 @@ fn read_reload(
             replica,
             file: Text::copy(alloc, file)?,
         }),
-        None => Err(LineNo::Form),
+        None => Err(LineError::Form),
     }
 }
 
@@ -131,7 +131,7 @@ fn read_join(
     replicas: &[(Text, Text)],
     name: &str,
     file: &str,
-) -> Result<ScriptLine, LineNo>
+) -> Result<ScriptLine, LineError>
     requires { length replicas.now ≤ 16 }
     ensures { Finds (join_in replicas.now (name.now, file.now)) result }
 {
@@ -140,17 +140,17 @@ fn read_join(
             replica,
             file: Text::copy(alloc, file)?,
         }),
-        None => Err(LineNo::Form),
+        None => Err(LineError::Form),
     }
 }
 
-fn read_leave(replicas: &[(Text, Text)], name: &str) -> Result<ScriptLine, LineNo>
+fn read_leave(replicas: &[(Text, Text)], name: &str) -> Result<ScriptLine, LineError>
     requires { length replicas.now ≤ 16 }
     ensures { Finds (leave_in replicas.now name.now) result }
 {
     match place_of(replicas, name) {
         Some(replica) => Ok(ScriptLine::Leave { replica }),
-        None => Err(LineNo::Form),
+        None => Err(LineError::Form),
     }
 }
 

@@ -8,7 +8,7 @@ use lib.ListN.{get_elem?}
 use Rattle.kr_base.specs.Lines.{of_seat, Stands}
 use Rattle.kr_kms.specs.Truth.{Opens}
 use Rattle.kr_turn.specs.Keys.{Home}
-use Rattle.kr_turn.specs.Seats.{AreAll, number_of, seen, mine}
+use Rattle.kr_turn.specs.Seats.{AreAll, number_of, lines_seen, mine}
 use Rattle.kr_turn.specs.declared.seat.Place.{Place}
 use Rattle.kr_turn.proofs.Rows.{get_at, map_from, All-by_elem, Contains-elem}
 use Rattle.kr_rollout.specs.declared.opening.Entry.{Entry}
@@ -47,7 +47,8 @@ among (y ∷ front) rest x = among front rest x
 
 module _ {S : Type 0} (home : Home Opening) (seats : List (Place S Entry Opening))
     (history : List Entry) (all : AreAll home seats)
-    (stand : All (λ seat. Stands seat_of history (number_of seat) (seen seat) (mine seat)) seats)
+    (stand : All
+    (λ seat. Stands seat_of history (number_of seat) (lines_seen seat) (mine seat)) seats)
     (no_other : (number : ℕ) → length home.terms.budgets ≤ number
     → of_seat seat_of number history ≡ []) where
   -- the seat of a number
@@ -55,7 +56,7 @@ module _ {S : Type 0} (home : Home Opening) (seats : List (Place S Entry Opening
     seat : Place S Entry Opening
     among_them : Contains seats seat
     number_is : number_of seat ≡ number
-    stands : Stands seat_of history (number_of seat) (seen seat) (mine seat)
+    stands : Stands seat_of history (number_of seat) (lines_seen seat) (mine seat)
 
   seat_at : (number : ℕ) → number < length home.terms.budgets → SeatAt number
   seat_at number low =
@@ -68,7 +69,7 @@ module _ {S : Type 0} (home : Home Opening) (seats : List (Place S Entry Opening
         among_them = in_them;
         number_is = from.2;
         stands = All-contains
-            (λ seat. Stands seat_of history (number_of seat) (seen seat) (mine seat))
+            (λ seat. Stands seat_of history (number_of seat) (lines_seen seat) (mine seat))
             seats from.0 stand in_them;
       }
 
@@ -99,14 +100,15 @@ module _ {S : Type 0} (home : Home Opening) (seats : List (Place S Entry Opening
       (parted (seat_of e) (length home.terms.budgets)))
 
   keeps_at : (opens : Opens) → All (IsFleetSeat home) seats
-      → All (λ seat. KeepsHonest opens home.terms.basis (number_of seat) (seen seat)) seats
+      → All (λ seat. KeepsHonest opens home.terms.basis (number_of seat) (lines_seen seat)) seats
       → (number : ℕ) → KeepsHonest opens home.terms.basis number history
   keeps_at opens theirs keeps number = ⊎_elim
       (λ low. let s = seat_at number low in
       subst (λ n. KeepsHonest opens home.terms.basis n history) s.number_is
-      (honesty_stands opens home.terms.basis history (number_of s.seat) (seen s.seat) (mine s.seat)
+      (honesty_stands opens home.terms.basis history (number_of s.seat) (lines_seen s.seat)
+      (mine s.seat)
       s.stands (All-contains (IsFleetSeat home) seats s.seat theirs s.among_them).caller.own
-      (All-contains (λ seat. KeepsHonest opens home.terms.basis (number_of seat) (seen seat))
+      (All-contains (λ seat. KeepsHonest opens home.terms.basis (number_of seat) (lines_seen seat))
       seats s.seat keeps s.among_them)))
       (λ high front e rest is seat_is honest. absurd (no_entry e (length front) number
       (ap (λ l. get_elem? l (length front)) is ∙ among front rest e) seat_is high))

@@ -1,7 +1,7 @@
 -- A core with several seats: what a seat is as a caller of it, and what the seats know at the end.
 use Rattle.std.specs.Prelude.{◌≡◌, ℕ, List, [], All, Contains}
 use Rattle.kr_turn.specs.Keys.{Home}
-use Rattle.kr_turn.specs.Seats.{IsSeatOf, number_of, left_of, seen, mine}
+use Rattle.kr_turn.specs.Seats.{IsSeatOf, number_of, left_of, lines_seen, mine}
 use Rattle.kr_turn.specs.declared.seat.Place.{Place}
 use Rattle.kr_kms.specs.Truth.{Opens}
 use Rattle.kr_rollout.specs.declared.answer.Answer.{Answer}
@@ -22,7 +22,7 @@ IsEntryOf o before seat event answer e =
     IsStep o (state_of o before) e × Records seat event answer e
 
 -- a seat that acts on a fleet: which fleet it is, and the seat
-pub record Seated (S : Type 0) : Type 0 where
+pub record FleetSeat (S : Type 0) : Type 0 where
   pub home : Home Opening
   pub seat : Place S Entry Opening
 
@@ -32,7 +32,7 @@ module _ {S : Type 0} where
   caller_of home seat = record {
     opening = home.terms.basis;
     seat = number_of seat;
-    seen = seen seat;
+    seen = lines_seen seat;
     mine = mine seat;
     left = left_of seat;
   }
@@ -51,5 +51,5 @@ module _ {S : Type 0} where
   abbrev pub HonestIfSeatsAre : Home Opening → List (Place S Entry Opening) → List Entry → Type 0
   HonestIfSeatsAre home seats history = (opens : Opens) → IsHonest opens home.terms.basis []
       → All (IsFleetSeat home) seats
-      → All (λ seat. KeepsHonest opens home.terms.basis (number_of seat) (seen seat)) seats
+      → All (λ seat. KeepsHonest opens home.terms.basis (number_of seat) (lines_seen seat)) seats
       → IsHonest opens home.terms.basis history

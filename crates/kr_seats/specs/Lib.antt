@@ -1,1 +1,2 @@
+-- The definitions that public contracts and laws name.
 pub mod Fleets

@@ -18,10 +18,10 @@ pub struct At<'a, T: Tape, R> {
 }
 
 impl<'a, T: Tape, R> Model for At<'a, T, R> {
-    ghost use Rattle.kr_seats.specs.Fleets.{IsFleetSeat, Seated};
+    ghost use Rattle.kr_seats.specs.Fleets.{IsFleetSeat, FleetSeat};
     ghost use Rattle.kr_seats.specs.declared.shared_core.SharedCore.{SharedCore};
 
-    ghost Value = { Seated (SharedCore T) };
+    ghost Value = { FleetSeat (SharedCore T) };
 
     ghost view = { λ at. record { home = at.fleet.now; seat = at.seat } };
 
@@ -51,14 +51,14 @@ impl<'a, T: Tape, R> At<'a, T, R> {
 }
 
 impl<'a, T: Tape, R: Wait> Acts for At<'a, T, R> {
-    ghost use Rattle.kr_seats.specs.Fleets.{Seated, caller_of};
+    ghost use Rattle.kr_seats.specs.Fleets.{FleetSeat, caller_of};
     ghost use Rattle.kr_seats.specs.declared.shared_core.SharedCore.{SharedCore};
 
     type Place = Fleet<T>;
 
-    ghost place = { λ (at : Seated (SharedCore T)). at.home };
+    ghost place = { λ (at : FleetSeat (SharedCore T)). at.home };
 
-    ghost caller = { λ (at : Seated (SharedCore T)). caller_of at.home at.seat };
+    ghost caller = { λ (at : FleetSeat (SharedCore T)). caller_of at.home at.seat };
 
     fn seat(&self) -> u32 {
         self.seat.number()

@@ -1,7 +1,7 @@
 //! A core with several seats.
 ghost use Rattle.std.specs.Prelude.{◌≡◌, ◌↔◌, ◌<◌, ◌≤◌, ◌^◌, ℕ, [], length, sum, All, IsErr, IfOk, IfErr, OnErr};
 ghost use Rattle.kr_base.specs.Lines.{of_seat, Stands};
-ghost use Rattle.kr_turn.specs.Seats.{AreFresh, AreAll, number_of, left_of, seen, mine};
+ghost use Rattle.kr_turn.specs.Seats.{AreFresh, AreAll, number_of, left_of, lines_seen, mine};
 ghost use Rattle.kr_rollout.specs.Acting.{AddsEntry};
 ghost use Rattle.kr_rollout.specs.Callers.{MayAsk};
 ghost use Rattle.kr_rollout.specs.Entries.{seat_of};
@@ -100,7 +100,7 @@ impl<T: Tape> Fleet<T> {
         ensures kept { (result.opening ≡ self.terms.basis) × (result.room ≡ self.terms.room) }
         ensures legal { IsLegal result.opening result.history }
         ensures stand { All (λ seat.
-            Stands seat_of result.history (number_of seat) (seen seat) (mine seat)) seats.0 }
+            Stands seat_of result.history (number_of seat) (lines_seen seat) (mine seat)) seats.0 }
         ensures added { AreAdded seats.0 result.history }
         ensures honest { HonestIfSeatsAre self seats.0 result.history }
     {

@@ -5,7 +5,7 @@ mod turns;
 
 use crate::tests::core_in_memory::core;
 use crate::tests::lists::both_left;
-use crate::tests::turns::{each_in_a_thread, lines_of, moved_into_a_thread};
+use crate::tests::turns::{each_in_a_thread, have_adopted, moved_into_a_thread};
 use std::test::Fail;
 
 #[test]
@@ -13,9 +13,7 @@ fn two_seats_adopt_in_two_threads(rt: HostRuntime) -> Result<(), Fail> {
     let alloc = rt.alloc();
     let core = core(alloc, 400).ok_or("no core")?;
     let core = each_in_a_thread(&rt, alloc, core, &[200, 200], 100).ok_or("no memory")?;
-    assert_eq!(rt; core.journal().len(), 400);
-    assert!(rt; lines_of(&core, 0));
-    assert!(rt; lines_of(&core, 1));
+    assert!(rt; have_adopted(core));
     Ok(())
 }
 
@@ -29,7 +27,7 @@ fn a_core_goes_to_another_thread(rt: HostRuntime) -> Result<(), Fail> {
 #[test]
 fn a_list_of_events_is_made(rt: HostRuntime) -> Result<(), Fail> {
     let alloc = rt.alloc();
-    let mut core = core(alloc, 2).ok_or("no core")?;
-    assert!(rt; both_left(alloc, &mut core));
+    let core = core(alloc, 2).ok_or("no core")?;
+    assert!(rt; both_left(alloc, core));
     Ok(())
 }

@@ -6,10 +6,11 @@ use Rattle.std.proofs.Math.Seq.{take-append-add, take-append_seam}
 use Rattle.std.specs.Option.{option_map}
 use Rattle.std.specs.Io.KnownBytes.{Consumes}
 use Rattle.std.proofs.KnownBytes.{Consumes-trans}
+use Rattle.kr_base.proofs.Counting.{Rose-later}
 use Rattle.kr_base.specs.Told.{Agrees}
 use Rattle.kr_base.specs.Tapes.{ReadsAt}
 use Rattle.kr_store.specs.Breaches.{Read, behind, part}
-use Rattle.kr_store.specs.inner.Reading.{Ahead, Moves, Breaks, Takes, Begins, Gives, IsShort, IsNamed, Names, MayBreak}
+use Rattle.kr_store.specs.inner.Reading.{Ahead, Moves, Breaks, Takes, Begins, Reads, IsShort, IsNamed, Names, MayBreak}
 use Rattle.kr_store.specs.declared.format.Format.{Format}
 use Rattle.kr_store.specs.File.{store_name, magic}
 use Rattle.kr_store.specs.declared.answers.StoreNo.{StoreNo}
@@ -141,6 +142,23 @@ breaks_here old mid front reads cause t m r =
       breaks = r some.0;
     }
 
+-- a part was read whole
+pub was_read : {A B : Type 0} (old new : Ahead) (w : A → List ℕ) (reads : List ℕ → Read B) (x : A)
+    → Moves old new → Takes old new (w x) → Reads {A = A} {B = B} old new w reads (Ok x)
+was_read old new w reads x m t = record {
+  advances = record { moves = m; failed = λ e. cc };
+  gives = t;
+}
+
+-- a part breaks
+pub was_broken : {A B : Type 0} (old new : Ahead) (w : A → List ℕ) (reads : List ℕ → Read B)
+    (cause : Cause) → Moves old new → Breaks old reads cause
+    → Reads {A = A} {B = B} old new w reads (Err (Breach cause))
+was_broken old new w reads cause m b = record {
+  advances = record { moves = m; failed = λ e. cc };
+  gives = b;
+}
+
 -- the first part breaks
 pub breaks_first : {A B : Type 0} (old : Ahead) (first : List ℕ → Read A) (next : A → List ℕ
     → Read B) (cause : Cause) → Breaks old first cause
@@ -225,21 +243,39 @@ rest_length into done = omega (
 pub stops_behind : {A B C D : Type 0} (old mid new : Ahead) (front : List ℕ) (first : List ℕ
     → Read A) (next : A → List ℕ → Read B) (x : A) (w : C → List ℕ) (v : D → List ℕ) (stop : Stop)
     → Takes old mid front → Moves old mid → ((rest : List ℕ) → first (front ++ rest) ≡ Ok
-    (x, rest)) → Gives {A = C} {B = B} mid new w (next x) (Err stop)
-    → Gives {A = D} {B = B} old new v (λ bytes. behind (first bytes) next) (Err stop)
-stops_behind old mid new front first next x w v (Breach cause) t m r b = breaks_behind old mid
-    front first next x cause t m.end r b
-stops_behind old mid new front first next x w v Failed t m r b = tt
-stops_behind old mid new front first next x w v NoMemory t m r b = tt
+    (x, rest)) → Reads {A = C} {B = B} mid new w (next x) (Err stop)
+    → Reads {A = D} {B = B} old new v (λ bytes. behind (first bytes) next) (Err stop)
+stops_behind old mid new front first next x w v (Breach cause) t m r b = was_broken old new v
+    (λ bytes. behind (first bytes) next) cause (moves_both old mid new m b.advances.moves)
+    (breaks_behind old mid front first next x cause t m.end r b.gives)
+stops_behind old mid new front first next x w v Failed t m r b = record {
+  advances = record {
+    moves = moves_both old mid new m b.advances.moves;
+    failed = λ e. Rose-later old.count mid.count new.count m.later (b.advances.failed refl);
+  };
+  gives = tt;
+}
+stops_behind old mid new front first next x w v NoMemory t m r b = record {
+  advances = record { moves = moves_both old mid new m b.advances.moves; failed = λ e. cc };
+  gives = tt;
+}
 
 -- the first part stops
 pub stops_first : {A B C D : Type 0} (old new : Ahead) (first : List ℕ → Read A) (next : A → List ℕ
     → Read B) (w : C → List ℕ) (v : D → List ℕ) (stop : Stop)
-    → Gives {A = C} {B = A} old new w first (Err stop) → Gives {A = D} {B = B} old new v
+    → Reads {A = C} {B = A} old new w first (Err stop) → Reads {A = D} {B = B} old new v
     (λ bytes. behind (first bytes) next) (Err stop)
-stops_first old new first next w v (Breach cause) b = breaks_first old first next cause b
-stops_first old new first next w v Failed b = tt
-stops_first old new first next w v NoMemory b = tt
+stops_first old new first next w v (Breach cause) b = was_broken old new v
+    (λ bytes. behind (first bytes) next) cause b.advances.moves
+    (breaks_first old first next cause b.gives)
+stops_first old new first next w v Failed b = record {
+  advances = record { moves = b.advances.moves; failed = λ e. b.advances.failed refl };
+  gives = tt;
+}
+stops_first old new first next w v NoMemory b = record {
+  advances = record { moves = b.advances.moves; failed = λ e. cc };
+  gives = tt;
+}
 
 -- a buffer that wasn't filled
 pub short_behind : (first now next : Ahead) (into : List ℕ) (done n : ℕ) (piece : List ℕ)

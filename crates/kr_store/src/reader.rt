@@ -6,7 +6,7 @@ ghost use Rattle.kr_store.specs.Rows.{longest_value, HasCheck};
 ghost use Rattle.kr_store.specs.inner.KeptRows.{IsKeptRow};
 ghost use Rattle.kr_store.specs.File.{text_bytes, value_bytes, check_bytes, byte_of};
 ghost use Rattle.kr_store.specs.Breaches.{part, number_16, number_32, number_64, sized_part, path_part, resource_part, check_part, value_part, kind_part, revision_part, head_part, put_part, row_part};
-ghost use Rattle.kr_store.specs.inner.Reading.{Moves, Advances, Begins, Fills, IsShort, IsNamed, Names, Gives, items_of, sized_bytes, head_bytes, put_bytes, kept_bytes};
+ghost use Rattle.kr_store.specs.inner.Reading.{Moves, Advances, Begins, Fills, IsShort, IsNamed, Names, Reads, items_of, sized_bytes, head_bytes, put_bytes, kept_bytes};
 
 use crate::answers::{Cause, Stop, StoreNo};
 use crate::format::{Check, Format, MAGIC_LENGTH, STORE_NAME};
@@ -256,8 +256,7 @@ impl<T: Tape> Reader<T> {
 
     /// A number of 2 bytes, the highest first.
     fn number_16(&mut self) -> Result<u16, Stop>
-        ensures advances { Advances Stop.Failed self.old self.new result }
-        ensures read { Gives self.old self.new (to_be_bytes w16) number_16 result }
+        ensures reads { Reads self.old self.new (to_be_bytes w16) number_16 result }
         ensures fits { IfOk result (λ n. n < 2 ^ 16) }
     {
         let mut bytes = [0; 2];
@@ -268,8 +267,7 @@ impl<T: Tape> Reader<T> {
 
     /// A number of 4 bytes, the highest first.
     fn number_32(&mut self) -> Result<u32, Stop>
-        ensures advances { Advances Stop.Failed self.old self.new result }
-        ensures read { Gives self.old self.new (to_be_bytes w32) number_32 result }
+        ensures reads { Reads self.old self.new (to_be_bytes w32) number_32 result }
         ensures fits { IfOk result (λ n. n < 2 ^ 32) }
     {
         let mut bytes = [0; 4];
@@ -280,8 +278,7 @@ impl<T: Tape> Reader<T> {
 
     /// A number of 8 bytes, the highest first.
     fn number_64(&mut self) -> Result<u64, Stop>
-        ensures advances { Advances Stop.Failed self.old self.new result }
-        ensures read { Gives self.old self.new (to_be_bytes w64) number_64 result }
+        ensures reads { Reads self.old self.new (to_be_bytes w64) number_64 result }
         ensures fits { IfOk result (λ n. n < 2 ^ 64) }
     {
         let mut bytes = [0; 8];
@@ -292,8 +289,7 @@ impl<T: Tape> Reader<T> {
 
     /// The next n bytes.
     fn part(&mut self, alloc: Global, n: usize) -> Result<Vec<u8>, Stop>
-        ensures advances { Advances Stop.Failed self.old self.new result }
-        ensures read { Gives self.old self.new items_of (part n) result }
+        ensures reads { Reads self.old self.new items_of (part n) result }
         ensures length { IfOk result (λ bytes. length bytes.items ≡ n) }
     {
         if self.end - self.place < n as u64 {
@@ -311,8 +307,7 @@ impl<T: Tape> Reader<T> {
 
     /// Bytes behind their length.
     fn sized(&mut self, alloc: Global, most: u16) -> Result<Vec<u8>, Stop>
-        ensures advances { Advances Stop.Failed self.old self.new result }
-        ensures read { Gives self.old self.new sized_bytes (sized_part most) result }
+        ensures reads { Reads self.old self.new sized_bytes (sized_part most) result }
         ensures length { IfOk result (λ bytes. length bytes.items ≤ most) }
     {
         let n = self.number_16()?;
@@ -327,8 +322,7 @@ impl<T: Tape> Reader<T> {
 
     /// A value behind its length.
     fn value(&mut self, alloc: Global) -> Result<Bytes, Stop>
-        ensures advances { Advances Stop.Failed self.old self.new result }
-        ensures read { Gives self.old self.new value_bytes value_part result }
+        ensures reads { Reads self.old self.new value_bytes value_part result }
         ensures length { IfOk result (λ value. length value ≤ longest_value) }
     {
         let n = self.number_32()?;
@@ -343,8 +337,7 @@ impl<T: Tape> Reader<T> {
 
     /// A path behind its length.
     fn path(&mut self, alloc: Global) -> Result<Text, Stop>
-        ensures advances { Advances Stop.Failed self.old self.new result }
-        ensures read { Gives self.old self.new text_bytes path_part result }
+        ensures reads { Reads self.old self.new text_bytes path_part result }
         ensures rule { IfOk result (λ path. IsPath path) }
     {
         let bytes = self.sized(alloc, LONGEST_PATH)?;
@@ -359,8 +352,7 @@ impl<T: Tape> Reader<T> {
 
     /// A resource behind its length.
     fn resource(&mut self, alloc: Global) -> Result<Text, Stop>
-        ensures advances { Advances Stop.Failed self.old self.new result }
-        ensures read { Gives self.old self.new text_bytes resource_part result }
+        ensures reads { Reads self.old self.new text_bytes resource_part result }
         ensures rule { IfOk result (λ resource. IsResource resource) }
     {
         let bytes = self.sized(alloc, LONGEST_RESOURCE)?;
@@ -375,8 +367,7 @@ impl<T: Tape> Reader<T> {
 
     /// The kind of a row.
     fn kind(&mut self) -> Result<Kind, Stop>
-        ensures advances { Advances Stop.Failed self.old self.new result }
-        ensures read { Gives self.old self.new (λ kind. byte_of kind ∷ []) kind_part result }
+        ensures reads { Reads self.old self.new (λ kind. byte_of kind ∷ []) kind_part result }
     {
         let mut byte = [0; 1];
         self.fill(&mut byte)?;
@@ -388,8 +379,7 @@ impl<T: Tape> Reader<T> {
 
     /// The revision, which has to be this one.
     fn revision(&mut self, revision: u64) -> Result<(), Stop>
-        ensures advances { Advances Stop.Failed self.old self.new result }
-        ensures read { Gives self.old self.new
+        ensures reads { Reads self.old self.new
             (λ _. to_be_bytes w64 revision) (revision_part revision) result }
     {
         let found = self.number_64()?;
@@ -401,8 +391,7 @@ impl<T: Tape> Reader<T> {
 
     /// The kind and the path of the row with this revision.
     fn head(&mut self, alloc: Global, revision: u64) -> Result<(Kind, Text), Stop>
-        ensures advances { Advances Stop.Failed self.old self.new result }
-        ensures read { Gives self.old self.new (head_bytes revision) (head_part revision) result }
+        ensures reads { Reads self.old self.new (head_bytes revision) (head_part revision) result }
         ensures rule { IfOk result (λ head. IsPath head.1) }
     {
         let kind = self.kind()?;
@@ -418,8 +407,7 @@ impl<T: Tape> Reader<T> {
 
     /// The check of a put, where the format has one.
     fn check(&mut self, format: Format) -> Result<Option<Check>, Stop>
-        ensures advances { Advances Stop.Failed self.old self.new result }
-        ensures read { Gives self.old self.new check_bytes (check_part format) result }
+        ensures reads { Reads self.old self.new check_bytes (check_part format) result }
         ensures rule { IfOk result (λ check. HasCheck format check) }
     {
         let _ = &self.tape;
@@ -434,8 +422,7 @@ impl<T: Tape> Reader<T> {
 
     /// The resource, the check and the value of a put.
     fn put(&mut self, alloc: Global, format: Format) -> Result<(Text, Option<Check>, Bytes), Stop>
-        ensures advances { Advances Stop.Failed self.old self.new result }
-        ensures read { Gives self.old self.new put_bytes (put_part format) result }
+        ensures reads { Reads self.old self.new put_bytes (put_part format) result }
         ensures resource { IfOk result (λ put. IsResource put.0) }
         ensures check { IfOk result (λ put. HasCheck format put.1) }
         ensures length { IfOk result (λ put. length put.2 ≤ longest_value) }
@@ -453,9 +440,8 @@ impl<T: Tape> Reader<T> {
 
     /// The row with this revision.
     pub fn row(&mut self, alloc: Global, format: Format, revision: u64) -> Result<KeptRow, Stop>
-        ensures advances { Advances Stop.Failed self.old self.new result }
-        ensures read { Gives
-            self.old self.new (kept_bytes revision) (row_part format revision) result }
+        ensures reads { Reads self.old self.new
+            (kept_bytes revision) (row_part format revision) result }
         ensures rule { IfOk result (λ row. IsKeptRow format revision row) }
     {
         let (kind, path) = match self.head(alloc, revision) {

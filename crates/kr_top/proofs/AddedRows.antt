@@ -8,7 +8,7 @@ use Rattle.kr_base.specs.Limits.{store_limit}
 use Rattle.kr_kms.specs.Outside.{same_name}
 use Rattle.kr_store.specs.File.{file_bytes}
 use Rattle.kr_store.specs.declared.rows.LogRow.{LogRow}
-use Rattle.kr_top.specs.Around.{Around, with_lent_tape, Stays, IsHome}
+use Rattle.kr_top.specs.Around.{Around, Stays, IsHome}
 use Rattle.kr_top.specs.Commands.{adding, by_result, within_limit}
 use Rattle.kr_top.specs.Steps.{Steps, write_row, give, and_then, writing, refuses, Left, Goes, Point, with_told}
 use Rattle.kr_top.specs.StoreFiles.{Stored, with_row, HoldsRows, BeginsWith}
@@ -16,6 +16,7 @@ use Rattle.kr_top.specs.declared.refusal.Limit.TheVariants as limit
 use Rattle.kr_top.specs.declared.refusal.Object.{Object}
 use Rattle.kr_top.specs.declared.refusal.Refusal.TheVariants.{Limit}
 use Rattle.kr_top.specs.declared.refusal.Stop.TheVariants.{Refused, Fault, NoMemory}
+use Rattle.kr_top.specs.inner.Lent.{with_lent_tape}
 use Rattle.kr_top.specs.inner.Phases.{Does}
 use Rattle.kr_top.proofs.Goes.{files_same, reach}
 use Rattle.kr_top.proofs.Lending.{home_same}

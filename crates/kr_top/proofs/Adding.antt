@@ -13,10 +13,11 @@ use Rattle.kr_store.specs.declared.answers.PutNo.{PutNo}
 use Rattle.kr_store.specs.declared.answers.PutNo.TheVariants as refused
 use Rattle.kr_store.specs.declared.format.Format.{Format}
 use Rattle.kr_store.specs.declared.rows.LogRow.{LogRow}
-use Rattle.kr_top.specs.Around.{Around, with_lent_tape, Stays, IsHome}
+use Rattle.kr_top.specs.Around.{Around, Stays, IsHome}
 use Rattle.kr_top.specs.Commands.{adding, by_result, revision_line, silently, within_limit}
 use Rattle.kr_top.specs.Steps.{Steps, write_row, give, and_then, writing, refuses, Left, Goes, Point, with_told}
 use Rattle.kr_top.specs.StoreFiles.{Stored, with_row, HoldsRows, BeginsWith}
+use Rattle.kr_top.specs.inner.Lent.{with_lent_tape}
 use Rattle.kr_top.specs.inner.Phases.{Does}
 use Rattle.kr_top.specs.inner.Tapes.{HasOneMore, answered, grown_by, stored_of}
 use Rattle.kr_top.specs.declared.refusal.Limit.TheVariants as limit

@@ -3,13 +3,14 @@ use Rattle.std.proofs.Common.{◌≡◌, ℕ, List, Option, Result, refl, sym, s
 use Rattle.kr_config.specs.Kept.{Row}
 use Rattle.kr_kms.specs.Calls.{Link}
 use Rattle.kr_kms.specs.Outside.{Outside, KeepsFiles, KeepsObjects}
-use Rattle.kr_top.specs.Around.{Around, Tapes, with_world, with_tapes}
+use Rattle.kr_top.specs.Around.{Around, with_world}
 use Rattle.kr_top.specs.Commands.{bench_steps}
 use Rattle.kr_top.specs.Steps.{Steps}
 use Rattle.kr_top.specs.declared.command.Direction.{Direction}
 use Rattle.kr_top.specs.declared.programs.Program.{Program}
 use Rattle.kr_top.specs.declared.refusal.Outcome.{Outcome}
 use Rattle.kr_top.specs.declared.refusal.Stop.{Stop}
+use Rattle.kr_top.specs.inner.Lent.{Tapes, with_tapes}
 use Rattle.kr_top.specs.inner.Phases.{Does, DiceLoan, DiceReturn, LinkLoan, LinkReturn}
 
 module _ (tapes : Tapes) {old new : Outside} where

@@ -16,6 +16,7 @@ use Rattle.kr_words.proofs.Values.{value_rule}
 use Rattle.kr_words.proofs.Meanings.{mean_one}
 use Rattle.kr_top.specs.Command.{command_of, Asks, AskNothing}
 use Rattle.kr_top.specs.declared.command.Command.{Command}
+use Rattle.kr_top.proofs.Decided.{one_size}
 
 -- a path has at most 1,024 bytes, and the empty one none
 short_path : (verb : Verb) (o : Option (List ℕ)) (value : List ℕ) → o ≡ Some value
@@ -64,11 +65,13 @@ means_nothing {words} why e r verb options means =
 module _ {words : List (List ℕ)} {verb : Verb} {options : List (List ℕ × List ℕ)}
     (command : Option Command) (means : Means words verb options)
     (is : command ≡ command_of verb options) where
-  pub asks_nothing : command ≡ None → AskNothing words
-  asks_nothing none other o m =
-      let same = mean_one words verb other options o means m in
-      ap (λ v. command_of v o) (sym same.0) ∙ ap (λ p. command_of verb p) (sym same.1)
-      ∙ sym is ∙ none
+  pub asks_nothing : IsWithinSize options → command ≡ None → AskNothing words
+  asks_nothing small none other o m =
+      let same = mean_one words verb other options o means m in (
+        ap (λ v. command_of v o) (sym same.0) ∙ ap (λ p. command_of verb p) (sym same.1)
+            ∙ sym is ∙ none,
+        λ large. one_size (value_of o (codes "size")) (subst IsWithinSize same.1 small) large,
+      )
 
   pub asks : {some : Command} → replicas_of options ≤ replica_limit → IsWithinSize options
       → command ≡ Some some → Asks words some

@@ -37,7 +37,7 @@ pub record IsLeft (name : List ℕ) (all : List LogRow) (p : Point Outcome)
   pub others : OthersStay name old new
   pub parts : copied ++ rest ≡ all
   pub is_told : new name ≡ option_map Some told
-  pub holds : (IsTorn Target name p × BeginsWith (new_store copied) told)
+  pub holds : (IsTorn Target name p × (rest ≢ []) × BeginsWith (new_store copied) told)
       ⊎ (IsSilent p × (rest ≡ []) × HoldsRows (new_store copied) told)
       ⊎ (IsShort p × (rest ≢ []) × HoldsRows (new_store copied) told)
 
@@ -127,7 +127,7 @@ module _ (name : List ℕ) (all : List LogRow) (line : List ℕ) (p : Point Outc
         others = ended at (others_since others (told_there now left.tapes));
         parts = parts;
         is_told = ap (λ (l : Left). l.tapes name) at.1 ∙ told_here now left.tapes;
-        holds = inl (subst (IsTorn Target name) (sym at.0) refl, begins);
+        holds = inl (subst (IsTorn Target name) (sym at.0) refl, (λ none. absurd cc), begins);
       }
       by_limit false further (inr (now, grown, goes)) = further now grown goes
 

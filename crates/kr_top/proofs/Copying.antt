@@ -13,9 +13,10 @@ use Rattle.kr_store.specs.declared.format.Format.{Format}
 use Rattle.kr_store.specs.declared.format.Format.TheVariants.{Two}
 use Rattle.kr_store.specs.declared.rows.LogRow.{LogRow}
 use Rattle.kr_store.specs.declared.rows.Row as stored
-use Rattle.kr_top.specs.Around.{Around, with_lent_tape}
+use Rattle.kr_top.specs.Around.{Around}
 use Rattle.kr_top.specs.Commands.{adding, copying, migrated_row, reader_check}
 use Rattle.kr_top.specs.StoreFiles.{Stored, with_row}
+use Rattle.kr_top.specs.inner.Lent.{with_lent_tape}
 use Rattle.kr_top.specs.inner.Migrating.{HasCopied, IsNew, all_grown, migrated_put}
 use Rattle.kr_top.specs.inner.Phases.{Does}
 use Rattle.kr_top.specs.inner.Tapes.{HasOneMore, grown_by, stored_of}

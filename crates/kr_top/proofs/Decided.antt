@@ -23,7 +23,7 @@ use Rattle.kr_top.proofs.SettledCommands.{settled}
 pub asks_something : {words : List (List ℕ)} {command : Command} → Asks words command
     → AskNothing words → ⊥
 asks_something asks none =
-    absurd (let e = sym asks.is ∙ none asks.verb asks.options asks.means in cc)
+    absurd (let e = sym asks.is ∙ (none asks.verb asks.options asks.means).0 in cc)
 
 -- ---- words ask for one command
 

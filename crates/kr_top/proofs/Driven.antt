@@ -24,11 +24,11 @@ use Rattle.kr_rollout.specs.Histories.{IsRun, state_of}
 use Rattle.kr_rollout.specs.Openings.{start_of}
 use Rattle.kr_rollout.specs.Parts.{AddsWithin}
 use Rattle.kr_rewrite.specs.Drives as drives
-use Rattle.kr_rewrite.specs.Drives.{CopiesNoPath, Drives, EndsBy, IsCut, Walks, counted, is_changed, is_fresh, is_left, is_rewritten, last_of, path_of, report_at}
+use Rattle.kr_rewrite.specs.Drives.{CopiesNoPath, Drives, EndsBy, IsCut, Walks, count_of, is_changed, is_fresh, is_left, is_rewritten, last_of, path_of}
 use Rattle.kr_rewrite.specs.declared.outcome.Report.{Report}
 use Rattle.kr_rewrite.specs.declared.outcome.Step.{Step}
 use Rattle.kr_rewrite.specs.declared.outcome.Step.TheVariants as step
-use Rattle.kr_top.specs.Around.{Around, with_lent_tape, with_what_is_said}
+use Rattle.kr_top.specs.Around.{Around, with_what_is_said}
 use Rattle.kr_top.specs.Commands.{Progress, driving, row_steps, with_memory}
 use Rattle.kr_top.specs.Reports.{report_outcome, report_text}
 use Rattle.kr_top.specs.Steps.{Steps, and_then, give}
@@ -37,6 +37,7 @@ use Rattle.kr_top.specs.declared.refusal.Outcome.{Outcome}
 use Rattle.kr_top.specs.declared.refusal.Stop.{Stop}
 use Rattle.kr_top.specs.declared.refusal.Stop.TheVariants.{NoMemory}
 use Rattle.kr_top.specs.declared.report.Counts.{Counts}
+use Rattle.kr_top.specs.inner.Lent.{with_lent_tape}
 use Rattle.kr_top.specs.inner.Phases.{Does}
 use Rattle.kr_top.specs.inner.Rewriting.{IsDriveStop, counts_of}
 use Rattle.kr_top.proofs.Crews.{counted as counted_on}
@@ -83,7 +84,7 @@ module _ (field : Counts → ℕ) (is : Step → Bool)
       let g = pick (is x) (number is steps) in omega (arith, e, f, g)
 
   counted_is : (c : Counts) (steps : List Step) → field c ≡ 0 → length steps ≤ 1000000
-      → field (tallied c steps) ≡ counted (count_by is steps)
+      → field (tallied c steps) ≡ count_of (count_by is steps)
   counted_is c steps none few =
       let n : number is steps ≡ count_by is steps =
       is_count_by (number is) is refl (λ x xs. refl) steps in

@@ -19,7 +19,7 @@ use Rattle.kr_rollout.specs.Openings.{current_from, generations_from, start_of}
 use Rattle.kr_rewrite.specs.Drives.{CopiesNoPath, Drives, IsCut, IsDrive}
 use Rattle.kr_rewrite.specs.declared.outcome.Report.{Report}
 use Rattle.kr_top.specs.Around.{Around}
-use Rattle.kr_top.specs.Commands.{begun, driving}
+use Rattle.kr_top.specs.Commands.{nothing_done, driving}
 use Rattle.kr_top.specs.declared.refusal.Ended.{Ended}
 use Rattle.kr_top.specs.declared.refusal.Stop.{Stop}
 use Rattle.kr_top.specs.declared.report.Counts.{Counts}
@@ -66,7 +66,7 @@ module _ {L : Type 0} (truth : Truth) (link : L → Link) (core : CoreState) (al
   o = core.opening
 
   -- a drive begins there
-  pub begins : IsDriven link o p [] live (begun (opened_store core)) (only_caller core) olds
+  pub begins : IsDriven link o p [] live (nothing_done (opened_store core)) (only_caller core) olds
   begins = record {
     lone = record {
       opening = refl;
@@ -132,7 +132,7 @@ module _ {L D : Type 0} (truth : Truth) (link : L → Link) (left : D → Option
   New = All_lent link news (left after) (count after) name store.told store.count a
 
   abbrev Whole : Type 0
-  Whole = Does (driving name p live (begun (opened_store core))) Old (saying ended.said New)
+  Whole = Does (driving name p live (nothing_done (opened_store core))) Old (saying ended.said New)
       ended.made
 
   module _ (stays : new.opening ≡ core.opening) where
@@ -161,11 +161,11 @@ module _ {L D : Type 0} (truth : Truth) (link : L → Link) (left : D → Option
     reported_all : Drives truth link left count 0 [] (only_caller core) olds dice report new news
         after
         → IsReported (counts_of report) ended → Whole
-    reported_all d r = subst (λ said. Does (driving name p live (begun (opened_store core))) Old
+    reported_all d r = subst (λ said. Does (driving name p live (nothing_done (opened_store core))) Old
         (saying said New) ended.made) (sym r.0)
         (drives_all truth link left count core.opening p alone.reloads alone.within
         (opens_all truth link core alone known olds distinct live p is replicas_are opens) name a
-        truth_is store live (begun (opened_store core)) (only_caller core) new olds news dice after
+        truth_is store live (nothing_done (opened_store core)) (only_caller core) new olds news dice after
         report refl (format_is ∙ ap (λ (x : Opening). x.format) opening_is) rows_now count_now later
         bounded rose store_holds
         (begins truth link core alone known olds distinct live p is replicas_are)
@@ -178,10 +178,10 @@ module _ {L D : Type 0} (truth : Truth) (link : L → Link) (left : D → Option
         → IsDriveStop link store news (count after) why stop
         → ended ≡ record { made = Err stop; said = Some (counts_of report) } → Whole
     cut_all why stop d h e = subst (λ (x : Ended). Does
-        (driving name p live (begun (opened_store core))) Old (saying x.said New) x.made) (sym e)
+        (driving name p live (nothing_done (opened_store core))) Old (saying x.said New) x.made) (sym e)
         (cut_short truth link left count core.opening p alone.reloads alone.within
         (opens_all truth link core alone known olds distinct live p is replicas_are opens) name a
-        truth_is store live (begun (opened_store core)) (only_caller core) new olds news dice after
+        truth_is store live (nothing_done (opened_store core)) (only_caller core) new olds news dice after
         report refl (format_is ∙ ap (λ (x : Opening). x.format) opening_is) rows_now count_now later
         bounded rose store_holds
         (begins truth link core alone known olds distinct live p is replicas_are)
@@ -194,10 +194,10 @@ module _ {L D : Type 0} (truth : Truth) (link : L → Link) (left : D → Option
         → IsDriveStop link store news (count after) why stop
         → ended ≡ record { made = Err stop; said = Some (counts_of report) } → Whole
     none_all why stop d h e = subst (λ (x : Ended). Does
-        (driving name p live (begun (opened_store core))) Old (saying x.said New) x.made) (sym e)
+        (driving name p live (nothing_done (opened_store core))) Old (saying x.said New) x.made) (sym e)
         (copied_none truth link left count core.opening p alone.reloads alone.within
         (opens_all truth link core alone known olds distinct live p is replicas_are opens) name a
-        truth_is store live (begun (opened_store core)) (only_caller core) new olds news dice after
+        truth_is store live (nothing_done (opened_store core)) (only_caller core) new olds news dice after
         report refl (format_is ∙ ap (λ (x : Opening). x.format) opening_is) rows_now count_now later
         bounded rose store_holds
         (begins truth link core alone known olds distinct live p is replicas_are)

@@ -9,9 +9,12 @@ use Rattle.kr_words.specs.declared.command.WordsNo.{WordsNo}
 use Rattle.kr_words.specs.declared.command.WordsNo.TheVariants as no
 use Rattle.kr_words.proofs.Meanings.{mean_one}
 use Rattle.kr_top.specs.Command.{AskNothing, AskReplicas, AskSize}
-use Rattle.kr_top.specs.FleetAsked.{AskNoFleet, IsFleetAsked, IsFleetOf}
+use Rattle.kr_top.specs.FleetAsked.{AskNoFleet}
+use Rattle.kr_top.specs.LoadAsked.{AskNoLoad}
 use Rattle.kr_top.specs.declared.fleet_words.FleetWords.{FleetWords}
+use Rattle.kr_top.specs.inner.FleetAsked.{IsFleetAsked, IsFleetOf}
 use Rattle.kr_top.proofs.Decided.{one_size}
+use Rattle.kr_top.proofs.LoadAsked.{replicas_no_load, size_no_load}
 
 pub no_words : AskNoFleet []
 no_words asked h = absurd (let e = ap length h.means.word in omega (arith, e))
@@ -38,11 +41,12 @@ module _ {words : List (List ℕ)} {verb : Verb} {options : List (List ℕ × Li
       absurd (let e = sym none ∙ ap (λ o. value_of o (codes "store")) same ∙ h.store in cc)
 
 pub usage_asks_none : {words : List (List ℕ)} (why : WordsNo) → why ≡ no.Usage
-    → Reads words (Err why) → AskNothing words × AskNoFleet words
+    → Reads words (Err why) → AskNothing words × AskNoFleet words × AskNoLoad words
 usage_asks_none {words} why e r =
     let reads = subst (λ w. Reads words (Err w)) e r in (
       λ verb options means. absurd (reads verb options means),
       λ asked h. absurd (reads verbs.Fleet asked.options h.means),
+      λ asked h. absurd (reads verbs.Gen h.options h.means),
     )
 
 replicas_no_fleet : {words : List (List ℕ)} → AskReplicas words → AskNoFleet words
@@ -52,9 +56,10 @@ replicas_no_fleet {words} (verb, options, means, many) asked h =
     absurd (omega (arith, few, many))
 
 pub replicas_ask_none : {words : List (List ℕ)} (why : WordsNo) → why ≡ no.Replicas
-    → Reads words (Err why) → AskReplicas words × AskNoFleet words
+    → Reads words (Err why) → AskReplicas words × AskNoFleet words × AskNoLoad words
 replicas_ask_none {words} why e r =
-    let asks = subst (λ w. Reads words (Err w)) e r in (asks, replicas_no_fleet asks)
+    let asks = subst (λ w. Reads words (Err w)) e r in
+    (asks, replicas_no_fleet asks, replicas_no_load asks)
 
 size_no_fleet : {words : List (List ℕ)} → AskSize words → AskNoFleet words
 size_no_fleet {words} (verb, options, means, few, large) asked h =
@@ -62,9 +67,10 @@ size_no_fleet {words} (verb, options, means, few, large) asked h =
     absurd (one_size (value_of options (codes "size")) (subst IsWithinSize same h.small) large)
 
 pub size_asks_none : {words : List (List ℕ)} (why : WordsNo) → why ≡ no.Size
-    → Reads words (Err why) → AskSize words × AskNoFleet words
+    → Reads words (Err why) → AskSize words × AskNoFleet words × AskNoLoad words
 size_asks_none {words} why e r =
-    let asks = subst (λ w. Reads words (Err w)) e r in (asks, size_no_fleet asks)
+    let asks = subst (λ w. Reads words (Err w)) e r in
+    (asks, size_no_fleet asks, size_no_load asks)
 
 -- the fleet that was read is the one that is asked for
 pub asked_so : {words : List (List ℕ)} (command : Command) → Reads words (Ok command)

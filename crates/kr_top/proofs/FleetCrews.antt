@@ -30,9 +30,9 @@ use Rattle.kr_workers.specs.Budgets.{all_reloads, reloads_of}
 use Rattle.kr_workers.specs.Histories.{IsOneHistory}
 use Rattle.kr_workers.specs.Sentences.{RepliesAreTrue}
 use Rattle.kr_workers.specs.declared.worker.Worker.{Worker}
-use Rattle.kr_top.specs.Around.{Around, IsHome, Tapes, lent_links, with_lent, with_lent_tape}
+use Rattle.kr_top.specs.Around.{Around, IsHome, with_lent}
 use Rattle.kr_top.specs.FleetFiles.{all_rows}
-use Rattle.kr_top.specs.Fleets.{AreEquipped, Begun, HasRows, IsEquipped, LeavesRest, Replicas, RunsFleet, opening_of, outfitted, parts_of, publishing, starting}
+use Rattle.kr_top.specs.Fleets.{AreEquipped, Begun, HasRows, IsEquipped, LeavesRest, Replicas, RunsFleet, opening_of, launching, parts_of, publishing, starting}
 use Rattle.kr_top.specs.Steps.{Steps}
 use Rattle.kr_top.specs.declared.fleet.Record.{Record}
 use Rattle.kr_top.specs.declared.fleet_file.Plan.{Plan}
@@ -43,10 +43,12 @@ use Rattle.kr_top.specs.declared.refusal.Stop.TheVariants.{NoMemory}
 use Rattle.kr_top.specs.inner.Beginnings.{begun_with, first_core}
 use Rattle.kr_top.specs.inner.Crews.{IsReadyCore, KeepsStore, RunsCrew, WorkersRan, outfit_of, outfits_of}
 use Rattle.kr_top.specs.inner.FleetFiles.{IsWholePlan, named, plan_of}
-use Rattle.kr_top.specs.inner.Fleets.{ArePublished, LacksWorkers, RunsBy}
+use Rattle.kr_top.specs.inner.Fleets.{ArePublished, LacksWorkers}
+use Rattle.kr_top.specs.inner.Lent.{Tapes, lent_links, with_lent_tape}
 use Rattle.kr_top.specs.inner.Outfits.{AreLater, AreNamed, names_in, with_outfits}
 use Rattle.kr_top.specs.inner.Phases.{Does}
 use Rattle.kr_top.specs.inner.Tapes.{stored_of}
+use Rattle.kr_top.specs.inner.Workings.{RunsWith}
 use Rattle.kr_top.proofs.Goes.{files_same, goes_on}
 use Rattle.kr_top.proofs.Lending.{by_key, home_behind, home_same}
 use Rattle.kr_top.proofs.Outfits.{LinksOf, later_named, later_refl, later_trans, names_differ, outfits_asked, outfits_equipped, outfits_file, outfits_home, outfits_input, outfits_said, outfits_tapes, outfits_truth, told_apart, outfits_faults, later_many}
@@ -239,7 +241,7 @@ module _ {L D : Type 0} (truth : Truth) (link : L → Link) (left : D → Option
       (with_lent_tape name kept.told kept.count a)
 
   abbrev pub Next : Steps Begun
-  Next = outfitted (plan_of plan) (stored_of store) budgets
+  Next = launching (plan_of plan) (stored_of store) budgets
 
   abbrev pub Publishes : Steps Replicas
   Publishes = publishing (named plan.files.0) [] plan.script.replicas.0
@@ -436,22 +438,26 @@ module _ {L D : Type 0} (truth : Truth) (link : L → Link) (left : D → Option
             rest = rest kept back (further_on made r);
           }
 
-      pub ran_by : (result : Result Record Stop)
+      pub ran_with : (result : Result Record Stop)
           → RunsCrew truth link left count plan budgets o workers result kept back
-          → RunsBy T truth link left count Next name (plan_of plan) (With olds store)
+          → RunsWith link left count T truth Next name (plan_of plan) outs (With olds store)
           (With back kept) result
-      ran_by (Ok made) r = record {
-        begun = begun;
-        plan_is = refl;
-        mid = Mid;
-        does = all_does;
-        history = r.history;
-        ended = r.ended;
-        runs = runs made r;
-        lines = r.lines_are;
-        replies = r.replies_are;
-        home = new_home kept back (further_on made r) r.kept.later;
+      unfolding runs
+      ran_with (Ok made) r = record {
+        leaves = record {
+          begun = begun;
+          plan_is = refl;
+          mid = Mid;
+          does = all_does;
+          history = r.history;
+          ended = r.ended;
+          runs = runs made r;
+          lines = r.lines_are;
+          replies = r.replies_are;
+          home = new_home kept back (further_on made r) r.kept.later;
+        };
+        outfits_are = are;
       }
-      ran_by (Err stop) r = inr (subst (λ s. LacksWorkers T truth link left count Next name
+      ran_with (Err stop) r = inr (subst (λ s. LacksWorkers T truth link left count Next name
           (With olds store) (With back kept) s) (sym r.stops)
           (unhired T kept r.kept back (r.outfits_are ∙ are)))

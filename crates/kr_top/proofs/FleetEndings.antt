@@ -29,7 +29,8 @@ use Rattle.kr_workers.specs.declared.ending.Ending.{Ending}
 use Rattle.kr_workers.specs.declared.ending.Ending.TheVariants as ending
 use Rattle.kr_workers.specs.declared.worker.Worker.{Worker}
 use Rattle.kr_top.specs.Around.{Around, IsHome, left_of}
-use Rattle.kr_top.specs.FleetReadings.{IsCompleted, NoneRose}
+use Rattle.kr_top.specs.Causes.{NoneRose}
+use Rattle.kr_top.specs.FleetReadings.{IsCompleted}
 use Rattle.kr_top.specs.FleetReady.{IsReady}
 use Rattle.kr_top.specs.Fleets.{Begun, IsEquipped, RanFleet, RunsFleet, Starts, StopsBefore, TellsFleet, fleet_steps, opening_of}
 use Rattle.kr_top.specs.Message.{status_of as stop_status}
@@ -95,10 +96,10 @@ name_there link links it (k, below, is) = (
   get_or-map (λ l. (link l).name) links k it (link it).name below ∙ ap (λ l. (link l).name) is,
 )
 
-module _ {T L D : Type 0} {truth : Truth} {link : L → Link} {left : D → Option (List ℕ)}
-    {count : D → ℕ} (words : FleetWords) (old : Around) (ready : IsReady words old)
-    (new : Around) (output errors : Receipt)
-    (none : NoneRose T truth link left count words old new output errors) where
+module _ (T : Type 0) {L D : Type 0} (truth : Truth) (link : L → Link)
+    (left : D → Option (List ℕ)) (count : D → ℕ) (words : FleetWords) (old : Around)
+    (ready : IsReady words old) (new : Around) (output errors : Receipt)
+    (none : NoneRose old new output errors) where
   -- a worker's link is the seat's, and no seat's count rose
   module _ (programs : List Program) (seat : ℕ) (a : Around) (links : List L) (dice : D)
       (has : IsEquipped link left count programs seat a links dice) where
@@ -247,7 +248,7 @@ module _ {T L D : Type 0} {truth : Truth} {link : L → Link} {left : D → Opti
 
   -- they didn't
   stopped_so : (status : ℕ) (stop : Stop) → status ≡ stop_status (Err stop)
-      → StopsBefore T truth link left count words old new output (Err stop)
+      → StopsBefore (fleet_steps words) words.store old new output (Err stop)
       ⊎ Starts T truth link left count words old new output (Err stop) → Completed status
   stopped_so status (Words why) is (inl (inl ends, idle)) = absurd ends
   stopped_so status (Words why) is (inl (inr (e, lacking), idle)) = absurd cc
@@ -268,7 +269,7 @@ module _ {T L D : Type 0} {truth : Truth} {link : L → Link} {left : D → Opti
   completed status ran = by ran.result ran.did.did ran.tells
     where
       by : (result : Result Ending Stop)
-          → StopsBefore T truth link left count words old new output result
+          → StopsBefore (fleet_steps words) words.store old new output result
           ⊎ Starts T truth link left count words old new output result
           → TellsFleet result errors status → Completed status
       by (Ok e) (inl never) tells = absurd never

@@ -4,7 +4,7 @@ use Rattle.std.specs.Option.{option_map}
 use Rattle.kr_kms.specs.Calls.{Link}
 use Rattle.kr_kms.specs.Outside.{Outside, same_name}
 use Rattle.kr_kms.specs.Truth.{Truth}
-use Rattle.kr_top.specs.Around.{Around, Tapes, with_lent, with_lent_tape, with_tapes, with_world}
+use Rattle.kr_top.specs.Around.{Around, with_lent, with_world}
 use Rattle.kr_top.specs.FleetFiles.{FleetPlan}
 use Rattle.kr_top.specs.Fleets.{Begun, equipping}
 use Rattle.kr_top.specs.Steps.{Steps, and_then}
@@ -13,6 +13,7 @@ use Rattle.kr_top.specs.declared.outfit.Outfit.{Outfit}
 use Rattle.kr_top.specs.declared.programs.Program.{Program}
 use Rattle.kr_top.specs.declared.refusal.Stop.{Stop}
 use Rattle.kr_top.specs.inner.Fleets.{RunsBy}
+use Rattle.kr_top.specs.inner.Lent.{Tapes, with_lent_tape, with_tapes}
 use Rattle.kr_top.specs.inner.Outfits.{with_outfits}
 use Rattle.kr_top.specs.inner.Phases.{Does}
 use Rattle.kr_top.proofs.FleetRuns.{before}

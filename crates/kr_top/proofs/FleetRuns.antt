@@ -23,9 +23,9 @@ use Rattle.kr_workers.specs.declared.budget.BudgetNo.{BudgetNo}
 use Rattle.kr_workers.specs.declared.budget.BudgetNo.TheVariants as budget
 use Rattle.kr_workers.specs.declared.ending.Ending.{Ending}
 use Rattle.kr_workers.specs.declared.worker.Worker as fleet_worker
-use Rattle.kr_top.specs.Around.{Around, left_of, with_lent_tape, with_world}
+use Rattle.kr_top.specs.Around.{Around, left_of, with_world}
 use Rattle.kr_top.specs.Commands.{tape_for}
-use Rattle.kr_top.specs.FleetAsked.{AsksFleet, IsFleetAsked, AskNoFleet}
+use Rattle.kr_top.specs.FleetAsked.{AskAlone, AsksFleet}
 use Rattle.kr_top.specs.FleetFiles.{FleetPlan, planning}
 use Rattle.kr_top.specs.Fleets.{Begun, DidFleet, RanFleet, WritesFleet, budgeting, over_store, parts_of}
 use Rattle.kr_top.specs.Ran.{IsIdle, Receipt, StopsAtOnce, Tells}
@@ -36,9 +36,12 @@ use Rattle.kr_top.specs.declared.refusal.Limit.TheVariants as limit
 use Rattle.kr_top.specs.declared.refusal.Refusal.TheVariants.{Limit}
 use Rattle.kr_top.specs.declared.refusal.Stop.{Stop}
 use Rattle.kr_top.specs.declared.refusal.Stop.TheVariants.{Words, Refused, Fault, NoMemory}
+use Rattle.kr_top.specs.inner.FleetAsked.{IsFleetAsked}
 use Rattle.kr_top.specs.inner.Fleets.{LacksWorkers, LeavesRecord, RunsBy, budget_stop}
+use Rattle.kr_top.specs.inner.Lent.{with_lent_tape}
 use Rattle.kr_top.specs.inner.Phases.{Does}
 use Rattle.kr_top.specs.inner.Tapes.{LentTape, ReturnedTape}
+use Rattle.kr_top.specs.inner.Workings.{Outfits, RunsWith}
 use Rattle.kr_top.proofs.Goes.{goes_on, home_refl, home_trans, reach, stays_refl, stops}
 use Rattle.kr_top.proofs.Tapes.{came_back, lent, nothing}
 
@@ -132,7 +135,7 @@ module _ (T : Type 0) {L D : Type 0} (truth : Truth) (link : L → Link)
 
   module _ {A : Type 0} (first : Steps A) (others : A → Steps Begun) where
     -- the first steps gave something, and the fleet ran by the others
-    pub before : (x : A) (new : Around) {old mid : Around} → Does first old mid (Ok x)
+    unfoldable pub before : (x : A) (new : Around) {old mid : Around} → Does first old mid (Ok x)
         → (result : Result Record Stop) → Runs (others x) mid new result
         → Runs (and_then first others) old new result
     before x new d (Ok made) l = record {
@@ -183,6 +186,15 @@ module _ (T : Type 0) {L D : Type 0} (truth : Truth) (link : L → Link)
         (lent store true _ h a) result
         (subst (λ b. Runs steps (with_lent_tape store given first (with_world out a)) b result)
         (came_back store returned a) r)
+
+-- what is known of the workers beside, left out
+pub runs_with : (T : Type 0) {L D : Type 0} (truth : Truth) (link : L → Link)
+    (left : D → Option (List ℕ)) (count : D → ℕ) (store : List ℕ) (plan : FleetPlan)
+    (steps : Steps Begun) (outfits : Outfits L D) (old new : Around) (result : Result Record Stop)
+    → RunsWith link left count T truth steps store plan outfits old new result
+    → RunsBy T truth link left count steps store plan old new result
+runs_with T truth link left count store plan steps outfits old new (Ok made) r = r.leaves
+runs_with T truth link left count store plan steps outfits old new (Err stop) r = r
 
 -- ---- budgets
 
@@ -316,9 +328,9 @@ at_once words NoMemory h = tt
 -- they ask for no fleet, but where memory lacked
 pub alone_or_memory : (words : List (List ℕ)) (stop : Stop) → IsFleetAsked words (Err stop)
     → (errors : Receipt) (status : ℕ)
-    → Tells (line_of (Err stop)) (stop_status (Err stop)) errors status → AskNoFleet words
+    → Tells (line_of (Err stop)) (stop_status (Err stop)) errors status → AskAlone words
     ⊎ Tells (line_of (Err NoMemory)) (stop_status (Err NoMemory)) errors status
-alone_or_memory words (Words why) h errors status t = inl h.1
+alone_or_memory words (Words why) h errors status t = inl (h.1, h.2)
 alone_or_memory words (Refused why) h errors status t = absurd h
 alone_or_memory words (Fault object count) h errors status t = absurd h
 alone_or_memory words NoMemory h errors status t = inr t

@@ -24,36 +24,26 @@ use Rattle.kr_script.proofs.OneAnswer.{one_meaning}
 use Rattle.kr_store.specs.declared.rows.LogRow.{LogRow}
 use Rattle.kr_words.specs.Arguments.{program_of}
 use Rattle.kr_top.specs.Around.{Around, left_of}
-use Rattle.kr_top.specs.Commands.{by_result, configuration, silently, with_memory}
-use Rattle.kr_top.specs.FleetFiles.{FleetPlan, IsFleetFile, NamedRows, all_rows, files_in, mentioned, no_file, programs_in, rows_at, script_refusal, unless_read}
+use Rattle.kr_top.specs.Commands.{by_result, configuration, with_memory}
+use Rattle.kr_top.specs.FleetFiles.{FleetPlan, IsFleetFile, NamedRows, all_rows, files_in, all_files, no_file, programs_in, rows_at, script_refusal, unless_read}
 use Rattle.kr_top.specs.FleetReady.{IsFleetTold}
-use Rattle.kr_top.specs.Fleets.{AreWithin, Begun, IsStart, Replicas, beginning, borrow_links_of, equipped, equipping, fleet_steps, outfitted, over_store, parts_of, publishes, publishing, rows_of_replica, starting}
+use Rattle.kr_top.specs.Fleets.{AreWithin, Begun, IsStart, Replicas, beginning, borrow_links_of, equipping_all, equipping, fleet_steps, launching, over_store, parts_of, publishes, publishing, rows_of_replica, starting}
 use Rattle.kr_top.specs.Judgements.{start_refusal}
 use Rattle.kr_top.specs.Plugins.{join_program, make_seeds, programs_of}
 use Rattle.kr_top.specs.Ran.{AreTold}
-use Rattle.kr_top.specs.Steps.{Goes, Left, Point, Steps, and_then, borrow_link, gives, give, or_empty, refuses, with_asked}
+use Rattle.kr_top.specs.Steps.{Left, Steps, and_then, borrow_link, give, or_empty, with_asked}
 use Rattle.kr_top.specs.StoreFiles.{Stored}
 use Rattle.kr_top.specs.declared.fleet_words.FleetWords.{FleetWords}
 use Rattle.kr_top.specs.declared.programs.Program.{Program}
-use Rattle.kr_top.specs.declared.refusal.Done.TheVariants.{Silent}
 use Rattle.kr_top.specs.declared.refusal.Outcome.{Outcome}
 use Rattle.kr_top.specs.declared.refusal.Refusal.{Refusal}
-use Rattle.kr_top.specs.declared.refusal.Stop.TheVariants.{Refused}
 use Rattle.kr_top.proofs.FleetWalk.{one_budgets, some_same}
-use Rattle.kr_top.proofs.Goes.{further}
 use Rattle.kr_top.proofs.Listed.{one_stored}
-use Rattle.kr_top.proofs.OnePoint.{IsSettled, one_point}
+use Rattle.kr_top.proofs.OneBeginning.{GoOneWay, closing}
+use Rattle.kr_top.proofs.OnePoint.{IsSettled}
 use Rattle.kr_top.proofs.Plans.{rows_among}
 use Rattle.kr_top.proofs.Settled.{one_configuration, regroup, settled_pair, settled_seeds, told_or_empty}
 use Rattle.kr_top.proofs.Tapes.{own_name}
-
--- these steps go one way
-abbrev Alike : Steps Outcome → Left → Type 0
-Alike steps left = IsSettled steps steps left left
-
--- what begins is no value that a command writes
-abbrev closing : Begun → Steps Outcome
-closing begun = give (silently [])
 
 -- ---- what is found is one thing
 
@@ -79,7 +69,7 @@ one_fleet name (Some bytes) (Err v) (Err w) (inr h) (inr k) =
     let same : h.1.0 ≡ k.1.0 = cc in
     ap (λ r. Err r) (one_script h.1.0 k.1.0 v w same h.1.2 k.1.2)
 
-one_within : (rows : List LogRow) (parts : List Part) (a b : Result (List ℕ) Refusal)
+pub one_within : (rows : List LogRow) (parts : List Part) (a b : Result (List ℕ) Refusal)
     → AreWithin rows parts a → AreWithin rows parts b → a ≡ b
 one_within rows parts (Ok x) (Ok y) h k = ap (λ l. Ok l) (one_budgets rows parts x y h.0 k.0)
 one_within rows parts (Ok x) (Err w) h (e, (y, are, many)) =
@@ -122,8 +112,8 @@ pub record IsAs (left now : Left) : Type 0 where
 
 settled_files : (names : List (List ℕ)) (read : List NamedRows) (first left : Left)
     → IsAs first left → AreTold left.file names → (next : List NamedRows → Steps Outcome)
-    → ((files : List NamedRows) (l : Left) → IsAs first l → Alike (next files) l)
-    → Alike (and_then (files_in read names) next) left
+    → ((files : List NamedRows) (l : Left) → IsAs first l → GoOneWay (next files) l)
+    → GoOneWay (and_then (files_in read names) next) left
 settled_files [] read first left stays told next s = s read left stays
 settled_files (name ∷ names) read first left stays told next s =
     by (rows_at read name) (settled_files names read first left stays told.1 next s)
@@ -137,16 +127,16 @@ settled_files (name ∷ names) read first left stays told next s =
     now = with_asked (File name) left
 
     by_rows : ((rows : List Row)
-        → Alike (and_then (files_in (read ++ (name, rows) ∷ []) names) next) now)
+        → GoOneWay (and_then (files_in (read ++ (name, rows) ∷ []) names) next) now)
         → (r : Result (List Row) Refusal)
-        → Alike (and_then (and_then (by_result r) more) next) now
+        → GoOneWay (and_then (and_then (by_result r) more) next) now
     by_rows goes (Ok rows) = λ u v h k. goes rows
     by_rows goes (Err why) = refl
 
-    by : (o : Option (List Row)) → Alike (and_then (files_in read names) next) left
+    by : (o : Option (List Row)) → GoOneWay (and_then (files_in read names) next) left
         → ((rows : List Row)
-        → Alike (and_then (files_in (read ++ (name, rows) ∷ []) names) next) now)
-        → Alike (and_then (unless_read o (files_in read names)
+        → GoOneWay (and_then (files_in (read ++ (name, rows) ∷ []) names) next) now)
+        → GoOneWay (and_then (unless_read o (files_in read names)
         (and_then (configuration name) more)) next) left
     by (Some rows) skips goes = skips
     by None skips goes = (
@@ -214,7 +204,7 @@ module _ (files : List NamedRows) (first : ℕ × List ℕ → Option Status)
       by true is = absurd cc
       by false is = is
 
-  settled_publishing : (replicas : List (List ℕ × List ℕ)) (x y : Replicas) (l r : Left)
+  pub settled_publishing : (replicas : List (List ℕ × List ℕ)) (x y : Replicas) (l r : Left)
       → l.links ≡ first → r.links ≡ first → settings_of x ≡ settings_of y
       → IsSettled (and_then (publishing files x replicas) next)
       (and_then (publishing files y replicas) next) l r
@@ -262,7 +252,7 @@ module _ (files : List NamedRows) (first : ℕ × List ℕ → Option Status)
 
 -- ---- the start
 
-settled_start : (plan : FleetPlan) (stored : Stored) (budgets : List ℕ) (x y : Replicas)
+pub settled_start : (plan : FleetPlan) (stored : Stored) (budgets : List ℕ) (x y : Replicas)
     (l r : Left) → settings_of x ≡ settings_of y
     → IsSettled (and_then (starting plan stored budgets x) closing)
     (and_then (starting plan stored budgets y) closing) l r
@@ -323,8 +313,8 @@ module _ (words : FleetWords) (old : Around) (told : IsFleetTold words old) wher
       → programs_of words.options (plugin_order (all_rows plan.files)) ≡ Ok plan.programs
       → (stored : Stored) (budgets : List ℕ) (l r : Left) → l.links ≡ old.world.links.told
       → r.links ≡ old.world.links.told
-      → IsSettled (and_then (outfitted plan stored budgets) closing)
-      (and_then (outfitted plan stored budgets) closing) l r
+      → IsSettled (and_then (launching plan stored budgets) closing)
+      (and_then (launching plan stored budgets) closing) l r
   settled_outfits plan e stored budgets l r x y =
       let makes = publishing plan.files [] plan.fleet.replicas in
       subst (λ s. IsSettled s s l r) (sym (regroup makes (starting plan stored budgets) closing))
@@ -335,7 +325,7 @@ module _ (words : FleetWords) (old : Around) (told : IsFleetTold words old) wher
 
   settled_over : (plan : FleetPlan) (l : Left) → IsAs (left_of old) l
       → programs_of words.options (plugin_order (all_rows plan.files)) ≡ Ok plan.programs
-      → Alike (and_then (over_store words.store plan) closing) l
+      → GoOneWay (and_then (over_store words.store plan) closing) l
   settled_over plan l stays e = (
     there,
     refl,
@@ -346,9 +336,9 @@ module _ (words : FleetWords) (old : Around) (told : IsFleetTold words old) wher
           (sym (own_name words.store)) (told_or_empty (l.tapes words.store) there),
       refl,
       λ bytes a b x y. settled_pair _ _ a b (beginning plan) closing (one_stored bytes a b x y)
-          (λ stored. λ c d u v. settled_pair _ _ c d (equipped plan stored) closing
+          (λ stored. λ c d u v. settled_pair _ _ c d (equipping_all plan stored) closing
           (one_within stored.rows (parts_of plan.fleet) c d u v) (λ budgets.
-          settled_equipping plan.programs (outfitted plan stored budgets) closing
+          settled_equipping plan.programs (launching plan stored budgets) closing
           old.world.links.told (λ s t m n. settled_outfits plan e stored budgets s t m n) 0
           (length plan.fleet.workers) _ _ stays.links stays.links)),
     ),
@@ -362,13 +352,14 @@ module _ (words : FleetWords) (old : Around) (told : IsFleetTold words old) wher
       give (record { fleet = fleet; files = files; programs = programs }))
 
   settled_plan : (fleet : Fleet) (files : List NamedRows) (l : Left) → IsAs (left_of old) l
-      → Alike (and_then (and_then (plan_of_files fleet files) (over_store words.store)) closing) l
+      → GoOneWay (and_then (and_then (plan_of_files fleet files) (over_store words.store)) closing)
+      l
   settled_plan fleet files l stays = λ u v h k.
       by (programs_of words.options (plugin_order (all_rows files))) refl
     where
       by : (r : Result (List Program) Refusal)
           → programs_of words.options (plugin_order (all_rows files)) ≡ r
-          → Alike (and_then (and_then (and_then (by_result r) (λ programs.
+          → GoOneWay (and_then (and_then (and_then (by_result r) (λ programs.
           give (record { fleet = fleet; files = files; programs = programs })))
           (over_store words.store)) closing) l
       by (Ok programs) e =
@@ -376,23 +367,23 @@ module _ (words : FleetWords) (old : Around) (told : IsFleetTold words old) wher
       by (Err why) e = refl
 
   abbrev fleet_by : Fleet → Steps FleetPlan
-  fleet_by fleet = and_then (files_in [] (mentioned fleet)) (plan_of_files fleet)
+  fleet_by fleet = and_then (files_in [] (all_files fleet)) (plan_of_files fleet)
 
   settled_read : (fleet : Fleet) (l : Left) → IsAs (left_of old) l
-      → AreTold old.world.file (mentioned fleet)
-      → Alike (and_then (and_then (fleet_by fleet) (over_store words.store)) closing) l
+      → AreTold old.world.file (all_files fleet)
+      → GoOneWay (and_then (and_then (fleet_by fleet) (over_store words.store)) closing) l
   settled_read fleet l stays names =
-      let reads = files_in [] (mentioned fleet) in
-      subst (λ s. Alike s l) (sym (ap (λ s. and_then s closing)
+      let reads = files_in [] (all_files fleet) in
+      subst (λ s. GoOneWay s l) (sym (ap (λ s. and_then s closing)
       (regroup reads (plan_of_files fleet) (over_store words.store))
       ∙ regroup reads (λ files. and_then (plan_of_files fleet files) (over_store words.store))
       closing))
-      (settled_files (mentioned fleet) [] (left_of old) l stays
-      (subst (λ f. AreTold f (mentioned fleet)) (sym stays.file) names)
+      (settled_files (all_files fleet) [] (left_of old) l stays
+      (subst (λ f. AreTold f (all_files fleet)) (sym stays.file) names)
       (λ files. and_then (and_then (plan_of_files fleet files) (over_store words.store)) closing)
       (λ files m at. settled_plan fleet files m at))
 
-  settled_fleet : Alike (and_then (fleet_steps words) closing) (left_of old)
+  pub settled_fleet : GoOneWay (and_then (fleet_steps words) closing) (left_of old)
   settled_fleet = (
     told.fleet,
     refl,
@@ -408,41 +399,10 @@ module _ (words : FleetWords) (old : Around) (told : IsFleetTold words old) wher
       now = with_asked (File words.file) (left_of old)
 
       by : (r : Result Fleet Refusal)
-          → ((fleet : Fleet) → r ≡ Ok fleet → AreTold old.world.file (mentioned fleet))
-          → Alike (and_then (and_then (and_then (by_result r) fleet_by)
+          → ((fleet : Fleet) → r ≡ Ok fleet → AreTold old.world.file (all_files fleet))
+          → GoOneWay (and_then (and_then (and_then (by_result r) fleet_by)
           (over_store words.store)) closing) now
       by (Ok fleet) names =
           settled_read fleet now (record { file = refl; tapes = refl; links = refl })
           (names fleet refl)
       by (Err why) names = refl
-
-  -- ---- the end
-
-  abbrev Walks : Point Begun → Left → Type 0
-  Walks point end = Goes point end (fleet_steps words) (left_of old)
-
-  refusing : (why : Refusal) (end : Left) → Walks (refuses why) end
-      → Goes (refuses why) end (and_then (fleet_steps words) closing) (left_of old)
-  refusing why end goes = further (refuses why) end closing (refuses why) end (refl, refl)
-      (fleet_steps words) (left_of old) goes
-
-  giving : (begun : Begun) (end : Left) → Walks (gives begun) end
-      → Goes (gives (silently [])) end (and_then (fleet_steps words) closing) (left_of old)
-  giving begun end goes = further (gives (silently [])) end closing (gives begun) end (refl, refl)
-      (fleet_steps words) (left_of old) goes
-
-  pub one_refusal : (v w : Refusal) (m n : Left) → Walks (refuses v) m → Walks (refuses w) n
-      → v ≡ w
-  one_refusal v w m n x y =
-      let e : Err (Refused v) ≡ Err (Refused w) = one_point (refuses v) (refuses w) m n
-      (and_then (fleet_steps words) closing) (and_then (fleet_steps words) closing) (left_of old)
-      (left_of old) settled_fleet (refusing v m x) (refusing w n y) (Err (Refused v))
-      (Err (Refused w)) refl refl in cc
-
-  pub no_other : (why : Refusal) (begun : Begun) (m n : Left) → Walks (refuses why) m
-      → Walks (gives begun) n → ⊥
-  no_other why begun m n x y =
-      let e : Err (Refused why) ≡ Ok Silent = one_point (refuses why) (gives (silently [])) m n
-      (and_then (fleet_steps words) closing) (and_then (fleet_steps words) closing) (left_of old)
-      (left_of old) settled_fleet (refusing why m x) (giving begun n y) (Err (Refused why))
-      (Ok Silent) refl refl in absurd cc

@@ -30,9 +30,9 @@ use Rattle.kr_script.specs.declared.script.Part.{Part}
 use Rattle.kr_top.specs.Around.{Around, left_of}
 use Rattle.kr_top.specs.Commands.{by_result, configuration, with_memory}
 use Rattle.kr_top.specs.Configuration.{IsConfiguration}
-use Rattle.kr_top.specs.FleetFiles.{FleetPlan, IsFleetFile, NamedRows, all_rows, file_in, file_of_replica, files_in, mentioned, no_file, planning, programs_in, rows_at, unless_read}
+use Rattle.kr_top.specs.FleetFiles.{FleetPlan, IsFleetFile, NamedRows, all_rows, file_in, file_of_replica, files_in, all_files, no_file, planning, programs_in, rows_at, unless_read}
 use Rattle.kr_top.specs.FleetReady.{HasSettings, HaveSettings, IsConfigured, IsHealthy, IsReady, TellsRows}
-use Rattle.kr_top.specs.Fleets.{AreWithin, Begun, IsStart, Replicas, beginning, borrow_links_of, equipped, equipping, fleet_steps, outfitted, over_store, parts_of, publishes, publishing, rows_of_replica, starting}
+use Rattle.kr_top.specs.Fleets.{AreWithin, Begun, IsStart, Replicas, beginning, borrow_links_of, equipping_all, equipping, fleet_steps, launching, over_store, parts_of, publishes, publishing, rows_of_replica, starting}
 use Rattle.kr_top.specs.Judgements.{start_refusal}
 use Rattle.kr_top.specs.Plugins.{join_program, make_seed, make_seeds, programs_of, unless_breach, wrap_seed}
 use Rattle.kr_top.specs.Steps.{Left, Steps, and_then, give, or_empty, tapes_with, with_asked}
@@ -216,7 +216,7 @@ module _ (words : FleetWords) (old : Around) (ready : IsReady words old) where
   pub record IsPlanned (plan : FleetPlan) : Type 0 where
     pub fleet_is : plan.fleet ≡ ready.fleet
     pub there : All IsThere plan.files
-    pub read : All (IsRead plan.files) (mentioned ready.fleet)
+    pub read : All (IsRead plan.files) (all_files ready.fleet)
     pub healthy : (plugin : List ℕ) → Contains (names_in plan.programs) plugin
         → IsHealthy old (length ready.fleet.workers) plugin
 
@@ -252,7 +252,7 @@ module _ (words : FleetWords) (old : Around) (ready : IsReady words old) where
       )
 
   plans : (fleet : Fleet) (left : Left) → fleet ≡ ready.fleet → (files : List NamedRows)
-      → Loaded (mentioned ready.fleet) files left
+      → Loaded (all_files ready.fleet) files left
       → GivesOnly Planned (and_then (programs_in words.options files)
       (λ programs. plan_by fleet files programs)) left
   plans fleet left same files l = λ u t.
@@ -280,17 +280,17 @@ module _ (words : FleetWords) (old : Around) (ready : IsReady words old) where
       let file : ready.file.0 ≡ bytes = is_told (old.world.file words.file) ready.file.0 bytes
       ready.file.1 agrees in
       let now = with_asked (File words.file) (left_of old) in
-      by_known_then Planned (λ fleet. and_then (files_in [] (mentioned fleet)) (λ files.
+      by_known_then Planned (λ fleet. and_then (files_in [] (all_files fleet)) (λ files.
       and_then (programs_in words.options files) (λ programs.
       plan_by fleet files programs))) r ready.fleet now
       (one_fleet_file words.file bytes ready.fleet r
       (subst (λ f. IsFleetFile words.file f (Ok ready.fleet)) file ready.file.2) is)
-      (gives_then (Loaded (mentioned ready.fleet)) Planned
+      (gives_then (Loaded (all_files ready.fleet)) Planned
       (λ files. and_then (programs_in words.options files) (λ programs.
       plan_by ready.fleet files programs))
       (λ files l loaded. plans ready.fleet l refl files loaded)
-      (files_in [] (mentioned ready.fleet)) now
-      (loads_files [] (mentioned ready.fleet) [] now ready.configured (All-nil IsThere)
+      (files_in [] (all_files ready.fleet)) now
+      (loads_files [] (all_files ready.fleet) [] now ready.configured (All-nil IsThere)
       (All-nil (IsRead [])) (record { file = refl; links = refl }) refl))
 
   -- ---- the budgets
@@ -527,7 +527,7 @@ module _ (words : FleetWords) (old : Around) (ready : IsReady words old) where
         absurd (no_refusal ready.stored.rows replicas why may is)
 
     outfits : (budgets : List ℕ) (left : Left) → Sees old left
-        → GivesOnly BeginsWell (outfitted plan ready.stored budgets) left
+        → GivesOnly BeginsWell (launching plan ready.stored budgets) left
     outfits budgets left sees =
         let settings = map (rows_of_replica plan.files) plan.fleet.replicas in
         gives_then (Publishes plan.files p.there settings) BeginsWell
@@ -547,11 +547,11 @@ module _ (words : FleetWords) (old : Around) (ready : IsReady words old) where
 
     begins : (left : Left) → Sees old left
         → GivesOnly BeginsWell (beginning plan ready.stored) left
-    begins left sees = budgets_pass BeginsWell (equipped plan ready.stored) ready.stored.rows
+    begins left sees = budgets_pass BeginsWell (equipping_all plan ready.stored) ready.stored.rows
         (parts_of plan.fleet) left ready.budgets
         (subst (λ (f : Fleet). AreWithin ready.stored.rows (parts_of f) (Ok ready.budgets))
         (sym p.fleet_is) ready.within)
-        (λ budgets. equips BeginsWell plan.programs (outfitted plan ready.stored budgets)
+        (λ budgets. equips BeginsWell plan.programs (launching plan ready.stored budgets)
         (λ l s. outfits budgets l s) 0 (length plan.fleet.workers) left sees)
 
   -- ---- all of them

@@ -9,9 +9,10 @@ use Rattle.kr_kms.specs.Outside.{same_seat}
 use Rattle.kr_provider.specs.AskedLinks.{AskedOnly, FaultRose}
 use Rattle.kr_provider.specs.Names.{AreDistinct}
 use Rattle.kr_provider.proofs.AskedLists.{distinct_stay}
-use Rattle.kr_top.specs.Around.{Around, with_lent_dice, with_lent_links, faults_at, IsFault, IsHome, Stays}
+use Rattle.kr_top.specs.Around.{Around, faults_at, IsFault, IsHome, Stays}
 use Rattle.kr_top.specs.Steps.{Left, asking, with_dice}
 use Rattle.kr_top.specs.declared.refusal.Object.TheVariants.{Plugin}
+use Rattle.kr_top.specs.inner.Lent.{with_lent_dice, with_lent_links}
 use Rattle.kr_top.proofs.Goes.{files_same}
 use Rattle.kr_top.proofs.Lending.{home_behind, home_same}
 use Rattle.kr_top.proofs.Links.{count_of, seen_asked}

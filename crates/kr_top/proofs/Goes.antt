@@ -12,10 +12,11 @@ use Rattle.kr_kms.specs.declared.world.WorldCall.{WorldCall}
 use Rattle.kr_kms.specs.declared.world.WorldCall.TheVariants.{File, Link, RandomSource}
 use Rattle.kr_kms.proofs.Lent.{seats_decide}
 use Rattle.kr_config.specs.declared.settings.Settings.{Settings}
-use Rattle.kr_top.specs.Around.{Around, with_world, with_told_input, with_lent, with_lent_dice, left_of, faults_at, Stays, Reaches, AreHome, IsHome, Ends, MayLack, count_at}
+use Rattle.kr_top.specs.Around.{Around, with_world, with_lent, left_of, faults_at, Stays, Reaches, AreHome, IsHome, Ends, MayLack, count_at}
 use Rattle.kr_top.specs.Commands.{by_result, configuration, show, input_of, limit_of, long_input}
 use Rattle.kr_top.specs.Configuration.{Entries}
 use Rattle.kr_top.specs.Steps.{Steps, load, take_input, borrow_dice, borrow_tape, read_tape, write_row, keep_rows, draw, note, find, refuse, give, and_then, Call, loading, reading, opening, lending, scanning, writing, drawing, Point, awaits, amid, refuses, gives, Left, with_input, with_asked, IsAt, Goes, borrow_link, ask_status, wrap, unwrap, linking, asking, object_of}
+use Rattle.kr_top.specs.inner.Lent.{with_told_input, with_lent_dice}
 use Rattle.kr_top.specs.inner.Phases.{Does, AskedUnless, AskedFor, rows_in, IsFileRead, Configures, TakesInput, Yields, shown_as, DiceLoan, DiceReturn, LendsNothing}
 use Rattle.kr_top.specs.declared.command.Direction.{Direction}
 use Rattle.kr_top.specs.declared.refusal.Object.TheVariants.{Files}

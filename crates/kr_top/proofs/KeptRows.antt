@@ -22,7 +22,7 @@ use Rattle.kr_store.specs.Stores.{IsListing}
 use Rattle.kr_store.specs.declared.rows.LogRow.{LogRow}
 use Rattle.kr_store.specs.declared.rows.Row as stored
 use Rattle.kr_top.specs.Afterwards.{ArePutsOf, KeepsRows, ToldTape, with_rows}
-use Rattle.kr_top.specs.Commands.{Progress, begun, by_result, configuration, driving, linking_programs, one_fresh, one_left, one_rewritten, replacing, resealing, rewriting, rewriting_by, rewriting_on, row_anew, row_by, row_data, row_steps, starting, tape_for, value_read, value_sealed, within_journal}
+use Rattle.kr_top.specs.Commands.{Progress, nothing_done, by_result, configuration, driving, linking_programs, one_fresh, one_left, one_rewritten, replacing, resealing, rewriting, rewriting_by, rewriting_on, row_anew, row_by, row_data, row_steps, starting, tape_for, value_read, value_sealed, within_journal}
 use Rattle.kr_top.specs.Plugins.{borrow_links, make_seeds, programs_of}
 use Rattle.kr_top.specs.Steps.{Steps, borrow_dice, give, write_row, and_then, Point, Left, IsAt, Goes, with_count, with_said, with_told}
 use Rattle.kr_top.specs.StoreFiles.{Stored, IsStored, with_row, BeginsWith, StillHolds}
@@ -305,7 +305,7 @@ module _ (words : Rewriting) (point : Point Outcome) (end left : Left) where
       (live : List stored.Row) (listing : IsListing base.rows live) where
     abbrev behind_seeds : List SeedRow → Steps Outcome
     behind_seeds seeds = and_then (starting base.rows rows) (λ u.
-        driving words.store (record { rows = rows; seeds = seeds }) live (begun base))
+        driving words.store (record { rows = rows; seeds = seeds }) live (nothing_done base))
 
     at_start : (seeds : List SeedRow) (mid : Left) → IsKept mid left
         → Goes point end (behind_seeds seeds) mid → Kept
@@ -319,7 +319,7 @@ module _ (words : Rewriting) (point : Point Outcome) (end left : Left) where
       read = is;
       listing = listing;
       grows = drive_grows words.store (left.counts words.store)
-          (record { rows = rows; seeds = seeds }) point end live (begun base) mid
+          (record { rows = rows; seeds = seeds }) point end live (nothing_done base) mid
           (omega (arith, ap (λ (counts : List ℕ → ℕ). counts words.store) same.1)) goes;
     })
 

@@ -285,7 +285,7 @@ module _ (words : Migration) (old new : Around) (status : ℕ) where
   -- so many rows are copied
   copied_so : {p : Point Outcome} (m : IsMigrated words p (left_of old) new.world.tapes.told)
       → ((status ≡ 4) × Rose (old.world.tapes.faults words.to) (new.world.tapes.faults words.to)
-      × BeginsWith (new_store m.is_left.copied) m.is_left.told)
+      × (m.is_left.rest ≢ []) × BeginsWith (new_store m.is_left.copied) m.is_left.told)
       ⊎ (((status ≡ 0) ⊎ (status ≡ 4)) × (m.is_left.rest ≡ [])
       × HoldsRows (new_store m.is_left.copied) m.is_left.told)
       ⊎ ((status ≢ 0) × (m.is_left.rest ≢ [])
@@ -324,14 +324,14 @@ module _ (words : Migration) (old new : Around) (status : ℕ) where
   given_so x (inl none) s = absurd none.0
   given_so x (inr m) s = by_holds m.is_left.holds s
     where
-      by_holds : (IsTorn Target words.to (gives x)
+      by_holds : (IsTorn Target words.to (gives x) × (m.is_left.rest ≢ [])
           × BeginsWith (new_store m.is_left.copied) m.is_left.told)
           ⊎ (IsSilent (gives x) × (m.is_left.rest ≡ [])
           × HoldsRows (new_store m.is_left.copied) m.is_left.told)
           ⊎ (IsShort (gives x) × (m.is_left.rest ≢ [])
           × HoldsRows (new_store m.is_left.copied) m.is_left.told)
           → (status ≡ status_of_done x.done) ⊎ (status ≡ 4) → After
-      by_holds (inl (torn, begins)) s = absurd torn
+      by_holds (inl (torn, more, begins)) s = absurd torn
       by_holds (inr (inl (silent, none, holds))) (inl e) =
           copied_so m (inr (inl (inl (e ∙ ap status_of_done silent), none, holds)))
       by_holds (inr (inl (silent, none, holds))) (inr e) =
@@ -346,15 +346,15 @@ module _ (words : Migration) (old new : Around) (status : ℕ) where
   short_so p (inl none) loud torn some = none_copied p some none
   short_so p (inr m) loud torn some = by_holds m.is_left.holds
     where
-      by_holds : (IsTorn Target words.to p
+      by_holds : (IsTorn Target words.to p × (m.is_left.rest ≢ [])
           × BeginsWith (new_store m.is_left.copied) m.is_left.told)
           ⊎ (IsSilent p × (m.is_left.rest ≡ [])
           × HoldsRows (new_store m.is_left.copied) m.is_left.told)
           ⊎ (IsShort p × (m.is_left.rest ≢ [])
           × HoldsRows (new_store m.is_left.copied) m.is_left.told)
           → After
-      by_holds (inl (is, begins)) =
-          let t = torn is in copied_so m (inl (t.0, t.1, begins))
+      by_holds (inl (is, more, begins)) =
+          let t = torn is in copied_so m (inl (t.0, t.1, more, begins))
       by_holds (inr (inl (silent, none, holds))) = absurd (loud silent)
       by_holds (inr (inr (short, more, holds))) = copied_so m (inr (inr (some, more, holds)))
 

@@ -11,10 +11,10 @@ pub mod Migrating
 pub mod Points
 pub mod TwoTapes
 pub mod Beginnings
+pub mod Causes
 pub mod Crews
 pub mod Decided
 pub mod FleetCrews
-pub mod FleetDecided
 pub mod FleetEndings
 pub mod FleetAsked
 pub mod FleetLoads
@@ -26,11 +26,14 @@ pub mod FleetSettled
 pub mod FleetWalk
 pub mod EquallyLong
 pub mod Found
+pub mod FullLoads
+pub mod Generating
 pub mod Frames
 pub mod GivesOnly
 pub mod Goes
 pub mod Listed
 pub mod Listings
+pub mod OneBeginning
 pub mod OnePoint
 mod OneTape
 pub mod Outfits
@@ -40,6 +43,11 @@ pub mod Plans
 pub mod Pieces
 pub mod Publishings
 pub mod Loading
+pub mod LoadAsked
+pub mod LoadPlans
+pub mod LoadReadings
+pub mod LoadRuns
+pub mod LoadSettled
 pub mod Loads
 pub mod LoneCallers
 pub mod Judging

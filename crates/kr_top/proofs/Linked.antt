@@ -12,13 +12,14 @@ use Rattle.kr_kms.proofs.Lent.{links_decide}
 use Rattle.kr_provider.specs.Names.{HasLinks, names_of}
 use Rattle.kr_provider.specs.PluginOrder.{plugin_order}
 use Rattle.kr_provider.proofs.PluginOrder.{order_ascends, order_has, order_once}
-use Rattle.kr_top.specs.Around.{Around, lent_links, with_lent, with_lent_links, with_world}
+use Rattle.kr_top.specs.Around.{Around, with_lent, with_world}
 use Rattle.kr_top.specs.Commands.{with_memory}
 use Rattle.kr_top.specs.Plugins.{borrow_links}
 use Rattle.kr_top.specs.Steps.{Steps, borrow_link}
 use Rattle.kr_top.specs.declared.programs.Program.{Program}
 use Rattle.kr_top.specs.declared.refusal.Stop.{Stop}
 use Rattle.kr_top.specs.declared.refusal.Stop.TheVariants.{NoMemory}
+use Rattle.kr_top.specs.inner.Lent.{lent_links, with_lent_links}
 use Rattle.kr_top.specs.inner.Phases.{AskedUnless, Does, LendsNothing, LinkLoan, LinkReturn}
 use Rattle.kr_top.proofs.Frames.{Seen}
 use Rattle.kr_top.proofs.Goes.{dice_seen, home_refl, not_linked, reach}

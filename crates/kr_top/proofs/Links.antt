@@ -12,8 +12,9 @@ use Rattle.kr_kms.specs.declared.world.WorldCall.TheVariants as calls
 use Rattle.kr_kms.proofs.Lent.{links_decide}
 use Rattle.kr_provider.specs.AskedLinks.{AskedOnly}
 use Rattle.kr_provider.specs.Names.{AreDistinct, names_of}
-use Rattle.kr_top.specs.Around.{Around, with_world, with_lent, lent_links, with_lent_links}
+use Rattle.kr_top.specs.Around.{Around, with_world, with_lent}
 use Rattle.kr_top.specs.Steps.{Steps, borrow_link}
+use Rattle.kr_top.specs.inner.Lent.{lent_links, with_lent_links}
 use Rattle.kr_top.specs.inner.Phases.{Does, LinkLoan, LinkReturn}
 use Rattle.kr_top.specs.declared.refusal.Stop.{Stop}
 use Rattle.kr_top.proofs.Goes.{IsSeen, borrowed, goes_on, nothing, one_world}

@@ -10,10 +10,11 @@ use Rattle.kr_store.specs.File.{IsFile}
 use Rattle.kr_store.specs.Stores.{Kept, Loads, HasBreach}
 use Rattle.kr_store.specs.declared.answers.StoreNo.{StoreNo}
 use Rattle.kr_store.specs.declared.answers.StoreNo.TheVariants as no
-use Rattle.kr_top.specs.Around.{Around, with_lent_tape, Stays, Reaches, IsHome, Ends}
+use Rattle.kr_top.specs.Around.{Around, Stays, Reaches, IsHome, Ends}
 use Rattle.kr_top.specs.Commands.{stored_on}
 use Rattle.kr_top.specs.Steps.{Steps, scanning, Point, awaits, Left}
 use Rattle.kr_top.specs.StoreFiles.{Stored, IsStored, store_no}
+use Rattle.kr_top.specs.inner.Lent.{with_lent_tape}
 use Rattle.kr_top.specs.inner.Phases.{Does}
 use Rattle.kr_top.specs.inner.Tapes.{load_stop, stored_of}
 use Rattle.kr_top.specs.declared.refusal.Breach.{Breach}

@@ -6,8 +6,9 @@ use Rattle.kr_config.specs.Kept.{Row, rows_of}
 use Rattle.kr_config.specs.declared.settings.Settings.{Settings}
 use Rattle.kr_kms.specs.Outside.{Outside, KeepsFiles, KeepsObjects}
 use Rattle.kr_kms.specs.declared.world.WorldCall.TheVariants.{File}
-use Rattle.kr_top.specs.Around.{Around, Tapes, with_world, with_tapes}
+use Rattle.kr_top.specs.Around.{Around, with_world}
 use Rattle.kr_top.specs.Commands.{configuration, configurations}
+use Rattle.kr_top.specs.inner.Lent.{Tapes, with_tapes}
 use Rattle.kr_top.specs.inner.Phases.{Does, AskedFor, Configures, rows_in}
 use Rattle.kr_top.specs.declared.refusal.Stop.{Stop}
 use Rattle.kr_top.specs.declared.refusal.Stop.TheVariants.{Words, Refused, Fault, NoMemory}

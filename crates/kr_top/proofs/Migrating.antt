@@ -10,10 +10,11 @@ use Rattle.kr_store.specs.Stores.{Kept}
 use Rattle.kr_store.specs.declared.format.Format.{Format}
 use Rattle.kr_store.specs.declared.format.Format.TheVariants.{One, Two}
 use Rattle.kr_store.specs.declared.rows.LogRow.{LogRow}
-use Rattle.kr_top.specs.Around.{Around, with_lent_tape, Stays, Reaches, Ends}
+use Rattle.kr_top.specs.Around.{Around, Stays, Reaches, Ends}
 use Rattle.kr_top.specs.Commands.{by_result, copied_into, copying, migrated_line, migrated_row, silently, source_on, stored_on, target_on, target_read, with_memory}
 use Rattle.kr_top.specs.Steps.{Steps, read_tape, find, give, and_then, scanning, Point, Left, Goes}
 use Rattle.kr_top.specs.StoreFiles.{Stored, IsSource, IsStored, IsTarget, begins_new, none_there, unless_there}
+use Rattle.kr_top.specs.inner.Lent.{with_lent_tape}
 use Rattle.kr_top.specs.inner.Migrating.{all_grown, has_new_bytes}
 use Rattle.kr_top.specs.inner.Phases.{Does}
 use Rattle.kr_top.specs.inner.Tapes.{IsLoaded, answered, stored_of}

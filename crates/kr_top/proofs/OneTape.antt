@@ -26,7 +26,7 @@ use Rattle.kr_store.specs.Stores.{IsListing}
 use Rattle.kr_store.specs.declared.rows.LogRow.{LogRow}
 use Rattle.kr_store.specs.declared.rows.Row as stored
 use Rattle.kr_top.specs.Afterwards.{OthersStay}
-use Rattle.kr_top.specs.Commands.{Progress, adding, begun, by_result, configuration, draw_some, driving, linking_programs, one_rewritten, opening, published_source, reading_given, replacing, resealing, rewriting, rewriting_by, rewriting_live, rewriting_on, row_anew, row_by, row_data, row_steps, source_steps, starting, tape_for, value_read, value_sealed, value_with, within_journal, within_limit}
+use Rattle.kr_top.specs.Commands.{Progress, adding, nothing_done, by_result, configuration, draw_some, driving, linking_programs, one_rewritten, opening, published_source, reading_given, replacing, resealing, rewriting, rewriting_by, rewriting_live, rewriting_on, row_anew, row_by, row_data, row_steps, source_steps, starting, tape_for, value_read, value_sealed, value_with, within_journal, within_limit}
 use Rattle.kr_top.specs.Plugins.{borrow_links, make_seeds, programs_of}
 use Rattle.kr_top.specs.Steps.{Steps, load, take_input, borrow_dice, borrow_tape, read_tape, write_row, keep_rows, draw, borrow_link, ask_status, wrap, unwrap, note, find, refuse, give, and_then, Point, Left, Goes}
 use Rattle.kr_top.specs.StoreFiles.{Stored, with_row}
@@ -275,10 +275,10 @@ rewriting_by_is_on : (name : List ℕ) (rows : List Row) (store : Stored) (live 
     → IsOnTape name (rewriting_by name rows store live)
 rewriting_by_is_on name rows store live u =
     read_then name (λ seeds. and_then (starting store.rows rows) (λ u.
-    driving name (record { rows = rows; seeds = seeds }) live (begun store)))
+    driving name (record { rows = rows; seeds = seeds }) live (nothing_done store)))
     (λ seeds. read_then name (λ u.
-    driving name (record { rows = rows; seeds = seeds }) live (begun store))
-    (λ u. driving_is_on name (record { rows = rows; seeds = seeds }) live (begun store))
+    driving name (record { rows = rows; seeds = seeds }) live (nothing_done store))
+    (λ u. driving_is_on name (record { rows = rows; seeds = seeds }) live (nothing_done store))
     (starting store.rows rows) (λ started. result_reads started))
     (make_seeds (plugin_order rows)) (seeds_read (plugin_order rows))
 

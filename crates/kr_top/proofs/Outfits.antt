@@ -20,10 +20,11 @@ use Rattle.kr_provider.specs.PluginOrder.{plugin_order}
 use Rattle.kr_provider.proofs.NameOrder.{is_before, not_itself, to_false}
 use Rattle.kr_provider.proofs.PluginOrder.{order_ascends}
 use Rattle.kr_provider.proofs.AskedLists.{asked_none, asked_then, names_stay}
-use Rattle.kr_top.specs.Around.{Around, AreHome, IsHome, lent_links, with_lent}
+use Rattle.kr_top.specs.Around.{Around, AreHome, IsHome, with_lent}
 use Rattle.kr_top.specs.Fleets.{IsEquipped}
 use Rattle.kr_top.specs.declared.outfit.Outfit.{Outfit}
 use Rattle.kr_top.specs.declared.programs.Program.{Program}
+use Rattle.kr_top.specs.inner.Lent.{lent_links}
 use Rattle.kr_top.specs.inner.Outfits.{AreLater, AreNamed, IsLater, names_in, with_outfits}
 use Rattle.kr_top.proofs.Lending.{by_key, home_behind}
 use Rattle.kr_top.proofs.Links.{count_of, told_of}

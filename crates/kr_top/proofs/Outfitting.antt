@@ -12,13 +12,14 @@ use Rattle.kr_kms.specs.declared.world.WorldCall.TheVariants as calls
 use Rattle.kr_kms.proofs.Lent.{links_decide, seats_decide}
 use Rattle.kr_provider.specs.Names.{names_of}
 use Rattle.kr_provider.specs.PluginOrder.{plugin_order}
-use Rattle.kr_top.specs.Around.{Around, Tapes, lent_links, with_lent, with_lent_dice, with_lent_links, with_tapes, with_world}
+use Rattle.kr_top.specs.Around.{Around, with_lent, with_world}
 use Rattle.kr_top.specs.Fleets.{borrow_links_of, equipping}
 use Rattle.kr_top.specs.Steps.{Steps, and_then, borrow_dice, borrow_link, linking, with_asked}
 use Rattle.kr_top.specs.declared.outfit.Outfit.{Outfit}
 use Rattle.kr_top.specs.declared.programs.Program.{Program}
 use Rattle.kr_top.specs.declared.refusal.Stop.{Stop}
 use Rattle.kr_top.specs.declared.refusal.Stop.TheVariants.{NoMemory}
+use Rattle.kr_top.specs.inner.Lent.{Tapes, lent_links, with_lent_dice, with_lent_links, with_tapes}
 use Rattle.kr_top.specs.inner.Outfits.{AreNamed, AreOut, IsOut, KeepsOthers, Opens, OpensLinks, OutfitReturn, equipping_one, names_in, with_outfits}
 use Rattle.kr_top.specs.inner.Phases.{AskedUnless, DiceLoan, Does, LendsNothing, LinkLoan, LinkReturn}
 use Rattle.kr_top.proofs.Apart.{files_apart, link_apart, link_back_apart, loan_apart, objects_apart}

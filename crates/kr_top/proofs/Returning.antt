@@ -9,8 +9,9 @@ use Rattle.kr_kms.specs.Calls.{Link}
 use Rattle.kr_kms.specs.Outside.{Outside, at_key, same_link, same_seat}
 use Rattle.kr_kms.proofs.Lent.{links_decide, seats_decide}
 use Rattle.kr_provider.specs.Names.{AreDistinct, names_of}
-use Rattle.kr_top.specs.Around.{lent_links, with_lent}
+use Rattle.kr_top.specs.Around.{with_lent}
 use Rattle.kr_top.specs.declared.outfit.Outfit.{Outfit}
+use Rattle.kr_top.specs.inner.Lent.{lent_links}
 use Rattle.kr_top.specs.inner.Outfits.{LinksReturn, OutfitReturn}
 use Rattle.kr_top.specs.inner.Phases.{DiceReturn, LinkReturn}
 use Rattle.kr_top.proofs.Lending.{back_is, by_key}

@@ -35,13 +35,14 @@ use Rattle.kr_rollout.specs.Histories.{state_of}
 use Rattle.kr_rollout.specs.Writes.{file_size}
 use Rattle.kr_rewrite.specs.Rewrites.{ReplacesBy, ResealsBy, Rewrites, RewritesBy, RewritesData, unread_step, unsealed_step}
 use Rattle.kr_rewrite.specs.declared.outcome.Step.{Step}
-use Rattle.kr_top.specs.Around.{Around, with_lent_dice, with_lent_links, with_lent_tape}
+use Rattle.kr_top.specs.Around.{Around}
 use Rattle.kr_top.specs.Commands.{Progress, adding, one_rewritten, replacing, resealing, row_anew, row_by, row_data, row_steps, value_read, value_sealed, with_memory}
 use Rattle.kr_top.specs.Steps.{Steps, give}
 use Rattle.kr_top.specs.StoreFiles.{BeginsWith}
 use Rattle.kr_top.specs.declared.refusal.Object.TheVariants.{Dice, Store}
 use Rattle.kr_top.specs.declared.refusal.Stop.{Stop}
 use Rattle.kr_top.specs.declared.refusal.Stop.TheVariants.{Fault}
+use Rattle.kr_top.specs.inner.Lent.{with_lent_dice, with_lent_links, with_lent_tape}
 use Rattle.kr_top.specs.inner.Phases.{Does}
 use Rattle.kr_top.specs.inner.Rewriting.{IsDriveStop}
 use Rattle.kr_top.proofs.AddedRows.{row_is_above, row_is_lacking, row_is_torn}

@@ -33,11 +33,12 @@ use Rattle.kr_rollout.specs.Writes.{file_size}
 use Rattle.kr_rewrite.specs.Rewrites.{ReplacesBy, ResealsBy, Rewrites, RewritesBy, RewritesData, unread_step, unsealed_step}
 use Rattle.kr_rewrite.specs.declared.outcome.Step.{Step}
 use Rattle.kr_rewrite.specs.declared.outcome.Step.TheVariants as step
-use Rattle.kr_top.specs.Around.{Around, with_lent_dice, with_lent_links, with_lent_tape}
+use Rattle.kr_top.specs.Around.{Around}
 use Rattle.kr_top.specs.Commands.{Progress, adding, one_fresh, one_left, one_rewritten, replacing, resealing, row_anew, row_by, row_data, row_steps, value_read, value_sealed, with_memory}
 use Rattle.kr_top.specs.Steps.{Steps, give}
 use Rattle.kr_top.specs.StoreFiles.{Stored, with_row}
 use Rattle.kr_top.specs.declared.refusal.Object.TheVariants.{Store}
+use Rattle.kr_top.specs.inner.Lent.{with_lent_dice, with_lent_links, with_lent_tape}
 use Rattle.kr_top.specs.inner.Phases.{Does}
 use Rattle.kr_top.proofs.AddedRows.{row_is_added}
 use Rattle.kr_top.proofs.Goes.{given, goes_on}

@@ -8,9 +8,9 @@ use Rattle.kr_kms.specs.Calls.{Link}
 use Rattle.kr_kms.specs.Outside.{Outside, same_name}
 use Rattle.kr_store.specs.Stores.{IsListing}
 use Rattle.kr_store.specs.declared.rows.Row as stored
-use Rattle.kr_top.specs.Around.{Around, Tapes, with_world, with_tapes, with_lent, with_lent_dice, with_lent_links, with_lent_tape}
+use Rattle.kr_workers.specs.Budgets.{journal_limit}
+use Rattle.kr_top.specs.Around.{Around, with_world, with_lent}
 use Rattle.kr_top.specs.Commands.{by_result, rewriting_by, rewriting_live, within_journal}
-use Rattle.kr_top.specs.Limits.{journal_limit}
 use Rattle.kr_top.specs.Plugins.{borrow_links}
 use Rattle.kr_top.specs.Steps.{Steps, borrow_dice, find, give, and_then, refuses, Goes}
 use Rattle.kr_top.specs.StoreFiles.{Stored}
@@ -22,6 +22,7 @@ use Rattle.kr_top.specs.declared.refusal.Refusal.TheVariants.{Limit}
 use Rattle.kr_top.specs.declared.refusal.Stop.{Stop}
 use Rattle.kr_top.specs.declared.refusal.Stop.TheVariants.{Refused, NoMemory}
 use Rattle.kr_top.specs.declared.report.Counts.{Counts}
+use Rattle.kr_top.specs.inner.Lent.{Tapes, with_tapes, with_lent_dice, with_lent_links, with_lent_tape}
 use Rattle.kr_top.specs.inner.Phases.{Does}
 use Rattle.kr_top.specs.inner.Reporting.{saying}
 use Rattle.kr_top.specs.inner.Rewriting.{LacksRoom}

@@ -33,7 +33,7 @@ use Rattle.kr_store.specs.declared.rows.LogRow.{LogRow}
 use Rattle.kr_store.specs.declared.rows.Row as stored
 use Rattle.kr_store.proofs.Listings.{listing_once}
 use Rattle.kr_top.specs.Around.{Around, left_of}
-use Rattle.kr_top.specs.Commands.{IsStarted, Progress, begun, by_result, driving, linking_programs, one_rewritten, opening, reading_given, replacing, resealing, rewriting, rewriting_by, rewriting_live, rewriting_on, row_anew, row_by, row_data, row_steps, starting, tape_for, value_with, within_journal, draw_some}
+use Rattle.kr_top.specs.Commands.{IsStarted, Progress, nothing_done, by_result, driving, linking_programs, one_rewritten, opening, reading_given, replacing, resealing, rewriting, rewriting_by, rewriting_live, rewriting_on, row_anew, row_by, row_data, row_steps, starting, tape_for, value_with, within_journal, draw_some}
 use Rattle.kr_top.specs.Judgements.{start_refusal}
 use Rattle.kr_top.specs.Plugins.{borrow_links, make_seeds, programs_of}
 use Rattle.kr_top.specs.Ran.{IsTelling}
@@ -272,7 +272,7 @@ module _ (name : List ℕ) (rows : List Row) (none : names_plugin rows ≡ false
     (live : List stored.Row) where
   abbrev behind_seeds : List SeedRow → Steps Outcome
   behind_seeds seeds = and_then (starting store.rows rows) (λ u.
-      driving name (record { rows = rows; seeds = seeds }) live (begun store))
+      driving name (record { rows = rows; seeds = seeds }) live (nothing_done store))
 
   settled_seeded : (left right : Left) → IsSettled (rewriting_by name rows store live)
       (rewriting_by name rows store live) left right
@@ -281,7 +281,7 @@ module _ (name : List ℕ) (rows : List Row) (none : names_plugin rows ≡ false
       subst (λ names. IsSettled (and_then (make_seeds names) behind_seeds)
       (and_then (make_seeds names) behind_seeds) left right) (sym no_seeds)
       (λ a b x y. settled_by left right a b
-      (λ u. driving name (record { rows = rows; seeds = [] }) live (begun store))
+      (λ u. driving name (record { rows = rows; seeds = [] }) live (nothing_done store))
       (one_started store.rows rows a b x y)
       (λ u. settled_drive name rows none store.format live
       (record { rewritten = 0; fresh = 0; changed = 0; left = 0 }) store.rows store.rows left right

@@ -16,7 +16,7 @@ use Rattle.kr_rollout.specs.declared.opening_board.StartNo.TheVariants as start
 use Rattle.kr_store.specs.Stores.{Kept}
 use Rattle.kr_store.specs.declared.rows.Row as stored
 use Rattle.kr_top.specs.Around.{Around}
-use Rattle.kr_top.specs.Commands.{begun, driving, rewriting_by, starting}
+use Rattle.kr_top.specs.Commands.{nothing_done, driving, rewriting_by, starting}
 use Rattle.kr_top.specs.Plugins.{make_seeds}
 use Rattle.kr_top.specs.Steps.{Steps, and_then}
 use Rattle.kr_top.specs.StoreFiles.{Stored}
@@ -39,7 +39,7 @@ module _ (name : List ℕ) (rows : List Row) (store : Stored) (live : List store
 
   abbrev pub from_seeds : List SeedRow → Steps Outcome
   from_seeds seeds = and_then (starting store.rows rows) (λ u.
-      driving name (record { rows = rows; seeds = seeds }) live (begun store))
+      driving name (record { rows = rows; seeds = seeds }) live (nothing_done store))
 
   pub by_lacks : (a : Around) → Does By a a (Err NoMemory)
   by_lacks a = lacks (and_then (make_seeds (plugin_order rows)) from_seeds) a
@@ -96,11 +96,11 @@ module _ (name : List ℕ) (rows : List Row) (store : Stored) (live : List store
 
     pub started : {new : Around} {result : Result Outcome Stop}
         → MayStart store.rows (Some rows ∷ [])
-        → Does (driving name (record { rows = rows; seeds = seeds }) live (begun store)) a new
+        → Does (driving name (record { rows = rows; seeds = seeds }) live (nothing_done store)) a new
         result
         → Does (from_seeds seeds) a new result
     started may d = goes_on (starting store.rows rows) (λ u.
-        driving name (record { rows = rows; seeds = seeds }) live (begun store)) tt
+        driving name (record { rows = rows; seeds = seeds }) live (nothing_done store)) tt
         (record {
           home = home_refl a;
           ends = λ left s. reach left (inr (Ok tt, may, (refl, refl))) s;
@@ -152,18 +152,18 @@ module _ {L D : Type 0} (link : L → Link) (left : D → Option (List ℕ)) (co
       (core : CoreState) (benched mids : List L) (held mid : D) (names : List (List ℕ)) (room : ℕ)
       {new : Around} {made : Result Outcome Stop} → core ≡ Alone store p names room
       → benched ≡ mids → held ≡ mid → p.rows ≡ rows
-      → Does (driving name p live (begun (opened_store core)))
+      → Does (driving name p live (nothing_done (opened_store core)))
       (All_lent link benched (left held) (count held) name store.told core.opening.count a) new made
-      → Does (driving name (record { rows = rows; seeds = p.seeds }) live (begun (stored_of store)))
+      → Does (driving name (record { rows = rows; seeds = p.seeds }) live (nothing_done (stored_of store)))
       (Out mids mid store) new made
   driven_on rows live store p core benched mids held mid names room {new} {made} core_is links_are
       dice_is rows_are d =
       subst (λ r. Does (driving name (record { rows = r; seeds = p.seeds }) live
-      (begun (stored_of store))) (Out mids mid store) new made) rows_are
-      (subst (λ x. Does (driving name p live (begun (stored_of store))) (Out mids x store) new made)
+      (nothing_done (stored_of store))) (Out mids mid store) new made) rows_are
+      (subst (λ x. Does (driving name p live (nothing_done (stored_of store))) (Out mids x store) new made)
       dice_is
-      (subst (λ l. Does (driving name p live (begun (stored_of store))) (Out l held store) new made)
+      (subst (λ l. Does (driving name p live (nothing_done (stored_of store))) (Out l held store) new made)
       links_are
-      (subst (λ (k : CoreState). Does (driving name p live (begun (opened_store k)))
+      (subst (λ (k : CoreState). Does (driving name p live (nothing_done (opened_store k)))
       (All_lent link benched (left held) (count held) name store.told k.opening.count a) new made)
       core_is d)))

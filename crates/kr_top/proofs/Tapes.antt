@@ -8,9 +8,10 @@ use Rattle.kr_base.specs.Told.{Agrees}
 use Rattle.kr_kms.specs.Outside.{Outside, Objects, with_call, same_name, HandsOut, IsTape, KeepsFiles, KeepsObjects}
 use Rattle.kr_kms.specs.declared.world.WorldCall.TheVariants.{Tape}
 use Rattle.kr_kms.proofs.Lent.{names_decide}
-use Rattle.kr_top.specs.Around.{Around, with_world, with_lent, with_lent_tape, with_tapes, Stays, Reaches}
+use Rattle.kr_top.specs.Around.{Around, with_world, with_lent, Stays, Reaches}
 use Rattle.kr_top.specs.Commands.{tape_for}
 use Rattle.kr_top.specs.Steps.{Steps, borrow_tape, give, lending, Point, awaits, Left, MayBorrow, or_empty, tapes_with, with_asked, with_tape}
+use Rattle.kr_top.specs.inner.Lent.{with_lent_tape, with_tapes}
 use Rattle.kr_top.specs.inner.Phases.{Does, AskedUnless}
 use Rattle.kr_top.specs.inner.Tapes.{NoTape, LentTape, ReturnedTape}
 use Rattle.kr_top.specs.declared.refusal.Refusal.{Refusal}

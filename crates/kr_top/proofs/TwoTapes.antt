@@ -6,9 +6,10 @@ use Rattle.kr_base.specs.Told.{Agrees}
 use Rattle.kr_kms.specs.Outside.{Outside, at_key, same_name, HandsOut, TakesBack, IsTape, KeepsFiles, KeepsObjects}
 use Rattle.kr_kms.proofs.Lent.{names_decide}
 use Rattle.kr_kms.specs.declared.world.WorldCall.TheVariants.{Tape}
-use Rattle.kr_top.specs.Around.{Around, Tapes, with_lent, with_lent_tape, with_tapes, with_world}
+use Rattle.kr_top.specs.Around.{Around, with_lent, with_world}
 use Rattle.kr_top.specs.Commands.{tape_for}
 use Rattle.kr_top.specs.Steps.{Steps}
+use Rattle.kr_top.specs.inner.Lent.{Tapes, with_lent_tape, with_tapes}
 use Rattle.kr_top.specs.inner.Phases.{AskedUnless, Does}
 use Rattle.kr_top.specs.inner.Tapes.{LentTape, NoTape, ReturnedTape}
 use Rattle.kr_top.specs.declared.refusal.Stop.{Stop}

@@ -113,10 +113,10 @@ pub record Copies (words : Migration) (old : Outside) (copied rest : List LogRow
 abbrev pub new_store : List LogRow → Stored
 new_store rows = record { format = Two; rows = rows }
 
--- the tape that a migration writes was empty, or was made: a write failed, so that the tape's count
--- rose and the status is 4, and it begins with the file of the rows before; or it has the file of
--- the rows that were copied, all of them, and then the status is 0, or 4 where then the output
--- failed; or not all, and then the status isn't 0
+-- the tape that a migration writes was empty, or was made: the write of a row failed, so that the
+-- tape's count rose and the status is 4, and it begins with the file of the rows before; or it has
+-- the file of the rows that were copied, all of them, and then the status is 0, or 4 where then the
+-- output failed; or not all, and then the status isn't 0
 pub record IsCopied (words : Migration) (status : ℕ) (old new : Outside) : Type 0 where
   pub copied : List LogRow
   pub rest : List LogRow
@@ -125,7 +125,7 @@ pub record IsCopied (words : Migration) (status : ℕ) (old new : Outside) : Typ
   pub empty : Agrees (or_empty (old.tapes.told words.to)) (Some [])
   pub is_told : new.tapes.told words.to ≡ option_map Some told
   pub holds : ((status ≡ 4) × Rose (old.tapes.faults words.to) (new.tapes.faults words.to)
-      × BeginsWith (new_store copied) told)
+      × (rest ≢ []) × BeginsWith (new_store copied) told)
       ⊎ (((status ≡ 0) ⊎ (status ≡ 4)) × (rest ≡ []) × HoldsRows (new_store copied) told)
       ⊎ ((status ≢ 0) × (rest ≢ []) × HoldsRows (new_store copied) told)
 

@@ -1,13 +1,10 @@
 -- What is around a command, and how its steps end there.
-use Rattle.std.specs.Prelude.{◌≡◌, ℕ, ◌-◌, ◌≤◌, ◌⊎◌, Bool, List, [], Option, Some, Result, Ok, Err, if◌then◌else◌, ◌∷◌, ⊤}
+use Rattle.std.specs.Prelude.{◌≡◌, ℕ, ◌-◌, ◌≤◌, ◌⊎◌, Bool, List, [], Option, Result, Ok, Err, if◌then◌else◌, ⊤}
 use Rattle.std.specs.Io.KnownBytes.{Keeps}
-use Rattle.std.specs.Option.{option_map}
 use Rattle.kr_base.specs.Faults.{Rose}
-use Rattle.kr_kms.specs.Outside.{Outside, Objects, KeepsFiles, file_faults, at_key, same_seat, same_name, same_link}
+use Rattle.kr_kms.specs.Outside.{Outside, Objects, KeepsFiles, file_faults, at_key}
 use Rattle.kr_top.specs.Steps.{Steps, Call, loading, reading, opening, lending, scanning, writing, drawing, object_of, Point, awaits, amid, refuses, gives, Left, Goes, linking, asking}
-use Rattle.kr_kms.specs.Calls.{Link}
 use Rattle.kr_kms.specs.Truth.{Truth}
-use Rattle.kr_kms.specs.declared.plugin.Status.{Status}
 use Rattle.kr_top.specs.declared.refusal.Object.{Object}
 use Rattle.kr_top.specs.declared.refusal.Stop.{Stop}
 use Rattle.kr_top.specs.declared.refusal.Stop.TheVariants.{Words, Refused, Fault, NoMemory}
@@ -34,19 +31,6 @@ with_what_is_said said a = record a { said = said }
 abbrev pub with_world : Outside → Around → Around
 with_world world a = record a { world = world }
 
--- the name of a file, and tapes by their names
-abbrev pub Name : Type 0
-Name = List ℕ
-
-abbrev pub Tapes : Type 0
-Tapes = Objects Name (Option (Option (List ℕ)))
-
-abbrev pub with_tapes : Tapes → Outside → Outside
-with_tapes tapes world = record world { tapes = tapes }
-
-abbrev pub with_told_input : Option (List ℕ) → ℕ → Around → Around
-with_told_input input faults a = record a { input = input; faults = faults }
-
 -- an object that is out, of which this is told, stands as if it were at home
 abbrev pub with_lent : {K V : Type 0} → (same : K → K → Bool) → K → V → ℕ → Objects K V
     → Objects K V
@@ -54,35 +38,6 @@ with_lent same key told faults objects = record {
   told = λ other. if same key other then told else objects.told other;
   faults = λ other. if same key other then faults else objects.faults other;
   out = λ other. objects.out other - at_key same key 1 other;
-}
-
-abbrev pub with_lent_dice : ℕ → Option (List ℕ) → ℕ → Around → Around
-with_lent_dice seat left faults a = record a {
-  world = record a.world {
-    dice = with_lent same_seat seat left faults a.world.dice;
-  };
-}
-
-abbrev pub with_lent_tape : List ℕ → Option (List ℕ) → ℕ → Around → Around
-with_lent_tape name told faults a = record a {
-  world = record a.world {
-    tapes = with_lent same_name name (option_map Some told) faults a.world.tapes;
-  };
-}
-
--- some links of the seat
-abbrev pub lent_links : {L : Type 0} → (L → Link) → ℕ → List L
-    → Objects (ℕ × List ℕ) (Option Status) → Objects (ℕ × List ℕ) (Option Status)
-lent_links link seat [] objects = objects
-lent_links link seat (first ∷ more) objects =
-    with_lent same_link (seat, (link first).name) (link first).status (link first).count
-    (lent_links link seat more objects)
-
-abbrev pub with_lent_links : {L : Type 0} → (L → Link) → ℕ → List L → Around → Around
-with_lent_links link seat links a = record a {
-  world = record a.world {
-    links = lent_links link seat links a.world.links;
-  };
 }
 
 -- ---- faults

@@ -98,7 +98,7 @@ rewriting_of options (Some config) None = None
 rewriting_of options (Some config) (Some store) =
     Some (Rewrite (record { config = config; store = store; options = options }))
 
--- the command of a verb with its options, where it is built
+-- the command of a verb with its options, where it is one that is done alone
 abbrev pub command_of : Verb → List (List ℕ × List ℕ) → Option Command
 command_of verbs.Encrypt options =
     conversion_of Encrypt options (value_of options (codes "config"))
@@ -133,10 +133,11 @@ pub record Asks (words : List (List ℕ)) (command : Command) : Type 0 where
   pub small : IsWithinSize options
   pub is : command_of verb options ≡ Some command
 
--- the words mean no command, or one that isn't built, or a fleet, which `FleetAsked` has
+-- the words mean no command that is done alone: none at all, a fleet or a load, which `FleetAsked`
+-- and `LoadAsked` have, or a migration of a store to itself. A size that is too large is a limit
 abbrev pub AskNothing : List (List ℕ) → Type 0
 AskNothing words = (verb : Verb) (options : List (List ℕ × List ℕ)) → Means words verb options
-    → command_of verb options ≡ None
+    → (command_of verb options ≡ None) × (IsAboveSize options → ⊥)
 
 -- the words mean a command that has too many replicas
 abbrev pub AskReplicas : List (List ℕ) → Type 0

@@ -34,12 +34,12 @@ use Rattle.kr_store.specs.declared.rows.Change.TheVariants as change
 use Rattle.kr_store.specs.declared.rows.LogRow.{LogRow}
 use Rattle.kr_store.specs.declared.rows.Row as stored
 use Rattle.kr_judge.specs.declared.verdict.Verdict.{Verdict}
+use Rattle.kr_workers.specs.Budgets.{journal_limit}
 use Rattle.kr_top.specs.Check.{listing}
 use Rattle.kr_top.specs.Command.{replica_names, reload_in, reload_number, reload_file}
 use Rattle.kr_top.specs.Configuration.{Entries, IsConfiguration}
 use Rattle.kr_top.specs.Inspect.{Inspects}
 use Rattle.kr_top.specs.Judgements.{IsJudged, start_refusal, verdict_outcome}
-use Rattle.kr_top.specs.Limits.{journal_limit}
 use Rattle.kr_top.specs.Reports.{report_text, report_outcome}
 use Rattle.kr_top.specs.RowLines.{ShowsRows}
 use Rattle.kr_top.specs.StoreFiles.{Stored, IsSource, IsStored, IsTarget, none_there, with_row}
@@ -371,8 +371,8 @@ pub record Progress : Type 0 where
   pub counts : Counts
 
 -- none yet
-abbrev pub begun : Stored → Progress
-begun store = record {
+abbrev pub nothing_done : Stored → Progress
+nothing_done store = record {
   store = store;
   counts = record { rewritten = 0; fresh = 0; changed = 0; left = 0 };
 }
@@ -483,7 +483,7 @@ abbrev pub rewriting_by : (name : List ℕ) → List Row → Stored → (live : 
 rewriting_by name rows store live = with_memory
     (and_then (make_seeds (plugin_order rows)) (λ seeds.
     and_then (starting store.rows rows) (λ u.
-    driving name (record { rows = rows; seeds = seeds }) live (begun store))))
+    driving name (record { rows = rows; seeds = seeds }) live (nothing_done store))))
 
 -- each row may take four entries of a journal, and the end three
 abbrev pub within_journal : (live : List stored.Row) → Result ⊤ Refusal

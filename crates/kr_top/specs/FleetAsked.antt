@@ -1,13 +1,10 @@
 -- The words that ask for a fleet.
-use Rattle.std.specs.Prelude.{◌≡◌, ℕ, ◌≤◌, ◌⊎◌, List, codes, Option, None, Some, Result, Ok, Err, ⊤}
+use Rattle.std.specs.Prelude.{◌≡◌, ℕ, ◌≤◌, List, codes, Some}
 use Rattle.kr_words.specs.Grammar.{IsWithinSize, Means, replica_limit, replicas_of}
 use Rattle.kr_words.specs.Options.{value_of}
-use Rattle.kr_words.specs.declared.command.Verb.{Verb}
 use Rattle.kr_words.specs.declared.command.Verb.TheVariants as verbs
-use Rattle.kr_top.specs.Command.{AskBadly}
+use Rattle.kr_top.specs.LoadAsked.{AskNoLoad}
 use Rattle.kr_top.specs.declared.fleet_words.FleetWords.{FleetWords}
-use Rattle.kr_top.specs.declared.refusal.Stop.{Stop}
-use Rattle.kr_top.specs.declared.refusal.Stop.TheVariants.{Words, NoMemory}
 
 -- the words are those of `fleet`; its options name the fleet file and the store
 pub record AsksFleet (words : List (List ℕ)) (asked : FleetWords) : Type 0 where
@@ -20,18 +17,6 @@ pub record AsksFleet (words : List (List ℕ)) (asked : FleetWords) : Type 0 whe
 abbrev pub AskNoFleet : List (List ℕ) → Type 0
 AskNoFleet words = (asked : FleetWords) → AsksFleet words asked → ⊥
 
--- they ask for this one, or for none
-abbrev pub IsFleetAsked : List (List ℕ) → Result (Option FleetWords) Stop → Type 0
-IsFleetAsked words (Ok (Some asked)) = AsksFleet words asked
-IsFleetAsked words (Ok None) = AskNoFleet words
-IsFleetAsked words (Err (Words why)) = AskBadly why words × AskNoFleet words
-IsFleetAsked words (Err NoMemory) = ⊤
-IsFleetAsked words (Err stop) = ⊥
-
--- the fleet of a verb with its options, if it is one
-abbrev pub IsFleetOf : Verb → List (List ℕ × List ℕ) → Option FleetWords → Type 0
-IsFleetOf verb options None = (verb ≡ verbs.Fleet → ⊥)
-    ⊎ (value_of options (codes "file") ≡ None) ⊎ (value_of options (codes "store") ≡ None)
-IsFleetOf verb options (Some asked) = (verb ≡ verbs.Fleet)
-    × (value_of options (codes "file") ≡ Some asked.file)
-    × (value_of options (codes "store") ≡ Some asked.store) × (asked.options ≡ options)
+-- they ask for neither a fleet nor a load, so nothing waits
+abbrev pub AskAlone : List (List ℕ) → Type 0
+AskAlone words = AskNoFleet words × AskNoLoad words

@@ -71,8 +71,8 @@ file_in (line.Join replica file) = file ∷ []
 file_in (line.Leave replica) = []
 
 -- the files that a fleet names, as often as it names them: its replicas', then its lines'
-abbrev pub mentioned : Fleet → List (List ℕ)
-mentioned fleet = flat_map file_of_replica fleet.replicas
+abbrev pub all_files : Fleet → List (List ℕ)
+all_files fleet = flat_map file_of_replica fleet.replicas
     ++ flat_map (λ (worker : Worker). flat_map file_in worker.lines) fleet.workers
 
 -- a configuration with the name of its file
@@ -119,6 +119,6 @@ pub record FleetPlan : Type 0 where
 abbrev pub planning : (file : List ℕ) → (options : List (List ℕ × List ℕ)) → Steps FleetPlan
 planning file options =
     and_then (fleet_in file) (λ fleet.
-    and_then (files_in [] (mentioned fleet)) (λ files.
+    and_then (files_in [] (all_files fleet)) (λ files.
     and_then (programs_in options files) (λ programs.
     give (record { fleet = fleet; files = files; programs = programs }))))

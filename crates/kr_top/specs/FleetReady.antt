@@ -10,7 +10,7 @@ use Rattle.kr_script.specs.Fleets.{Fleet}
 use Rattle.kr_words.specs.Arguments.{program_of}
 use Rattle.kr_top.specs.Around.{Around}
 use Rattle.kr_top.specs.Configuration.{IsConfiguration}
-use Rattle.kr_top.specs.FleetFiles.{IsFleetFile, mentioned, no_file}
+use Rattle.kr_top.specs.FleetFiles.{IsFleetFile, all_files, no_file}
 use Rattle.kr_top.specs.Fleets.{AreWithin, parts_of}
 use Rattle.kr_top.specs.Ran.{AreTold}
 use Rattle.kr_top.specs.Steps.{or_empty}
@@ -65,7 +65,7 @@ HaveSettings old (replica ∷ replicas) (rows ∷ more) =
 pub record IsReady (words : FleetWords) (old : Around) : Type 0 where
   pub fleet : Fleet
   pub file : TellsFleet old words.file fleet
-  pub configured : All (IsConfigured words old (length fleet.workers)) (mentioned fleet)
+  pub configured : All (IsConfigured words old (length fleet.workers)) (all_files fleet)
   pub stored : Stored
   pub store : TellsStore old words.store stored
   pub budgets : List ℕ
@@ -80,7 +80,7 @@ pub record IsReady (words : FleetWords) (old : Around) : Type 0 where
 pub record IsFleetTold (words : FleetWords) (old : Around) : Type 0 where
   pub fleet : IsSome (old.world.file words.file)
   pub files : (file : Option (List ℕ)) (fleet : Fleet) → Agrees (old.world.file words.file) file
-      → IsFleetFile words.file file (Ok fleet) → AreTold old.world.file (mentioned fleet)
+      → IsFleetFile words.file file (Ok fleet) → AreTold old.world.file (all_files fleet)
   pub store : IsSome (old.world.tapes.told words.store)
   pub statuses : (plugin : List ℕ) → IsSome (program_of words.options plugin)
       → IsSome (old.world.links.told (0, plugin))

@@ -34,15 +34,17 @@ use Rattle.kr_workers.specs.declared.worker.Worker as fleet_worker
 use Rattle.kr_top.specs.Afterwards.{AreLeft}
 use Rattle.kr_top.specs.Around.{Around, Ends, IsHome, Reaches, left_of}
 use Rattle.kr_top.specs.Commands.{by_result, stored_on, tape_for, with_memory}
-use Rattle.kr_top.specs.FleetAsked.{AskNoFleet, AsksFleet}
+use Rattle.kr_top.specs.FleetAsked.{AskAlone, AsksFleet}
 use Rattle.kr_top.specs.FleetFiles.{FleetPlan, NamedRows, named_rows, no_file, planning, rows_at}
 use Rattle.kr_top.specs.Judgements.{start_refusal}
+use Rattle.kr_top.specs.LoadAsked.{AsksLoad}
 use Rattle.kr_top.specs.Plugins.{make_seeds}
 use Rattle.kr_top.specs.Ran.{IsIdle, IsUntouched, Ran, Readings, Receipt, Tells}
 use Rattle.kr_top.specs.Message.{line_of, status_of as stop_status}
 use Rattle.kr_top.specs.Steps.{Steps, borrow_dice, borrow_link, find, gives, give, and_then}
 use Rattle.kr_top.specs.StoreFiles.{Stored}
 use Rattle.kr_top.specs.declared.fleet_words.FleetWords.{FleetWords}
+use Rattle.kr_top.specs.declared.load_words.LoadWords.{LoadWords}
 use Rattle.kr_top.specs.declared.programs.Program.{Program}
 use Rattle.kr_top.specs.declared.refusal.Limit.TheVariants as limit
 use Rattle.kr_top.specs.declared.refusal.Object.TheVariants.{Output, Store}
@@ -133,17 +135,17 @@ starting plan stored budgets replicas =
     })))
 
 -- once each worker has an outfit, and with one for each
-abbrev pub outfitted : FleetPlan → Stored → List ℕ → Steps Begun
-outfitted plan stored budgets =
+abbrev pub launching : FleetPlan → Stored → List ℕ → Steps Begun
+launching plan stored budgets =
     and_then (publishing plan.files [] plan.fleet.replicas) (starting plan stored budgets)
 
-abbrev pub equipped : FleetPlan → Stored → List ℕ → Steps Begun
-equipped plan stored budgets = equipping plan.programs 0 (length plan.fleet.workers)
-    (outfitted plan stored budgets)
+abbrev pub equipping_all : FleetPlan → Stored → List ℕ → Steps Begun
+equipping_all plan stored budgets = equipping plan.programs 0 (length plan.fleet.workers)
+    (launching plan stored budgets)
 
 abbrev pub beginning : FleetPlan → Stored → Steps Begun
 beginning plan stored =
-    and_then (budgeting stored.rows (parts_of plan.fleet)) (equipped plan stored)
+    and_then (budgeting stored.rows (parts_of plan.fleet)) (equipping_all plan stored)
 
 -- a fleet by its plan, over the store of this name
 abbrev pub over_store : (store : List ℕ) → FleetPlan → Steps Begun
@@ -251,6 +253,17 @@ pub record StartsNone (store : List ℕ) (begun : Begun) (mid new : Around) : Ty
   pub dice : new.world.dice.told ≡ mid.world.dice.told
   pub rest : LeavesRest store (length begun.plan.fleet.workers) mid new
 
+-- the steps up to the workers ended the command, or want of memory did before they started
+abbrev pub StopsBefore : Steps Begun → (store : List ℕ) → (old new : Around) → Receipt
+    → Result Ending Stop → Type 0
+StopsBefore steps store old new output (Ok ending) = ⊥
+StopsBefore steps store old new output (Err stop) =
+    (Ends steps (left_of old) old new (Err stop)
+    ⊎ ((stop ≡ NoMemory) × ((mid : Around) × (begun : Begun)
+    × Reaches steps (left_of old) mid (gives begun)
+    × StartsNone store begun mid new × IsHome old mid)))
+    × IsIdle output
+
 -- the journal and the replies
 abbrev pub text_of : {T L D : Type 0} → Fleet → List Entry → List (fleet_worker.Worker T L D)
     → List ℕ
@@ -283,21 +296,12 @@ module _ (T : Type 0) {L D : Type 0} (truth : Truth) (link : L → Link)
     pub writes : WritesFleet (text_of begun.plan.fleet history ended)
         (ending_of (map (λ (w : fleet_worker.Worker T L D). w.told) ended)) output result
 
-  -- the steps up to the workers ended the command, or want of memory did before they started
-  abbrev pub StopsBefore : FleetWords → Around → Around → Receipt → Result Ending Stop → Type 0
-  StopsBefore words old new output (Ok ending) = ⊥
-  StopsBefore words old new output (Err stop) =
-      (Ends (fleet_steps words) (left_of old) old new (Err stop)
-      ⊎ ((stop ≡ NoMemory) × ((mid : Around) × (begun : Begun)
-      × Reaches (fleet_steps words) (left_of old) mid (gives begun)
-      × StartsNone words.store begun mid new × IsHome old mid)))
-      × IsIdle output
-
   -- all that was handed out is back
   pub record DidFleet (words : FleetWords) (old new : Around) (output : Receipt)
       (result : Result Ending Stop) : Type 0 where
     pub home : IsHome old new
-    pub did : StopsBefore words old new output result ⊎ Starts words old new output result
+    pub did : StopsBefore (fleet_steps words) words.store old new output result
+        ⊎ Starts words old new output result
 
 -- ---- the status
 
@@ -318,13 +322,14 @@ pub record RanFleet (T : Type 0) {L D : Type 0} (truth : Truth) (link : L → Li
   pub written : output.old_faults ≤ output.new_faults
   pub told : errors.old_faults ≤ errors.new_faults
 
--- what a call did where no one may wait: for a fleet nothing, unless memory lacked to read its
--- words
+-- what a call did where no one may wait: for a fleet and for a load nothing, unless memory lacked
+-- to read its words
 abbrev pub RanAlone : (words : List (List ℕ)) → (old new : Around) → (output errors : Receipt)
     → Option ℕ → Type 0
 RanAlone words old new output errors (Some status) =
     Ran words old new output errors status × Readings words old new output errors status
-    × AreLeft words old new status × (AskNoFleet words
+    × AreLeft words old new status × (AskAlone words
     ⊎ Tells (line_of (Err NoMemory)) (stop_status (Err NoMemory)) errors status)
 RanAlone words old new output errors None =
-    ((asked : FleetWords) × AsksFleet words asked) × IsUntouched old new output × IsIdle errors
+    (((asked : FleetWords) × AsksFleet words asked) ⊎ ((asked : LoadWords) × AsksLoad words asked))
+    × IsUntouched old new output × IsIdle errors

@@ -1,6 +1,7 @@
 -- The definitions that contracts cite.
 pub mod Afterwards
 pub mod Around
+pub mod Causes
 pub mod Check
 pub mod Command
 pub mod Commands
@@ -9,10 +10,13 @@ pub mod FleetFiles
 pub mod FleetReadings
 pub mod FleetReady
 pub mod Fleets
+pub mod FullLoads
+pub mod GeneratedLoads
 pub mod Configuration
 pub mod Inspect
 pub mod Judgements
-pub mod Limits
+pub mod LoadAsked
+pub mod LoadReadings
 pub mod Message
 pub mod Plugins
 pub mod Ran

@@ -11,7 +11,7 @@ use Rattle.kr_judge.specs.Texts.{verdict_text}
 use Rattle.kr_kms.specs.declared.health.Field.{Field}
 use Rattle.kr_kms.specs.declared.health.Field.TheVariants.{Version, Healthz, KeyId}
 use Rattle.kr_provider.specs.Refusals.{number_of, name_of}
-use Rattle.kr_top.specs.Limits.{journal_limit}
+use Rattle.kr_workers.specs.Budgets.{journal_limit}
 use Rattle.kr_top.specs.declared.refusal.Object.{Object}
 use Rattle.kr_top.specs.declared.refusal.Object.TheVariants.{Input, Output, Files, Dice, Store, Target, Plugin}
 use Rattle.kr_top.specs.declared.refusal.Refusal.{Refusal}

@@ -1,5 +1,5 @@
 -- What `rewrite` reports.
-use Rattle.std.specs.Prelude.{ℕ, ◌==◌, List, [], ◌++◌, Option, None, Some, codes, decimal, if◌then◌else◌}
+use Rattle.std.specs.Prelude.{ℕ, ◌==◌, List, ◌++◌, codes, decimal, if◌then◌else◌}
 use Rattle.kr_top.specs.declared.refusal.Done.{Done}
 use Rattle.kr_top.specs.declared.refusal.Done.TheVariants.{Silent, Blocked}
 use Rattle.kr_top.specs.declared.refusal.Outcome.{Outcome}
@@ -19,8 +19,3 @@ report_done counts = if counts.left == 0 then Silent else Blocked
 
 abbrev pub report_outcome : Counts → Outcome
 report_outcome counts = record { bytes = report_text counts; done = report_done counts }
-
--- what is written of a report where a command stopped
-abbrev pub said_text : Option Counts → List ℕ
-said_text None = []
-said_text (Some counts) = report_text counts

@@ -11,3 +11,8 @@ pub mod Crews
 pub mod FleetFiles
 pub mod Fleets
 pub mod Plugins
+pub mod GeneratedLoads
+pub mod Workings
+pub mod Lent
+pub mod FleetAsked
+pub mod LoadAsked

@@ -3,9 +3,10 @@ ghost use Rattle.std.specs.Prelude.{◌≡◌, ◌≤◌, All, length, Some, IfO
 ghost use Rattle.kr_base.specs.Limits.{path_limit, value_limit};
 ghost use Rattle.kr_kms.specs.Truth.{TellsOf, key_of};
 ghost use Rattle.kr_provider.specs.Names.{AreDistinct, HasLinks, names_of};
-ghost use Rattle.kr_top.specs.Around.{Around, with_lent_dice, with_lent_links};
+ghost use Rattle.kr_top.specs.Around.{Around};
 ghost use Rattle.kr_top.specs.Commands.{freshness, working_by, limit_of};
 ghost use Rattle.kr_top.specs.declared.command.Direction.{Direction};
+ghost use Rattle.kr_top.specs.inner.Lent.{with_lent_dice, with_lent_links};
 ghost use Rattle.kr_top.specs.inner.Phases.{Does};
 ghost use Rattle.kr_top.specs.inner.Plugins.{NamesAnUnread, IsUnsealEnd, seal_outcome};
 

@@ -4,11 +4,15 @@ ghost use Rattle.kr_words.specs.Grammar.{texts};
 ghost use Rattle.kr_top.specs.Afterwards.{AreLeft};
 ghost use Rattle.kr_top.specs.Around.{Around, around, with_world};
 ghost use Rattle.kr_top.specs.Commands.{steps};
-ghost use Rattle.kr_top.specs.FleetAsked.{AskNoFleet, AsksFleet};
+ghost use Rattle.kr_top.specs.FleetAsked.{AskAlone, AskNoFleet, AsksFleet};
 ghost use Rattle.kr_top.specs.FleetReadings.{FleetReadings};
 ghost use Rattle.kr_top.specs.Fleets.{RanAlone, RanFleet};
+ghost use Rattle.kr_top.specs.GeneratedLoads.{RanLoad};
+ghost use Rattle.kr_top.specs.LoadAsked.{AskNoLoad, AsksLoad};
+ghost use Rattle.kr_top.specs.LoadReadings.{LoadReadings};
 ghost use Rattle.kr_top.specs.Ran.{receipt, Answers, Ran, Readings};
 ghost use Rattle.kr_top.specs.declared.fleet_words.FleetWords.{FleetWords};
+ghost use Rattle.kr_top.specs.declared.load_words.LoadWords.{LoadWords};
 ghost use Rattle.kr_top.specs.inner.Phases.{Does, KeepsRules};
 ghost use Rattle.kr_top.specs.inner.Reporting.{saying};
 
@@ -17,8 +21,10 @@ use crate::command::{Command, read_command};
 use crate::convert::convert;
 use crate::fleet::fleet;
 use crate::fleet_words::{FleetWords, read_fleet};
+use crate::generated::generated;
 use crate::inspect::inspect;
 use crate::judge::judge;
+use crate::load_words::{LoadWords, read_load};
 use crate::lookup::get;
 use crate::message::tell;
 use crate::migration::migrate;
@@ -37,11 +43,12 @@ use std::thread::Threads;
 /// refused, or a rewrite left some objects, 2 the words mean no command, 3 a configuration or a
 /// store is not read, or they don't go together, 4 an object of the outside failed, 5 want of
 /// memory, 6 a limit was passed. Each status other than 0 has one line on `errors`, but for a
-/// reload that was refused, for a rewrite that left some and for those that a fleet's replies
-/// decide, of which the output says why; where the line can't be written the status is 4. A fleet's
-/// workers wait for each other by `rt`. `readings` is what follows from `ran`, for readers; `tapes`
-/// is what is left of the tapes, by the status. For words that ask for a fleet `fleet` says what
-/// was done, and `fleet_readings` what the status comes from.
+/// reload that was refused, for a rewrite that left some and for those that the replies of a fleet
+/// or of a load decide, of which the output says why; where the line can't be written the status is
+/// 4. The workers of a fleet and of a load wait for each other by `rt`. `readings` is what follows
+/// from `ran`, for readers; `tapes` is what is left of the tapes, by the status. For words that ask
+/// for a fleet `fleet` says what was done, and `fleet_readings` what the status comes from; for
+/// those that ask for a load `load` and `load_readings`.
 pub fn run<R: Threads + Wait + Sync, W: World, I: Source, O: Sink, E: Sink>(
     rt: &R,
     alloc: Global,
@@ -51,7 +58,7 @@ pub fn run<R: Threads + Wait + Sync, W: World, I: Source, O: Sink, E: Sink>(
     output: &mut O,
     errors: &mut E,
 ) -> u8
-    ensures ran { AskNoFleet (texts words.now) → Ran (texts words.now)
+    ensures ran { AskAlone (texts words.now) → Ran (texts words.now)
         (around W.Link.truth (W.told world.old) (I.left input.old)
         (I.count input.old))
         (around W.Link.truth (W.told world.new) (I.left input.new)
@@ -59,7 +66,7 @@ pub fn run<R: Threads + Wait + Sync, W: World, I: Source, O: Sink, E: Sink>(
         (receipt (O.held output.old) (O.held output.new) (O.count output.old) (O.count output.new))
         (receipt (E.held errors.old) (E.held errors.new) (E.count errors.old) (E.count errors.new))
         result }
-    ensures readings { AskNoFleet (texts words.now) → Readings (texts words.now)
+    ensures readings { AskAlone (texts words.now) → Readings (texts words.now)
         (around W.Link.truth (W.told world.old) (I.left input.old)
         (I.count input.old))
         (around W.Link.truth (W.told world.new) (I.left input.new)
@@ -67,7 +74,7 @@ pub fn run<R: Threads + Wait + Sync, W: World, I: Source, O: Sink, E: Sink>(
         (receipt (O.held output.old) (O.held output.new) (O.count output.old) (O.count output.new))
         (receipt (E.held errors.old) (E.held errors.new) (E.count errors.old) (E.count errors.new))
         result }
-    ensures tapes { AskNoFleet (texts words.now) → AreLeft (texts words.now)
+    ensures tapes { AskAlone (texts words.now) → AreLeft (texts words.now)
         (around W.Link.truth (W.told world.old) (I.left input.old)
         (I.count input.old))
         (around W.Link.truth (W.told world.new) (I.left input.new)
@@ -90,16 +97,113 @@ pub fn run<R: Threads + Wait + Sync, W: World, I: Source, O: Sink, E: Sink>(
         (receipt (O.held output.old) (O.held output.new) (O.count output.old) (O.count output.new))
         (receipt (E.held errors.old) (E.held errors.new) (E.count errors.old) (E.count errors.new))
         result }
+    ensures load { (asked : LoadWords) → AsksLoad (texts words.now) asked
+        → RanLoad W.Tap W.Link.truth W.Link.link asked
+        (around W.Link.truth (W.told world.old) (I.left input.old)
+        (I.count input.old))
+        (around W.Link.truth (W.told world.new) (I.left input.new)
+        (I.count input.new))
+        (receipt (O.held output.old) (O.held output.new) (O.count output.old) (O.count output.new))
+        (receipt (E.held errors.old) (E.held errors.new) (E.count errors.old) (E.count errors.new))
+        result }
+    ensures load_readings { (asked : LoadWords) → AsksLoad (texts words.now) asked
+        → LoadReadings W.Tap W.Link.truth W.Link.link asked
+        (around W.Link.truth (W.told world.old) (I.left input.old)
+        (I.count input.old))
+        (around W.Link.truth (W.told world.new) (I.left input.new)
+        (I.count input.new))
+        (receipt (O.held output.old) (O.held output.new) (O.count output.old) (O.count output.new))
+        (receipt (E.held errors.old) (E.held errors.new) (E.count errors.old) (E.count errors.new))
+        result }
 {
     match read_fleet(alloc, words) {
         Ok(Some(asked)) => run_fleet(rt, alloc, &asked, world, output, errors),
+        Ok(None) => run_other(rt, alloc, words, world, input, output, errors),
+        Err(stop) => tell(errors, &Err(stop)),
+    }
+}
+
+/// The same for words that ask for no fleet.
+fn run_other<R: Threads + Wait + Sync, W: World, I: Source, O: Sink, E: Sink>(
+    rt: &R,
+    alloc: Global,
+    words: &[String],
+    world: &mut W,
+    input: &mut I,
+    output: &mut O,
+    errors: &mut E,
+) -> u8
+    ensures ran { AskNoLoad (texts words.now) → Ran (texts words.now)
+        (around W.Link.truth (W.told world.old) (I.left input.old)
+        (I.count input.old))
+        (around W.Link.truth (W.told world.new) (I.left input.new)
+        (I.count input.new))
+        (receipt (O.held output.old) (O.held output.new) (O.count output.old) (O.count output.new))
+        (receipt (E.held errors.old) (E.held errors.new) (E.count errors.old) (E.count errors.new))
+        result }
+    ensures readings { AskNoLoad (texts words.now) → Readings (texts words.now)
+        (around W.Link.truth (W.told world.old) (I.left input.old)
+        (I.count input.old))
+        (around W.Link.truth (W.told world.new) (I.left input.new)
+        (I.count input.new))
+        (receipt (O.held output.old) (O.held output.new) (O.count output.old) (O.count output.new))
+        (receipt (E.held errors.old) (E.held errors.new) (E.count errors.old) (E.count errors.new))
+        result }
+    ensures tapes { AskNoLoad (texts words.now) → AreLeft (texts words.now)
+        (around W.Link.truth (W.told world.old) (I.left input.old)
+        (I.count input.old))
+        (around W.Link.truth (W.told world.new) (I.left input.new)
+        (I.count input.new)) result }
+    ensures load { (asked : LoadWords) → AsksLoad (texts words.now) asked
+        → RanLoad W.Tap W.Link.truth W.Link.link asked
+        (around W.Link.truth (W.told world.old) (I.left input.old)
+        (I.count input.old))
+        (around W.Link.truth (W.told world.new) (I.left input.new)
+        (I.count input.new))
+        (receipt (O.held output.old) (O.held output.new) (O.count output.old) (O.count output.new))
+        (receipt (E.held errors.old) (E.held errors.new) (E.count errors.old) (E.count errors.new))
+        result }
+    ensures load_readings { (asked : LoadWords) → AsksLoad (texts words.now) asked
+        → LoadReadings W.Tap W.Link.truth W.Link.link asked
+        (around W.Link.truth (W.told world.old) (I.left input.old)
+        (I.count input.old))
+        (around W.Link.truth (W.told world.new) (I.left input.new)
+        (I.count input.new))
+        (receipt (O.held output.old) (O.held output.new) (O.count output.old) (O.count output.new))
+        (receipt (E.held errors.old) (E.held errors.new) (E.count errors.old) (E.count errors.new))
+        result }
+{
+    match read_load(alloc, words) {
+        Ok(Some(asked)) => run_load(rt, alloc, &asked, world, output, errors),
         Ok(None) => alone(alloc, words, world, input, output, errors),
         Err(stop) => tell(errors, &Err(stop)),
     }
 }
 
-/// The same for each command but `fleet`. Where the words ask for a fleet nothing is done, and
-/// there is no status.
+/// Runs a load, and tells how it ended where its replies don't.
+fn run_load<R: Threads + Wait + Sync, W: World, O: Sink, E: Sink>(
+    rt: &R,
+    alloc: Global,
+    asked: &LoadWords,
+    world: &mut W,
+    output: &mut O,
+    errors: &mut E,
+) -> u8
+    ensures { (a : Around) → a.truth ≡ W.Link.truth
+        → RanLoad W.Tap W.Link.truth W.Link.link asked.now
+        (with_world (W.told world.old) a) (with_world (W.told world.new) a)
+        (receipt (O.held output.old) (O.held output.new) (O.count output.old) (O.count output.new))
+        (receipt (E.held errors.old) (E.held errors.new) (E.count errors.old) (E.count errors.new))
+        result }
+{
+    match generated(rt, alloc, asked, world, output) {
+        Ok(ending) => ending.status(),
+        Err(stop) => tell(errors, &Err(stop)),
+    }
+}
+
+/// The same for each command but `fleet` and `gen`. Where the words ask for a fleet or a load
+/// nothing is done, and there is no status.
 pub fn run_alone<W: World, I: Source, O: Sink, E: Sink>(
     alloc: Global,
     words: &[String],
@@ -118,6 +222,32 @@ pub fn run_alone<W: World, I: Source, O: Sink, E: Sink>(
         result }
 {
     match read_fleet(alloc, words) {
+        Ok(Some(_asked)) => None,
+        Ok(None) => other_alone(alloc, words, world, input, output, errors),
+        Err(stop) => Some(tell(errors, &Err(stop))),
+    }
+}
+
+/// The same for words that ask for no fleet.
+fn other_alone<W: World, I: Source, O: Sink, E: Sink>(
+    alloc: Global,
+    words: &[String],
+    world: &mut W,
+    input: &mut I,
+    output: &mut O,
+    errors: &mut E,
+) -> Option<u8>
+    requires { AskNoFleet (texts words.now) }
+    ensures { RanAlone (texts words.now)
+        (around W.Link.truth (W.told world.old) (I.left input.old)
+        (I.count input.old))
+        (around W.Link.truth (W.told world.new) (I.left input.new)
+        (I.count input.new))
+        (receipt (O.held output.old) (O.held output.new) (O.count output.old) (O.count output.new))
+        (receipt (E.held errors.old) (E.held errors.new) (E.count errors.old) (E.count errors.new))
+        result }
+{
+    match read_load(alloc, words) {
         Ok(Some(_asked)) => None,
         Ok(None) => Some(alone(alloc, words, world, input, output, errors)),
         Err(stop) => Some(tell(errors, &Err(stop))),

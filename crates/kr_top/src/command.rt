@@ -141,7 +141,7 @@ pub fn read_command(alloc: Global, words: &[String]) -> Result<Command, Stop>
     }
 }
 
-/// The command of a verb with its options, where it is built.
+/// The command of a verb with its options, where it is one that is done alone.
 fn command_of(alloc: Global, words: kr_words::Command) -> Result<Option<Command>, NoMemory>
     requires command { IsCommand words.verb words.options.0 }
     requires few { replicas_of words.options.0 ≤ replica_limit }

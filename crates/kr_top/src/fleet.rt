@@ -7,9 +7,9 @@ ghost use Rattle.kr_provider.specs.Names.{names_of as plugin_names};
 ghost use Rattle.kr_rollout.specs.Openings.{AreAmong, IsFirstIn};
 ghost use Rattle.kr_script.specs.Fleets.{fleet_of};
 ghost use Rattle.kr_script.specs.Output.{fleet_output};
-ghost use Rattle.kr_top.specs.Around.{Around, Name, with_lent_tape, with_world};
+ghost use Rattle.kr_top.specs.Around.{Around, with_world};
 ghost use Rattle.kr_top.specs.Commands.{stored_on};
-ghost use Rattle.kr_top.specs.Fleets.{DidFleet, WritesFleet, beginning, equipped, outfitted};
+ghost use Rattle.kr_top.specs.Fleets.{DidFleet, WritesFleet, beginning, equipping_all, launching};
 ghost use Rattle.kr_top.specs.Fleets.{over_store, publishing, starting};
 ghost use Rattle.kr_top.specs.Ran.{receipt};
 ghost use Rattle.kr_top.specs.Steps.{and_then};
@@ -19,9 +19,11 @@ ghost use Rattle.kr_top.specs.inner.Crews.{IsCrew, IsReadyCore, RunsCrew, outfit
 ghost use Rattle.kr_top.specs.inner.FleetFiles.{IsWholePlan, named, plan_of};
 ghost use Rattle.kr_top.specs.inner.Fleets.{ArePublished, IsPublishedBy, RunsBy, budget_stop};
 ghost use Rattle.kr_top.specs.inner.Fleets.{published_in};
+ghost use Rattle.kr_top.specs.inner.Lent.{Name, with_lent_tape};
 ghost use Rattle.kr_top.specs.inner.Outfits.{AreLater, AreNamed, names_in, with_outfits};
 ghost use Rattle.kr_top.specs.inner.Phases.{Does};
 ghost use Rattle.kr_top.specs.inner.Tapes.{stored_of};
+ghost use Rattle.kr_top.specs.inner.Workings.{IsPublished, Outfits, RunsWith, with_crew};
 ghost use Rattle.kr_workers.specs.Budgets.{AreBudgets, all_reloads, journal_limit};
 ghost use Rattle.kr_workers.specs.Endings.{ending_of};
 
@@ -48,9 +50,9 @@ use std::thread::Threads;
 
 /// What a fleet leaves: the journal, and each worker's replies.
 #[derive(Drop)]
-struct Record {
+pub struct Record {
     lines: List<Line>,
-    replies: List<List<Told>>,
+    pub replies: List<List<Told>>,
 }
 
 /// Runs the fleet and writes its journal and its replies.
@@ -134,7 +136,7 @@ fn fleet_on<R: Threads + Wait + Sync, W: World>(
 }
 
 /// Why there are no budgets, as a command says it.
-fn budget_stop(why: BudgetNo) -> Stop
+pub fn budget_stop(why: BudgetNo) -> Stop
     ensures { result ≡ budget_stop why }
 {
     match why {
@@ -160,7 +162,7 @@ fn fleet_with<R: Threads + Wait + Sync, W: World>(
     requires plan { IsWholePlan (plan_of plan.now) }
     ensures made { (name : Name) (a : Around) → a.truth ≡ W.Link.truth
         → RunsBy W.Tap W.Link.truth W.Link.link W.Rand.left W.Rand.count
-        (equipped (plan_of plan.now) (stored_of store) budgets.now.entries.items) name
+        (equipping_all (plan_of plan.now) (stored_of store) budgets.now.entries.items) name
         (plan_of plan.now)
         (with_lent_tape name store.told store.count (with_world (W.told world.old) a))
         (with_lent_tape name result.1.told result.1.count (with_world (W.told world.new) a))
@@ -203,7 +205,7 @@ fn begin<R: Threads + Wait + Sync, T: Tape + Send, L: Kms + Send, D: Dice + Send
     requires named { AreNamed L.link (names_in plan.now.programs) outfits.0 }
     ensures made { (name : Name) (a : Around) → a.truth ≡ L.truth
         → RunsBy T L.truth L.link D.left D.count
-        (outfitted (plan_of plan.now) (stored_of store) budgets.now.entries.items) name
+        (launching (plan_of plan.now) (stored_of store) budgets.now.entries.items) name
         (plan_of plan.now)
         (with_outfits L.link D.left D.count 0 outfits.0
         (with_lent_tape name store.told store.count a))
@@ -216,6 +218,38 @@ fn begin<R: Threads + Wait + Sync, T: Tape + Send, L: Kms + Send, D: Dice + Send
         Ok(replicas) => replicas,
         Err(stop) => return (Err(stop), store, outfits),
     };
+    work_with(rt, alloc, plan, budgets, store, replicas, outfits)
+}
+
+/// Starts the core with what the replicas published, and lets the workers work with these outfits.
+/// The store and the outfits come back.
+pub fn work_with<R: Threads + Wait + Sync, T: Tape + Send, L: Kms + Send, D: Dice + Send>(
+    rt: &R,
+    alloc: Global,
+    plan: &Plan,
+    budgets: &Budgets,
+    store: Store<T>,
+    replicas: List<Option<Shared<Published>>>,
+    outfits: List<Outfit<L, D>>,
+) -> (Result<Record, Stop>, Store<T>, List<Outfit<L, D>>)
+    requires entries { AreBudgets store.rows plan.now.script.workers.0 budgets.now.entries.items }
+    requires reloads { budgets.now.reloads.items ≡ all_reloads plan.now.script.workers.0 }
+    requires few { sum budgets.now.entries.items ≤ journal_limit }
+    requires fit { sum budgets.now.reloads.items ≤ sum budgets.now.entries.items }
+    requires store { (store.limit ≡ store_limit) × (store.torn ≡ false) }
+    requires plan { IsWholePlan (plan_of plan.now) }
+    requires seats { length outfits.0 ≡ length plan.now.script.workers.0 }
+    requires named { AreNamed L.link (names_in plan.now.programs) outfits.0 }
+    requires published { ArePublished L.truth (named plan.now.files.0)
+        plan.now.script.replicas.0 replicas.0 }
+    ensures made { (name : Name) (a : Around) (olds : Outfits L D) → a.truth ≡ L.truth
+        → IsPublished L.link D.left D.count plan.now name store a olds outfits.0 replicas.0
+        → RunsWith L.link D.left D.count T L.truth
+        (launching (plan_of plan.now) (stored_of store) budgets.now.entries.items) name
+        (plan_of plan.now) outfits.0 (with_crew L.link D.left D.count name store olds a)
+        (with_crew L.link D.left D.count name result.1 result.2.0 a) result.0 }
+    ensures later { AreLater L.link D.count outfits.0 result.2.0 }
+{
     let core = match start(alloc, plan, budgets, store, replicas) {
         Ok(core) => core,
         Err((stop, store)) => return (Err(stop), store, outfits),
@@ -305,7 +339,7 @@ fn publish_first<L: Kms, D: Dice>(
 }
 
 /// Publishes the configuration of each replica that is in.
-fn publish_each<L: Kms, D: Dice>(
+pub fn publish_each<L: Kms, D: Dice>(
     alloc: Global,
     files: &[SettingsFile],
     replicas: &[(Text, Text)],

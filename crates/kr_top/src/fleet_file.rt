@@ -11,7 +11,7 @@ ghost use Rattle.kr_kms.specs.declared.world.WorldCall.{WorldCall};
 ghost use Rattle.kr_provider.specs.PluginOrder.{plugin_order};
 ghost use Rattle.kr_script.specs.Fleets.{fleet_of, worker_of};
 ghost use Rattle.kr_top.specs.Around.{Around, with_world};
-ghost use Rattle.kr_top.specs.FleetFiles.{all_rows, file_in, file_of_replica, fleet_in, mentioned, planning, programs_in};
+ghost use Rattle.kr_top.specs.FleetFiles.{all_rows, file_in, file_of_replica, fleet_in, all_files, planning, programs_in};
 ghost use Rattle.kr_top.specs.inner.FleetFiles.{GoesThrough, IsRuled, IsWholePlan, ReadsBytes, ReadsFleet};
 ghost use Rattle.kr_top.specs.inner.FleetFiles.{fleet_in_result, named, plan_in, plan_of, script_stop};
 ghost use Rattle.kr_top.specs.inner.Phases.{AskedFor, Does};
@@ -131,7 +131,7 @@ fn load_files<W: World>(
     files: &mut List<SettingsFile>,
     world: &mut W,
 ) -> Result<(), Stop>
-    ensures { GoesThrough (named files.old.0) (named files.new.0) (mentioned (fleet_of script.now))
+    ensures { GoesThrough (named files.old.0) (named files.new.0) (all_files (fleet_of script.now))
         (W.told world.old) (W.told world.new) result }
 {
     match load_replicas(alloc, script.replicas.as_slice(), files, world) {

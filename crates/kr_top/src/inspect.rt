@@ -2,11 +2,12 @@
 ghost use Rattle.std.specs.Prelude.{◌≡◌, ◌≢◌, ◌++◌, codes, decimal, Some, IfOk, map};
 ghost use Rattle.std.specs.List.{concat};
 ghost use Rattle.kr_envelope.specs.Limits.{number_of};
-ghost use Rattle.kr_top.specs.Around.{Around, with_told_input};
+ghost use Rattle.kr_top.specs.Around.{Around};
 ghost use Rattle.kr_top.specs.Commands.{steps};
 ghost use Rattle.kr_top.specs.Inspect.{kind_text, tag_line, annotation_line, object_lines, object_refusal};
 ghost use Rattle.kr_top.specs.Inspect.{Inspects, ShowsBody};
 ghost use Rattle.kr_top.specs.Texts.{line, word_and_number, visible};
+ghost use Rattle.kr_top.specs.inner.Lent.{with_told_input};
 ghost use Rattle.kr_top.specs.inner.Phases.{Does, Yields};
 
 use crate::command::{Command, Direction};

@@ -2,9 +2,10 @@
 ghost use Rattle.std.specs.Prelude.{◌≡◌, ◌≤◌, length};
 ghost use Rattle.kr_config.specs.Kept.{rows_of};
 ghost use Rattle.kr_rollout.specs.Openings.{IsFirstIn, rows_in};
-ghost use Rattle.kr_top.specs.Around.{Around, Name, Tapes, with_world, with_tapes, with_lent_tape};
+ghost use Rattle.kr_top.specs.Around.{Around, with_world};
 ghost use Rattle.kr_top.specs.Commands.{judging, judging_on, judging_by, judging_at};
 ghost use Rattle.kr_top.specs.Judgements.{verdict_done};
+ghost use Rattle.kr_top.specs.inner.Lent.{Name, Tapes, with_tapes, with_lent_tape};
 ghost use Rattle.kr_top.specs.inner.Phases.{Does};
 ghost use Rattle.kr_top.specs.inner.Judging.{Judges, HasReplicas, IsOutcome};
 

@@ -2,10 +2,11 @@
 //! publish, unseal.
 ghost use Rattle.std.specs.Prelude.{◌≡◌, ◌≤◌, ◌⊎◌, List, ℕ, false, IfOk, length};
 ghost use Rattle.kr_base.specs.Limits.{path_limit, value_limit};
-ghost use Rattle.kr_top.specs.Around.{Around, with_world, with_lent_tape};
+ghost use Rattle.kr_top.specs.Around.{Around, with_world};
 ghost use Rattle.kr_top.specs.Commands.{getting, tape_for, row_on};
 ghost use Rattle.kr_top.specs.declared.refusal.Refusal.{Refusal};
 ghost use Rattle.kr_top.specs.declared.refusal.Stop.{Stop};
+ghost use Rattle.kr_top.specs.inner.Lent.{with_lent_tape};
 ghost use Rattle.kr_top.specs.inner.Phases.{Does};
 ghost use Rattle.kr_top.specs.inner.Tapes.{IsLookedUp};
 

@@ -1,9 +1,10 @@
 //! What a worker has of the world: a random source, and a link to each plugin.
 ghost use Rattle.std.specs.Prelude.{◌≡◌, ◌<◌, ◌≤◌, ◌^◌, IfOk, OnOk, [], length};
 ghost use Rattle.kr_provider.specs.Names.{names_of};
-ghost use Rattle.kr_top.specs.Around.{Around, Tapes, with_tapes, with_world};
+ghost use Rattle.kr_top.specs.Around.{Around, with_world};
 ghost use Rattle.kr_top.specs.Fleets.{equipping};
 ghost use Rattle.kr_top.specs.Steps.{give};
+ghost use Rattle.kr_top.specs.inner.Lent.{Tapes, with_tapes};
 ghost use Rattle.kr_top.specs.inner.Outfits.{AreBorrowed, AreNamed, AreOut, ArePlugins, HasOut, IsOut};
 ghost use Rattle.kr_top.specs.inner.Outfits.{KeepsOthers, LinksReturn, Opens, OpensLinks, OutfitReturn};
 ghost use Rattle.kr_top.specs.inner.Outfits.{names_in, with_outfits};

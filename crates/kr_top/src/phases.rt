@@ -2,11 +2,12 @@
 ghost use Rattle.std.specs.Prelude.{◌≡◌, ◌<◌, ◌≤◌, ℕ, List, Ok, Err, length, IfOk, IfErr, OnErr};
 ghost use Rattle.kr_kms.specs.Outside.{KeepsFiles, KeepsObjects, file_faults};
 ghost use Rattle.kr_kms.specs.declared.world.WorldCall.{WorldCall};
-ghost use Rattle.kr_top.specs.Around.{Around, with_told_input, with_world};
+ghost use Rattle.kr_top.specs.Around.{Around, with_world};
 ghost use Rattle.kr_top.specs.Commands.{configuration, input_of, limit_of};
 ghost use Rattle.kr_top.specs.Ran.{receipt, Reports, Writes};
-ghost use Rattle.kr_top.specs.Reports.{said_text};
+ghost use Rattle.kr_top.specs.inner.Lent.{with_told_input};
 ghost use Rattle.kr_top.specs.inner.Phases.{Does, DiceLoan, DiceReturn, LinkLoan, LinkReturn, AskedFor, Configures, ReadsRows, TakesInput, LendsNothing, rows_in, shown_as};
+ghost use Rattle.kr_top.specs.inner.Reporting.{said_text};
 
 use crate::command::Direction;
 use crate::refusal::{Done, Ended, Limit, Object, Outcome, Refusal, Stop};

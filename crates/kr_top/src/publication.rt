@@ -5,8 +5,9 @@ ghost use Rattle.kr_kms.specs.Truth.{TellsOf, key_of};
 ghost use Rattle.kr_provider.specs.AskedLinks.{AskedOnly};
 ghost use Rattle.kr_provider.specs.Names.{HasLinks, names_of};
 ghost use Rattle.kr_provider.specs.PluginOrder.{plugin_order};
-ghost use Rattle.kr_top.specs.Around.{Around, with_lent_dice, with_lent_links};
+ghost use Rattle.kr_top.specs.Around.{Around};
 ghost use Rattle.kr_top.specs.Plugins.{make_seeds};
+ghost use Rattle.kr_top.specs.inner.Lent.{with_lent_dice, with_lent_links};
 ghost use Rattle.kr_top.specs.inner.Phases.{Does};
 ghost use Rattle.kr_top.specs.inner.Plugins.{NamesAFailure, IsPublishStop, seeds_in};
 

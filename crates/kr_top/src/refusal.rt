@@ -29,7 +29,7 @@ pub enum Object {
 /// Why the words stop before a step.
 #[derive(Clone, Copy, Debug, PartialEq, Eq)]
 pub enum BadWords {
-    /// They mean no command, or one that isn't built.
+    /// They mean no command, or a migration of a store to itself.
     Usage,
     /// They mean a command with more than 16 replicas.
     Replicas,

@@ -2,9 +2,10 @@
 ghost use Rattle.std.specs.Prelude.{[], IfOk};
 ghost use Rattle.kr_words.specs.Grammar.{replicas_of};
 ghost use Rattle.kr_kms.specs.Outside.{KeepsObjects};
-ghost use Rattle.kr_top.specs.Around.{Around, Tapes, with_world, with_tapes};
+ghost use Rattle.kr_top.specs.Around.{Around, with_world};
 ghost use Rattle.kr_top.specs.Command.{replica_names};
 ghost use Rattle.kr_top.specs.Commands.{configurations};
+ghost use Rattle.kr_top.specs.inner.Lent.{Tapes, with_tapes};
 ghost use Rattle.kr_top.specs.inner.Phases.{Does};
 ghost use Rattle.kr_top.specs.inner.Judging.{replica_rows, AreIn};
 

@@ -10,10 +10,11 @@ ghost use Rattle.kr_provider.specs.PluginOrder.{plugin_order};
 ghost use Rattle.kr_provider.specs.Publication.{Publication};
 ghost use Rattle.kr_rollout.specs.Calls.{AreServed};
 ghost use Rattle.kr_store.specs.Stores.{IsListing};
-ghost use Rattle.kr_top.specs.Around.{Around, Name, Tapes, with_world, with_tapes, with_lent_dice, with_lent_links, with_lent_tape};
-ghost use Rattle.kr_top.specs.Commands.{begun, driving, rewriting, rewriting_on, rewriting_by};
+ghost use Rattle.kr_top.specs.Around.{Around, with_world};
+ghost use Rattle.kr_top.specs.Commands.{nothing_done, driving, rewriting, rewriting_on, rewriting_by};
 ghost use Rattle.kr_top.specs.Plugins.{borrow_links};
 ghost use Rattle.kr_top.specs.Reports.{report_done};
+ghost use Rattle.kr_top.specs.inner.Lent.{Name, Tapes, with_tapes, with_lent_dice, with_lent_links, with_lent_tape};
 ghost use Rattle.kr_top.specs.inner.Phases.{Does};
 ghost use Rattle.kr_top.specs.inner.Reporting.{saying};
 ghost use Rattle.kr_top.specs.inner.Rewriting.{HasRoom, LacksRoom, LiveRows, Told, IsAlone, IsDriveStop, IsReported, MayCutShort, StartsAlone, counts_of, opened_store};
@@ -35,10 +36,8 @@ use kr_provider::{Bench, Links, Published};
 use kr_rewrite::{Report, drive};
 use kr_rollout::{Acts, CallNo, Core, Solo};
 use kr_store::Store;
+use kr_workers::JOURNAL_LIMIT;
 use std::alloc::Global;
-
-/// The most entries of a journal.
-const JOURNAL_LIMIT: u64 = 4_000_000;
 
 /// How many keys the bench holds expanded, and how many unwrapped seeds.
 const PAGES: u32 = 64;
@@ -315,7 +314,7 @@ fn drive_all<T: Tape, L: Kms, D: Dice>(
     ensures ended { (name : Name) (a : Around) (live : LiveRows) (told : Told)
         (p : Publication) → a.truth ≡ L.truth → IsListing core.opening.rows live
         → core.opening.replicas ≡ Some p ∷ [] → Does
-        (driving name p live (begun (opened_store core)))
+        (driving name p live (nothing_done (opened_store core)))
         (with_lent_links L.link 0 bench.links
         (with_lent_dice 0 (D.left bench.dice) (D.count bench.dice)
         (with_lent_tape name told core.opening.count a)))

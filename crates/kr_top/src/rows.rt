@@ -1,7 +1,8 @@
 //! `list`: store, its live rows.
 ghost use Rattle.std.specs.Prelude.{List, ℕ};
-ghost use Rattle.kr_top.specs.Around.{Around, with_world, with_lent_tape};
+ghost use Rattle.kr_top.specs.Around.{Around, with_world};
 ghost use Rattle.kr_top.specs.Commands.{steps, listing_on};
+ghost use Rattle.kr_top.specs.inner.Lent.{with_lent_tape};
 ghost use Rattle.kr_top.specs.inner.Phases.{Does};
 
 use crate::command::Command;

@@ -5,8 +5,9 @@ ghost use Rattle.kr_base.specs.Rules.{IsPath, IsResource};
 ghost use Rattle.kr_store.specs.Rows.{check_in, delete_of, live, put_of};
 ghost use Rattle.kr_kms.specs.Outside.{KeepsFiles, KeepsObjects};
 ghost use Rattle.kr_kms.specs.declared.world.WorldCall.{WorldCall};
-ghost use Rattle.kr_top.specs.Around.{Around, with_lent_tape};
+ghost use Rattle.kr_top.specs.Around.{Around};
 ghost use Rattle.kr_top.specs.Commands.{adding, stored_on};
+ghost use Rattle.kr_top.specs.inner.Lent.{with_lent_tape};
 ghost use Rattle.kr_top.specs.inner.Phases.{Does, AskedFor};
 ghost use Rattle.kr_top.specs.inner.Tapes.{HasOneMore, IsLoaded, LentTape, ReturnedTape, NoTape, grown_by, load_stop, stored_of};
 

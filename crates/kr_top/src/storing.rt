@@ -7,12 +7,13 @@ ghost use Rattle.kr_config.specs.Kept.{rows_of};
 ghost use Rattle.kr_provider.specs.PluginOrder.{plugin_order};
 ghost use Rattle.kr_provider.specs.Readers.{writer_of};
 ghost use Rattle.kr_store.specs.declared.rows.LogRow.{LogRow};
-ghost use Rattle.kr_top.specs.Around.{Around, around, with_world, with_lent_tape};
+ghost use Rattle.kr_top.specs.Around.{Around, around, with_world};
 ghost use Rattle.kr_rollout.specs.Checks.{store_check};
 ghost use Rattle.kr_top.specs.Commands.{putting, revision_line, sealed_into, stored_into, stored_on};
 ghost use Rattle.kr_top.specs.Steps.{and_then};
 ghost use Rattle.kr_top.specs.StoreFiles.{with_row};
 ghost use Rattle.kr_top.specs.declared.refusal.Object as objects;
+ghost use Rattle.kr_top.specs.inner.Lent.{with_lent_tape};
 ghost use Rattle.kr_top.specs.inner.Phases.{Does};
 ghost use Rattle.kr_top.specs.inner.Tapes.{answered, stored_of};
 

@@ -4,10 +4,11 @@ ghost use Rattle.kr_base.specs.Limits.{path_limit, value_limit};
 ghost use Rattle.kr_config.specs.Kept.{rows_of};
 ghost use Rattle.kr_provider.specs.Names.{names_of};
 ghost use Rattle.kr_provider.specs.PluginOrder.{plugin_order};
-ghost use Rattle.kr_top.specs.Around.{Around, Tapes, with_world, with_tapes, with_lent_dice, with_lent_links};
+ghost use Rattle.kr_top.specs.Around.{Around, with_world};
 ghost use Rattle.kr_top.specs.Commands.{bench_steps, working, limit_of};
 ghost use Rattle.kr_top.specs.Plugins.{borrow_links};
 ghost use Rattle.kr_top.specs.declared.command.Direction.{Direction};
+ghost use Rattle.kr_top.specs.inner.Lent.{Tapes, with_tapes, with_lent_dice, with_lent_links};
 ghost use Rattle.kr_top.specs.inner.Phases.{Does};
 
 use crate::bench::{adopted, work};

@@ -20,7 +20,7 @@ use Rattle.atomic_table.specs.Table.{Me}
 use Rattle.kr_turn.specs.inner.Endings.{Covers, IsEnd, IsGathered, part_in}
 use Rattle.kr_turn.specs.Keys.{Home}
 use Rattle.kr_base.specs.Lines.{Stands}
-use Rattle.kr_turn.specs.Seats.{number_of, seen, mine, left_of, IsSeatOf, IsFresh, AreFresh, AreAll}
+use Rattle.kr_turn.specs.Seats.{number_of, lines_seen, mine, left_of, IsSeatOf, IsFresh, AreFresh, AreAll}
 
 module _ {A : Type 0} where
   pub All-one : (P : A → Type 0) (x : A) → P x → All P (x ∷ [])
@@ -238,16 +238,18 @@ module _ {S L G : Type 0} (home : Home G) (first : Place S L G) (rest all : List
   -- so each seat's view stands in the lines of the state at the end
   pub all_stand : (lines : S → List L) (basis : S → G) (room : S → ℕ) (seat_of : L → ℕ) (state : S)
       → IsEnd lines basis room seat_of home.terms m.0 state
-      → All (λ seat. Stands seat_of (lines state) (number_of seat) (seen seat) (mine seat)) all
+      → All (λ seat. Stands seat_of (lines state) (number_of seat) (lines_seen seat)
+      (mine seat)) all
   all_stand lines basis room seat_of state end =
-      All-by_elem (λ seat. Stands seat_of (lines state) (number_of seat) (seen seat) (mine seat))
+      All-by_elem (λ seat. Stands seat_of (lines state) (number_of seat) (lines_seen seat)
+      (mine seat))
       all (λ k seat e.
       ⊎_elim
-      (λ h. subst (λ (n : ℕ). Stands seat_of (lines state) n (seen seat) (mine seat))
+      (λ h. subst (λ (n : ℕ). Stands seat_of (lines state) n (lines_seen seat) (mine seat))
       (ap (λ (t : Seat (Option S) (View L G)). t.me.0.number) seat.rests)
       (end.ended k (part_in seat) (part_at k seat h)))
       (λ h. subst (λ (z : Place S L G).
-      Stands seat_of (lines state) (number_of z) (seen z) (mine z)) h
+      Stands seat_of (lines state) (number_of z) (lines_seen z) (mine z)) h
       (subst (λ (x : ℕ × List L × List L). Stands seat_of (lines state) x.0 x.1 x.2)
       (λ i. (
         (gathered.number ∙ ap (λ (t : Seat (Option S) (View L G)). t.me.0.number)

@@ -9,8 +9,8 @@ module _ {S L G : Type 0} where
   number_of seat = seat.number
 
   -- the lines of the one history up to this seat's latest one
-  abbrev pub seen : Place S L G → List L
-  seen seat = seat.token.me.0.seen
+  abbrev pub lines_seen : Place S L G → List L
+  lines_seen seat = seat.token.me.0.seen
 
   -- the lines of this seat
   abbrev pub mine : Place S L G → List L
@@ -29,7 +29,7 @@ module _ {S L G : Type 0} where
   pub record IsFresh (home : Home G) (seat : Place S L G) : Type 0 where
     pub its : IsSeatOf home seat
     pub left : left_of seat ≡ slice_index home.terms.budgets (number_of seat)
-    pub none_seen : seen seat ≡ []
+    pub none_seen : lines_seen seat ≡ []
     pub none_mine : mine seat ≡ []
 
   -- fresh seats, by their numbers from 0 on

@@ -24,7 +24,8 @@ pub struct Turn<S: Turned> {
 
 impl<S: Turned> Model for Turn<S> {
     ghost use Rattle.std.specs.Prelude.{◌<◌, length};
-    ghost use Rattle.kr_turn.specs.Keys.{Home, home_of};
+    ghost use Rattle.kr_turn.specs.Keys.{Home};
+    ghost use Rattle.kr_turn.specs.inner.Homes.{home_of};
     ghost use Rattle.kr_turn.specs.inner.Tokens.{IsSized};
 
     ghost Value = { Home S.Ground };
@@ -39,7 +40,7 @@ impl<S: Turned> Model for Turn<S> {
 impl<S: Turned> Turn<S> {
     ghost use Rattle.kr_base.specs.Lines.{of_seat, Stands};
     ghost use Rattle.kr_turn.specs.Lines.{IsTurn};
-    ghost use Rattle.kr_turn.specs.Seats.{IsSeatOf, AreFresh, AreAll, number_of, seen, mine};
+    ghost use Rattle.kr_turn.specs.Seats.{IsSeatOf, AreFresh, AreAll, number_of, lines_seen, mine};
     ghost use Rattle.kr_turn.specs.Seats.{left_of};
 
     /// Makes the lock and one seat for each budget: the seat of number `i` may make as many turns
@@ -95,7 +96,7 @@ impl<S: Turned> Turn<S> {
         requires may { S.may self.now.terms.basis (number_of seat.old) (mine seat.old) event }
         ensures acted { IfOk result (λ answer. IsTurn S.seat_of S.law S.tells
             self.now.terms.basis (number_of seat.old) event answer
-            (seen seat.old) (mine seat.old) (seen seat.new) (mine seat.new)) }
+            (lines_seen seat.old) (mine seat.old) (lines_seen seat.new) (mine seat.new)) }
         ensures spent { IsErr result
             ↔ (length (mine seat.old) ≡ slice_index self.now.terms.budgets (number_of seat.old)) }
         ensures nothing { OnErr result (seat.new ≡ seat.old) }
@@ -117,7 +118,8 @@ impl<S: Turned> Turn<S> {
         requires { AreAll self seats.0 }
         ensures kept { (S.basis result ≡ self.terms.basis) × (S.room result ≡ self.terms.room) }
         ensures stand { All (λ seat.
-            Stands S.seat_of (S.lines result) (number_of seat) (seen seat) (mine seat)) seats.0 }
+            Stands S.seat_of (S.lines result) (number_of seat) (lines_seen seat) (mine seat))
+            seats.0 }
         ensures no_other { (number : ℕ) → length self.terms.budgets ≤ number
             → of_seat S.seat_of number (S.lines result) ≡ [] }
     {

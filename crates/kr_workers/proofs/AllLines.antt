@@ -17,9 +17,10 @@ use Rattle.kr_script.specs.declared.script.ScriptLine.{ScriptLine}
 use Rattle.kr_script.specs.declared.told.Told.{Told}
 use Rattle.kr_workers.specs.declared.files.SettingsFile.{SettingsFile}
 use Rattle.kr_workers.specs.Budgets.{brought_by, reloads_of}
-use Rattle.kr_workers.specs.Runs.{AreReady, DoesAll, IsDone, LineDone, Runs}
+use Rattle.kr_workers.specs.Runs.{DoesAll, IsDone, LineDone}
+use Rattle.kr_workers.specs.inner.WholeRuns.{AreReady, Runs}
 use Rattle.kr_workers.specs.ScriptLines.{MayDo, Workplace}
-use Rattle.kr_workers.specs.Serving.{IsReadyFor, Serves, place_of}
+use Rattle.kr_workers.specs.inner.Serving.{IsReadyFor, Serves, place_of}
 use Rattle.kr_workers.specs.inner.Going.{IsGoing}
 
 -- ---- lists

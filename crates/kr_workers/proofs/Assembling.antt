@@ -33,17 +33,19 @@ use Rattle.kr_script.specs.declared.told.Told.{Told}
 use Rattle.kr_seats.specs.Fleets.{AreAdded, HonestIfSeatsAre, IsFleetSeat, caller_of}
 use Rattle.kr_seats.specs.declared.shared_core.SharedCore.{SharedCore}
 use Rattle.kr_turn.specs.Keys.{Home}
-use Rattle.kr_turn.specs.Seats.{AreAll, AreFresh, IsFresh, left_of, mine, number_of, seen}
+use Rattle.kr_turn.specs.Seats.{AreAll, AreFresh, IsFresh, left_of, mine, number_of, lines_seen}
 use Rattle.kr_turn.specs.declared.seat.Place.{Place}
 use Rattle.kr_turn.specs.declared.view.Terms.{Terms}
 use Rattle.kr_workers.specs.declared.files.SettingsFile.{SettingsFile}
 use Rattle.kr_workers.specs.declared.worker.Worker.{Worker}
 use Rattle.kr_workers.specs.Budgets.{AreBudgets, all_reloads, budget_of, budgets_of, put_lines, reloads_of}
 use Rattle.kr_workers.specs.Histories.{IsOneHistory, StandsIn, first_place}
-use Rattle.kr_workers.specs.Runs.{AreReady, DoesAll, Runs, entries_in}
+use Rattle.kr_workers.specs.Runs.{DoesAll, entries_in}
+use Rattle.kr_workers.specs.inner.WholeRuns.{AreReady, Runs}
 use Rattle.kr_workers.specs.ScriptLines.{MayDo, Workplace}
-use Rattle.kr_workers.specs.Serving.{place_of}
-use Rattle.kr_workers.specs.Workers.{HasWorked, IsReadyWorker, MayBegin, seated, unseated}
+use Rattle.kr_workers.specs.inner.Serving.{place_of}
+use Rattle.kr_workers.specs.Workers.{MayBegin}
+use Rattle.kr_workers.specs.inner.SeatedWorkers.{HasWorked, IsReadyWorker, with_seats, without_seat}
 use Rattle.kr_workers.proofs.Budgeting.{none_cut}
 use Rattle.kr_workers.proofs.Living.{LivesIn, all_counted, all_put, known_paths, lives_in, parts_added, put_by_entry, put_in_part, puts_with_entry, runs_put}
 use mathlib.Core.List.{IsPrefix}
@@ -71,7 +73,7 @@ module _ {S L D : Type 0} where
   -- it is a worker's first place
   pub fresh_place : (home : Home Opening) (o : Opening) (i budget : ℕ)
       (seat : Place S Entry Opening) (bench : BenchState L D) → home.terms.basis ≡ o
-      → number_of seat ≡ i → seen seat ≡ [] → mine seat ≡ [] → left_of seat ≡ budget
+      → number_of seat ≡ i → lines_seen seat ≡ [] → mine seat ≡ [] → left_of seat ≡ budget
       → place_of (caller_of home seat) bench ≡ first_place o i budget bench
   fresh_place home o i budget seat bench basis number none_seen none_mine left = λ k. record {
     caller = record {
@@ -132,7 +134,7 @@ at_of (x ∷ xs) (suc k) l = at_of xs k (omega (arith, l))
 module _ {T L D : Type 0} where
   pub seated_long : (seats : List (Place (SharedCore T) Entry Opening))
       (workers : List (Worker T L D)) → length seats ≡ length workers
-      → length (seated seats workers) ≡ length workers
+      → length (with_seats seats workers) ≡ length workers
   seated_long [] workers e = refl
   seated_long (seat ∷ seats) [] e = absurd (omega (arith, e))
   seated_long (seat ∷ seats) (worker ∷ workers) e =
@@ -141,7 +143,7 @@ module _ {T L D : Type 0} where
   pub seated_at : (seats : List (Place (SharedCore T) Entry Opening))
       (workers : List (Worker T L D)) (k : ℕ) (s : Place (SharedCore T) Entry Opening)
       (d : Worker T L D) → length seats ≡ length workers → k < length workers
-      → get_or (seated seats workers) k d
+      → get_or (with_seats seats workers) k d
       ≡ record (get_or workers k d) { seat = Some (get_or seats k s) }
   seated_at [] [] k s d e l = absurd (omega (arith, l))
   seated_at [] (worker ∷ workers) k s d e l = absurd (omega (arith, e))
@@ -222,12 +224,12 @@ module _ {T L D : Type 0} (link : L → Link) (files : List SettingsFile) (parts
         pages = start.pages;
       }
 
-  pub some_seated : 1 ≤ length parts → 0 < length (seated seats workers)
+  pub some_seated : 1 ≤ length parts → 0 < length (with_seats seats workers)
   some_seated some = let long = seated_long seats workers as_many in
       omega (arith, some, long, many)
 
   -- each worker with its seat is ready
-  pub all_ready : All (IsReadyWorker home files parts link) (seated seats workers)
+  pub all_ready : All (IsReadyWorker home files parts link) (with_seats seats workers)
   all_ready k d l =
       let long = seated_long seats workers as_many in
       let inside : k < length workers = omega (arith, l, long) in
@@ -281,16 +283,16 @@ module _ {T L D : Type 0} (truth : Truth) (link : L → Link) (left : D → Opti
     pub as_many : length budgets ≡ length parts
     pub fresh : AreFresh home (length parts) seats
     pub many : length workers ≡ length parts
-    pub long : length done ≡ length (seated seats workers)
-    pub worked : (i : ℕ) (d : Worker T L D) → i < length (seated seats workers)
+    pub long : length done ≡ length (with_seats seats workers)
+    pub worked : (i : ℕ) (d : Worker T L D) → i < length (with_seats seats workers)
         → HasWorked home files parts truth link left count
-        (slice_index_or (seated seats workers) i d) (slice_index_or done i d)
+        (slice_index_or (with_seats seats workers) i d) (slice_index_or done i d)
     pub back_are : map Some back ≡ map (λ (w : Worker T L D). w.seat) done
 
   pub have_worked : (rows : List LogRow) (room : ℕ) (sitting : List (Worker T L D))
       → home.terms ≡ record { basis = o; room = room; budgets = budgets }
       → AreBudgets rows parts budgets → AreFresh home (length budgets) seats
-      → length workers ≡ length parts → sitting ≡ seated seats workers
+      → length workers ≡ length parts → sitting ≡ with_seats seats workers
       → length done ≡ length sitting
       → ((i : ℕ) (d : Worker T L D) → i < length sitting
       → HasWorked home files parts truth link left count (slice_index_or sitting i d)
@@ -315,7 +317,7 @@ module _ {T L D : Type 0} (truth : Truth) (link : L → Link) (left : D → Opti
     (workers done : List (Worker T L D)) (back : List (Place (SharedCore T) Entry Opening))
     (all : HaveWorked truth link left count files parts home o budgets seats workers done back)
   where
-    these_long : length (seated seats workers) ≡ length parts
+    these_long : length (with_seats seats workers) ≡ length parts
     these_long = seated_long seats workers
         (seats_long home (length parts) seats all.fresh ∙ sym all.many) ∙ all.many
 
@@ -328,8 +330,8 @@ module _ {T L D : Type 0} (truth : Truth) (link : L → Link) (left : D → Opti
 
     -- a worker with its number
     record WorkedAt (k : ℕ) (d : Worker T L D) : Type 0 where
-      bench : (get_or (seated seats workers) k d).bench ≡ (get_or workers k d).bench
-      has : HasWorked home files parts truth link left count (get_or (seated seats workers) k d)
+      bench : (get_or (with_seats seats workers) k d).bench ≡ (get_or workers k d).bench
+      has : HasWorked home files parts truth link left count (get_or (with_seats seats workers) k d)
           (get_or done k d)
       number : number_of has.before ≡ k
       fresh : IsFresh home has.before
@@ -425,18 +427,18 @@ module _ {T L D : Type 0} (truth : Truth) (link : L → Link) (left : D → Opti
     -- a seat that saw honest entries alone keeps the history honest
     pub back_keeps : truth.told ≡ true
         → All (λ (seat : Place (SharedCore T) Entry Opening). KeepsHonest truth.opens
-        home.terms.basis (number_of seat) (seen seat)) back
+        home.terms.basis (number_of seat) (lines_seen seat)) back
     back_keeps told k s l =
         let b = is_back (get_or back k s) k l s refl in
         let h = b.at.has in
         subst (λ (p : Place (SharedCore T) Entry Opening). KeepsHonest truth.opens
-        home.terms.basis (number_of p) (seen p)) b.is
+        home.terms.basis (number_of p) (lines_seen p)) b.is
         (h.runs.honest told (fresh_keeps truth.opens home.terms.basis (number_of h.before)
-        (seen h.before) b.at.fresh.none_seen))
+        (lines_seen h.before) b.at.fresh.none_seen))
 
     module _ (history : List Entry) (legal : IsLegal o history)
         (stand : All (λ (seat : Place (SharedCore T) Entry Opening).
-        Stands seat_of history (number_of seat) (seen seat) (mine seat)) back)
+        Stands seat_of history (number_of seat) (lines_seen seat) (mine seat)) back)
         (added : AreAdded back history) where
       pub no_other : All (λ e. seat_of e < length parts) history
       no_other k e l =
@@ -461,7 +463,7 @@ module _ {T L D : Type 0} (truth : Truth) (link : L → Link) (left : D → Opti
           let own = puts_with_entry (mine a.0) p.entry d a.3 p.puts in
           put_in_part parts (number_of h.before) h.part path h.part_is
           (runs_put path resource plain truth link left count files h.part.replica h.part.lines.0
-          (caller_of home h.before) (get_or (seated seats workers) a.1.0 b.worker).bench
+          (caller_of home h.before) (get_or (with_seats seats workers) a.1.0 b.worker).bench
           (get_or done a.1.0 b.worker).told.0 (caller_of home h.after)
           (get_or done a.1.0 b.worker).bench b.at.fresh.none_mine
           (get_or done a.1.0 b.worker).ended h.runs
@@ -494,14 +496,14 @@ module _ {T L D : Type 0} (truth : Truth) (link : L → Link) (left : D → Opti
             let inside : i < length back = omega (arith, l, back_is) in
             let s = at_of back i inside in
             let stands = subst (λ (p : Place (SharedCore T) Entry Opening).
-            Stands seat_of history (number_of p) (seen p) (mine p)) (sym (back_at i s d l w))
+            Stands seat_of history (number_of p) (lines_seen p) (mine p)) (sym (back_at i s d l w))
             (stand i s inside) in
             let there : get_or parts i part ≡ h.part = part_at parts i part h.part
             (ap (slice_get parts) (sym w.number) ∙ h.part_is) in
-            let from : place_of (caller_of home h.before) (get_or (seated seats workers) i d).bench
+            let from : place_of (caller_of home h.before) (get_or (with_seats seats workers) i d).bench
             ≡ first_place o i (slice_index budgets i) (get_or workers i d).bench =
             fresh_place home o i (slice_index budgets i) h.before
-            (get_or (seated seats workers) i d).bench all.basis w.number w.fresh.none_seen
+            (get_or (with_seats seats workers) i d).bench all.basis w.number w.fresh.none_seen
             w.fresh.none_mine w.left_is
             ∙ ap (first_place o i (slice_index budgets i)) w.bench in
             subst (λ p. StandsIn truth link left count files history p
@@ -524,15 +526,15 @@ module _ {T L D : Type 0} (truth : Truth) (link : L → Link) (left : D → Opti
                 omega (arith, e, f)
 
             ended : (i : ℕ) (d : Worker T L D) (h : HasWorked home files parts truth link left count
-                (get_or (seated seats workers) i d) (get_or done i d))
+                (get_or (with_seats seats workers) i d) (get_or done i d))
                 → IsFresh home h.before → number_of h.before ≡ i
-                → place_of (caller_of home h.before) (get_or (seated seats workers) i d).bench
+                → place_of (caller_of home h.before) (get_or (with_seats seats workers) i d).bench
                 ≡ first_place o i (slice_index budgets i) (get_or workers i d).bench
-                → Stands seat_of history (number_of h.after) (seen h.after) (mine h.after)
+                → Stands seat_of history (number_of h.after) (lines_seen h.after) (mine h.after)
                 → budget_of (length paths) h.part.lines.0 ≤ slice_index budgets i
                 → (end : Result (Unit {0}) Spent)
                 → Runs truth link left count files h.part.replica h.part.lines.0
-                (caller_of home h.before) (get_or (seated seats workers) i d).bench
+                (caller_of home h.before) (get_or (with_seats seats workers) i d).bench
                 (get_or done i d).told.0 end (caller_of home h.after) (get_or done i d).bench
                 → StandsIn truth link left count files history h.part
                 (first_place o i (slice_index budgets i) (get_or workers i d).bench)
@@ -541,7 +543,7 @@ module _ {T L D : Type 0} (truth : Truth) (link : L → Link) (left : D → Opti
                 run_stands truth link left count files history h.part
                 (first_place o i (slice_index budgets i) (get_or workers i d).bench)
                 (caller_of home h.before) (caller_of home h.after)
-                (get_or (seated seats workers) i d).bench (get_or done i d).bench
+                (get_or (with_seats seats workers) i d).bench (get_or done i d).bench
                 (get_or done i d).told.0 runs from fresh.none_mine stands (h.same ∙ number)
             ended i d h fresh number from stands fits (Err spent) runs =
                 absurd (none_cut truth link left count files h.part.replica paths o history lives
@@ -554,19 +556,19 @@ module _ {T L D : Type 0} (truth : Truth) (link : L → Link) (left : D → Opti
         -- the history with all workers' lines
         pub one_history : HonestIfSeatsAre home back history
             → IsOneHistory truth link left count files history o parts budgets workers
-            (map unseated done)
+            (map without_seat done)
         one_history honest = record {
           legal = legal;
           honest = λ told opening. subst (λ (p : Opening). IsHonest truth.opens p history) all.basis
               (honest truth.opens
               (subst (λ (p : Opening). IsHonest truth.opens p []) (sym all.basis) opening) back_its
               (back_keeps told));
-          many = length-map done unseated ∙ done_long ∙ sym all.many;
+          many = length-map done without_seat ∙ done_long ∙ sym all.many;
           whole = all.many;
           each = λ i part worker l.
               let done_is = done_long in
-              let same : get_or (map unseated done) i worker ≡ unseated (get_or done i worker) =
-              get_or-map unseated done i worker worker (omega (arith, l, done_is)) in
+              let same : get_or (map without_seat done) i worker ≡ without_seat (get_or done i worker) =
+              get_or-map without_seat done i worker worker (omega (arith, l, done_is)) in
               subst (λ (w : Worker T L D). StandsIn truth link left count files history
               (get_or parts i part)
               (first_place o i (slice_index budgets i) (get_or workers i worker).bench) w.told.0
@@ -578,6 +580,6 @@ module _ {T L D : Type 0} (truth : Truth) (link : L → Link) (left : D → Opti
 
 module _ {T L D : Type 0} where
   pub none_seated_now : (done : List (Worker T L D))
-      → All (λ (w : Worker T L D). w.seat ≡ None) (map unseated done)
-  none_seated_now done = All-map (λ (w : Worker T L D). w.seat ≡ None) unseated done
+      → All (λ (w : Worker T L D). w.seat ≡ None) (map without_seat done)
+  none_seated_now done = All-map (λ (w : Worker T L D). w.seat ≡ None) without_seat done
       (λ k d l. refl)

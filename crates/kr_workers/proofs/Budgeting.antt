@@ -19,9 +19,10 @@ use Rattle.kr_script.specs.declared.told.Told.{Told}
 use Rattle.kr_workers.specs.declared.files.SettingsFile.{SettingsFile}
 use Rattle.kr_workers.specs.Budgets.{brought_by, budget_of, entries_of, puts_of}
 use Rattle.kr_workers.specs.Replies.{Reply, told_of_drive, told_of_refusal}
-use Rattle.kr_workers.specs.Runs.{DoesAll, IsCutShort, LineDone, lines_in}
+use Rattle.kr_workers.specs.Runs.{DoesAll, LineDone, lines_in}
+use Rattle.kr_workers.specs.inner.WholeRuns.{IsCutShort}
 use Rattle.kr_workers.specs.ScriptLines.{Does, Workplace}
-use Rattle.kr_workers.specs.Serving.{IsShortFor}
+use Rattle.kr_workers.specs.inner.Serving.{IsShortFor}
 use Rattle.kr_workers.proofs.Living.{LivesIn, among_front}
 use mathlib.Core.List.{IsPrefix}
 

@@ -103,7 +103,7 @@ module _ {L D : Type 0} (truth : Truth) (link : L → Link) (left : D → Option
       (budgets : List ℕ) (old new : List (Worker T L D))
       (one : IsOneHistory truth link left count files history o parts budgets old new) where
     seat_known : (seat : ℕ) → seat < length parts → seat < length o.reloads
-        → All (IsKnown truth link left count) (of_seat seat_of seat history)
+        → All (IsKnown) (of_seat seat_of seat history)
     seat_known seat within there =
         let part = first_in parts seat within in
         let worker = first_in old seat (omega (arith, within, one.whole)) in
@@ -116,15 +116,15 @@ module _ {L D : Type 0} (truth : Truth) (link : L → Link) (left : D → Option
           legal = front_law o [] history one.legal;
           own = refl;
           seat_in = there;
-        }) (All-nil (IsKnown truth link left count)) in
-        subst (λ (l : List Entry). All (IsKnown truth link left count) l)
+        }) (All-nil (IsKnown)) in
+        subst (λ (l : List Entry). All (IsKnown) l)
         (run_mine replica place s.run s.last s.does ∙ s.parts_are) known
 
     pub resealed : (front : List Entry) (e : Entry) (rest : List Entry) (path : List ℕ)
-        → history ≡ front ++ e ∷ rest → IsReplaced path e → Reseals truth link path e
+        → history ≡ front ++ e ∷ rest → IsReplaced path e → Reseals path e
     resealed front e rest path is r =
-        own_there (IsKnown truth link left count) front e rest
-        (subst (λ (l : List Entry). All (IsKnown truth link left count)
+        own_there (IsKnown) front e rest
+        (subst (λ (l : List Entry). All (IsKnown)
         (of_seat seat_of e.line.seat l)) is
         (seat_known e.line.seat
         (at_middle (λ (x : Entry). seat_of x < length parts) front e rest
@@ -230,10 +230,9 @@ published_opens opens (g ∷ generations) (Some zero) p all is =
 published_opens opens (g ∷ generations) (Some (suc number)) p all is =
     published_opens opens generations (Some number) p (λ k d l. all (suc k) d (omega arith)) is
 
-kept : {L : Type 0} (truth : Truth) (link : L → Link) (opens : Opens) (path : List ℕ) (e : Entry)
-    (r : Reseals truth link path e) → SeedsOpen opens r.p → UnwrappedBy opens r
-    → KeepsData opens path e
-kept truth link opens path e r seeds unwrapped = record {
+kept : (opens : Opens) (path : List ℕ) (e : Entry) (r : Reseals path e)
+    → SeedsOpen opens r.p → UnwrappedBy opens r → KeepsData opens path e
+kept opens path e r seeds unwrapped = record {
   p = r.p;
   old = r.old;
   new = r.new;
@@ -242,11 +241,11 @@ kept truth link opens path e r seeds unwrapped = record {
   replaced = r.replaced;
   written = r.written;
   reads = (
-    r.unseals.envelope,
+    r.envelope,
     envelope_is opens r.p.seeds seeds path r.old.stored
-        (reader_in (list_at r.p r.old.resource) r.old.stored) r.unseals.envelope r.opened.plain
-        r.unseals.object r.unseals.published r.unseals.is.0 unwrapped,
-    r.unseals.is.0,
+        (reader_in (list_at r.p r.old.resource) r.old.stored) r.envelope r.opened.plain
+        r.object r.published r.is.0 unwrapped,
+    r.is.0,
   );
   sealing = r.sealing;
 }
@@ -324,10 +323,10 @@ replicas_open opens replica (Some p ∷ replicas) all =
     (all 0 (record { replica = replica; published = p }) (omega arith))
     (replicas_open opens (replica + 1) replicas (λ k d l. all (suc k) d (omega arith)))
 
-module _ {L : Type 0} (truth : Truth) (link : L → Link) (opens : Opens) (o : Opening)
+module _ (opens : Opens) (o : Opening)
     (history : List Entry)
     (reseals : (front : List Entry) (e : Entry) (rest : List Entry) (path : List ℕ)
-    → history ≡ front ++ e ∷ rest → IsReplaced path e → Reseals truth link path e)
+    → history ≡ front ++ e ∷ rest → IsReplaced path e → Reseals path e)
     (unwrapped : (front : List Entry) (e : Entry) (rest : List Entry) (path : List ℕ)
     → (is : history ≡ front ++ e ∷ rest) → (replaced : IsReplaced path e)
     → UnwrappedBy opens (reseals front e rest path is replaced)) where
@@ -347,7 +346,7 @@ module _ {L : Type 0} (truth : Truth) (link : L → Link) (opens : Opens) (o : O
         gave_is = gave_is;
       } in
       let r = reseals front e rest path is replaced in
-      kept truth link opens path e r
+      kept opens path e r
       (published_opens opens (after st e).generations (generation_named_in e.line) r.p now
       (sym (ap (λ (x : Entry). x.published) runs.0.payload) ∙ r.held))
       (unwrapped front e rest path is replaced)) in
@@ -365,7 +364,7 @@ honest_of_plugins T truth link left count files history o parts budgets old new 
       honest = λ opens all unwrapped. record {
         opening = replicas_open opens 0 o.replicas
             (generations_front opens (start_of o) history all);
-        entries = rest_honest truth link opens o history reseals unwrapped (start_of o) [] history
+        entries = rest_honest opens o history reseals unwrapped (start_of o) [] history
             refl one.legal.runs all (All-nil (IsHonestEntry opens));
       };
     }

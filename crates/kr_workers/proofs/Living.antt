@@ -33,9 +33,10 @@ use Rattle.kr_script.specs.declared.script.ScriptLine.TheVariants as line
 use Rattle.kr_script.specs.declared.told.Told.{Told}
 use Rattle.kr_workers.specs.declared.files.SettingsFile.{SettingsFile}
 use Rattle.kr_workers.specs.Budgets.{is_put, put_lines, puts_of}
-use Rattle.kr_workers.specs.Runs.{DoesAll, EndsRun, LineDone, Runs, entries_in, lines_in}
+use Rattle.kr_workers.specs.Runs.{DoesAll, LineDone, entries_in, lines_in}
+use Rattle.kr_workers.specs.inner.WholeRuns.{EndsRun, Runs}
 use Rattle.kr_workers.specs.ScriptLines.{Workplace}
-use Rattle.kr_workers.specs.Serving.{place_of}
+use Rattle.kr_workers.specs.inner.Serving.{place_of}
 use mathlib.Core.List.{IsPrefix}
 
 -- each path that had a live row at some time in the history is one of these

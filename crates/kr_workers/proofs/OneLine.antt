@@ -1,5 +1,5 @@
 -- One line: what its call does is what the line does.
-use Rattle.std.proofs.Common.{◌≡◌, ℕ, ◌≤◌, ◌+◌, ◌*◌, suc, length, List, [], ◌∷◌, Option, None, Some, Result, Ok, Err, Contains, inl, inr, refl, ap, sym, subst, ◌∙◌, arith}
+use Rattle.std.proofs.Common.{◌≡◌, ℕ, ◌≤◌, ◌+◌, ◌*◌, length, List, [], ◌∷◌, Option, None, Some, Result, Ok, Err, inl, inr, refl, ap, sym, subst, ◌∙◌, arith}
 use Rattle.std.proofs.lemmas.Option.{same_Some}
 use Rattle.kr_config.specs.Kept.{Row, plugins_in}
 use Rattle.kr_kms.specs.Calls.{Link}
@@ -33,34 +33,13 @@ use Rattle.kr_script.specs.declared.told.Told.TheVariants as told
 use Rattle.kr_workers.specs.declared.files.SettingsFile.{SettingsFile}
 use Rattle.kr_workers.specs.Files.{rows_at}
 use Rattle.kr_workers.specs.Replies.{Reply, told_of_delete, told_of_drive, told_of_join, told_of_leave, told_of_read, told_of_refresh, told_of_reload, told_of_write}
+use Rattle.kr_rollout.proofs.AskedReaders.{asked_all}
 use Rattle.kr_workers.specs.ScriptLines.{Does, DoesJoin, DoesReload, IfRead}
-use Rattle.kr_workers.specs.Serving.{AddsFor, EndsFor, IsIdleAt, Serves, place_of}
+use Rattle.kr_workers.specs.inner.Serving.{AddsFor, EndsFor, IsIdleAt, Serves, place_of}
 use Rattle.kr_workers.proofs.Cutting.{delete_spent, join_spent, leave_spent, read_spent, refresh_spent, reload_spent, write_spent}
 use Rattle.kr_workers.proofs.Telling.{ends_delete, ends_drive, ends_join, ends_leave, ends_read, ends_refresh, ends_reload, ends_write, idle_always, idle_drive, idle_read, idle_refresh, idle_write}
 
 -- ---- links
-
-there_later : {X : Type 0} (xs : List X) (x y : X) → Contains xs y → Contains (x ∷ xs) y
-there_later xs x y (k, l, is) = (suc k, omega (arith, l), is)
-
-asked_within : {L : Type 0} (link : L → Link) (names more : List (List ℕ)) (olds news : List L)
-    → ((name : List ℕ) → Contains (names_of link olds) name → Contains more name)
-    → AskedOnly link names olds news → AskedOnly link more olds news
-asked_within link names more [] [] t a = tt
-asked_within link names more [] (y ∷ ys) t a = absurd a
-asked_within link names more (x ∷ xs) [] t a = absurd a
-asked_within link names more (x ∷ xs) (y ∷ ys) t a = (
-  a.0,
-  λ none. absurd (none (t (link x).name (0, omega arith, refl))),
-  asked_within link names more xs ys
-      (λ name c. t name (there_later (names_of link xs) (link x).name name c)) a.2,
-)
-
--- whoever was asked is one of the links
-pub asked_all : {L : Type 0} (link : L → Link) (names : List (List ℕ)) (olds news : List L)
-    → AskedOnly link names olds news → AskedOnly link (names_of link olds) olds news
-asked_all link names olds news a =
-    asked_within link names (names_of link olds) olds news (λ name c. c) a
 
 asked_same : {L : Type 0} (link : L → Link) (olds news : List L) → news ≡ olds
     → AskedOnly link (names_of link olds) olds news

@@ -73,11 +73,12 @@ abbrev is_written : Gave → Bool
 is_written (gave.Written revision) = true
 is_written other = false
 
+-- a row that it replaced stands on an unsealing
+abbrev pub IsKnown : Entry → Type 0
+IsKnown e = (path : List ℕ) → IsReplaced path e → Reseals path e
+
 module _ {L D : Type 0} (truth : Truth) (link : L → Link) (left : D → Option (List ℕ))
     (count : D → ℕ) where
-  abbrev pub IsKnown : Entry → Type 0
-  IsKnown e = (path : List ℕ) → IsReplaced path e → Reseals truth link path e
-
   -- a caller stays one, and each own entry that replaced a row stands on an unsealing still
   pub record Keeps (old new : Caller) : Type 0 where
     pub caller : IsCaller old → IsCaller new
@@ -417,7 +418,7 @@ module _ {L D : Type 0} (truth : Truth) (link : L → Link) (left : D → Option
         → IsSealing p row.resource row.path opened.plain stored
         → (a : AddsEntry old (event.Replace row.path row.revision stored)
         (answer.Written revision) new)
-        → Reseals truth link row.path a.entry
+        → Reseals row.path a.entry
     resealed stored revision sealing a =
         let asked = event.Replace row.path row.revision stored in
         let given = answer.Written revision in
@@ -429,12 +430,13 @@ module _ {L D : Type 0} (truth : Truth) (link : L → Link) (left : D → Option
           old = row;
           new = s.new;
           opened = opened;
-          olds = olds;
-          news = news;
+          envelope = unseals.envelope;
           held = (held_is_named old new asked given number p k a held).published;
           replaced = found_is_named old new row.path row.revision stored given row k a found refl;
           written = s.written;
-          unseals = unseals;
+          object = unseals.object;
+          published = unseals.published;
+          is = unseals.is;
           sealing = subst (λ v. IsSealing p row.resource row.path opened.plain v) (sym same)
               sealing;
         }
@@ -450,7 +452,7 @@ module _ {L D : Type 0} (truth : Truth) (link : L → Link) (left : D → Option
         → (a : AddsEntry old (event.Replace row.path row.revision stored) given new)
         → IsKnown a.entry
     replaced_known stored (answer.Written revision) sealing a = λ path r.
-        subst (λ q. Reseals truth link q a.entry)
+        subst (λ q. Reseals q a.entry)
         (ap (replaced_path path) (sym a.records.did_is ∙ r.did_is))
         (resealed stored revision sealing a)
     replaced_known stored (answer.Adopted n q) sealing a =

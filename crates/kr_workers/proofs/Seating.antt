@@ -7,7 +7,7 @@ use Rattle.kr_rollout.specs.declared.opening.Opening.{Opening}
 use Rattle.kr_seats.specs.declared.shared_core.SharedCore.{SharedCore}
 use Rattle.kr_turn.specs.declared.seat.Place.{Place}
 use Rattle.kr_workers.specs.declared.worker.Worker.{Worker}
-use Rattle.kr_workers.specs.Workers.{seated, unseated}
+use Rattle.kr_workers.specs.inner.SeatedWorkers.{with_seats, without_seat}
 
 -- a list whose length is one more has a last element
 pub record HasLast {X : Type 0} (xs : List X) (n : ℕ) : Type 0 where
@@ -47,7 +47,7 @@ pub record IsSeating {T L D : Type 0} (seats now : List (Place (SharedCore T) En
   pub front : List (Worker T L D)
   pub back : List (Worker T L D)
   pub workers_are : workers ≡ front ++ back
-  pub now_are : workers_now ≡ front ++ seated given back
+  pub now_are : workers_now ≡ front ++ with_seats given back
   pub long : length front ≡ length now
   pub as_long : length back ≡ length given
 
@@ -77,9 +77,9 @@ module _ {T L D : Type 0} (seats : List (Place (SharedCore T) Entry Opening))
   behind = last_of s.front (length rest)
       (s.long ∙ ap length last ∙ length-append rest (seat ∷ []))
 
-  now_is : workers_now ≡ behind.front ++ behind.last ∷ seated s.given s.back
-  now_is = s.now_are ∙ ap (λ l. l ++ seated s.given s.back) behind.parted
-      ∙ append_assoc behind.front (behind.last ∷ []) (seated s.given s.back)
+  now_is : workers_now ≡ behind.front ++ behind.last ∷ with_seats s.given s.back
+  now_is = s.now_are ∙ ap (λ l. l ++ with_seats s.given s.back) behind.parted
+      ∙ append_assoc behind.front (behind.last ∷ []) (with_seats s.given s.back)
 
   were : workers ≡ behind.front ++ behind.last ∷ s.back
   were = s.workers_are ∙ ap (λ l. l ++ s.back) behind.parted
@@ -87,7 +87,7 @@ module _ {T L D : Type 0} (seats : List (Place (SharedCore T) Entry Opening))
 
   at_is : (d : Worker T L D) → get_or workers_now (length rest) d ≡ behind.last
   at_is d = (λ i. get_or (now_is i) (sym behind.long i) d)
-      ∙ get_between behind.front (seated s.given s.back) behind.last d
+      ∙ get_between behind.front (with_seats s.given s.back) behind.last d
 
   was : (d : Worker T L D) → get_or workers (length rest) d ≡ behind.last
   was d = (λ i. get_or (were i) (sym behind.long i) d)
@@ -111,7 +111,7 @@ module _ {T L D : Type 0} (seats : List (Place (SharedCore T) Entry Opening))
     back = behind.last ∷ s.back;
     workers_are = were;
     now_are = (λ i. set (now_is i) (sym behind.long i) (record (at_is d i) { seat = Some seat }))
-        ∙ set_between behind.front (seated s.given s.back) behind.last
+        ∙ set_between behind.front (with_seats s.given s.back) behind.last
         (record behind.last { seat = Some seat });
     long = behind.long;
     as_long = ap suc s.as_long;
@@ -139,29 +139,29 @@ pub record IsUnseating {T L D : Type 0} (workers : List (Worker T L D)) (k : ℕ
     (seats : List (Place (SharedCore T) Entry Opening)) (now : List (Worker T L D))
     : Type 0 where
   pub seats_are : map Some seats ≡ map (λ (w : Worker T L D). w.seat) (take k workers)
-  pub now_are : now ≡ map unseated (take k workers) ++ drop k workers
+  pub now_are : now ≡ map without_seat (take k workers) ++ drop k workers
 
 module _ {T L D : Type 0} (workers : List (Worker T L D)) where
   module _ (k : ℕ) (seats : List (Place (SharedCore T) Entry Opening))
       (now : List (Worker T L D)) (s : IsUnseating workers k seats now)
       (below : k < length workers) where
-    front_long : length (map (unseated {T = T} {L = L} {D = D}) (take k workers)) ≡ k
-    front_long = length-map (take k workers) unseated
+    front_long : length (map (without_seat {T = T} {L = L} {D = D}) (take k workers)) ≡ k
+    front_long = length-map (take k workers) without_seat
         ∙ length-take-le k workers (omega (arith, below))
 
-    here : (d : Worker T L D) → now ≡ map unseated (take k workers)
+    here : (d : Worker T L D) → now ≡ map without_seat (take k workers)
         ++ get_or workers k d ∷ drop (suc k) workers
     here d = s.now_are
-        ∙ ap (λ l. map unseated (take k workers) ++ l) (drop-cons workers k d below)
+        ∙ ap (λ l. map without_seat (take k workers) ++ l) (drop-cons workers k d below)
 
     pub still_is : (d : Worker T L D) → get_or now k d ≡ get_or workers k d
     still_is d = (λ i. get_or (here d i) (sym front_long i) d)
-        ∙ get_between (map unseated (take k workers)) (drop (suc k) workers) (get_or workers k d) d
+        ∙ get_between (map without_seat (take k workers)) (drop (suc k) workers) (get_or workers k d) d
 
     pub unseat_next : (d : Worker T L D) (seat : Place (SharedCore T) Entry Opening)
         → (get_or now k d).seat ≡ Some seat
         → IsUnseating workers (k + 1) (seats ++ seat ∷ [])
-        (set now k (unseated (get_or now k d)))
+        (set now k (without_seat (get_or now k d)))
     unseat_next d seat is =
         let w = get_or workers k d in
         let one : suc k ≡ k + 1 = omega arith in
@@ -171,22 +171,22 @@ module _ {T L D : Type 0} (workers : List (Worker T L D)) where
               (sym (ap (λ (v : Worker T L D). v.seat) (still_is d)) ∙ is) i ∷ [])
               ∙ sym (map-append (λ (v : Worker T L D). v.seat) (take k workers) (w ∷ []))
               ∙ ap (λ l. map (λ (v : Worker T L D). v.seat) l) (sym (take_more workers k d below));
-          now_are = (λ i. set (here d i) (sym front_long i) (unseated (still_is d i)))
-              ∙ set_between (map unseated (take k workers)) (drop (suc k) workers) w (unseated w)
-              ∙ sym (append_assoc (map unseated (take k workers)) (unseated w ∷ [])
+          now_are = (λ i. set (here d i) (sym front_long i) (without_seat (still_is d i)))
+              ∙ set_between (map without_seat (take k workers)) (drop (suc k) workers) w (without_seat w)
+              ∙ sym (append_assoc (map without_seat (take k workers)) (without_seat w ∷ [])
               (drop (suc k) workers))
-              ∙ (λ i. sym (map-append unseated (take k workers) (w ∷ [])) i ++ drop (one i) workers)
-              ∙ ap (λ l. map unseated l ++ drop (k + 1) workers)
+              ∙ (λ i. sym (map-append without_seat (take k workers) (w ∷ [])) i ++ drop (one i) workers)
+              ∙ ap (λ l. map without_seat l ++ drop (k + 1) workers)
               (sym (take_more workers k d below));
         }
 
     -- the same of the worker there, as a loop has it
     pub unseat_at : (it new : Worker T L D) (seat : Place (SharedCore T) Entry Opening)
         (more : List (Place (SharedCore T) Entry Opening)) → it ≡ get_or now k it
-        → it.seat ≡ Some seat → new ≡ unseated it → more ≡ seats ++ seat ∷ []
+        → it.seat ≡ Some seat → new ≡ without_seat it → more ≡ seats ++ seat ∷ []
         → IsUnseating workers (k + 1) more (set now k new)
     unseat_at it new seat more is has stands all =
-        let there = stands ∙ ap unseated is in
+        let there = stands ∙ ap without_seat is in
         subst (λ l. IsUnseating workers (k + 1) l (set now k new)) (sym all)
         (subst (λ w. IsUnseating workers (k + 1) (seats ++ seat ∷ []) (set now k w)) (sym there)
         (unseat_next it seat (ap (λ (w : Worker T L D). w.seat) (sym is) ∙ has)))

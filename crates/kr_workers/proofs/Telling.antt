@@ -16,7 +16,7 @@ use Rattle.kr_rewrite.specs.Drives.{IsIdleAtEnd}
 use Rattle.kr_script.specs.declared.script.ScriptLine.{ScriptLine}
 use Rattle.kr_script.specs.declared.script.ScriptLine.TheVariants as line
 use Rattle.kr_workers.specs.Replies.{Reply, told_of_delete, told_of_drive, told_of_join, told_of_leave, told_of_read, told_of_refresh, told_of_refusal, told_of_reload, told_of_write}
-use Rattle.kr_workers.specs.Serving.{EndsFor, IsIdleAt, IsShortFor}
+use Rattle.kr_workers.specs.inner.Serving.{EndsFor, IsIdleAt, IsShortFor}
 
 -- ---- the seat holds nothing
 

@@ -19,8 +19,8 @@ use Rattle.kr_turn.specs.Seats.{number_of}
 use Rattle.kr_turn.specs.declared.seat.Place.{Place}
 use Rattle.kr_workers.specs.declared.files.SettingsFile.{SettingsFile}
 use Rattle.kr_workers.specs.declared.worker.Worker.{Worker}
-use Rattle.kr_workers.specs.Runs.{Runs}
-use Rattle.kr_workers.specs.Workers.{HasWorked, IsReadyWorker, unseated}
+use Rattle.kr_workers.specs.inner.WholeRuns.{Runs}
+use Rattle.kr_workers.specs.inner.SeatedWorkers.{HasWorked, IsReadyWorker, without_seat}
 
 -- what stands at a place
 there_of : {X : Type 0} (xs : List X) (i : ℕ) (x d : X) → slice_get xs i ≡ Some x
@@ -45,7 +45,7 @@ module _ {T L D : Type 0} (home : Home Opening) (files : List SettingsFile) (par
     -- while it had no seat, it did the lines
     pub worked : (risen : Worker T L D) (bench : BenchState L D) (told : List Told × ℕ)
         (ended : Result (Unit {0}) Spent) (part : Part) (at : ℕ) → at ≡ number_of before
-        → part ≡ get_or parts at part → risen ≡ unseated old
+        → part ≡ get_or parts at part → risen ≡ without_seat old
         → new ≡ record { seat = Some after; bench = bench; told = told; ended = ended }
         → IsFleetSeat home after → number_of after ≡ number_of before
         → Runs truth link left count files part.replica part.lines.0 (caller_of home before)

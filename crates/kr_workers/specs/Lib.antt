@@ -2,7 +2,6 @@
 pub mod Replies
 pub mod Files
 pub mod ScriptLines
-pub mod Serving
 pub mod Runs
 pub mod Workers
 pub mod Budgets

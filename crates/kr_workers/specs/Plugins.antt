@@ -2,11 +2,12 @@
 use Rattle.std.specs.Prelude.{◌≡◌, ℕ, List, ◌∷◌, ◌++◌, All, Option, Some, Ok}
 use Rattle.kr_kms.specs.Calls.{Link}
 use Rattle.kr_kms.specs.Truth.{Opens, Truth}
-use Rattle.kr_provider.specs.Envelopes.{IsEnvelopeOf}
+use Rattle.kr_provider.specs.Envelopes.{Envelope, HasObject, IsEnvelopeOf}
 use Rattle.kr_provider.specs.Publication.{Publication, list_at}
 use Rattle.kr_provider.specs.Readers.{reader_in}
+use Rattle.kr_provider.specs.Reading.{Unseals}
 use Rattle.kr_provider.specs.Sealing.{IsSealing}
-use Rattle.kr_provider.specs.Unsealing.{MayAsk, UnsealsBy}
+use Rattle.kr_provider.specs.Unsealing.{MayAsk, TakesSeed}
 use Rattle.kr_provider.specs.declared.refusal.Opened.{Opened}
 use Rattle.kr_store.specs.declared.rows.Row.{Row}
 use Rattle.kr_rollout.specs.declared.line.Did.TheVariants as did
@@ -27,39 +28,38 @@ pub record IsReplaced (path : List ℕ) (e : Entry) : Type 0 where
   pub did_is : e.line.did ≡ did.Replace path from
   pub gave_is : e.line.gave ≡ gave.Written revision
 
--- it stands on an unsealing: the bench unsealed the row that was replaced, by the configuration
--- that the seat held, and the row in its place is a sealing of the data that this gave
-pub record Reseals {L : Type 0} (truth : Truth) (link : L → Link) (path : List ℕ) (e : Entry)
-    : Type 0 where
+-- it stands on an unsealing: the row that was replaced reads as these data by some envelope of it
+-- and the seeds of the configuration that the seat held, and the row in its place is a sealing of
+-- them
+pub record Reseals (path : List ℕ) (e : Entry) : Type 0 where
   pub p : Publication
   pub old : Row
   pub new : Row
   pub opened : Opened
-  pub olds : List L
-  pub news : List L
+  pub envelope : Envelope
   pub held : e.published ≡ Some p
   pub replaced : e.replaced ≡ Some old
   pub written : e.row ≡ Some new
-  pub unseals : UnsealsBy truth link p.seeds (list_at p old.resource) path old.stored olds
-      (Ok opened) news
+  pub object : HasObject (reader_in (list_at p old.resource) old.stored) old.stored envelope.object
+  pub published : TakesSeed p.seeds (reader_in (list_at p old.resource) old.stored) envelope
+  pub is : Unseals envelope p.seeds (list_at p old.resource) path old.stored (Ok opened)
   pub sealing : IsSealing p old.resource path opened.plain new.stored
 
--- by this truth the source of the replaced row opens to what it was unwrapped to: the source that
--- the bench read by, which is the plugin's answer as far as links tell the truth. That is asked
--- only where a plugin read the row and may have been asked for its source
-abbrev pub UnwrappedBy : {L : Type 0} → {truth : Truth} → {link : L → Link} → {path : List ℕ}
-    → {e : Entry} → Opens → Reseals truth link path e → Type 0
+-- by this truth the source of the replaced row opens to the envelope's: a source by which the row
+-- reads as these data. That is asked only where a plugin read the row and may have been asked for
+-- its source
+abbrev pub UnwrappedBy : {path : List ℕ} → {e : Entry} → Opens → Reseals path e → Type 0
 UnwrappedBy opens r =
-    MayAsk r.p.seeds (reader_in (list_at r.p r.old.resource) r.old.stored) r.unseals.envelope.object
-    → IsEnvelopeOf opens (list_at r.p r.old.resource) r.old.stored r.unseals.envelope
+    MayAsk r.p.seeds (reader_in (list_at r.p r.old.resource) r.old.stored) r.envelope.object
+    → IsEnvelopeOf opens (list_at r.p r.old.resource) r.old.stored r.envelope
 
 -- By any truth by which plugins unwrap what they wrapped the history is honest: by which each seed
--- of each configuration is what its source opens to, and each source that was unwrapped for a row
--- that was replaced opens to what it was unwrapped to. That rewrites keep their data follows
-pub record FollowsPlugins {L : Type 0} (truth : Truth) (link : L → Link) (o : Opening)
-    (history : List Entry) : Type 0 where
+-- of each configuration is what its source opens to, and each row that was replaced has a source
+-- that opens to the one by which it reads as what was sealed anew. That rewrites keep their data
+-- follows
+pub record FollowsPlugins (o : Opening) (history : List Entry) : Type 0 where
   pub reseals : (front : List Entry) (e : Entry) (rest : List Entry) (path : List ℕ)
-      → history ≡ front ++ e ∷ rest → IsReplaced path e → Reseals truth link path e
+      → history ≡ front ++ e ∷ rest → IsReplaced path e → Reseals path e
   pub honest : (opens : Opens)
       → All (λ g. SeedsOpen opens g.published) (state_of o history).generations
       → ((front : List Entry) (e : Entry) (rest : List Entry) (path : List ℕ)
@@ -74,4 +74,4 @@ HonestOfPlugins T {L} {D} truth link left count = (files : List SettingsFile)
     (history : List Entry) (o : Opening) (parts : List Part) (budgets : List ℕ)
     (old new : List (Worker T L D))
     → IsOneHistory truth link left count files history o parts budgets old new
-    → FollowsPlugins truth link o history
+    → FollowsPlugins o history

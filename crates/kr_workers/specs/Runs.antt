@@ -1,23 +1,16 @@
 -- A worker's run: its lines in order, each once and with one reply.
-use Rattle.std.specs.Prelude.{◌≡◌, ◌<◌, ◌≤◌, ◌+◌, ℕ, List, [], ◌∷◌, ◌++◌, length, map, get_or, All, None, Option, Result, Ok, Err}
-use Rattle.kr_base.specs.declared.errors.Spent.{Spent}
+use Rattle.std.specs.Prelude.{◌≡◌, ◌≤◌, ◌+◌, ℕ, List, [], ◌∷◌, ◌++◌, length, map, Option, Ok}
 use Rattle.kr_kms.specs.Calls.{Link}
 use Rattle.kr_kms.specs.Truth.{Truth}
 use Rattle.kr_provider.specs.AskedLinks.{AskedOnly}
-use Rattle.kr_provider.specs.BenchState.{BenchState}
-use Rattle.kr_provider.specs.KeyPages.{size_of}
 use Rattle.kr_provider.specs.Names.{names_of}
 use Rattle.kr_rollout.specs.declared.opening.Entry.{Entry}
-use Rattle.kr_rollout.specs.Acting.{Caller}
-use Rattle.kr_rollout.specs.Callers.{holding, reloads_in}
-use Rattle.kr_rollout.specs.Calls.{AreServed, KeepsToldHonesty}
 use Rattle.kr_rollout.specs.Parts.{Adds, IsWithin}
 use Rattle.kr_script.specs.declared.script.ScriptLine.{ScriptLine}
 use Rattle.kr_script.specs.declared.told.Told.{Told}
 use Rattle.kr_workers.specs.declared.files.SettingsFile.{SettingsFile}
-use Rattle.kr_workers.specs.Budgets.{brought_by, entries_of, puts_of, reloads_of}
-use Rattle.kr_workers.specs.ScriptLines.{Does, MayDo, Workplace}
-use Rattle.kr_workers.specs.Serving.{EndsFor, place_of}
+use Rattle.kr_workers.specs.Budgets.{brought_by, entries_of, puts_of}
+use Rattle.kr_workers.specs.ScriptLines.{Does, Workplace}
 
 -- a line that was done, with its part of the history and its reply
 pub record LineDone : Type 0 where
@@ -36,19 +29,6 @@ entries_in (done ∷ run) = done.part ++ entries_in run
 abbrev pub replies_in : List LineDone → List Told
 replies_in run = map (λ done. done.reply) run
 
--- ---- what is asked of the lines
-
-pub record AreReady {L D : Type 0} (link : L → Link) (files : List SettingsFile) (replica : ℕ)
-    (lines : List ScriptLine) (c : Caller) (bench : BenchState L D) : Type 0 where
-  pub may : All (MayDo c.opening files) lines
-  pub there : replica < length c.opening.replicas
-  pub idle : holding c.mine ≡ None
-  pub room : reloads_in c.mine + reloads_of lines ≤ get_or c.opening.reloads c.seat 0
-  pub links : AreServed c.opening.names (names_of link bench.links)
-  pub pages : 64 ≤ size_of bench.pages
-
--- ---- what is done
-
 module _ {L D : Type 0} (truth : Truth) (link : L → Link) (left : D → Option (List ℕ))
     (count : D → ℕ) (files : List SettingsFile) (replica : ℕ) where
   -- the line was done so; its part is what it added to the history, and no more than it may (of a
@@ -66,39 +46,3 @@ module _ {L D : Type 0} (truth : Truth) (link : L → Link) (left : D → Option
   DoesAll old [] new = new ≡ old
   DoesAll old (done ∷ run) new =
       (between : Workplace L D) × IsDone old done between × DoesAll between run new
-
-  -- the seat could add no more lines in the midst of this line, and those behind it weren't begun
-  pub record IsCutShort (lines : List ScriptLine) (run : List LineDone) (old new : Workplace L D)
-      : Type 0 where
-    pub line : ScriptLine
-    pub rest : List ScriptLine
-    pub lines_are : lines ≡ lines_in run ++ line ∷ rest
-    pub does : Does truth link left count files replica line old (Err (record {})) new
-    pub part : List Entry
-    pub adds : Adds old.caller part new.caller
-    pub within : IsWithin (entries_of (length part) line) (brought_by line) (puts_of line) part
-    pub spent : EndsFor line old.caller (Err (record {}))
-
-  -- all lines were done, or one was cut short
-  abbrev pub EndsRun : List ScriptLine → List LineDone → Workplace L D → Result (Unit {0}) Spent
-      → Workplace L D → Type 0
-  EndsRun lines run old (Ok done) new = (lines_in run ≡ lines) × (new ≡ old)
-  EndsRun lines run old (Err spent) new = IsCutShort lines run old new
-
-  -- ---- what the lines keep
-
-  pub record Runs (lines : List ScriptLine) (old : Caller) (bench : BenchState L D)
-      (replies : List Told) (ended : Result (Unit {0}) Spent) (new : Caller)
-      (after : BenchState L D)
-      : Type 0 where
-    pub run : List LineDone
-    pub replies_are : replies ≡ replies_in run
-    pub middle : Workplace L D
-    pub does : DoesAll (place_of old bench) run middle
-    pub ends : EndsRun lines run middle ended (place_of new after)
-    pub opening : new.opening ≡ old.opening
-    pub seat : new.seat ≡ old.seat
-    pub honest : KeepsToldHonesty truth old new
-    pub asked_only : AskedOnly link (names_of link bench.links) bench.links after.links
-    pub later : count bench.dice ≤ count after.dice
-    pub pages : size_of after.pages ≡ size_of bench.pages

@@ -105,7 +105,7 @@ module _ {T L D : Type 0} (truth : Truth) (link : L → Link) (left : D → Opti
         (first_place o number (slice_index budgets number) before.bench) after.told.0 after.bench
     pub honest : truth.told ≡ true → IsHonest truth.opens o [] → (front rest : List Entry)
         → history ≡ front ++ rest → IsHonest truth.opens o front
-    pub plugins : FollowsPlugins truth link o history
+    pub plugins : FollowsPlugins o history
     pub causes : (number at : ℕ) (asked : ScriptLine) (reply : Told) (before : Worker T L D)
         → slice_get old number ≡ Some before → (replies : Replies parts new number at asked reply)
         → HasCause link count asked

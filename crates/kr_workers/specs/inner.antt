@@ -1,2 +1,5 @@
 -- Definitions that serve inner contracts alone.
+pub mod Serving
+pub mod WholeRuns
 pub mod Going
+pub mod SeatedWorkers

@@ -7,7 +7,7 @@ use kr_script::{Part, ScriptLine};
 use std::alloc::{AllocFailed, Global};
 
 /// The most lines that a journal may have.
-const JOURNAL_LIMIT: u64 = 4000000;
+pub const JOURNAL_LIMIT: u64 = 4_000_000;
 
 /// What the workers may do, by their numbers: how many lines each may add to the journal, and how
 /// many configurations it may bring.

@@ -13,13 +13,11 @@ mod told;
 mod worker;
 mod workers;
 
-pub use budget::{BudgetNo, Budgets, budgets_of};
+pub use budget::{BudgetNo, Budgets, JOURNAL_LIMIT, budgets_of};
 pub use ending::{Ending, ending_of};
 pub use files::{SettingsFile, settings_at};
 pub use laws::{
     endings_are_told, gets_tell_content, honest_of_plugins, replies_are_true, replies_have_causes,
 };
-pub use line::serve_line;
-pub use lines::serve_lines;
 pub use team::run_fleet;
 pub use worker::Worker;

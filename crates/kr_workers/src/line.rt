@@ -3,7 +3,7 @@ ghost use Rattle.std.specs.Prelude.{◌≡◌, IfOk, IsSome, Some};
 ghost use Rattle.kr_config.specs.Kept.{rows_of};
 ghost use Rattle.kr_script.specs.declared.script.ScriptLine.TheVariants as line;
 ghost use Rattle.kr_workers.specs.Files.{rows_at};
-ghost use Rattle.kr_workers.specs.Serving.{IsReadyFor, Serves};
+ghost use Rattle.kr_workers.specs.inner.Serving.{IsReadyFor, Serves};
 
 use crate::files::{SettingsFile, settings_at};
 use crate::told::{
@@ -22,7 +22,7 @@ use std::alloc::Global;
 
 /// Does the line at the worker's replica, and tells its reply. `Spent` comes only where the seat
 /// may add fewer lines to the journal than the line may need.
-pub fn serve_line<A: Acts, L: Kms, D: Dice>(
+pub(crate) fn serve_line<A: Acts, L: Kms, D: Dice>(
     alloc: Global,
     acts: &mut A,
     bench: &mut Bench<L, D>,

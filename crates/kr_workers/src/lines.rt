@@ -1,6 +1,6 @@
 //! The lines of a worker, in their order.
 ghost use Rattle.std.specs.Prelude.{◌≡◌, ◌≤◌, [], length};
-ghost use Rattle.kr_workers.specs.Runs.{AreReady, Runs};
+ghost use Rattle.kr_workers.specs.inner.WholeRuns.{AreReady, Runs};
 
 use crate::files::SettingsFile;
 use crate::line::serve_line;
@@ -14,7 +14,7 @@ use std::alloc::Global;
 /// Does the lines at the worker's replica one after the other, and tells the reply of each,
 /// whatever it is. The first line in whose midst the seat may add no more lines to the journal ends
 /// it.
-pub fn serve_lines<A: Acts, L: Kms, D: Dice>(
+pub(crate) fn serve_lines<A: Acts, L: Kms, D: Dice>(
     alloc: Global,
     acts: &mut A,
     bench: &mut Bench<L, D>,

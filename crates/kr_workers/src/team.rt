@@ -7,7 +7,8 @@ ghost use Rattle.kr_workers.specs.declared.worker.Worker.{Worker};
 ghost use Rattle.kr_workers.specs.Budgets.{AreBudgets, all_reloads};
 ghost use Rattle.kr_workers.specs.Histories.{IsOneHistory};
 ghost use Rattle.kr_workers.specs.ScriptLines.{MayDo};
-ghost use Rattle.kr_workers.specs.Workers.{MayBegin, seated, unseated};
+ghost use Rattle.kr_workers.specs.Workers.{MayBegin};
+ghost use Rattle.kr_workers.specs.inner.SeatedWorkers.{with_seats, without_seat};
 
 use crate::files::SettingsFile;
 use crate::worker::Worker;
@@ -70,7 +71,7 @@ fn seat_each<T: Tape, L: Kms, D: Dice>(
 )
     requires many { length seats.old.0 ≡ length workers.old.items }
     requires none { All (λ worker. worker.seat ≡ None) workers.old.items }
-    ensures seated { workers.new.items ≡ seated seats.old.0 workers.old.items }
+    ensures seated { workers.new.items ≡ with_seats seats.old.0 workers.old.items }
     ensures empty { seats.new.0 ≡ [] }
     ensures room { length workers.old.items ≤ seats.new.1 }
 {
@@ -89,7 +90,7 @@ fn unseat_each<T: Tape, L: Kms, D: Dice>(
     requires empty { seats.old.0 ≡ [] }
     requires room { length workers.old.items ≤ seats.old.1 }
     ensures seats { map Some seats.new.0 ≡ map (λ worker. worker.seat) workers.old.items }
-    ensures workers { workers.new.items ≡ map unseated workers.old.items }
+    ensures workers { workers.new.items ≡ map without_seat workers.old.items }
 {
     for at in 0..workers.len() {
         seats.push_in_room(workers[at].stand_up());

@@ -2,8 +2,8 @@
 ghost use Rattle.std.specs.Prelude.{◌≡◌, ◌≤◌, [], length, IfErr, IfOk, IsSome};
 ghost use Rattle.kr_seats.specs.Fleets.{IsFleetSeat, caller_of};
 ghost use Rattle.kr_turn.specs.Seats.{number_of};
-ghost use Rattle.kr_workers.specs.Runs.{AreReady, Runs};
-ghost use Rattle.kr_workers.specs.Workers.{IsReadyWorker, HasWorked};
+ghost use Rattle.kr_workers.specs.inner.WholeRuns.{AreReady, Runs};
+ghost use Rattle.kr_workers.specs.inner.SeatedWorkers.{IsReadyWorker, HasWorked};
 
 use crate::files::SettingsFile;
 use crate::lines::serve_lines;

@@ -1,7 +1,7 @@
 //! All workers of a fleet, at the same time.
 ghost use Rattle.std.specs.Prelude.{◌≡◌, ◌<◌, ℕ, All, length, slice_index_or};
 ghost use Rattle.kr_workers.specs.declared.worker.Worker.{Worker};
-ghost use Rattle.kr_workers.specs.Workers.{IsReadyWorker, HasWorked};
+ghost use Rattle.kr_workers.specs.inner.SeatedWorkers.{IsReadyWorker, HasWorked};
 
 use crate::files::SettingsFile;
 use crate::worker::{Worker, work};

@@ -189,8 +189,7 @@ fn read_lines(alloc: Global, text: &str) -> Result<Progress, YamlNo>
 
 /// Reads a text of the profile. The first line that isn't of it is looked for in all lines; then
 /// the first breach of the tokens decides. Where it refuses, but for want of memory, there is no
-/// tree. It takes time in proportion to the text, and finds a key that stands twice by a sorted
-/// set. The clause `tokens` is for callers' proofs: `text_tokens` computes what the lines have.
+/// tree. The clause `tokens` is for callers' proofs: `text_tokens` computes what the lines have.
 pub fn read(alloc: Global, text: &str) -> Result<Tree, YamlNo>
     ensures reads { ReadsText text.now result }
     ensures only { IfOk result (λ tree. IsOnlyTree text.now (view tree)) }

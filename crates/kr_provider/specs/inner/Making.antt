@@ -12,6 +12,13 @@ use Rattle.kr_provider.specs.Publishing.{Publishes}
 use Rattle.kr_provider.specs.declared.refusal.PublishNo.{PublishNo}
 use Rattle.kr_provider.specs.declared.refusal.PublishNo.TheVariants.{PluginFailed, DiceFailed, Unhealthy, NoMemory}
 
+-- a refusal of the plugin of this name
+abbrev pub refusal_at : List ℕ → SeedNo → PublishNo
+refusal_at name seed.Failed = PluginFailed name
+refusal_at name seed.DiceFailed = DiceFailed
+refusal_at name (seed.Unhealthy field text) = Unhealthy name field text
+refusal_at name seed.NoMemory = NoMemory
+
 module _ {L D : Type 0} (truth : Truth) (link : L → Link) (left : D → Option (List ℕ))
     (count : D → ℕ) where
   -- the plugin of the name answered so

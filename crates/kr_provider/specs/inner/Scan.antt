@@ -1,5 +1,5 @@
 -- Where the key of a provider stands among the keys of all entries.
-use Rattle.std.specs.Prelude.{◌≡◌, ℕ, suc, Bool, true, if◌then◌else◌, List, [], ◌∷◌, Contains, Option, Some, None, ⊤}
+use Rattle.std.specs.Prelude.{◌≡◌, ℕ, suc, Bool, true, if◌then◌else◌, List, [], ◌∷◌, Contains, Option, Some, None, IsSome, ⊤}
 use Rattle.std.specs.List.{list_any}
 use Rattle.std.specs.Str.{bytes_eq}
 use Rattle.kr_aes.specs.KeyExpansion.{padded_schedule}
@@ -7,7 +7,7 @@ use Rattle.kr_config.specs.declared.who.Who.{Who}
 use Rattle.kr_config.specs.declared.who.Who.TheVariants.{Identity, Aescbc, Aesgcm, Kms}
 use Rattle.kr_kms.specs.Calls.{Link}
 use Rattle.kr_kms.specs.declared.seeds.SeedRow.{SeedRow}
-use Rattle.kr_provider.specs.Publication.{HasSeed}
+use Rattle.kr_provider.specs.Publication.{seed_of}
 
 -- the first place of the secret, where the first of the list counts as `n`
 abbrev pub place_from : (n : ℕ) → (secrets : List (List ℕ)) → (secret : List ℕ) → Option ℕ
@@ -43,6 +43,13 @@ IsNamedIn names (Kms name) = Contains names name
 abbrev pub AreNamedIn : List (List ℕ) → List Who → Type 0
 AreNamedIn names [] = ⊤
 AreNamedIn names (who ∷ list) = IsNamedIn names who × AreNamedIn names list
+
+-- a plugin has its seed
+abbrev pub HasSeed : List SeedRow → Who → Type 0
+HasSeed seeds Identity = ⊤
+HasSeed seeds (Aescbc name secret) = ⊤
+HasSeed seeds (Aesgcm name secret) = ⊤
+HasSeed seeds (Kms name) = IsSome (seed_of name seeds)
 
 -- each plugin has its seed
 abbrev pub HaveSeeds : List SeedRow → List Who → Type 0

@@ -11,10 +11,17 @@ use Rattle.kr_kms.specs.declared.seeds.SeedRow.{SeedRow}
 use Rattle.kr_provider.specs.AskedLinks.{AskedOnly, FaultRose}
 use Rattle.kr_provider.specs.Envelopes.{seed_key}
 use Rattle.kr_provider.specs.Readers.{body_by, is_reader, reader_in, writer_of}
-use Rattle.kr_provider.specs.Reading.{Gives, object_refusal, refused, source_reading}
+use Rattle.kr_provider.specs.Reading.{Reading, data_of, object_refusal, refused, source_reading}
 use Rattle.kr_provider.specs.Unsealing.{IsSeedOf}
 use Rattle.kr_provider.specs.declared.refusal.UnsealNo.{UnsealNo}
 use Rattle.kr_provider.specs.declared.refusal.UnsealNo.TheVariants.{Refused, PluginFailed, NoMemory}
+
+-- the answer is what is read, or there is no memory
+abbrev pub Gives : Reading → Result (List ℕ) UnsealNo → Type 0
+Gives reading (Ok plain) = reading ≡ data_of plain
+Gives reading (Err (Refused why)) = reading ≡ refused why
+Gives reading (Err (PluginFailed name)) = ⊥
+Gives reading (Err NoMemory) = ⊤
 
 -- the refusal is the object's
 abbrev pub IsRefusalOf : ObjectNo → UnsealNo → Type 0
@@ -31,8 +38,7 @@ IsObjectIn body (Err (PluginFailed name)) = ⊥
 IsObjectIn body (Err NoMemory) = ⊤
 
 -- the source of an object: a published seed that is the object's; and where the truth is told and
--- that
--- seed is what its source opens to, what the object's source opens to
+-- that seed is what its source opens to, what the object's source opens to
 pub record IsSourceOf (truth : Truth) (row : SeedRow) (name : List ℕ) (found : EncryptedObject)
     (source : List ℕ) : Type 0 where
   pub published : IsSeedOf row name found → source ≡ row.seed

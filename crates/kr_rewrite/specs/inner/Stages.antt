@@ -1,5 +1,6 @@
 -- What parts of a step do.
-use Rattle.std.specs.Prelude.{◌≡◌, ◌⊎◌, ℕ, ◌+◌, ◌-◌, ◌^◌, Bool, true, false, List, min, Option, None, Some, Result, Ok, Err, ⊤}
+use Rattle.std.specs.Prelude.{◌≡◌, ◌⊎◌, ℕ, Bool, true, false, List, Option, None, Some, Result, Ok, Err, ⊤}
+use Rattle.kr_base.specs.Numbering.{next_number}
 use Rattle.kr_kms.specs.Calls.{Link}
 use Rattle.kr_kms.specs.Truth.{Truth, OpenAll}
 use Rattle.kr_provider.specs.Publication.{Publication, list_at}
@@ -76,19 +77,16 @@ ResealsRow left count p row plain old dice result new after =
 -- ---- a drive
 
 -- one more step is counted
-abbrev pub one_more : ℕ → ℕ
-one_more n = min (n + 1) (2 ^ 64 - 1)
-
 abbrev pub CountsStep : Report → Step → Bool → Report → Type 0
 CountsStep old step.End result new = (result ≡ false) × (new ≡ old)
 CountsStep old (step.Rewritten path) result new = (result ≡ true)
-    × (new ≡ record old { rewritten = one_more old.rewritten; last = path })
+    × (new ≡ record old { rewritten = next_number old.rewritten; last = path })
 CountsStep old (step.Fresh path) result new = (result ≡ true)
-    × (new ≡ record old { fresh = one_more old.fresh; last = path })
+    × (new ≡ record old { fresh = next_number old.fresh; last = path })
 CountsStep old (step.Changed path) result new = (result ≡ true)
-    × (new ≡ record old { changed = one_more old.changed; last = path })
+    × (new ≡ record old { changed = next_number old.changed; last = path })
 CountsStep old (step.Left path) result new = (result ≡ true)
-    × (new ≡ record old { left = one_more old.left; last = path })
+    × (new ≡ record old { left = next_number old.left; last = path })
 
 -- steps up to the end, or to the one that was cut short
 module _ {L D : Type 0} (truth : Truth) (link : L → Link) (left : D → Option (List ℕ))

@@ -13,8 +13,8 @@ use Rattle.kr_script.specs.declared.statement.Statement.{Statement}
 use Rattle.kr_script.specs.declared.statement.Statement.TheVariants as statement
 use Rattle.kr_script.specs.declared.statement.Keyword.{Keyword}
 use Rattle.kr_script.specs.declared.statement.Keyword.TheVariants as keyword
-use Rattle.kr_script.specs.declared.line_no.LineNo.{LineNo}
-use Rattle.kr_script.specs.declared.line_no.LineNo.TheVariants as line_no
+use Rattle.kr_script.specs.declared.line_error.LineError.{LineError}
+use Rattle.kr_script.specs.declared.line_error.LineError.TheVariants as line_error
 use Rattle.kr_script.specs.declared.draft.Draft.{Draft as Held}
 use Rattle.kr_script.specs.Fleets.{Fleet, Worker, worker_of}
 use Rattle.kr_script.specs.Rows.{Row}
@@ -227,21 +227,21 @@ with_statement draft (statement.Line line) =
     record draft { last = option_map (with_line line) draft.last }
 
 -- the limit that one more statement passes
-abbrev pub passes : Draft → Statement → Option LineNo
+abbrev pub passes : Draft → Statement → Option LineError
 passes draft statement.Head = None
 passes draft (statement.Replica name file) =
-    if nat_lt (length draft.replicas) replica_limit then None else Some line_no.Replicas
+    if nat_lt (length draft.replicas) replica_limit then None else Some line_error.Replicas
 passes draft (statement.Worker name replica) =
-    if nat_lt (length (workers_in draft)) worker_limit then None else Some line_no.Workers
-passes draft (statement.Line line) = if is_long line then Some line_no.TooLarge else None
+    if nat_lt (length (workers_in draft)) worker_limit then None else Some line_error.Workers
+passes draft (statement.Line line) = if is_long line then Some line_error.TooLarge else None
 
-abbrev pub draft_within : Draft → Statement → Option LineNo → Result Draft LineNo
+abbrev pub draft_within : Draft → Statement → Option LineError → Result Draft LineError
 draft_within draft said None = Ok (with_statement draft said)
 draft_within draft said (Some why) = Err why
 
-abbrev pub step_by : Draft → Option Statement → Result Draft LineNo
-step_by draft None = Err line_no.Form
+abbrev pub step_by : Draft → Option Statement → Result Draft LineError
+step_by draft None = Err line_error.Form
 step_by draft (Some said) = draft_within draft said (passes draft said)
 
-abbrev pub step : Draft → Row → Result Draft LineNo
+abbrev pub step : Draft → Row → Result Draft LineError
 step draft row = step_by draft (statement_of draft row)

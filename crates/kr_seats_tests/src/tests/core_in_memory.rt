@@ -18,10 +18,15 @@ const FILE: &str = r#"{"apiVersion":"apiserver.config.k8s.io/v1","kind":"Encrypt
 fn publish_bare(alloc: Global, settings: Shared<Settings>) -> Option<Published> {
     let mut links = Links::<TablePlugin>::new(alloc);
     if !links.serve(settings.get()) {
+        drop(settings);
+        drop(links);
         return None;
     }
     let mut dice = MemDice::new(Bytes::new(alloc), List::new(alloc));
-    publish(alloc, settings, &mut links, &mut dice).ok()
+    let published = publish(alloc, settings, &mut links, &mut dice);
+    drop(links);
+    drop(dice);
+    published.ok()
 }
 
 /// Whether the configuration names no plugin.
@@ -40,6 +45,7 @@ fn published(alloc: Global) -> Option<Shared<Published>>
     let published = publish_bare(alloc, settings)?;
     let shared = Shared::new(alloc, published).ok()?;
     if !is_bare(shared.get()) {
+        drop(shared);
         return None;
     }
     Some(shared)
@@ -58,6 +64,16 @@ fn alone(alloc: Global, published: Shared<Published>) -> Option<List<Option<Shar
     }
 }
 
+/// The one replica, with the configuration of the file.
+fn replicas(alloc: Global) -> Option<List<Option<Shared<Published>>>>
+    ensures { IfSome result (λ replicas. IsOneBare replicas.0) }
+{
+    match published(alloc) {
+        Some(published) => alone(alloc, published),
+        None => None,
+    }
+}
+
 /// An empty store, whose file may have 1,000 bytes.
 fn store(alloc: Global) -> Option<Store<MemTape>> {
     let tape = MemTape::new(Bytes::new(alloc), 1000, List::new(alloc), List::new(alloc)).ok()?;
@@ -69,10 +85,14 @@ pub fn core(alloc: Global, room: u64) -> Option<Core<MemTape>>
     requires { room ≤ 4000000 }
     ensures { IfSome result (λ core. IsNewCore room core) }
 {
-    let store = store(alloc)?;
-    let published = published(alloc)?;
-    let replicas = alone(alloc, published)?;
-    started(alloc, store, replicas, &[0, 0], room)
+    let replicas = replicas(alloc)?;
+    match store(alloc) {
+        Some(store) => started(alloc, store, replicas, &[0, 0], room),
+        None => {
+            drop(replicas);
+            None
+        }
+    }
 }
 
 #[tactic(auto, using(crate::proofs::Bare::first_in, crate::proofs::Bare::one_long, crate::proofs::Bare::among))]
@@ -90,6 +110,9 @@ fn started(
 {
     match Core::start(alloc, store, replicas, List::new(alloc), 2, room, reloads) {
         Ok(core) => Some(core),
-        Err(_) => None,
+        Err(refused) => {
+            drop(refused);
+            None
+        }
     }
 }

@@ -16,8 +16,18 @@ fn leaves(alloc: Global) -> Result<Vec<(u32, Event)>, NoMemory>
     Ok(events)
 }
 
+/// Whether both seats' events are made. The core is closed.
+pub fn both_left(alloc: Global, core: Core<MemTape>) -> bool
+    requires { IsNewCore 2 core }
+{
+    let mut core = core;
+    let done = both_leave_in(alloc, &mut core);
+    drop(core.close());
+    done
+}
+
 /// Makes these events, and says whether the journal is theirs.
-pub fn both_left(alloc: Global, core: &mut Core<MemTape>) -> bool
+fn both_leave_in(alloc: Global, core: &mut Core<MemTape>) -> bool
     requires { IsNewCore 2 core.old }
 {
     match leaves(alloc) {

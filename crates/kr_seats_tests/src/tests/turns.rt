@@ -69,11 +69,15 @@ impl Pair {
     {
         let mut seats = seats;
         let Some(second) = seats.pop() else {
+            drop(seats);
             return None;
         };
         match last_of(seats) {
             Some(first) => Some(Pair { first, second }),
-            None => None,
+            None => {
+                drop(second);
+                None
+            }
         }
     }
 
@@ -83,7 +87,15 @@ impl Pair {
     {
         let Pair { first, second } = self;
         let mut seats = List::new(alloc);
-        seats.reserve(2)?;
+        match seats.reserve(2) {
+            Ok(()) => {}
+            Err(NoMemory) => {
+                drop(first);
+                drop(second);
+                drop(seats);
+                return Err(NoMemory);
+            }
+        }
         seats.push_in_room(first);
         seats.push_in_room(second);
         Ok(seats)
@@ -96,9 +108,12 @@ fn last_of(seats: List<Seat<MemTape>>) -> Option<Seat<MemTape>>
 {
     let mut seats = seats;
     let Some(seat) = seats.pop() else {
+        drop(seats);
         return None;
     };
     if !seats.as_slice().is_empty() {
+        drop(seat);
+        drop(seats);
         return None;
     }
     seats.end();
@@ -118,9 +133,13 @@ pub fn each_in_a_thread<R: Threads + Wait + Sync>(
 {
     let (fleet, seats) = match Fleet::new(alloc, core, budgets) {
         Ok(made) => made,
-        Err(_) => return None,
+        Err(refused) => {
+            drop(refused);
+            return None;
+        }
     };
     let Some(pair) = Pair::of(seats) else {
+        drop(fleet);
         return None;
     };
     let pair = both_work(rt, &fleet, pair, times);
@@ -167,12 +186,22 @@ fn closed(alloc: Global, fleet: Fleet<MemTape>, pair: Pair) -> Option<Core<MemTa
 {
     match pair.into_list(alloc) {
         Ok(seats) => Some(fleet.close(seats)),
-        Err(NoMemory) => None,
+        Err(NoMemory) => {
+            drop(fleet);
+            None
+        }
     }
 }
 
+/// Whether the journal has 400 lines, of each seat those that it made. The core is closed.
+pub fn have_adopted(core: Core<MemTape>) -> bool {
+    let done = core.journal().len() == 400 && lines_of(&core, 0) && lines_of(&core, 1);
+    drop(core.close());
+    done
+}
+
 /// Whether the seat's lines are an Adopt and a LetGo by turns, and are 200.
-pub fn lines_of(core: &Core<MemTape>, seat: u32) -> bool {
+fn lines_of(core: &Core<MemTape>, seat: u32) -> bool {
     let mut count = 0u64;
     for line in core.journal() {
         if line.seat == seat {
@@ -198,6 +227,9 @@ pub fn moved_into_a_thread<R: Threads + Sync>(rt: &R, core: Core<MemTape>) -> us
 
 /// Closes the core, and tells how many lines it had.
 fn lines_at_close(core: Core<MemTape>) -> usize {
-    let (_store, journal) = core.close();
-    journal.as_slice().len()
+    let (store, journal) = core.close();
+    drop(store);
+    let lines = journal.as_slice().len();
+    drop(journal);
+    lines
 }

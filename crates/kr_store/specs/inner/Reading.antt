@@ -139,6 +139,12 @@ Gives old new written reads (Err (Breach cause)) = Breaks old reads cause
 Gives old new written reads (Err Failed) = ⊤
 Gives old new written reads (Err NoMemory) = ⊤
 
+-- a part was read, whose bytes are these, or it can't be read: and the tape stays as it is
+pub record Reads {A B : Type 0} (old new : Ahead) (written : A → List ℕ)
+    (reads : List ℕ → Read B) (result : Result A Stop) : Type 0 where
+  pub advances : Advances Failed old new result
+  pub gives : Gives old new written reads result
+
 -- the bytes that are written for what was read
 abbrev pub items_of : Vec ℕ Global → List ℕ
 items_of bytes = bytes.items

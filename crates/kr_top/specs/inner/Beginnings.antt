@@ -10,7 +10,7 @@ use Rattle.kr_rollout.specs.Openings.{opening_by}
 use Rattle.kr_rollout.specs.declared.opening_board.StartNo.{StartNo}
 use Rattle.kr_rollout.specs.declared.opening_board.StartNo.TheVariants as no
 use Rattle.kr_store.specs.Stores.{Kept}
-use Rattle.kr_top.specs.Around.{Around, with_lent_dice, with_lent_links}
+use Rattle.kr_top.specs.Around.{Around}
 use Rattle.kr_top.specs.FleetFiles.{NamedRows, no_file, rows_at}
 use Rattle.kr_top.specs.Fleets.{Begun, Replicas, publishing}
 use Rattle.kr_top.specs.declared.fleet_file.Plan.{Plan}
@@ -18,6 +18,7 @@ use Rattle.kr_top.specs.declared.refusal.Refusal.TheVariants.{Stray, OtherSecret
 use Rattle.kr_top.specs.declared.refusal.Stop.{Stop}
 use Rattle.kr_top.specs.declared.refusal.Stop.TheVariants.{Refused, NoMemory}
 use Rattle.kr_top.specs.inner.FleetFiles.{plan_of}
+use Rattle.kr_top.specs.inner.Lent.{with_lent_dice, with_lent_links}
 use Rattle.kr_top.specs.inner.Outfits.{names_in}
 use Rattle.kr_top.specs.inner.Phases.{Does}
 use Rattle.kr_top.specs.inner.Tapes.{stored_of}

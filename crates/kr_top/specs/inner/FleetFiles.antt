@@ -12,7 +12,7 @@ use Rattle.kr_script.specs.declared.script.ScriptNo.TheVariants as no
 use Rattle.kr_workers.specs.declared.files.SettingsFile.{SettingsFile}
 use Rattle.kr_provider.specs.PluginOrder.{plugin_order}
 use Rattle.kr_top.specs.Around.{Around, with_world}
-use Rattle.kr_top.specs.FleetFiles.{FleetPlan, IsFleetFile, MeansFleet, NamedRows, all_rows, files_in, mentioned, named_rows, rows_at}
+use Rattle.kr_top.specs.FleetFiles.{FleetPlan, IsFleetFile, MeansFleet, NamedRows, all_rows, files_in, all_files, named_rows, rows_at}
 use Rattle.kr_top.specs.declared.fleet_file.Plan.{Plan}
 use Rattle.kr_top.specs.declared.refusal.Limit.TheVariants as limit
 use Rattle.kr_top.specs.declared.refusal.Object.TheVariants.{Files}
@@ -100,5 +100,5 @@ pub record IsWholePlan (plan : FleetPlan) : Type 0 where
   pub rules : IsFleet plan.fleet
   pub whole : IsWhole plan.fleet
   pub within : IsWithin plan.fleet
-  pub read : All (λ name. IsSome (rows_at plan.files name)) (mentioned plan.fleet)
+  pub read : All (λ name. IsSome (rows_at plan.files name)) (all_files plan.fleet)
   pub programs : names_in plan.programs ≡ plugin_order (all_rows plan.files)

@@ -6,12 +6,13 @@ use Rattle.kr_kms.specs.Outside.{Outside, same_seat}
 use Rattle.kr_provider.specs.AskedLinks.{AskedOnly}
 use Rattle.kr_provider.specs.Names.{names_of}
 use Rattle.kr_provider.specs.PluginOrder.{plugin_order}
-use Rattle.kr_top.specs.Around.{Around, Tapes, lent_links, with_lent, with_lent_dice, with_lent_links, with_tapes, with_world}
+use Rattle.kr_top.specs.Around.{Around, with_lent, with_world}
 use Rattle.kr_top.specs.Fleets.{borrow_links_of}
 use Rattle.kr_top.specs.Steps.{Steps, borrow_dice, give}
 use Rattle.kr_top.specs.declared.outfit.Outfit.{Outfit}
 use Rattle.kr_top.specs.declared.programs.Program.{Program}
 use Rattle.kr_top.specs.declared.refusal.Stop.{Stop}
+use Rattle.kr_top.specs.inner.Lent.{Tapes, lent_links, with_lent_dice, with_lent_links, with_tapes}
 use Rattle.kr_top.specs.inner.Phases.{Does}
 
 -- the plugins of programs

@@ -1,5 +1,5 @@
--- What is around a command once it reported.
-use Rattle.std.specs.Prelude.{Option, None, Some}
+-- What a command reported, and what is around it once it did.
+use Rattle.std.specs.Prelude.{Option, None, Some, ℕ, List, []}
 use Rattle.kr_top.specs.Around.{Around, with_what_is_said}
 use Rattle.kr_top.specs.Reports.{report_text}
 use Rattle.kr_top.specs.declared.report.Counts.{Counts}
@@ -8,3 +8,8 @@ use Rattle.kr_top.specs.declared.report.Counts.{Counts}
 abbrev pub saying : Option Counts → Around → Around
 saying None a = a
 saying (Some counts) a = with_what_is_said (report_text counts) a
+
+-- what is written of a report where a command stopped
+abbrev pub said_text : Option Counts → List ℕ
+said_text None = []
+said_text (Some counts) = report_text counts

@@ -14,7 +14,7 @@ use Rattle.kr_rollout.specs.declared.opening_board.StartNo.{StartNo}
 use Rattle.kr_store.specs.Stores.{IsListing, Kept}
 use Rattle.kr_store.specs.declared.rows.LogRow.{LogRow}
 use Rattle.kr_store.specs.declared.rows.Row as stored
-use Rattle.kr_top.specs.Limits.{journal_limit}
+use Rattle.kr_workers.specs.Budgets.{journal_limit}
 use Rattle.kr_top.specs.Reports.{report_outcome}
 use Rattle.kr_top.specs.StoreFiles.{Stored}
 use Rattle.kr_top.specs.inner.Beginnings.{start_stop}

@@ -14,7 +14,7 @@ use Rattle.kr_script.specs.declared.told.Told.{Told}
 use Rattle.kr_workers.specs.declared.files.SettingsFile.{SettingsFile}
 use Rattle.kr_workers.specs.Budgets.{reloads_of}
 use Rattle.kr_workers.specs.Runs.{DoesAll, LineDone, lines_in, replies_in}
-use Rattle.kr_workers.specs.Serving.{place_of}
+use Rattle.kr_workers.specs.inner.Serving.{place_of}
 
 -- so many of the lines were done
 pub record IsGoing {L D : Type 0} (truth : Truth) (link : L → Link) (left : D → Option (List ℕ))

@@ -1,3 +1,4 @@
+-- How many groups of seven bits a number has.
 use Rattle.std.proofs.Common.{sym}
 use Rattle.kr_envelope.proofs.Numbers.{one_group, two_groups, three_groups}
 use Rattle.kr_envelope.proofs.canonical.groups_of.Goals as goal

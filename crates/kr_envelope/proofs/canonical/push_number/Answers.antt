@@ -1,3 +1,4 @@
+-- A number is written group by group.
 use Rattle.std.proofs.Common.{sym, subst, arith, ◌/◌, ◌∙◌}
 use Rattle.kr_envelope.proofs.Numbers.{Shortens, shorten_begun, shorten_more, shorten_ended}
 use Rattle.kr_envelope.proofs.canonical.push_number.Goals as goal

@@ -1,3 +1,4 @@
+-- What was written and the rest of the number are the whole.
 use Rattle.kr_envelope.proofs.Numbers.{Shortens}
 use Rattle.kr_envelope.proofs.canonical.push_number.Given as goal
 

@@ -1,3 +1,4 @@
+-- Annotations are written one behind another.
 use Rattle.std.proofs.Common.{length, ap, ◌∙◌, arith, subst}
 use Rattle.std.specs.Str.{IsUtf8}
 use Rattle.kr_envelope.proofs.Numbers.{push_begun, push_more, push_ended, paired, size_at}

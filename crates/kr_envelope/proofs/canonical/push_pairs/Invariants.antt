@@ -1,3 +1,4 @@
+-- The annotations so far are written.
 use Rattle.kr_envelope.proofs.Numbers.{Pushes}
 use Rattle.kr_envelope.proofs.canonical.push_pairs.Given as goal
 

@@ -1,3 +1,4 @@
+-- An entry is read field by field.
 use Rattle.kr_envelope.specs.inner.Taking.{field_of}
 use Rattle.kr_envelope.specs.Messages.{annotation}
 use Rattle.kr_envelope.proofs.Items.{is_nothing, is_something}

@@ -1,3 +1,4 @@
+-- The fields so far say this key and this value.
 use Rattle.std.proofs.Common.{length}
 use Rattle.kr_envelope.specs.inner.Reading.{SeesEntry}
 use Rattle.kr_envelope.proofs.item.entry.Given as goal

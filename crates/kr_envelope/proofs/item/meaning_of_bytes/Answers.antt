@@ -1,3 +1,4 @@
+-- A key id that isn't UTF-8 is refused.
 use Rattle.std.proofs.Common.{ap}
 use Rattle.kr_envelope.specs.Messages.{key_id, of_bytes}
 use Rattle.kr_envelope.proofs.item.meaning_of_bytes.Goals as goal

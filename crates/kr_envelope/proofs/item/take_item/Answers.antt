@@ -1,3 +1,4 @@
+-- The next item is what the next field says.
 use Rattle.kr_envelope.specs.inner.Taking.{field_of}
 use Rattle.kr_envelope.proofs.Items.{no_field, refused}
 use Rattle.kr_envelope.proofs.item.take_item.Goals as goal

@@ -1,3 +1,4 @@
+-- The law is the lemma.
 use Rattle.kr_envelope.proofs.Sizes as proved
 use Rattle.kr_envelope.proofs.laws.canonical_length.Goals as goal
 

@@ -1,3 +1,4 @@
+-- The law is the lemma.
 use Rattle.kr_envelope.proofs.OneReading.{one_reading}
 use Rattle.kr_envelope.proofs.Readable.{have_readings}
 use Rattle.kr_envelope.proofs.laws.one_reading.Goals as goal

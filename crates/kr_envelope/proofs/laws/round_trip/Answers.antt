@@ -1,3 +1,4 @@
+-- The law is the lemma.
 use Rattle.std.proofs.Common.{refl}
 use Rattle.kr_envelope.specs.Canonical.{canonical}
 use Rattle.kr_envelope.proofs.RoundTrip.{read_back}

@@ -1,3 +1,4 @@
+-- Behind the head the first colon ends the name.
 use Rattle.std.proofs.Common.{None, Some, refl, ap, sym, ◌∙◌, ◌++◌}
 use Rattle.std.proofs.Common.{subst}
 use Rattle.std.proofs.lemmas.Bool.Decides.{Decides-eqb}

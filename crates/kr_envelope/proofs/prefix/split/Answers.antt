@@ -1,3 +1,4 @@
+-- Bytes begin with one prefix, or with none.
 use Rattle.std.proofs.Common.{refl, true, drop}
 use Rattle.std.proofs.lemmas.Bool.Decides.{Decides-eqb}
 use Rattle.std.proofs.lemmas.Slice.Eq.{starts_is}

@@ -1,3 +1,4 @@
+-- A field is its key and its payload.
 use Rattle.std.proofs.Common.{refl, arith, inl, inr}
 use Rattle.kr_envelope.specs.inner.Taking.{payload_of}
 use Rattle.kr_envelope.proofs.Fields.{no_key, bad_number, no_payload, with_payload}

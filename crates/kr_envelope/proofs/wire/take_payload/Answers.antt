@@ -1,3 +1,4 @@
+-- A payload is taken by its wire type.
 use Rattle.std.proofs.Common.{sym}
 use Rattle.kr_envelope.proofs.Fields.{no_varint, no_size, too_long, with_bytes}
 use Rattle.kr_envelope.proofs.wire.take_payload.Goals as goal

@@ -1,3 +1,4 @@
+-- A varint ends with its first byte below 128.
 use Rattle.std.proofs.Common.{◌≡◌, ap, sym, ◌∙◌, arith}
 use Rattle.kr_envelope.specs.Wire.{number}
 use Rattle.kr_envelope.proofs.Varints.{varint_end, varint_groups, varint_found}

@@ -1,3 +1,4 @@
+-- A number with one group more passes 64 bits.
 use Rattle.std.proofs.Common.{◌≤◌, ◌^◌, drop, arith}
 use Rattle.kr_envelope.specs.Wire.{number}
 use Rattle.kr_envelope.proofs.Varints.{number_past}

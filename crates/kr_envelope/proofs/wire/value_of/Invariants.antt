@@ -1,3 +1,4 @@
+-- The value of the groups from here on.
 use Rattle.std.proofs.Common.{◌≡◌, ◌≤◌, length, drop}
 use Rattle.kr_envelope.specs.Wire.{number}
 use Rattle.kr_envelope.proofs.wire.value_of.Given as goal

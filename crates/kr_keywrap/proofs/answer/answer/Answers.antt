@@ -1,3 +1,4 @@
+-- The answer is the line of its body.
 use Rattle.std.proofs.Common.{ap, ◌∙◌}
 use Rattle.kr_kms.specs.Replies.{answer_text}
 use Rattle.kr_keywrap.specs.Answer.{answer}

@@ -1,3 +1,4 @@
+-- The body of an answer by its request.
 use Rattle.std.proofs.Common.{Err, sym, ap}
 use Rattle.kr_keywrap.specs.Answer.{unwrap_answer}
 use Rattle.kr_keywrap.proofs.Answering.{same_answer}

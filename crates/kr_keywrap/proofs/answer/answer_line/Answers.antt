@@ -1,3 +1,4 @@
+-- The answer to a line that is a request, or that is none.
 use Rattle.std.proofs.Common.{sym, ap, ◌∙◌}
 use Rattle.kr_keywrap.specs.Answer.{Plugin, line_answer}
 use Rattle.kr_keywrap.proofs.Answering.{same_answer}

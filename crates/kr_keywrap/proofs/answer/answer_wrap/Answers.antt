@@ -1,3 +1,4 @@
+-- What is wrapped under the key, or that it has no length for that.
 use Rattle.std.proofs.Common.{◌≡◌, false, true, refl, ap, ◌∙◌}
 use Rattle.kr_kms.specs.declared.replies.Answered.TheVariants.{Reply}
 use Rattle.kr_kms.specs.declared.replies.Reply.TheVariants as reply

@@ -1,3 +1,4 @@
+-- The request that a line spells.
 use Rattle.std.proofs.Common.{sym, ap}
 use Rattle.std.specs.Result.{result_ok}
 use Rattle.kr_keywrap.proofs.answer.request_in.Goals as goal

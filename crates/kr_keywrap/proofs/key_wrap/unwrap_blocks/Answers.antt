@@ -1,3 +1,4 @@
+-- The steps are undone from the last to the first.
 use Rattle.std.proofs.Common.{◌≡◌, ℕ, ◌-◌, List, refl, sym, ap, ◌∙◌, arith}
 use Rattle.kr_aes.specs.InverseCipher.{inverse_cipher}
 use Rattle.kr_keywrap.specs.KeyWrap.{Registers, unwrapped_steps}

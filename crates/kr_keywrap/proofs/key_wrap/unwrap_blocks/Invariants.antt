@@ -1,3 +1,4 @@
+-- The blocks after the steps that were undone.
 use Rattle.std.proofs.Common.{◌≡◌, ℕ, List}
 use Rattle.kr_aes.specs.EquivalentInverse.{inverse_schedule}
 use Rattle.kr_aes.specs.InverseCipher.{inverse_cipher}

@@ -1,3 +1,4 @@
+-- The key that was wrapped, or that the check value is another.
 use Rattle.std.proofs.Common.{◌≡◌, ℕ, ◌-◌, ◌<◌, false, true, List, length, Ok, refl, sym, ap, subst, ◌∙◌}
 use Rattle.std.proofs.lemmas.List.Elements.{All-from_get_or}
 use Rattle.kr_aes.specs.InverseCipher.{inverse_cipher}

@@ -1,3 +1,4 @@
+-- The check value and the blocks are what is wrapped.
 use Rattle.std.proofs.Common.{◌∙◌}
 use Rattle.kr_aes.specs.Cipher.{cipher}
 use Rattle.kr_keywrap.proofs.Blocks.{wrap_whole}

@@ -1,3 +1,4 @@
+-- The steps are taken from the first to the last.
 use Rattle.std.proofs.Common.{◌≡◌, ℕ, ◌*◌, ◌/◌, ◌+◌, List, length, ap, ◌∙◌, arith}
 use Rattle.kr_aes.specs.Cipher.{cipher}
 use Rattle.kr_keywrap.specs.KeyWrap.{Registers, initial_value, wrap_step, wrapped_steps}

@@ -1,3 +1,4 @@
+-- The blocks after the steps that were taken.
 use Rattle.std.proofs.Common.{◌≡◌}
 use Rattle.kr_aes.specs.Cipher.{cipher}
 use Rattle.kr_keywrap.specs.KeyWrap.{Registers, initial_value, wrapped_steps}

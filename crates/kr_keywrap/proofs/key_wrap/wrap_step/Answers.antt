@@ -1,3 +1,4 @@
+-- One step is taken.
 use Rattle.std.proofs.Common.{◌≡◌, ℕ, ◌+◌, ◌-◌, ◌*◌, ◌/◌, ◌%◌, length, arith}
 use Rattle.kr_aes.specs.Cipher.{cipher}
 use Rattle.kr_keywrap.proofs.Blocks.{wrap_from}

@@ -1,3 +1,4 @@
+-- A body that is too long for the room isn't that of a key of this size.
 use Rattle.std.proofs.Common.{arith, length, ◌-◌}
 use Rattle.kr_aes.specs.InverseCipher.{inverse_cipher}
 use Rattle.kr_keywrap.proofs.Truths.{too_long}

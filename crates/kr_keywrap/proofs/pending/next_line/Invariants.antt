@@ -1,3 +1,4 @@
+-- The bytes that were taken so far have no LF.
 use Rattle.std.proofs.Common.{length, ◌-◌}
 use Rattle.kr_keywrap.proofs.Lines.{Reading}
 use Rattle.kr_keywrap.proofs.pending.next_line.Given as goal

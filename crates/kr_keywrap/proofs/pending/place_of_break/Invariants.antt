@@ -1,3 +1,4 @@
+-- No LF stands before this place.
 use Rattle.kr_keywrap.specs.inner.Lines.{IsUnbroken}
 use Rattle.kr_keywrap.proofs.pending.place_of_break.Given as goal
 

@@ -1,3 +1,4 @@
+-- The bytes read stand behind those that were pending.
 use Rattle.std.proofs.Common.{◌-◌, length, refl, arith}
 use Rattle.kr_keywrap.proofs.Lines.{read_behind}
 use Rattle.kr_keywrap.proofs.pending.read_behind.Goals as goal

@@ -1,3 +1,4 @@
+-- The lines are answered under the words of the key.
 use Rattle.std.proofs.Common.{subst}
 use Rattle.kr_base.specs.Faults.{Rose}
 use Rattle.kr_keywrap.specs.Answer.{Plugin}

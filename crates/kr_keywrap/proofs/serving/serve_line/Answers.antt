@@ -1,4 +1,5 @@
-use Rattle.std.proofs.Common.{ℕ, List, Err, subst}
+-- The answer is that of the bytes before the LF.
+use Rattle.std.proofs.Common.{ℕ, List, Err, subst, rules}
 use Rattle.std.specs.Io.KnownBytes.{Appends}
 use Rattle.kr_base.specs.Faults.{Rose}
 use Rattle.kr_keywrap.specs.Answer.{Plugin, answer}
@@ -8,10 +9,10 @@ use Rattle.kr_keywrap.proofs.serving.serve_line.Goals as goal
 pub returns-clause-writes : goal.returns-clause-writes
 returns-clause-writes g c =
     let plugin : Plugin = record { words = c.args.words.now; rounds = c.args.rounds; key_id = c.args.key_id.now } in
-    subst (λ (l : List ℕ). Appends (g.K.Sink.held c.args.sink.now) (g.K.Sink.held c.write_answer.new.sink) (answer plugin l)) c.front.ensures c.in-Ok.ensures.writes
+    subst (λ (l : List ℕ). Appends (g.K.Sink.held c.args.sink.now) (g.K.Sink.held c.write_answer.new.sink) (answer plugin l)) c.front.ensures c.in_ok-write_answer.ensures.writes
 
-pub returns-in-Err-clause-writes : goal.returns-in-Err-clause-writes
-returns-in-Err-clause-writes g c =
+pub returns-in_err-write_answer-clause-writes : goal.returns-in_err-write_answer-clause-writes
+returns-in_err-write_answer-clause-writes g c =
     let plugin : Plugin = record { words = c.args.words.now; rounds = c.args.rounds; key_id = c.args.key_id.now } in
-    subst (λ (l : List ℕ). WritesAnswer plugin l (g.K.Sink.held c.args.sink.now) (g.K.Sink.held c.write_answer.new.sink)
-    (Rose (g.K.Sink.count c.args.sink.now) (g.K.Sink.count c.write_answer.new.sink)) (Err c.in-Err.why)) c.front.ensures c.in-Err.ensures.writes
+    let stop = subst (λ (l : List ℕ). WritesAnswer plugin l (g.K.Sink.held c.args.sink.now) (g.K.Sink.held c.write_answer.new.sink)
+    (Rose (g.K.Sink.count c.args.sink.now) (g.K.Sink.count c.write_answer.new.sink)) (Err c.in_err-write_answer.field-0.0)) c.front.ensures c.in_err-write_answer.ensures.writes in search (rules, stop)

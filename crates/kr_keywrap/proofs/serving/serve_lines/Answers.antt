@@ -1,3 +1,4 @@
+-- Line by line until one ends it.
 use Rattle.std.proofs.Common.{◌≡◌, ◌<◌, Ok, length, ap, subst, arith}
 use Rattle.std.proofs.KnownBytes.{Appends-nil}
 use Rattle.kr_base.proofs.Counting.{Rose-later}

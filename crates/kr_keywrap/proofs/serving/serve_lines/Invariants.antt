@@ -1,3 +1,4 @@
+-- So many lines were answered, and these bytes are pending.
 use Rattle.std.proofs.Common.{◌≤◌}
 use Rattle.kr_keywrap.specs.inner.Lines.{Goes}
 use Rattle.kr_keywrap.proofs.serving.serve_lines.Given as goal

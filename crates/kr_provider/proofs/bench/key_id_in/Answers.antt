@@ -5,9 +5,10 @@ use Rattle.kr_kms.specs.Calls.{Link}
 use Rattle.kr_kms.specs.Health.{TellsKeyId}
 use Rattle.kr_kms.specs.declared.health.SeedNo.{SeedNo}
 use Rattle.kr_kms.specs.declared.health.SeedNo.TheVariants as seed
-use Rattle.kr_provider.specs.Publishing.{AnswersKeyId, TellsKeyIdOf, refusal_at}
+use Rattle.kr_provider.specs.Publishing.{AnswersKeyId, TellsKeyIdOf}
 use Rattle.kr_provider.specs.declared.refusal.PublishNo.{PublishNo}
 use Rattle.kr_provider.specs.declared.refusal.PublishNo.TheVariants.{NoMemory}
+use Rattle.kr_provider.specs.inner.Making.{refusal_at}
 use Rattle.kr_provider.proofs.AskedLists.{asked_alone}
 use Rattle.kr_provider.proofs.bench.key_id_in.Goals as goal
 

@@ -1,46 +1,52 @@
 -- `by_plugin`: the answer is that of the value that the plugin reads.
-use Rattle.std.proofs.Common.{refl, sym, subst, Ok}
+use Rattle.std.proofs.Common.{refl, sym, subst, Ok, rules}
 use Rattle.kr_provider.specs.Unsealing.{UnsealsBy}
 use Rattle.kr_provider.proofs.Cached.{failed_heeds, object_heeds, opened_heeds}
 use Rattle.kr_provider.proofs.Unsealings.{object_fails, object_opens, object_refuses}
 use Rattle.kr_provider.proofs.values.by_plugin.Goals as goal
 
-pub returns-in-Err-clause-opened : goal.returns-in-Err-clause-opened
-returns-in-Err-clause-opened g c = λ seeds list bytes is_row r.
-    object_refuses g.L.Kms.truth g.L.Kms.link seeds list c.args.path.now bytes c.args.name.now
-    c.args.body.now c.args.first c.args.links.now _ r c.in-Err.ensures.is
+pub returns-in_err-object-clause-opened : goal.returns-in_err-object-clause-opened
+returns-in_err-object-clause-opened g c = λ seeds list bytes is_row r.
+    let stop = object_refuses g.L.Kms.truth g.L.Kms.link seeds list c.args.path.now bytes c.args.name.now
+    c.args.body.now c.args.first c.args.links.now c.in_err-object.field-0.0 r c.in_err-object.ensures.is in search (rules, stop)
 
-pub returns-in-Err-unseal_object-clause-opened : goal.returns-in-Err-unseal_object-clause-opened
-returns-in-Err-unseal_object-clause-opened g c = λ seeds list bytes is_row r.
-    object_fails g.L.Kms.truth g.L.Kms.link seeds list c.args.path.now bytes c.args.name.now
-    c.args.body.now c.args.first c.args.row.now is_row c.in-Ok.object r
-    c.in-Ok.ensures.is c.args.links.now c.unseal_object.new.links _
-    c.in-Err-unseal_object.ensures.opened
+pub returns-in_err-plain-clause-opened : goal.returns-in_err-plain-clause-opened
+returns-in_err-plain-clause-opened g c = λ seeds list bytes is_row r.
+    let stop = object_fails g.L.Kms.truth g.L.Kms.link seeds list c.args.path.now bytes c.args.name.now
+    c.args.body.now c.args.first c.args.row.now is_row c.in_ok-object.object r
+    c.in_ok-object.ensures.is c.args.links.now c.unseal_object.new.links c.in_err-plain.field-0.0
+    c.in_err-plain.ensures.opened in search (rules, stop)
 
 pub returns-clause-opened : goal.returns-clause-opened
 returns-clause-opened g c = λ seeds list bytes is_row r.
     subst (λ s. UnsealsBy g.L.Kms.truth g.L.Kms.link seeds list c.args.path.now bytes
-    c.args.links.now (Ok (record { plain = c.in-Ok-unseal_object.plain; stale = s }))
+    c.args.links.now (Ok (record { plain = c.in_ok-plain.plain; stale = s }))
     c.unseal_object.new.links) (sym c.is_stale-stale.ensures)
     (object_opens g.L.Kms.truth g.L.Kms.link seeds list c.args.path.now bytes c.args.name.now
-    c.args.body.now c.args.first c.args.row.now is_row c.in-Ok.object r
-    c.in-Ok.ensures.is c.args.links.now c.unseal_object.new.links
-    c.in-Ok-unseal_object.plain c.in-Ok-unseal_object.ensures.opened)
+    c.args.body.now c.args.first c.args.row.now is_row c.in_ok-object.object r
+    c.in_ok-object.ensures.is c.args.links.now c.unseal_object.new.links
+    c.in_ok-plain.plain c.in_ok-plain.ensures.opened)
 
-pub returns-in-Err-clause-cached : goal.returns-in-Err-clause-cached
-returns-in-Err-clause-cached g c = λ seeds list bytes is_row r.
-    object_heeds c.args.cache.now.rows seeds list c.args.path.now bytes c.args.links.now
-    c.args.links.now c.args.name.now c.args.body.now c.args.first r _ refl c.in-Err.ensures.is
+pub returns-in_err-object-clause-cached : goal.returns-in_err-object-clause-cached
+returns-in_err-object-clause-cached g c = λ seeds list bytes is_row r name object source reader
+    has is.
+    let stop = object_heeds c.args.cache.now.rows seeds list c.args.path.now bytes c.args.links.now
+    c.args.links.now c.args.name.now c.args.body.now c.args.first r c.in_err-object.field-0.0 refl
+    c.in_err-object.ensures.is name object source reader has is in
+    (stop.0, λ may. let gives = stop.1 may in search (rules, gives))
 
-pub returns-in-Err-unseal_object-clause-cached : goal.returns-in-Err-unseal_object-clause-cached
-returns-in-Err-unseal_object-clause-cached g c = λ seeds list bytes is_row r.
-    failed_heeds c.args.cache.now.rows seeds list c.args.path.now bytes c.args.links.now
+pub returns-in_err-plain-clause-cached : goal.returns-in_err-plain-clause-cached
+returns-in_err-plain-clause-cached g c = λ seeds list bytes is_row r name object source reader
+    has is.
+    let stop = failed_heeds c.args.cache.now.rows seeds list c.args.path.now bytes c.args.links.now
     c.unseal_object.new.links c.args.name.now c.args.body.now c.args.first r c.args.row.now is_row
-    c.in-Ok.object c.in-Ok.ensures.is _ c.in-Err-unseal_object.ensures.cached _ refl
+    c.in_ok-object.object c.in_ok-object.ensures.is _ c.in_err-plain.ensures.cached
+    c.in_err-plain.field-0.0 refl name object source reader has is in
+    (stop.0, λ may. let gives = stop.1 may in search (rules, gives))
 
 pub returns-clause-cached : goal.returns-clause-cached
 returns-clause-cached g c = λ seeds list bytes is_row r.
     opened_heeds c.args.cache.now.rows seeds list c.args.path.now bytes c.args.links.now
     c.unseal_object.new.links c.args.name.now c.args.body.now c.args.first r c.args.row.now is_row
-    c.in-Ok.object c.in-Ok.ensures.is _ c.in-Ok-unseal_object.ensures.cached
-    c.in-Ok-unseal_object.plain _ refl c.is_stale-stale.ensures
+    c.in_ok-object.object c.in_ok-object.ensures.is _ c.in_ok-plain.ensures.cached
+    c.in_ok-plain.plain _ refl c.is_stale-stale.ensures

@@ -1,9 +1,10 @@
 -- `unseal_object`: the source is the published seed, or what the plugin unwraps.
-use Rattle.std.proofs.Common.{◌∙◌, refl, sym, subst}
+use Rattle.std.proofs.Common.{◌∙◌, refl, sym, subst, rules}
 use Rattle.kr_kms.specs.Truth.{key_of}
 use Rattle.kr_kms.proofs.Keys.{same_key}
 use Rattle.kr_provider.specs.Envelopes.{seed_key}
-use Rattle.kr_provider.specs.Reading.{Gives, source_reading}
+use Rattle.kr_provider.specs.Reading.{source_reading}
+use Rattle.kr_provider.specs.inner.Sources.{Gives}
 use Rattle.kr_provider.proofs.Cached.{source_lacks, source_serves}
 use Rattle.kr_provider.proofs.ObjectSources.{another_seed, seed_taken, source_fails, source_opened}
 use Rattle.kr_provider.proofs.values.unseal_object.Goals as goal
@@ -16,19 +17,19 @@ returns-then-is_seed_of-clause-opened g c = seed_taken g.L.Kms.truth g.L.Kms.lin
     (subst (λ r. Gives r c.by_source.result) (λ i. source_reading c.args.object.now.kind
     (c.as_slice.ensures i) c.args.path.now (c.as_slice-encrypted.ensures i)) c.by_source.ensures)
 
-pub returns-in-Err-clause-opened : goal.returns-in-Err-clause-opened
-returns-in-Err-clause-opened g c = source_fails g.L.Kms.truth g.L.Kms.link c.args.row.now
+pub returns-in_err-source-clause-opened : goal.returns-in_err-source-clause-opened
+returns-in_err-source-clause-opened g c = let stop = source_fails g.L.Kms.truth g.L.Kms.link c.args.row.now
     c.args.name.now c.args.object.now c.args.path.now c.args.links.now c.open_source.new.links
-    c.in-Err.why
+    c.in_err-source.field-0.0
     (another_seed c.args.row.now c.args.name.now c.args.object.now c.is_seed_of.result
-    c.is_seed_of.ensures c.if-is_seed_of.false) c.in-Err.ensures.opened
+    c.is_seed_of.ensures c.if-is_seed_of.false) c.in_err-source.ensures.opened in search (rules, stop)
 
 pub returns-clause-opened : goal.returns-clause-opened
 returns-clause-opened g c = source_opened g.L.Kms.truth g.L.Kms.link c.args.row.now
     c.args.name.now c.args.object.now c.args.path.now c.args.links.now c.open_source.new.links
-    c.in-Ok.source c.by_source-2.result
+    c.in_ok-source.source c.by_source-2.result
     (another_seed c.args.row.now c.args.name.now c.args.object.now c.is_seed_of.result
-    c.is_seed_of.ensures c.if-is_seed_of.false) c.in-Ok.ensures.opened
+    c.is_seed_of.ensures c.if-is_seed_of.false) c.in_ok-source.ensures.opened
     (subst (λ r. Gives r c.by_source-2.result) (λ i. source_reading c.args.object.now.kind
     (c.as_slice-2.ensures i) c.args.path.now (c.as_slice-encrypted.ensures i))
     c.by_source-2.ensures)
@@ -41,16 +42,18 @@ returns-then-is_seed_of-clause-cached g c = λ source is. (
       (sym c.is_seed_of.ensures ∙ c.if-is_seed_of.true))),
 )
 
-pub returns-in-Err-clause-cached : goal.returns-in-Err-clause-cached
-returns-in-Err-clause-cached g c = λ source is.
-    let kept = c.in-Err.ensures.cached source is in
-    (kept.0, λ other. source_lacks c.args.object.now c.args.path.now source c.in-Err.why kept.1)
+pub returns-in_err-source-clause-cached : goal.returns-in_err-source-clause-cached
+returns-in_err-source-clause-cached g c = λ source is.
+    let kept = c.in_err-source.ensures.cached source is in (
+      kept.0,
+      λ other. let stop = source_lacks c.args.object.now c.args.path.now source c.in_err-source.field-0.0 kept.1 in search (rules, stop),
+    )
 
 pub returns-clause-cached : goal.returns-clause-cached
 returns-clause-cached g c = λ source is.
-    let kept = c.in-Ok.ensures.cached source is in (
+    let kept = c.in_ok-source.ensures.cached source is in (
       kept.0,
-      λ other. source_serves c.args.object.now c.args.path.now source c.in-Ok.source
+      λ other. source_serves c.args.object.now c.args.path.now source c.in_ok-source.source
           c.by_source-2.result kept.1
           (subst (λ r. Gives r c.by_source-2.result) (λ i. source_reading c.args.object.now.kind
           (c.as_slice-2.ensures i) c.args.path.now (c.as_slice-encrypted.ensures i))

@@ -5,4 +5,4 @@ pub loop-replica-preserved : goal.loop-replica-preserved
 loop-replica-preserved c =
     taken_step c.args.replicas.now c.args.board.now c.loop-replica.board c.take_up.new.board
     c.loop-replica.replica c.index-replicas-replica.result
-    c.loop-replica.invariant c.loop-replica-test.true c.index-replicas-replica.is c.in-Ok.ensures
+    c.loop-replica.invariant c.loop-replica-test.true c.index-replicas-replica.is c.in_ok-take_up.ensures

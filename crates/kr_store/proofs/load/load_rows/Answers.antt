@@ -27,7 +27,7 @@ returns-in-Err-clause-loads g c =
     (kept_bytes k) c.in-Err.stop c.place-at.result l.invariant
     (ap (λ (l : List KeptRow). length l + 1) c.as_slice.ensures)
     (λ e. let t = c.is_at_end-in-loop-alloc.ensures.at.1 e in let f = c.loop-alloc-test.true in cc)
-    c.place-at.ensures c.in-Err.ensures.read)
+    c.place-at.ensures c.in-Err.ensures.reads.gives)
 
 pub returns-then-not-allows-clause-loads : goal.returns-then-not-allows-clause-loads
 returns-then-not-allows-clause-loads g c =
@@ -43,7 +43,7 @@ returns-then-not-allows-clause-loads g c =
       ap (λ (l : List KeptRow). length l) c.as_slice.ensures,
       rows_before c.args.reader.now l.reader c.in_ok-format.format l.rows.0 l.index l.invariant,
     ))
-    c.place-at.ensures c.in-Ok.ensures.read c.row.ensures.advances.moves
+    c.place-at.ensures c.in-Ok.ensures.reads.gives c.row.ensures.reads.advances.moves
     c.in-Ok.ensures.rule (sym c.allows.ensures ∙ c.if-not-allows.true)
 
 pub loop-alloc-preserved : goal.loop-alloc-preserved
@@ -63,7 +63,7 @@ loop-alloc-preserved g c =
       ap (λ (l : List KeptRow). length l) c.as_slice.ensures,
       rows_before c.args.reader.now l.reader c.in_ok-format.format l.rows.0 l.index l.invariant,
     ))
-    c.row.ensures.advances.moves c.in-Ok.ensures.read c.in-Ok.ensures.rule
+    c.row.ensures.reads.advances.moves c.in-Ok.ensures.reads.gives c.in-Ok.ensures.rule
     (sym c.allows.ensures ∙ c.if-not-allows.false) c.in-Ok-note.ensures)
 
 pub returns-clause-loads : goal.returns-clause-loads

@@ -6,9 +6,8 @@ use Rattle.kr_top.specs.Around.{Around, around, with_what_is_said, left_of}
 use Rattle.kr_top.specs.Command.{Asks}
 use Rattle.kr_top.specs.Commands.{steps}
 use Rattle.kr_top.specs.Ran.{Answers, Receipt, StopsAtOnce, Writes}
-use Rattle.kr_top.specs.Reports.{said_text}
 use Rattle.kr_top.specs.inner.Phases.{Does, IsReadAs}
-use Rattle.kr_top.specs.inner.Reporting.{saying}
+use Rattle.kr_top.specs.inner.Reporting.{saying, said_text}
 use Rattle.kr_top.specs.declared.command.Command.{Command}
 use Rattle.kr_top.specs.declared.refusal.Done.{Done}
 use Rattle.kr_top.specs.declared.refusal.Outcome.{Outcome}

@@ -3,27 +3,30 @@ use Rattle.std.proofs.Common.{Err, Ok, refl, inl, arith, subst}
 use Rattle.kr_words.specs.Grammar.{texts}
 use Rattle.kr_top.specs.Around.{around}
 use Rattle.kr_top.specs.Ran.{receipt}
-use Rattle.kr_top.specs.FleetAsked.{IsFleetAsked}
+use Rattle.kr_top.specs.inner.FleetAsked.{IsFleetAsked}
 use Rattle.kr_top.proofs.FleetReadings.{fleet_readings}
 use Rattle.kr_top.proofs.FleetRuns.{at_once, for_asked, one_fleet, unread}
+use Rattle.kr_top.proofs.LoadAsked.{asked_small, not_both}
+use Rattle.kr_top.proofs.LoadReadings.{load_readings}
+use Rattle.kr_top.proofs.LoadRuns.{fleet_unread}
 use Rattle.kr_top.proofs.Readings.{readings}
 use Rattle.kr_top.proofs.Leaving.{tapes_left}
 use Rattle.kr_top.proofs.call.run.Goals as goal
 
 pub returns-in-Ok-Some-clause-ran : goal.returns-in-Ok-Some-clause-ran
-returns-in-Ok-Some-clause-ran g c none = absurd (none c.in-Ok-Some.asked
+returns-in-Ok-Some-clause-ran g c none = absurd (none.0 c.in-Ok-Some.asked
     (subst (λ o. IsFleetAsked (texts c.args.words.now) (Ok o)) c.in-Ok-Some.field-0-is
     c.in-Ok-Some.ensures))
 
 pub returns-in-Ok-Some-clause-readings : goal.returns-in-Ok-Some-clause-readings
 returns-in-Ok-Some-clause-readings g c none =
-    absurd (none c.in-Ok-Some.asked
+    absurd (none.0 c.in-Ok-Some.asked
     (subst (λ o. IsFleetAsked (texts c.args.words.now) (Ok o)) c.in-Ok-Some.field-0-is
     c.in-Ok-Some.ensures))
 
 pub returns-in-Ok-Some-clause-tapes : goal.returns-in-Ok-Some-clause-tapes
 returns-in-Ok-Some-clause-tapes g c none =
-    absurd (none c.in-Ok-Some.asked
+    absurd (none.0 c.in-Ok-Some.asked
     (subst (λ o. IsFleetAsked (texts c.args.words.now) (Ok o)) c.in-Ok-Some.field-0-is
     c.in-Ok-Some.ensures))
 
@@ -37,13 +40,13 @@ returns-in-Ok-Some-clause-fleet g c asked asks =
     (g.I.Source.left c.args.input.now) (g.I.Source.count c.args.input.now)) refl)
 
 pub returns-in-Ok-None-clause-ran : goal.returns-in-Ok-None-clause-ran
-returns-in-Ok-None-clause-ran g c none = c.alone.ensures.ran
+returns-in-Ok-None-clause-ran g c none = c.run_other.ensures.ran none.1
 
 pub returns-in-Ok-None-clause-readings : goal.returns-in-Ok-None-clause-readings
-returns-in-Ok-None-clause-readings g c none = c.alone.ensures.readings
+returns-in-Ok-None-clause-readings g c none = c.run_other.ensures.readings none.1
 
 pub returns-in-Ok-None-clause-tapes : goal.returns-in-Ok-None-clause-tapes
-returns-in-Ok-None-clause-tapes g c none = c.alone.ensures.tapes
+returns-in-Ok-None-clause-tapes g c none = c.run_other.ensures.tapes none.1
 
 pub returns-in-Ok-None-clause-fleet : goal.returns-in-Ok-None-clause-fleet
 returns-in-Ok-None-clause-fleet g c asked asks =
@@ -105,6 +108,48 @@ returns-in-Err-clause-fleet_readings g c asked asks =
     (record {
       result = Err c.in-Err.stop;
       did = unread _ _ _ _ _ _ asked asks c.in-Err.stop c.in-Err.ensures _ _ (refl, refl);
+      tells = c.tell.ensures.told;
+      written = omega arith;
+      told = c.tell.ensures.later;
+    })
+
+pub returns-in-Ok-Some-clause-load : goal.returns-in-Ok-Some-clause-load
+returns-in-Ok-Some-clause-load g c asked asks =
+    absurd (not_both (texts c.args.words.now) c.in-Ok-Some.asked asked
+    (subst (λ o. IsFleetAsked (texts c.args.words.now) (Ok o)) c.in-Ok-Some.field-0-is
+    c.in-Ok-Some.ensures) asks)
+
+pub returns-in-Ok-Some-clause-load_readings : goal.returns-in-Ok-Some-clause-load_readings
+returns-in-Ok-Some-clause-load_readings g c asked asks =
+    absurd (not_both (texts c.args.words.now) c.in-Ok-Some.asked asked
+    (subst (λ o. IsFleetAsked (texts c.args.words.now) (Ok o)) c.in-Ok-Some.field-0-is
+    c.in-Ok-Some.ensures) asks)
+
+pub returns-in-Ok-None-clause-load : goal.returns-in-Ok-None-clause-load
+returns-in-Ok-None-clause-load g c asked asks = c.run_other.ensures.load asked asks
+
+pub returns-in-Ok-None-clause-load_readings : goal.returns-in-Ok-None-clause-load_readings
+returns-in-Ok-None-clause-load_readings g c asked asks =
+    c.run_other.ensures.load_readings asked asks
+
+pub returns-in-Err-clause-load : goal.returns-in-Err-clause-load
+returns-in-Err-clause-load g c asked asks = record {
+  result = Err c.in-Err.stop;
+  did = fleet_unread g.row.W-Tap.Denot g.W.Link.Kms.truth g.W.Link.Kms.link
+      (texts c.args.words.now) asked asks c.in-Err.stop c.in-Err.ensures _ _ (refl, refl);
+  tells = c.tell.ensures.told;
+  written = omega arith;
+  told = c.tell.ensures.later;
+}
+
+pub returns-in-Err-clause-load_readings : goal.returns-in-Err-clause-load_readings
+returns-in-Err-clause-load_readings g c asked asks =
+    load_readings g.row.W-Tap.Denot g.W.Link.Kms.truth g.W.Link.Kms.link asked _ _ _ _ _
+    (asked_small asks)
+    (record {
+      result = Err c.in-Err.stop;
+      did = fleet_unread g.row.W-Tap.Denot g.W.Link.Kms.truth g.W.Link.Kms.link
+          (texts c.args.words.now) asked asks c.in-Err.stop c.in-Err.ensures _ _ (refl, refl);
       tells = c.tell.ensures.told;
       written = omega arith;
       told = c.tell.ensures.later;

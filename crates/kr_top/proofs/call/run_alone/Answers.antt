@@ -3,7 +3,7 @@ use Rattle.std.proofs.Common.{Err, Ok, refl, inl, arith, subst}
 use Rattle.kr_words.specs.Grammar.{texts}
 use Rattle.kr_top.specs.Around.{around}
 use Rattle.kr_top.specs.Ran.{receipt}
-use Rattle.kr_top.specs.FleetAsked.{IsFleetAsked}
+use Rattle.kr_top.specs.inner.FleetAsked.{IsFleetAsked}
 use Rattle.kr_top.proofs.FleetRuns.{alone_or_memory, at_once}
 use Rattle.kr_top.proofs.Leaving.{tapes_left}
 use Rattle.kr_top.proofs.Readings.{readings}
@@ -11,7 +11,7 @@ use Rattle.kr_top.proofs.call.run_alone.Goals as goal
 
 pub returns-in-Ok-Some : goal.returns-in-Ok-Some
 returns-in-Ok-Some g c = (
-  (
+  inl (
     c.in-Ok-Some._asked,
     subst (λ o. IsFleetAsked (texts c.args.words.now) (Ok o)) c.in-Ok-Some.field-0-is
         c.in-Ok-Some.ensures,
@@ -20,14 +20,21 @@ returns-in-Ok-Some g c = (
   (refl, refl),
 )
 
-pub returns-in-Ok-None : goal.returns-in-Ok-None
-returns-in-Ok-None g c = (
-  c.alone.ensures.ran,
-  c.alone.ensures.readings,
-  c.alone.ensures.tapes,
-  inl (subst (λ o. IsFleetAsked (texts c.args.words.now) (Ok o)) c.in-Ok-None.field-0-is
-      c.in-Ok-None.ensures),
+pub other_alone-requires : goal.other_alone-requires
+other_alone-requires g c = (
+  c.type_bounds.send-W-Tap,
+  (
+    c.type_bounds.send-W-Rand,
+    (
+      c.type_bounds.send-W-Link,
+      subst (λ o. IsFleetAsked (texts c.args.words.now) (Ok o)) c.in-Ok-None.field-0-is
+          c.in-Ok-None.ensures,
+    ),
+  ),
 )
+
+pub returns-in-Ok-None : goal.returns-in-Ok-None
+returns-in-Ok-None g c = c.other_alone.ensures
 
 pub returns-in-Err : goal.returns-in-Err
 returns-in-Err g c =

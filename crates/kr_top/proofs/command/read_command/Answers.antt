@@ -15,4 +15,5 @@ returns-in-Some c = (
 
 pub returns-in-None : goal.returns-in-None
 returns-in-None c =
-    asks_nothing _ c.in-Ok.ensures.0 c.in-Ok-command_of.ensures.command c.in-None.is
+    asks_nothing _ c.in-Ok.ensures.0 c.in-Ok-command_of.ensures.command c.in-Ok.ensures.2
+    c.in-None.is

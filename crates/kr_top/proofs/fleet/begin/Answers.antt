@@ -1,21 +1,16 @@
--- `begin`: what the replicas publish, the core, and the workers.
-use Rattle.std.proofs.Common.{[], Err, ap, inl, inr, length, sym, subst, ◌∙◌, arith}
+-- `begin`: what the replicas publish, and the workers.
+use Rattle.std.proofs.Common.{[], inl, subst, ◌∙◌}
 use Rattle.std.specs.Prelude.{IfOk}
-use Rattle.kr_rollout.specs.Cores.{CoreState}
-use Rattle.kr_store.specs.Stores.{Kept}
-use Rattle.kr_workers.specs.Budgets.{AreBudgets}
-use Rattle.kr_top.specs.Around.{with_lent_tape}
-use Rattle.kr_top.specs.Fleets.{outfitted, publishing, starting}
+use Rattle.kr_top.specs.Fleets.{launching, publishing, starting}
 use Rattle.kr_top.specs.inner.FleetFiles.{named, plan_of}
 use Rattle.kr_top.specs.inner.Fleets.{ArePublished, published_in}
-use Rattle.kr_top.specs.inner.Outfits.{AreNamed, names_in, with_outfits}
+use Rattle.kr_top.specs.inner.Lent.{with_lent_tape}
+use Rattle.kr_top.specs.inner.Outfits.{names_in, with_outfits}
 use Rattle.kr_top.specs.inner.Phases.{Does}
 use Rattle.kr_top.specs.inner.Tapes.{stored_of}
-use Rattle.kr_top.proofs.FleetCrews.{closed_at_once, ran_back, ran_by, ready, unhired}
-use Rattle.kr_top.proofs.Goes.{goes_on, stops}
-use Rattle.kr_top.proofs.Outfits.{later_many, later_named}
-use Rattle.kr_top.proofs.Plans.{plan_first, plan_names, plan_replicas}
-use Rattle.kr_top.proofs.Publishings.{published_among, published_first, published_many}
+use Rattle.kr_top.proofs.FleetRuns.{runs_with}
+use Rattle.kr_top.proofs.Goes.{stops}
+use Rattle.kr_top.proofs.Outfits.{later_many, later_named, later_trans}
 use Rattle.kr_top.proofs.fleet.begin.Goals as goal
 
 pub returns-in-Err-clause-made : goal.returns-in-Err-clause-made
@@ -35,118 +30,23 @@ returns-in-Err-clause-made g c name a t =
     (starting (plan_of plan) (stored_of store) c.args.budgets.now.entries.items) c.in-Err.stop
     does)
 
-pub start-requires-clause-first : goal.start-requires-clause-first
-start-requires-clause-first g c =
-    let plan = c.args.plan.now in
-    let replicas = c.in-Ok.replicas.0 in
-    let published = subst (λ r. IfOk r (λ made. ArePublished g.L.Kms.truth (named plan.files.0)
-    plan.script.replicas.0 made.0)) c.in-Ok.is c.publish_first-published.ensures.replicas in
-    published_first g.L.Kms.truth (named plan.files.0) plan.script.replicas.0 replicas published
-    (plan_replicas plan c.requires.plan).0 (plan_first plan c.requires.plan)
-
-pub start-requires-clause-replicas : goal.start-requires-clause-replicas
-start-requires-clause-replicas g c =
-    let plan = c.args.plan.now in
-    let replicas = c.in-Ok.replicas.0 in
-    let published = subst (λ r. IfOk r (λ made. ArePublished g.L.Kms.truth (named plan.files.0)
-    plan.script.replicas.0 made.0)) c.in-Ok.is c.publish_first-published.ensures.replicas in
-    omega (
-      arith,
-      published_many g.L.Kms.truth (named plan.files.0) plan.script.replicas.0 replicas
-          published,
-      (plan_replicas plan c.requires.plan).1,
-    )
-
-pub start-requires-clause-names : goal.start-requires-clause-names
-start-requires-clause-names g c =
-    let plan = c.args.plan.now in
-    let replicas = c.in-Ok.replicas.0 in
-    let published = subst (λ r. IfOk r (λ made. ArePublished g.L.Kms.truth (named plan.files.0)
-    plan.script.replicas.0 made.0)) c.in-Ok.is c.publish_first-published.ensures.replicas in
-    published_among g.L.Kms.truth (named plan.files.0) (names_in plan.programs)
-    (plan_names plan c.requires.plan) plan.script.replicas.0 replicas published
-
-pub returns-in-Err-start-clause-made : goal.returns-in-Err-start-clause-made
-returns-in-Err-start-clause-made g c name a t =
-    let plan = c.args.plan.now in
-    let budgets = c.args.budgets.now.entries.items in
-    let link = g.L.Kms.link in
-    let left = g.D.Dice.left in
-    let count = g.D.Dice.count in
-    let store = c.args.store in
-    let olds = c.args.outfits.0 in
-    let outs = c.publish_first-published.result.1.0 in
-    let over = with_lent_tape name store.told store.count a in
-    let does = subst (λ r. Does (publishing (named plan.files.0) [] plan.script.replicas.0)
-    (with_outfits link left count 0 olds over) (with_outfits link left count 0 outs over)
-    (published_in r)) c.in-Ok.is (c.publish_first-published.ensures.does over t) in
-    inl (subst (λ (k : Kept). Does (outfitted (plan_of plan) (stored_of store) budgets)
-    (with_outfits link left count 0 olds over)
-    (with_outfits link left count 0 outs (with_lent_tape name k.told k.count a))
-    (Err c.in-Err-start.stop)) (sym c.in-Err-start.ensures.back)
-    (goes_on (publishing (named plan.files.0) [] plan.script.replicas.0)
-    (starting (plan_of plan) (stored_of store) budgets) c.in-Ok.replicas.0 does
-    (c.in-Err-start.ensures.does (with_outfits link left count 0 outs over))))
-
-pub hire-requires : goal.hire-requires
-hire-requires g c = record {
-  many = later_many g.L.Kms.link g.D.Dice.left g.D.Dice.count c.args.outfits.0
-      c.publish_first-published.result.1.0 c.publish_first-published.ensures.later
-      ∙ c.requires.seats ∙ sym (ap length c.as_slice.ensures);
-}
-
-pub returns-in-Err-hire-clause-made : goal.returns-in-Err-hire-clause-made
-returns-in-Err-hire-clause-made g c name a t =
-    let plan = c.args.plan.now in
-    let link = g.L.Kms.link in
-    let left = g.D.Dice.left in
-    let count = g.D.Dice.count in
-    let store = c.args.store in
-    let olds = c.args.outfits.0 in
-    let outs = c.publish_first-published.result.1.0 in
-    let over = with_lent_tape name store.told store.count a in
-    let replicas = c.in-Ok.replicas.0 in
-    let published = subst (λ r. IfOk r (λ made. ArePublished g.L.Kms.truth (named plan.files.0)
-    plan.script.replicas.0 made.0)) c.in-Ok.is c.publish_first-published.ensures.replicas in
-    let does = subst (λ r. Does (publishing (named plan.files.0) [] plan.script.replicas.0)
-    (with_outfits link left count 0 olds over) (with_outfits link left count 0 outs over)
-    (published_in r)) c.in-Ok.is (c.publish_first-published.ensures.does over t) in
-    let core = c.in-Ok-start.core in
-    let none = ap (λ (k : CoreState). k.history) c.in-Ok-start.ensures.core in
-    let kept = c.close-store.result.0 in
-    let k = closed_at_once core kept none c.close-store.ensures.rows c.close-store.ensures.count
-    c.close-store.ensures.format c.close-store.ensures.torn c.known.ensures in
-    inr (unhired g.L.Kms.truth link left count plan c.requires.plan c.args.budgets.now.entries.items
-    name a store olds outs replicas does
-    (c.in-Ok-start.ensures.does (with_outfits link left count 0 outs over)) c.requires.named
-    c.requires.seats
-    c.publish_first-published.ensures.later published c.requires.store
-    c.args.budgets.now.reloads.items c.requires.reloads c.in-Ok-start.core.opening
-    (ap (λ (k : CoreState). k.opening) c.in-Ok-start.ensures.core) g.row.T.Denot kept k
-    c.in-Err-hire.outfits.0 c.in-Err-hire.ensures.returned)
-
-pub run_crew-requires-clause-core : goal.run_crew-requires-clause-core
-run_crew-requires-clause-core g c = λ κs lives.
-    let plan = c.args.plan.now in
-    let replicas = c.in-Ok.replicas.0 in
-    let published = subst (λ r. IfOk r (λ made. ArePublished g.L.Kms.truth (named plan.files.0)
-    plan.script.replicas.0 made.0)) c.in-Ok.is c.publish_first-published.ensures.replicas in
-    ready plan c.args.budgets.now.entries.items c.args.budgets.now.reloads.items c.args.store
-    replicas c.in-Ok-start.core c.in-Ok-start.ensures.core c.requires.reloads
-    (published_many g.L.Kms.truth (named plan.files.0) plan.script.replicas.0 replicas published)
-
-pub run_crew-requires-clause-entries : goal.run_crew-requires-clause-entries
-run_crew-requires-clause-entries g c = λ κs lives. subst (λ rows. AreBudgets rows
-    c.args.plan.now.script.workers.0 c.args.budgets.now.entries.items)
-    (sym (ap (λ (k : CoreState). k.opening.rows) c.in-Ok-start.ensures.core)) c.requires.entries
-
-pub run_crew-requires-clause-named : goal.run_crew-requires-clause-named
-run_crew-requires-clause-named g c = λ κs lives.
-    let names = names_in c.args.plan.now.programs in
-    subst (λ os. AreNamed g.L.Kms.link names os) (sym c.in-Ok-hire.ensures.hired.outfits_are)
-    (later_named g.L.Kms.link g.D.Dice.left g.D.Dice.count names c.args.outfits.0
+pub work_with-requires-clause-seats : goal.work_with-requires-clause-seats
+work_with-requires-clause-seats g c = λ κs lives.
+    later_many g.L.Kms.link g.D.Dice.left g.D.Dice.count c.args.outfits.0
     c.publish_first-published.result.1.0 c.publish_first-published.ensures.later
-    c.requires.named)
+    ∙ c.requires.seats
+
+pub work_with-requires-clause-named : goal.work_with-requires-clause-named
+work_with-requires-clause-named g c = λ κs lives.
+    later_named g.L.Kms.link g.D.Dice.left g.D.Dice.count (names_in c.args.plan.now.programs)
+    c.args.outfits.0 c.publish_first-published.result.1.0
+    c.publish_first-published.ensures.later c.requires.named
+
+pub work_with-requires-clause-published : goal.work_with-requires-clause-published
+work_with-requires-clause-published g c = λ κs lives.
+    let plan = c.args.plan.now in
+    subst (λ r. IfOk r (λ made. ArePublished g.L.Kms.truth (named plan.files.0)
+    plan.script.replicas.0 made.0)) c.in-Ok.is c.publish_first-published.ensures.replicas
 
 pub returns-clause-made : goal.returns-clause-made
 returns-clause-made g c name a t =
@@ -158,27 +58,23 @@ returns-clause-made g c name a t =
     let olds = c.args.outfits.0 in
     let outs = c.publish_first-published.result.1.0 in
     let over = with_lent_tape name store.told store.count a in
-    let replicas = c.in-Ok.replicas.0 in
-    let published = subst (λ r. IfOk r (λ made. ArePublished g.L.Kms.truth (named plan.files.0)
-    plan.script.replicas.0 made.0)) c.in-Ok.is c.publish_first-published.ensures.replicas in
     let does = subst (λ r. Does (publishing (named plan.files.0) [] plan.script.replicas.0)
     (with_outfits link left count 0 olds over) (with_outfits link left count 0 outs over)
     (published_in r)) c.in-Ok.is (c.publish_first-published.ensures.does over t) in
-    let hired = c.in-Ok-hire.ensures.hired in
-    ran_by g.L.Kms.truth link left count plan c.requires.plan c.args.budgets.now.entries.items
-    name a store olds outs replicas does
-    (c.in-Ok-start.ensures.does (with_outfits link left count 0 outs over)) c.requires.named
-    c.requires.seats
-    c.publish_first-published.ensures.later published c.requires.store
-    c.args.budgets.now.reloads.items c.requires.reloads c.in-Ok-start.core.opening
-    (ap (λ (k : CoreState). k.opening) c.in-Ok-start.ensures.core) c.in-Ok-hire.crew.workers.items
-    hired.outfits_are (hired.many ∙ ap length c.as_slice.ensures) c.run_crew.result.1
-    c.run_crew.result.2.0 c.run_crew.result.0 c.run_crew.ensures.ran
+    runs_with g.row.T.Denot g.L.Kms.truth link left count name (plan_of plan)
+    (launching (plan_of plan) (stored_of store) c.args.budgets.now.entries.items) outs
+    (with_outfits link left count 0 olds over)
+    (with_outfits link left count 0 c.work_with.result.2.0
+    (with_lent_tape name c.work_with.result.1.told c.work_with.result.1.count a))
+    c.work_with.result.0
+    (c.work_with.ensures.made name a olds t (record {
+      are_named = c.requires.named;
+      seats = c.requires.seats;
+      later = c.publish_first-published.ensures.later;
+      does = does;
+    }))
 
 pub returns-clause-later : goal.returns-clause-later
-returns-clause-later g c = ran_back g.L.Kms.truth g.L.Kms.link g.D.Dice.left g.D.Dice.count
-    c.args.plan.now c.args.budgets.now.entries.items c.args.outfits.0
-    c.publish_first-published.result.1.0 c.publish_first-published.ensures.later
-    c.in-Ok-start.core.opening c.in-Ok-hire.crew.workers.items
-    c.in-Ok-hire.ensures.hired.outfits_are c.run_crew.result.1 c.run_crew.result.2.0
-    c.run_crew.result.0 c.run_crew.ensures.ran
+returns-clause-later g c = later_trans g.L.Kms.link g.D.Dice.left g.D.Dice.count
+    c.args.outfits.0 c.publish_first-published.result.1.0 c.work_with.result.2.0
+    c.publish_first-published.ensures.later c.work_with.ensures.later

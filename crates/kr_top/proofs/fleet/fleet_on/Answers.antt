@@ -2,11 +2,12 @@
 use Rattle.std.proofs.Common.{◌≡◌, ◌+◌, ◌<◌, Err, sym, ap, subst}
 use Rattle.std.specs.Prelude.{sum}
 use Rattle.kr_workers.specs.Budgets.{all_reloads, budgets_of, journal_limit, put_lines}
-use Rattle.kr_top.specs.Around.{with_lent_tape, with_world}
+use Rattle.kr_top.specs.Around.{with_world}
 use Rattle.kr_top.specs.Commands.{stored_on}
-use Rattle.kr_top.specs.Fleets.{beginning, budgeting, equipped, parts_of}
+use Rattle.kr_top.specs.Fleets.{beginning, budgeting, equipping_all, parts_of}
 use Rattle.kr_top.specs.Steps.{and_then}
 use Rattle.kr_top.specs.inner.FleetFiles.{plan_of}
+use Rattle.kr_top.specs.inner.Lent.{with_lent_tape}
 use Rattle.kr_top.specs.inner.Phases.{Does}
 use Rattle.kr_top.specs.inner.Tapes.{stored_of}
 use Rattle.kr_top.specs.declared.refusal.Object.TheVariants.{Store}
@@ -63,7 +64,7 @@ returns-in-Err-budgets_of-clause-made g c name a truth =
     (c.in-Ok.ensures.ok name here) (Err stop)
     (ends_before g.row.W-Tap.Denot g.W.Link.Kms.truth g.W.Link.Kms.link g.W.Rand.Dice.left
     g.W.Rand.Dice.count name plan (budgeting store.rows (parts_of plan.fleet))
-    (equipped plan (stored_of store)) stop
+    (equipping_all plan (stored_of store)) stop
     (subst (λ s. Does (budgeting store.rows (parts_of plan.fleet)) now now (Err s))
     (sym c.budget_stop.ensures)
     (not_budgeted store.rows parts c.live_count.result c.live_count.ensures why
@@ -92,7 +93,7 @@ returns-clause-made g c name a truth =
     (c.in-Ok.ensures.ok name here) made
     (before g.row.W-Tap.Denot g.W.Link.Kms.truth g.W.Link.Kms.link g.W.Rand.Dice.left
     g.W.Rand.Dice.count name plan (budgeting store.rows (parts_of plan.fleet))
-    (equipped plan (stored_of store)) budgets new
+    (equipping_all plan (stored_of store)) budgets new
     (budgeted store.rows parts c.live_count.result c.live_count.ensures budgets
     (subst (λ p. budgets ≡ budgets_of (c.live_count.result + put_lines p) p)
     c.as_slice.ensures c.in-Ok-budgets_of.ensures.entries) c.in-Ok-budgets_of.ensures.few now)

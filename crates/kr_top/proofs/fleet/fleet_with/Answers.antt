@@ -2,11 +2,12 @@
 use Rattle.std.proofs.Common.{◌∙◌, Err, ap, arith, length, subst, sym}
 use Rattle.std.proofs.lemmas.List.{length-map}
 use Rattle.kr_script.specs.Fleets.{worker_of}
-use Rattle.kr_top.specs.Around.{with_lent_tape, with_world}
+use Rattle.kr_top.specs.Around.{with_world}
 use Rattle.kr_top.specs.FleetFiles.{all_rows}
-use Rattle.kr_top.specs.Fleets.{equipping, outfitted}
+use Rattle.kr_top.specs.Fleets.{equipping, launching}
 use Rattle.kr_top.specs.inner.FleetFiles.{plan_of}
 use Rattle.kr_top.specs.inner.Fleets.{RunsBy}
+use Rattle.kr_top.specs.inner.Lent.{with_lent_tape}
 use Rattle.kr_top.specs.inner.Outfits.{AreNamed, names_in}
 use Rattle.kr_top.specs.inner.Tapes.{stored_of}
 use Rattle.kr_top.proofs.FleetOutfits.{runs_equipped, runs_unequipped}
@@ -81,7 +82,7 @@ pub returns-in-Ok-clause-made : goal.returns-in-Ok-clause-made
 returns-in-Ok-clause-made g c name a truth =
     let store = c.args.store in
     let plan = plan_of c.args.plan.now in
-    let next = outfitted plan (stored_of store) c.args.budgets.now.entries.items in
+    let next = launching plan (stored_of store) c.args.budgets.now.entries.items in
     let old = g.W.World.told c.args.world.now in
     let mid = g.W.World.told c.open_outfits-opened.new.world in
     let new = g.W.World.told c.close_outfits.new.world in
@@ -109,7 +110,7 @@ pub returns-in-Err-clause-made : goal.returns-in-Err-clause-made
 returns-in-Err-clause-made g c name a truth =
     let store = c.args.store in
     let plan = plan_of c.args.plan.now in
-    let next = outfitted plan (stored_of store) c.args.budgets.now.entries.items in
+    let next = launching plan (stored_of store) c.args.budgets.now.entries.items in
     let old = g.W.World.told c.args.world.now in
     let mid = g.W.World.told c.open_outfits-opened.new.world in
     let new = g.W.World.told c.close_outfits-in-Err.new.world in

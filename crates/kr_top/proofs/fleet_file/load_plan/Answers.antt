@@ -2,7 +2,7 @@
 use Rattle.std.proofs.Common.{◌≡◌, List, ℕ, [], Err, Ok, subst}
 use Rattle.kr_provider.specs.PluginOrder.{plugin_order}
 use Rattle.kr_script.specs.Fleets.{Fleet, fleet_of}
-use Rattle.kr_top.specs.FleetFiles.{FleetPlan, NamedRows, all_rows, files_in, fleet_in, mentioned, programs_in}
+use Rattle.kr_top.specs.FleetFiles.{FleetPlan, NamedRows, all_rows, files_in, fleet_in, all_files, programs_in}
 use Rattle.kr_top.specs.Steps.{Steps, and_then, give}
 use Rattle.kr_top.specs.declared.programs.Program.{Program}
 use Rattle.kr_top.specs.Around.{with_world}
@@ -25,7 +25,7 @@ with_files options fleet files =
 
 abbrev with_fleet : (options : List (List ℕ × List ℕ)) → Fleet → Steps FleetPlan
 with_fleet options fleet =
-    and_then (files_in [] (mentioned fleet)) (with_files options fleet)
+    and_then (files_in [] (all_files fleet)) (with_files options fleet)
 
 pub returns-in-Err-clause-does : goal.returns-in-Err-clause-does
 returns-in-Err-clause-does g c a = stops (fleet_in c.args.name.now) (with_fleet c.args.options.now)
@@ -37,9 +37,9 @@ returns-in-Err-load_files-clause-does g c a =
     let options = c.args.options.now in
     let stop = c.in-Err-load_files.stop in
     goes_on (fleet_in c.args.name.now) (with_fleet options) fleet (c.in-Ok.ensures.does a)
-    (stops (files_in [] (mentioned fleet)) (with_files options fleet) stop
-    (not_through [] (mentioned fleet) stop
-    (through_from c.new-files.result.0 (named c.load_files.new.files.0) (mentioned fleet)
+    (stops (files_in [] (all_files fleet)) (with_files options fleet) stop
+    (not_through [] (all_files fleet) stop
+    (through_from c.new-files.result.0 (named c.load_files.new.files.0) (all_files fleet)
     (g.W.World.told c.load_fleet.new.world) (g.W.World.told c.load_files.new.world) (Err stop)
     c.new-files.ensures c.in-Err-load_files.ensures) a))
 
@@ -51,9 +51,9 @@ returns-in-Err-programs_in-clause-does g c a =
     let stop = c.in-Err-programs_in.stop in
     let now = with_world (g.W.World.told c.load_files.new.world) a in
     goes_on (fleet_in c.args.name.now) (with_fleet options) fleet (c.in-Ok.ensures.does a)
-    (goes_on (files_in [] (mentioned fleet)) (with_files options fleet) files
-    (all_through files (mentioned fleet)
-    (through_from c.new-files.result.0 files (mentioned fleet)
+    (goes_on (files_in [] (all_files fleet)) (with_files options fleet) files
+    (all_through files (all_files fleet)
+    (through_from c.new-files.result.0 files (all_files fleet)
     (g.W.World.told c.load_fleet.new.world) (g.W.World.told c.load_files.new.world) (Ok tt)
     c.new-files.ensures c.in-Ok-load_files.ensures) a)
     (stops (programs_in options files) (with_programs fleet files) stop
@@ -68,9 +68,9 @@ returns-clause-does g c a =
     let programs = c.in-Ok-programs_in.programs in
     let now = with_world (g.W.World.told c.load_files.new.world) a in
     goes_on (fleet_in c.args.name.now) (with_fleet options) fleet (c.in-Ok.ensures.does a)
-    (goes_on (files_in [] (mentioned fleet)) (with_files options fleet) files
-    (all_through files (mentioned fleet)
-    (through_from c.new-files.result.0 files (mentioned fleet)
+    (goes_on (files_in [] (all_files fleet)) (with_files options fleet) files
+    (all_through files (all_files fleet)
+    (through_from c.new-files.result.0 files (all_files fleet)
     (g.W.World.told c.load_fleet.new.world) (g.W.World.told c.load_files.new.world) (Ok tt)
     c.new-files.ensures c.in-Ok-load_files.ensures) a)
     (goes_on (programs_in options files) (with_programs fleet files) programs
@@ -87,8 +87,8 @@ returns-clause-whole g c =
       rules = c.in-Ok.ensures.rules.0;
       whole = c.in-Ok.ensures.rules.1;
       within = c.in-Ok.ensures.rules.2;
-      read = all_read files (mentioned fleet)
-          (through_from c.new-files.result.0 files (mentioned fleet)
+      read = all_read files (all_files fleet)
+          (through_from c.new-files.result.0 files (all_files fleet)
           (g.W.World.told c.load_fleet.new.world) (g.W.World.told c.load_files.new.world) (Ok tt)
           c.new-files.ensures c.in-Ok-load_files.ensures);
       programs = subst (λ fs. names_in programs ≡ plugin_order (all_rows (named fs)))

@@ -1,7 +1,7 @@
 use Rattle.std.proofs.Common.{sym, subst}
-use Rattle.kr_top.specs.Around.{with_told_input}
 use Rattle.kr_top.specs.Commands.{input_of, show}
 use Rattle.kr_top.specs.Inspect.{Inspects}
+use Rattle.kr_top.specs.inner.Lent.{with_told_input}
 use Rattle.kr_top.specs.inner.Phases.{Does, Yields}
 use Rattle.kr_top.specs.declared.command.Direction.TheVariants.{Decrypt}
 use Rattle.kr_top.proofs.Goes.{goes_on, stops, shows}

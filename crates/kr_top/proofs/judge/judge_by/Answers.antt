@@ -2,9 +2,10 @@
 use Rattle.std.proofs.Common.{[], Ok, Err, subst, arith}
 use Rattle.kr_config.specs.Kept.{rows_of}
 use Rattle.kr_rollout.specs.Openings.{rows_in}
-use Rattle.kr_top.specs.Around.{with_world, with_tapes}
+use Rattle.kr_top.specs.Around.{with_world}
 use Rattle.kr_top.specs.Command.{replica_names, reload_in, reload_number, reload_file}
 use Rattle.kr_top.specs.Commands.{configuration, configurations, judging_at}
+use Rattle.kr_top.specs.inner.Lent.{with_tapes}
 use Rattle.kr_top.specs.inner.Phases.{Does}
 use Rattle.kr_top.proofs.Goes.{goes_on, stops, by_bytes}
 use Rattle.kr_top.proofs.Judging.{read_then}

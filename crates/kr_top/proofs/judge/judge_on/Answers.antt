@@ -1,8 +1,9 @@
 use Rattle.std.specs.Prelude.{Some}
 use Rattle.std.specs.Option.{option_map}
 use Rattle.kr_kms.specs.Outside.{same_name}
-use Rattle.kr_top.specs.Around.{with_world, with_lent, with_lent_tape}
+use Rattle.kr_top.specs.Around.{with_world, with_lent}
 use Rattle.kr_top.specs.Commands.{stored_on, judging_by}
+use Rattle.kr_top.specs.inner.Lent.{with_lent_tape}
 use Rattle.kr_top.specs.inner.Tapes.{stored_of}
 use Rattle.kr_top.specs.declared.refusal.Object.TheVariants.{Store}
 use Rattle.kr_top.proofs.Goes.{goes_on, stops}

@@ -1,7 +1,7 @@
 -- The store is loaded, and the path looked up in its rows.
 use Rattle.kr_store.specs.Rows.{live}
-use Rattle.kr_top.specs.Around.{with_lent_tape}
 use Rattle.kr_top.specs.Commands.{by_result, row_found, stored_on, with_memory}
+use Rattle.kr_top.specs.inner.Lent.{with_lent_tape}
 use Rattle.kr_top.specs.inner.Tapes.{stored_of}
 use Rattle.kr_top.specs.declared.refusal.Object.TheVariants.{Store}
 use Rattle.kr_top.proofs.Found.{looks_up}

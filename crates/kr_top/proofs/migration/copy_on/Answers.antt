@@ -1,9 +1,9 @@
 -- `copy_on`: the target is loaded, and the rows are copied.
 use Rattle.std.proofs.Common.{map, sym, subst}
 use Rattle.kr_config.specs.Kept.{rows_of}
-use Rattle.kr_top.specs.Around.{with_lent_tape}
 use Rattle.kr_top.specs.Commands.{copied_into, copying, migrated_line, migrated_row, silently, target_on}
 use Rattle.kr_top.specs.Steps.{and_then, give}
+use Rattle.kr_top.specs.inner.Lent.{with_lent_tape}
 use Rattle.kr_top.specs.inner.Phases.{Does}
 use Rattle.kr_top.specs.inner.Tapes.{stored_of}
 use Rattle.kr_top.proofs.Goes.{goes_on, stops}

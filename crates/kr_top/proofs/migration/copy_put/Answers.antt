@@ -4,7 +4,7 @@ use Rattle.std.specs.Prelude.{IfOk}
 use Rattle.kr_base.specs.Limits.{value_limit}
 use Rattle.kr_base.specs.Rules.{IsPath, IsResource}
 use Rattle.kr_config.specs.Kept.{rows_of}
-use Rattle.kr_top.specs.Around.{with_lent_tape}
+use Rattle.kr_top.specs.inner.Lent.{with_lent_tape}
 use Rattle.kr_top.specs.inner.Migrating.{migrated_put}
 use Rattle.kr_top.specs.inner.Tapes.{HasOneMore, stored_of}
 use Rattle.kr_top.proofs.Copying.{as_line, lacks_row, line_is}

@@ -1,7 +1,7 @@
 -- `load_empty`: a store that was read, and has no bytes.
 use Rattle.std.proofs.Common.{arith}
-use Rattle.kr_top.specs.Around.{with_lent_tape}
 use Rattle.kr_top.specs.Commands.{target_read}
+use Rattle.kr_top.specs.inner.Lent.{with_lent_tape}
 use Rattle.kr_top.proofs.Loading.{as_closed}
 use Rattle.kr_top.proofs.Migrating.{target_filled, target_given, target_new, target_stops}
 use Rattle.kr_top.proofs.migration.load_empty.Goals as goal

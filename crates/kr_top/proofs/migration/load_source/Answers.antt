@@ -1,7 +1,7 @@
 -- `load_source`: a store that was read, and has no bytes of the second format.
 use Rattle.std.proofs.Common.{sym, ◌∙◌}
-use Rattle.kr_top.specs.Around.{with_lent_tape}
 use Rattle.kr_top.specs.Commands.{source_on}
+use Rattle.kr_top.specs.inner.Lent.{with_lent_tape}
 use Rattle.kr_top.proofs.Loading.{as_closed}
 use Rattle.kr_top.proofs.Migrating.{source_given, source_new, source_stops}
 use Rattle.kr_top.proofs.migration.load_source.Goals as goal

@@ -1,8 +1,9 @@
 -- `migrate_from`: the source is loaded, and its tape is out until the target's is back.
 use Rattle.kr_config.specs.Kept.{rows_of}
-use Rattle.kr_top.specs.Around.{with_lent_tape, with_world}
+use Rattle.kr_top.specs.Around.{with_world}
 use Rattle.kr_top.specs.Commands.{migrating_into, source_on}
 use Rattle.kr_top.specs.Steps.{and_then}
+use Rattle.kr_top.specs.inner.Lent.{with_lent_tape}
 use Rattle.kr_top.specs.inner.Tapes.{stored_of}
 use Rattle.kr_top.proofs.Goes.{goes_on, stops}
 use Rattle.kr_top.proofs.Loading.{as_closed}

@@ -2,8 +2,9 @@
 use Rattle.std.proofs.Common.{◌≡◌, false, true, sym, subst, ap, arith}
 use Rattle.kr_config.specs.Kept.{rows_of}
 use Rattle.kr_kms.specs.Outside.{same_name}
-use Rattle.kr_top.specs.Around.{with_lent_tape, with_world}
+use Rattle.kr_top.specs.Around.{with_world}
 use Rattle.kr_top.specs.Commands.{migrating_into}
+use Rattle.kr_top.specs.inner.Lent.{with_lent_tape}
 use Rattle.kr_top.specs.inner.Tapes.{stored_of}
 use Rattle.kr_top.proofs.Goes.{by_bytes}
 use Rattle.kr_top.proofs.Tapes.{is_out}

@@ -1,9 +1,9 @@
 -- `write_output`: a value is written, whatever would have been said; or what was said.
 use Rattle.std.proofs.Common.{◌≡◌, ℕ, List, Result, Err, refl, sym, subst}
 use Rattle.kr_top.specs.Ran.{Receipt, Reports, receipt, Writes}
-use Rattle.kr_top.specs.Reports.{said_text}
 use Rattle.kr_top.specs.declared.refusal.Outcome.{Outcome}
 use Rattle.kr_top.specs.declared.refusal.Stop.{Stop}
+use Rattle.kr_top.specs.inner.Reporting.{said_text}
 use Rattle.kr_top.proofs.phases.write_output.Goals as goal
 
 pub returns-in-Ok-clause-written : goal.returns-in-Ok-clause-written

@@ -1,8 +1,9 @@
 -- `write_said`: a report isn't empty.
 use Rattle.std.proofs.Common.{◌≡◌, Option, None, Some, Result, Ok, Err, refl, sym, subst, inl, inr}
 use Rattle.kr_top.specs.Ran.{Receipt, IsIdle, Reports}
-use Rattle.kr_top.specs.Reports.{report_text, said_text}
+use Rattle.kr_top.specs.Reports.{report_text}
 use Rattle.kr_top.specs.inner.Phases.{Says}
+use Rattle.kr_top.specs.inner.Reporting.{said_text}
 use Rattle.kr_top.specs.declared.report.Counts.{Counts}
 use Rattle.kr_top.proofs.phases.write_said.Goals as goal
 

@@ -4,11 +4,12 @@ use Rattle.kr_config.specs.Kept.{rows_of}
 use Rattle.kr_provider.specs.Names.{names_of}
 use Rattle.kr_provider.specs.PluginOrder.{plugin_order}
 use Rattle.kr_store.specs.Stores.{Kept}
-use Rattle.kr_top.specs.Around.{with_world, with_tapes}
-use Rattle.kr_top.specs.Commands.{driving, begun, rewriting_by, starting}
+use Rattle.kr_top.specs.Around.{with_world}
+use Rattle.kr_top.specs.Commands.{driving, nothing_done, rewriting_by, starting}
 use Rattle.kr_top.specs.Plugins.{borrow_links, make_seeds}
 use Rattle.kr_top.specs.Steps.{and_then}
 use Rattle.kr_top.specs.declared.refusal.Stop.TheVariants.{NoMemory}
+use Rattle.kr_top.specs.inner.Lent.{with_tapes}
 use Rattle.kr_top.specs.inner.Phases.{Does}
 use Rattle.kr_top.specs.inner.Reporting.{saying}
 use Rattle.kr_top.specs.inner.Tapes.{stored_of}
@@ -75,7 +76,7 @@ returns-in-Err-add-clause-ended g t c = λ name tapes a live truth is.
     c.as_str-2.result.now c.in-Some.ensures c.as_str.ensures c.as_str-2.ensures
     (none_added link a (and_then (make_seeds (plugin_order rows)) (λ seeds.
     and_then (starting store.rows rows) (λ u.
-    driving name (record { rows = rows; seeds = seeds }) live (begun (stored_of store)))))
+    driving name (record { rows = rows; seeds = seeds }) live (nothing_done (stored_of store)))))
     c.in-Some.more.now c.args.links c.add.new.self c.in-Ok.link c.in-Err-add.link left faults
     (link_apart before c.in-Ok.ensures.lent) (link_back_apart before c.close_link.ensures)
     c.in-Err-add.ensures.err c.in-Err-add.ensures.returned)))

@@ -9,7 +9,7 @@ use Rattle.kr_rollout.specs.Callers.{holding}
 use Rattle.kr_rollout.specs.Calls.{AreServed}
 use Rattle.kr_rollout.specs.Entries.{seat_of}
 use Rattle.kr_rollout.specs.declared.opening.Entry.{Entry}
-use Rattle.kr_top.specs.Commands.{begun}
+use Rattle.kr_top.specs.Commands.{nothing_done}
 use Rattle.kr_top.specs.inner.Rewriting.{IsReported, counts_of, opened_store}
 use Rattle.kr_top.proofs.CutShorts.{may_stop}
 use Rattle.kr_top.proofs.DroveAll.{begins, cut_with, drove_all, drove_some, has_room, opens_all, over_core}
@@ -71,7 +71,7 @@ drive_stop-stop-requires g c =
     c.close-links.ensures.1 c.drive-driven.result (Err (c.in-Err.report, c.in-Err.why)) c.in-Err.is
     c.drive-driven.ensures.drives in
     may_stop truth link left count core.opening alone.p alone.reloads alone.within opens live
-    (begun (opened_store core)) (only_caller core) c.drive-driven.new.acts olds news dice after
+    (nothing_done (opened_store core)) (only_caller core) c.drive-driven.new.acts olds news dice after
     c.in-Err.report c.in-Err.why
     (begins truth link core alone known olds distinct live alone.p is alone.replicas)
     (has_room truth link core alone known olds distinct live alone.p is alone.replicas) driven

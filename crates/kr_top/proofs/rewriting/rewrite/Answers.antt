@@ -2,12 +2,13 @@
 use Rattle.std.proofs.Common.{◌≡◌, ◌<◌, ℕ, List, false, sym, subst}
 use Rattle.kr_config.specs.Kept.{Row, rows_of}
 use Rattle.kr_provider.specs.PluginOrder.{plugin_order}
-use Rattle.kr_top.specs.Around.{with_world, with_lent_tape}
+use Rattle.kr_top.specs.Around.{with_world}
 use Rattle.kr_top.specs.Commands.{configuration, linking_programs, rewriting, rewriting_on, tape_for}
 use Rattle.kr_top.specs.Steps.{Steps, and_then}
 use Rattle.kr_top.specs.declared.command.Rewriting.{Rewriting}
 use Rattle.kr_top.specs.declared.programs.Program.{Program}
 use Rattle.kr_top.specs.declared.refusal.Outcome.{Outcome}
+use Rattle.kr_top.specs.inner.Lent.{with_lent_tape}
 use Rattle.kr_top.specs.inner.Phases.{Does}
 use Rattle.kr_top.specs.inner.Reporting.{saying}
 use Rattle.kr_top.proofs.Goes.{goes_on, stops, by_bytes}

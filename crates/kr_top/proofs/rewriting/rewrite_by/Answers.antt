@@ -11,9 +11,9 @@ use Rattle.kr_provider.specs.Publication.{Publication}
 use Rattle.kr_provider.proofs.AskedLists.{names_stay}
 use Rattle.kr_rollout.specs.Cores.{CoreState}
 use Rattle.kr_store.specs.Stores.{IsListing}
-use Rattle.kr_top.specs.Around.{with_lent_tape}
 use Rattle.kr_top.specs.declared.refusal.Stop.TheVariants.{NoMemory}
 use Rattle.kr_rollout.specs.Starts.{MayStart, IsNoStart}
+use Rattle.kr_top.specs.inner.Lent.{with_lent_tape}
 use Rattle.kr_top.specs.inner.Phases.{Does}
 use Rattle.kr_top.specs.inner.Tapes.{stored_of}
 use Rattle.kr_top.proofs.Linked.{all_linked}

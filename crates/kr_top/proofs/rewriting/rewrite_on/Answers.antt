@@ -3,7 +3,7 @@ use Rattle.std.proofs.Common.{◌≡◌, ◌++◌, ◌<◌, sym, ◌∙◌, ap, 
 use Rattle.kr_config.specs.Kept.{rows_of}
 use Rattle.kr_provider.specs.Names.{names_of}
 use Rattle.kr_provider.specs.PluginOrder.{plugin_order}
-use Rattle.kr_top.specs.Around.{with_world, with_tapes, with_lent_tape}
+use Rattle.kr_top.specs.Around.{with_world}
 use Rattle.kr_top.specs.Commands.{rewriting_by, rewriting_on, stored_on}
 use Rattle.kr_top.specs.Plugins.{borrow_links}
 use Rattle.kr_top.specs.Steps.{borrow_dice}
@@ -11,6 +11,7 @@ use Rattle.kr_top.specs.declared.refusal.Limit.TheVariants as limit
 use Rattle.kr_top.specs.declared.refusal.Object.TheVariants.{Store}
 use Rattle.kr_top.specs.declared.refusal.Refusal.TheVariants.{Limit}
 use Rattle.kr_top.specs.declared.refusal.Stop.TheVariants.{Refused, NoMemory}
+use Rattle.kr_top.specs.inner.Lent.{with_tapes, with_lent_tape}
 use Rattle.kr_top.specs.inner.Phases.{Does}
 use Rattle.kr_top.specs.inner.Reporting.{saying}
 use Rattle.kr_top.specs.inner.Tapes.{stored_of}

@@ -1,7 +1,7 @@
 use Rattle.std.proofs.Common.{sym, subst}
-use Rattle.kr_top.specs.Around.{with_lent_tape}
 use Rattle.kr_top.specs.Commands.{stored_on, show}
 use Rattle.kr_top.specs.RowLines.{ShowsRows}
+use Rattle.kr_top.specs.inner.Lent.{with_lent_tape}
 use Rattle.kr_top.specs.inner.Phases.{Does}
 use Rattle.kr_top.specs.inner.Tapes.{stored_of}
 use Rattle.kr_top.specs.declared.refusal.Object.TheVariants.{Store}

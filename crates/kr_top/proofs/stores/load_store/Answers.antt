@@ -1,6 +1,6 @@
 use Rattle.std.proofs.Common.{Err, sym, ◌∙◌, ap, subst}
-use Rattle.kr_top.specs.Around.{with_lent_tape}
 use Rattle.kr_top.specs.Commands.{stored_on}
+use Rattle.kr_top.specs.inner.Lent.{with_lent_tape}
 use Rattle.kr_top.specs.inner.Phases.{Does}
 use Rattle.kr_top.specs.inner.Tapes.{load_stop}
 use Rattle.kr_top.proofs.Loading.{gives_store, refuses_store}

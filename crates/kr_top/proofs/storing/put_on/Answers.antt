@@ -9,7 +9,7 @@ use Rattle.kr_config.specs.Lists.{list_of}
 use Rattle.kr_kms.specs.Outside.{same_name}
 use Rattle.kr_provider.specs.Readers.{writer_of}
 use Rattle.kr_store.specs.Rows.{check_in, put_of}
-use Rattle.kr_top.specs.Around.{with_lent, with_lent_tape, with_world}
+use Rattle.kr_top.specs.Around.{with_lent, with_world}
 use Rattle.kr_rollout.specs.Checks.{store_check}
 use Rattle.kr_top.specs.Commands.{adding, bench_steps, new_row, revision_line, sealed_into, silently, stored_on}
 use Rattle.kr_top.specs.Steps.{Steps, and_then, give}
@@ -19,6 +19,7 @@ use Rattle.kr_top.specs.declared.command.Direction.TheVariants.{Encrypt}
 use Rattle.kr_top.specs.declared.refusal.Object.TheVariants.{Store}
 use Rattle.kr_top.specs.declared.refusal.Outcome.{Outcome}
 use Rattle.kr_top.specs.declared.refusal.Stop.TheVariants.{NoMemory}
+use Rattle.kr_top.specs.inner.Lent.{with_lent_tape}
 use Rattle.kr_top.specs.inner.Phases.{Does}
 use Rattle.kr_top.specs.inner.Tapes.{stored_of}
 use Rattle.kr_top.proofs.Adding.{put_answers}

@@ -3,10 +3,11 @@ use Rattle.std.proofs.Common.{◌≡◌, ◌++◌, subst, sym, ap, ◌∙◌}
 use Rattle.kr_config.specs.Kept.{rows_of}
 use Rattle.kr_provider.specs.Names.{names_of}
 use Rattle.kr_provider.specs.PluginOrder.{plugin_order}
-use Rattle.kr_top.specs.Around.{with_world, with_tapes}
+use Rattle.kr_top.specs.Around.{with_world}
 use Rattle.kr_top.specs.Commands.{working, working_by}
 use Rattle.kr_top.specs.Plugins.{make_seeds}
 use Rattle.kr_top.specs.Steps.{and_then}
+use Rattle.kr_top.specs.inner.Lent.{with_tapes}
 use Rattle.kr_top.proofs.Apart.{files_apart, objects_apart, link_apart, link_back_apart}
 use Rattle.kr_top.proofs.Linked.{all_back, at_end, at_first, borrows, is_new, is_out, none_added, none_borrowed, same_last, some_named}
 use Rattle.kr_top.proofs.NamedPrograms.{names_in}

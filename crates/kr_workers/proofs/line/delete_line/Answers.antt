@@ -3,7 +3,7 @@ use Rattle.std.proofs.Common.{ap, subst, sym, ◌∙◌}
 use Rattle.kr_base.specs.Rules.{IsPath}
 use Rattle.kr_script.specs.declared.script.ScriptLine.TheVariants as line
 use Rattle.kr_workers.specs.Replies.{told_of_delete}
-use Rattle.kr_workers.specs.Serving.{Serves}
+use Rattle.kr_workers.specs.inner.Serving.{Serves}
 use Rattle.kr_workers.proofs.OneLine.{serves_delete}
 use Rattle.kr_workers.proofs.line.delete_line.Goals as goal
 

@@ -8,7 +8,7 @@ use Rattle.kr_turn.specs.Seats.{AreFresh}
 use Rattle.kr_turn.specs.declared.view.Terms.{Terms}
 use Rattle.kr_workers.specs.Budgets.{budgets_of, put_lines, reloads_of}
 use Rattle.kr_workers.specs.Histories.{IsOneHistory}
-use Rattle.kr_workers.specs.Workers.{IsReadyWorker}
+use Rattle.kr_workers.specs.inner.SeatedWorkers.{IsReadyWorker}
 use Rattle.kr_workers.proofs.Assembling.{all_ready, as_many, back_all, budgets_many, done_seated, have_worked, none_seated_now, none_yet, one_history, seated_long, seats_long, some_seated}
 use Rattle.kr_workers.proofs.team.run_fleet.Goals as goal
 

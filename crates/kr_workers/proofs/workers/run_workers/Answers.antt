@@ -2,7 +2,7 @@
 use Rattle.std.proofs.Common.{◌<◌, ◌++◌, length, List, drop, take, subst, sym, ◌∙◌}
 use Rattle.std.specs.Prelude.{All}
 use Rattle.std.proofs.lemmas.List.{take_at}
-use Rattle.kr_workers.specs.Workers.{IsReadyWorker}
+use Rattle.kr_workers.specs.inner.SeatedWorkers.{IsReadyWorker}
 use Rattle.kr_workers.specs.declared.worker.Worker.{Worker}
 use Rattle.kr_workers.proofs.Working.{worked_at}
 use Rattle.kr_workers.proofs.workers.run_workers.Goals as goal

@@ -5,7 +5,8 @@ use Rattle.std.specs.List.{list_any}
 use Rattle.kr_config.specs.declared.class.Class.{Class}
 use Rattle.kr_config.specs.declared.class.Class.TheVariants.{Rest}
 use Rattle.kr_config.specs.Kept.{rows_of}
-use Rattle.kr_config.specs.Classes.{classes_in, IsTableOf, or_rest, is_rest}
+use Rattle.kr_config.specs.Classes.{classes_in, IsTableOf, is_rest}
+use Rattle.kr_config.specs.inner.ClassTables.{or_rest}
 use Rattle.kr_config.proofs.ClassTables.{table_added, rest_again, rest_kept}
 use Rattle.kr_config.proofs.class_table.ClassTable.add.Goals as goal
 

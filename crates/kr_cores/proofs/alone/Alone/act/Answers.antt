@@ -1,6 +1,6 @@
 -- `act`: the hand stays what its seat's own entries say.
 use Rattle.std.proofs.Common.{◌∙◌}
-use Rattle.kr_cores.specs.Hands.{taken}
+use Rattle.kr_cores.specs.Hands.{hand_after}
 use Rattle.kr_cores.proofs.Hands.{caller_acted, caller_stays}
 use Rattle.kr_cores.proofs.alone.Alone.act.Goals as goal
 
@@ -13,5 +13,5 @@ invariant_of-self-2 c = caller_acted c.args.self.now c.self.inside.solo c.act.ne
     c.args.event c.in_ok-answer.answer c.self.inside.hand c.take.new.self c.self.view_is c.requires
     c.in_ok-answer.ensures.acted
     (c.take.ensures
-    ∙ (λ i. taken (c.kind_of-kind.ensures i) (c.gain_of.ensures i) c.self.inside.hand))
+    ∙ (λ i. hand_after (c.kind_of-kind.ensures i) (c.gain_of.ensures i) c.self.inside.hand))
     c.self.invariant

@@ -1,3 +1,4 @@
+-- An object is read item by item.
 use Rattle.kr_envelope.specs.inner.Reading.{item_of}
 use Rattle.kr_envelope.proofs.Items.{is_nothing}
 use Rattle.kr_envelope.proofs.Objects.{walk_begun, walk_more, walk_ended}

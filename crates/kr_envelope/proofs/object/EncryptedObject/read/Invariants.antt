@@ -1,3 +1,4 @@
+-- The items so far made this part of the object.
 use Rattle.std.proofs.Common.{length}
 use Rattle.kr_envelope.specs.inner.Reading.{Walks}
 use Rattle.kr_envelope.proofs.object.EncryptedObject.read.Given as goal

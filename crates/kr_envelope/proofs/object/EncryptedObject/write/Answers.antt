@@ -1,3 +1,4 @@
+-- What was written is read back.
 use Rattle.std.proofs.Common.{◌∙◌}
 use Rattle.kr_envelope.proofs.RoundTrip.{read_back}
 use Rattle.kr_envelope.proofs.object.EncryptedObject.write.Goals as goal

@@ -1,3 +1,4 @@
+-- The object that was written is one that can be read.
 use Rattle.std.proofs.Common.{◌<◌, ◌^◌, List, ℕ, length, subst}
 use Rattle.std.specs.Str.{IsUtf8}
 use Rattle.std.specs.List.{All}

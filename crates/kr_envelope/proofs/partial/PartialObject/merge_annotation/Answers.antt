@@ -1,3 +1,4 @@
+-- Where there are too many annotations, there stay too many.
 use Rattle.kr_envelope.proofs.Objects.{still_crowded}
 use Rattle.kr_envelope.proofs.partial.PartialObject.merge_annotation.Goals as goal
 

@@ -1,3 +1,4 @@
+-- What is moved to the front is what stood behind.
 use Rattle.std.proofs.Common.{◌≡◌, ◌-◌, ◌≤◌, length, take, drop, sym, ap, ◌∙◌, arith}
 use Rattle.std.proofs.lemmas.List.{length-take-le}
 use Rattle.kr_keywrap.proofs.Lines.{front_moved}

@@ -1,5 +1,5 @@
 -- A kept seed, or the link's answer.
-use Rattle.std.proofs.Common.{◌≡◌, ℕ, List, Ok, Err, None, inl, ap, subst, ◌∙◌}
+use Rattle.std.proofs.Common.{◌≡◌, ℕ, List, Ok, Err, None, inl, ap, subst, ◌∙◌, rules}
 use Rattle.kr_kms.specs.Cache.{Fetches, seed_at}
 use Rattle.kr_kms.specs.Calls.{asked_key}
 use Rattle.kr_kms.specs.inner.Keeping.{AreAmongWith}
@@ -19,8 +19,8 @@ returns-in-Some g c =
     (gives_kept g.L.Kms.truth link old c.args.self.now c.copy_of.new.self c.in-Ok.key
     c.in-Some.kept c.in-Some.ensures.found copied.rows copied.size copied.fits)
 
-pub returns-in-Err : goal.returns-in-Err
-returns-in-Err g c =
+pub returns-in_err-seed : goal.returns-in_err-seed
+returns-in_err-seed g c =
     let link = g.L.Kms.link in
     let old = c.args.link.now in
     let rows = c.args.self.now.rows in
@@ -30,17 +30,17 @@ returns-in-Err g c =
     let none : seed_at rows (named (link old).name) ≡ None =
     subst (λ key. seed_at rows key ≡ None) same c.in_default-copy_of.ensures.found in
     let copied = c.copy_of.ensures in
-    gives_answer g.L.Kms.truth link old c.unwrap_source.new.self c.args.self.now
+    let stop = gives_answer g.L.Kms.truth link old c.unwrap_source.new.self c.args.self.now
     c.copy_of.new.self c.args.key_id.now c.args.annotations.now c.args.source.now
-    (Err c.in-Err.why) none c.in-Err.ensures
-    (λ other seed there. inl (copied.rows other seed there)) copied.size copied.fits
+    (Err c.in_err-seed.field-0.0) none c.in_err-seed.ensures
+    (λ other seed there. inl (copied.rows other seed there)) copied.size copied.fits in search (rules, stop)
 
 pub returns : goal.returns
 returns g c =
     let link = g.L.Kms.link in
     let old = c.args.link.now in
     let rows = c.args.self.now.rows in
-    let seed = c.in-Ok-unwrap_source.seed in
+    let seed = c.in_ok-seed.seed in
     let named = λ (name : List ℕ).
     asked_key name c.args.key_id.now c.args.annotations.now c.args.source.now in
     let same : c.in-Ok.key ≡ named (link old).name = c.in-Ok.ensures ∙ ap named c.name.ensures in
@@ -50,7 +50,7 @@ returns g c =
     let copied = c.copy_of.ensures in
     gives_answer g.L.Kms.truth link old c.unwrap_source.new.self c.args.self.now c.keep.new.self
     c.args.key_id.now c.args.annotations.now c.args.source.now (Ok seed) none
-    c.in-Ok-unwrap_source.ensures
+    c.in_ok-seed.ensures
     (rows_with rows c.copy_of.new.self.rows c.keep.new.self.rows (named (link old).name) seed
     copied.rows
     (subst (λ key. AreAmongWith c.copy_of.new.self.rows key seed c.keep.new.self.rows) same

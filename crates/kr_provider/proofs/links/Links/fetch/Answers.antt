@@ -6,30 +6,25 @@ use Rattle.kr_kms.specs.Calls.{IsSameLink, asked_key}
 use Rattle.kr_kms.specs.Cache.{Fetches}
 use Rattle.kr_provider.specs.AskedLinks.{AsksOne}
 use Rattle.kr_provider.specs.Names.{names_of}
-use Rattle.kr_provider.proofs.AskedLists.{asked_alone, asks_at, distinct_stay, place_named, place_there}
-use Rattle.kr_kms.proofs.Lent.{no_place}
+use Rattle.kr_provider.proofs.AskedLists.{asked_alone, asks_at, distinct_stay, place_named}
 use Rattle.kr_provider.proofs.links.Links.fetch.Goals as goal
 
-pub unreachable-requires : goal.unreachable-requires
-unreachable-requires g c =
-    let test : g.row.L.Denot → Bool = λ l. bytes_eq (g.L.Kms.link l).name c.args.name.now in
-    place_there g.L.Kms.link c.args.name.now c.self.inside.items.items
-    (subst (λ l. Contains (names_of g.L.Kms.link l) c.args.name.now) (sym c.self.view_is) c.requires)
-    (no_place test c.self.inside.items.items (ap (position test) (sym c.as_slice.ensures.value)
-    ∙ sym c.place_in.ensures ∙ c.in_default.is))
+pub place_of-at-requires : goal.place_of-at-requires
+place_of-at-requires g c = subst (λ l. Contains (names_of g.L.Kms.link l) c.args.name.now)
+    (sym c.self.view_is ∙ sym c.as_slice.ensures.value) c.requires
 
 pub invariant_of-self : goal.invariant_of-self
 invariant_of-self g c =
     let test : g.row.L.Denot → Bool = λ l. bytes_eq (g.L.Kms.link l).name c.args.name.now in
     let same : g.row.L.Denot → g.row.L.Denot → Type 0 = λ old new.
     IsSameLink (g.L.Kms.link old) (g.L.Kms.link new) in
-    let place = ap (position test) (sym c.as_slice.ensures.value) ∙ sym c.place_in.ensures
-    ∙ c.in-Some.is in
+    let place = ap (position test) (sym c.as_slice.ensures.value)
+    ∙ c.place_of-at.ensures.place in
     let items = c.self.inside.items.items in
-    let news = slice_set items c.in-Some.at c.fetch.new.link in
+    let news = slice_set items c.place_of-at.result c.fetch.new.link in
     distinct_stay g.L.Kms.link (c.args.name.now ∷ []) items news
     (asked_alone g.L.Kms.link c.args.name.now same items news
-    (asks_at g.L.Kms.link c.args.name.now same items news c.in-Some.at c.index_mut.result.now
+    (asks_at g.L.Kms.link c.args.name.now same items news c.place_of-at.result c.index_mut.result.now
     c.fetch.new.link place c.index_mut.ensures.value refl
     c.fetch.ensures.asks.same c.fetch.ensures.asks.same)) c.self.invariant
 
@@ -37,15 +32,15 @@ pub returns : goal.returns
 returns g c =
     let test : g.row.L.Denot → Bool = λ l. bytes_eq (g.L.Kms.link l).name c.args.name.now in
     let asks : g.row.L.Denot → g.row.L.Denot → Type 0 = λ old new. Fetches g.L.Kms.truth g.L.Kms.link old c.args.cache.now (asked_key c.args.name.now c.args.object.now.key_id c.args.object.now.annotations c.args.object.now.source) c.fetch.result new c.fetch.new.self in
-    let place = ap (position test) (sym c.as_slice.ensures.value) ∙ sym c.place_in.ensures
-    ∙ c.in-Some.is in
+    let place = ap (position test) (sym c.as_slice.ensures.value)
+    ∙ c.place_of-at.ensures.place in
     let items = c.self.inside.items.items in
-    let news = slice_set items c.in-Some.at c.fetch.new.link in
+    let news = slice_set items c.place_of-at.result c.fetch.new.link in
     subst (λ l. AsksOne g.L.Kms.link c.args.name.now asks l news) c.self.view_is
-    (asks_at g.L.Kms.link c.args.name.now asks items news c.in-Some.at c.index_mut.result.now
+    (asks_at g.L.Kms.link c.args.name.now asks items news c.place_of-at.result c.index_mut.result.now
     c.fetch.new.link place c.index_mut.ensures.value refl
     c.fetch.ensures.asks.same (subst (λ k. Fetches g.L.Kms.truth g.L.Kms.link c.index_mut.result.now c.args.cache.now k
     c.fetch.result c.fetch.new.link c.fetch.new.self) (λ i. asked_key
-    (place_named g.L.Kms.link c.args.name.now items c.in-Some.at c.index_mut.result.now place
+    (place_named g.L.Kms.link c.args.name.now items c.place_of-at.result c.index_mut.result.now place
     c.index_mut.ensures.value i) (c.as_str.ensures i)
     c.args.object.now.annotations (c.as_slice-2.ensures i)) c.fetch.ensures))

@@ -6,30 +6,25 @@ use Rattle.kr_kms.specs.Calls.{IsSameLink}
 use Rattle.kr_kms.specs.Health.{TellsKeyId}
 use Rattle.kr_provider.specs.AskedLinks.{AsksOne}
 use Rattle.kr_provider.specs.Names.{names_of}
-use Rattle.kr_provider.proofs.AskedLists.{asked_alone, asks_at, distinct_stay, place_there}
-use Rattle.kr_kms.proofs.Lent.{no_place}
+use Rattle.kr_provider.proofs.AskedLists.{asked_alone, asks_at, distinct_stay}
 use Rattle.kr_provider.proofs.links.Links.key_id.Goals as goal
 
-pub unreachable-requires : goal.unreachable-requires
-unreachable-requires g c =
-    let test : g.row.L.Denot → Bool = λ l. bytes_eq (g.L.Kms.link l).name c.args.name.now in
-    place_there g.L.Kms.link c.args.name.now c.self.inside.items.items
-    (subst (λ l. Contains (names_of g.L.Kms.link l) c.args.name.now) (sym c.self.view_is) c.requires)
-    (no_place test c.self.inside.items.items (ap (position test) (sym c.as_slice.ensures.value)
-    ∙ sym c.place_in.ensures ∙ c.in_default.is))
+pub place_of-at-requires : goal.place_of-at-requires
+place_of-at-requires g c = subst (λ l. Contains (names_of g.L.Kms.link l) c.args.name.now)
+    (sym c.self.view_is ∙ sym c.as_slice.ensures.value) c.requires
 
 pub invariant_of-self : goal.invariant_of-self
 invariant_of-self g c =
     let test : g.row.L.Denot → Bool = λ l. bytes_eq (g.L.Kms.link l).name c.args.name.now in
     let same : g.row.L.Denot → g.row.L.Denot → Type 0 = λ old new.
     IsSameLink (g.L.Kms.link old) (g.L.Kms.link new) in
-    let place = ap (position test) (sym c.as_slice.ensures.value) ∙ sym c.place_in.ensures
-    ∙ c.in-Some.is in
+    let place = ap (position test) (sym c.as_slice.ensures.value)
+    ∙ c.place_of-at.ensures.place in
     let items = c.self.inside.items.items in
-    let news = slice_set items c.in-Some.at c.key_id_of.new.link in
+    let news = slice_set items c.place_of-at.result c.key_id_of.new.link in
     distinct_stay g.L.Kms.link (c.args.name.now ∷ []) items news
     (asked_alone g.L.Kms.link c.args.name.now same items news
-    (asks_at g.L.Kms.link c.args.name.now same items news c.in-Some.at c.index_mut.result.now
+    (asks_at g.L.Kms.link c.args.name.now same items news c.place_of-at.result c.index_mut.result.now
     c.key_id_of.new.link place c.index_mut.ensures.value refl
     c.key_id_of.ensures.same c.key_id_of.ensures.same)) c.self.invariant
 
@@ -37,11 +32,11 @@ pub returns : goal.returns
 returns g c =
     let test : g.row.L.Denot → Bool = λ l. bytes_eq (g.L.Kms.link l).name c.args.name.now in
     let asks : g.row.L.Denot → g.row.L.Denot → Type 0 = λ old new. TellsKeyId (g.L.Kms.link old) c.key_id_of.result (g.L.Kms.link new) in
-    let place = ap (position test) (sym c.as_slice.ensures.value) ∙ sym c.place_in.ensures
-    ∙ c.in-Some.is in
+    let place = ap (position test) (sym c.as_slice.ensures.value)
+    ∙ c.place_of-at.ensures.place in
     let items = c.self.inside.items.items in
-    let news = slice_set items c.in-Some.at c.key_id_of.new.link in
+    let news = slice_set items c.place_of-at.result c.key_id_of.new.link in
     subst (λ l. AsksOne g.L.Kms.link c.args.name.now asks l news) c.self.view_is
-    (asks_at g.L.Kms.link c.args.name.now asks items news c.in-Some.at c.index_mut.result.now
+    (asks_at g.L.Kms.link c.args.name.now asks items news c.place_of-at.result c.index_mut.result.now
     c.key_id_of.new.link place c.index_mut.ensures.value refl
     c.key_id_of.ensures.same c.key_id_of.ensures.told)

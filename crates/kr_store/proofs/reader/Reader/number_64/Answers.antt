@@ -2,9 +2,11 @@
 use Rattle.std.proofs.Common.{sym, subst}
 use Rattle.std.proofs.lemmas.Nat.{be_bytes_8}
 use Rattle.kr_store.specs.inner.Reading.{Takes}
+use Rattle.kr_store.proofs.Steps.{was_read}
 use Rattle.kr_store.proofs.reader.Reader.number_64.Goals as goal
 
-pub returns-clause-read : goal.returns-clause-read
-returns-clause-read g c = subst (λ b. Takes c.args.self.now c.fill.new.self b)
+pub returns-clause-reads : goal.returns-clause-reads
+returns-clause-reads g c = was_read _ c.fill.new.self _ _ _ c.fill.ensures.advances.moves
+    (subst (λ b. Takes c.args.self.now c.fill.new.self b)
     (sym (be_bytes_8 c.fill.new.into c.from_be_bytes.result c.fill.auto.into c.known.ensures
-    c.from_be_bytes.ensures)) c.in_ok-fill.ensures.read
+    c.from_be_bytes.ensures)) c.in_ok-fill.ensures.read)

@@ -1,0 +1,3 @@
+-- Definitions that serve inner contracts alone.
+pub mod Listing
+pub mod Refusing

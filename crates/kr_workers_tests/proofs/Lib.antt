@@ -1,0 +1,4 @@
+-- Lemmas of the test.
+pub mod Beginning
+pub mod Naming
+pub mod Working

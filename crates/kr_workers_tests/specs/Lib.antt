@@ -1,0 +1,2 @@
+-- The definitions of the test.
+pub mod Ready
