@@ -299,6 +299,15 @@ def standards():
     # FIPS 197, appendix C.3: the padding's block xor the IV is the example's
     iv = "10013223544576679889baabdccdfeef"
     same(ask("cbc", bytes(range(32)), bytes.fromhex(iv), b""), "8ea2b7ca516745bfeafc49904b496089")
+    # FIPS 197, appendices C.1 to C.3, both ways
+    block = bytes.fromhex("00112233445566778899aabbccddeeff")
+    for size, printed in (
+        (16, "69c4e0d86a7b0430d8cdb78070b4c55a"),
+        (24, "dda97ca4864cdfe06eaf70a0ec0d7191"),
+        (32, "8ea2b7ca516745bfeafc49904b496089"),
+    ):
+        same(ask("aes", bytes(range(size)), block), printed)
+        assert ask("unaes", bytes(range(size)), bytes.fromhex(printed)) == block
     # the GCM specification by McGrew and Viega, test cases 1, 2 and 4
     same(ask("gcm", bytes(16), bytes(12), b"", b""), "58e2fccefa7e3061367f1d57a4e7455a")
     same(

@@ -1,5 +1,7 @@
 """Command lines."""
 
+from reference.words import OPTIONS
+
 from .form import PATH, config, object_words
 
 FILES = (("c.json", config("secrets: identity")),)
@@ -94,7 +96,7 @@ OTHERS = {
     "inspect_empty_word": ["inspect", ""],
     "encrypt_alone": ["encrypt"],
     "decrypt_alone": ["decrypt"],
-    # commands that are not built
+    # other commands
     "list": ["list", "--store", "s"],
     "get": ["get", "--config", "c.json", "--store", "s", "--path", "/"],
     "put": ["put", "--config", "c.json", "--store", "s", "--resource", "secrets", "--path", "/"],
@@ -128,6 +130,16 @@ OTHERS = {
     "judge_reload_of_20_digits": ["judge", "--store", "s", "--reload", "99999999999999999999=f", "--replica", "r"],
     "judge_no_replica": ["judge", "--store", "s", "--reload", "0=f"],
 }
+
+# a value of each option; each command is asked for with each option that is none of its own
+VALUES = {
+    **{"config": "c.json", "resource": "secrets", "path": "/", "store": "s", "to": "t", "replica": "r", "reload": "0=f"},
+    **{"file": "f", "seed": "1", "size": "1", "plugin": "p=prog"},
+}
+for verb, (required, further) in OPTIONS.items():
+    own = [word for name in required for word in (f"--{name}", VALUES[name])]
+    for name in sorted(VALUES.keys() - {*required, *further}):
+        OTHERS[f"{verb}_with_{name}"] = [verb, *own, f"--{name}", VALUES[name]]
 
 # files by names that are looked up
 NAMES = {

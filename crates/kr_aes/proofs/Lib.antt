@@ -20,3 +20,4 @@ pub mod ColumnWords
 pub mod Rows
 pub mod MixedWords
 pub mod Equivalent
+pub mod Begins

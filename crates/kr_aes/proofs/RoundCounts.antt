@@ -11,6 +11,11 @@ some_rounds Ten = omega arith
 some_rounds Twelve = omega arith
 some_rounds Fourteen = omega arith
 
+pub more_rounds : (rounds : Rounds) → 3 ≤ round_count rounds
+more_rounds Ten = omega arith
+more_rounds Twelve = omega arith
+more_rounds Fourteen = omega arith
+
 pub one_round : (rounds : Rounds) → round_count rounds - 1 + 0 + 1 ≡ round_count rounds
 one_round Ten = refl
 one_round Twelve = refl

@@ -4,4 +4,5 @@ pub mod Cipher
 pub mod KeyExpansion
 pub mod InverseCipher
 pub mod EquivalentInverse
+pub mod Begun
 pub mod inner

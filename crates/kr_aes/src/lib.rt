@@ -7,6 +7,7 @@ ghost use Rattle.kr_aes.specs.EquivalentInverse.{equivalent_inverse_cipher, inve
 ghost use Rattle.kr_aes.specs.InverseCipher.{inverse_cipher};
 ghost use Rattle.kr_aes.specs.KeyExpansion.{IsKeyLength, IsKeyOf, IsSchedule, padded_schedule};
 
+mod begun;
 mod cells;
 mod columns;
 mod field;
@@ -17,6 +18,8 @@ pub mod plain;
 mod state;
 mod tables;
 mod unrolled;
+
+pub use begun::Begun;
 
 /// How many rounds a key has: ten for 16 bytes, twelve for 24 and fourteen for 32.
 #[derive(Clone, Copy, PartialEq, Eq, Debug)]

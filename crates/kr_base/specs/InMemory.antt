@@ -9,13 +9,28 @@ pub record Calls : Type 0 where
   pub made : ℕ
   pub faults : ℕ
 
+-- the number of the next call is that of a failing one
+abbrev pub IsListed : Calls → Type 0
+IsListed calls = Contains calls.fails (next_number calls.made)
+
+-- one more call was made, and it didn't fail
+abbrev pub after_call : Calls → Calls
+after_call calls = record calls { made = next_number calls.made }
+
+-- one more call was made, and it failed
+abbrev pub after_fault : Calls → Calls
+after_fault calls = record calls {
+  made = next_number calls.made;
+  faults = next_number calls.faults;
+}
+
 -- one more call was made: it failed exactly where its number is listed or it can't be served, and
 -- then it counts as a fault
 pub record Makes {T E : Type 0} (old new : Calls) (Unserved : Type 0) (result : Result T E)
     : Type 0 where
   pub fails : new.fails ≡ old.fails
   pub made : new.made ≡ next_number old.made
-  pub failed : IsErr result ↔ (Contains old.fails (next_number old.made) ⊎ Unserved)
+  pub failed : IsErr result ↔ (IsListed old ⊎ Unserved)
   pub faults : new.faults ≡ (if is_err result then next_number old.faults else old.faults)
 
 -- a source or a dice with the bytes that are left

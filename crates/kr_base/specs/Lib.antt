@@ -9,5 +9,6 @@ pub mod Pairs
 pub mod Limits
 pub mod Rules
 pub mod InMemory
+pub mod Visible
 pub mod formers
 pub mod inner

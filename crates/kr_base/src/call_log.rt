@@ -1,7 +1,8 @@
 //! Which calls of an object in memory fail.
-ghost use Rattle.std.specs.Prelude.{◌≡◌, ◌≤◌, ◌↔◌, ◌⊎◌, IsTrue, Contains, if◌then◌else◌};
+ghost use Rattle.std.specs.Prelude.{◌≡◌, ◌≤◌, ◌↔◌, ◌⊎◌, IsTrue, if◌then◌else◌};
 ghost use Rattle.std.specs.Bool.{OnTrue};
 ghost use Rattle.kr_base.specs.Faults.{Rose};
+ghost use Rattle.kr_base.specs.InMemory.{IsListed};
 ghost use Rattle.kr_base.specs.Numbering.{next_number};
 
 use crate::fault_count::FaultCount;
@@ -42,8 +43,7 @@ impl CallLog {
     pub fn fails(&mut self, unserved: bool) -> bool
         ensures fails { self.new.fails ≡ self.old.fails }
         ensures made { self.new.made ≡ next_number self.old.made }
-        ensures failed { IsTrue result
-            ↔ (Contains self.old.fails (next_number self.old.made) ⊎ IsTrue unserved) }
+        ensures failed { IsTrue result ↔ (IsListed self.old ⊎ IsTrue unserved) }
         ensures faults { self.new.faults
             ≡ (if result then next_number self.old.faults else self.old.faults) }
         ensures later { self.old.faults ≤ self.new.faults }

@@ -1,7 +1,8 @@
 //! Bytes in memory that are given out from the front, as a source and a dice give them.
-ghost use Rattle.std.specs.Prelude.{◌≡◌, ◌≤◌, ◌↔◌, ◌⊎◌, IsTrue, Contains, length, take, drop, if◌then◌else◌};
+ghost use Rattle.std.specs.Prelude.{◌≡◌, ◌≤◌, ◌↔◌, ◌⊎◌, IsTrue, length, take, drop, if◌then◌else◌};
 ghost use Rattle.std.specs.Bool.{OnTrue};
 ghost use Rattle.kr_base.specs.Faults.{Rose};
+ghost use Rattle.kr_base.specs.InMemory.{IsListed};
 ghost use Rattle.kr_base.specs.Numbering.{next_number};
 
 use crate::bytes::Bytes;
@@ -55,9 +56,7 @@ impl InputBytes {
         ensures bytes { self.new.bytes ≡ self.old.bytes }
         ensures fails { self.new.calls.fails ≡ self.old.calls.fails }
         ensures made { self.new.calls.made ≡ next_number self.old.calls.made }
-        ensures failed { IsTrue result
-            ↔ (Contains self.old.calls.fails (next_number self.old.calls.made)
-            ⊎ IsTrue unserved) }
+        ensures failed { IsTrue result ↔ (IsListed self.old.calls ⊎ IsTrue unserved) }
         ensures faults { self.new.calls.faults
             ≡ (if result then next_number self.old.calls.faults else self.old.calls.faults) }
         ensures later { self.old.calls.faults ≤ self.new.calls.faults }

@@ -21,6 +21,7 @@ mod shared;
 mod text;
 mod traits;
 mod transfer;
+mod visible;
 
 pub use annotations::Annotations;
 pub use bytes::Bytes;
@@ -42,3 +43,4 @@ pub use shared::Shared;
 pub use text::Text;
 pub use traits::{Dice, Sink, Source, Tape};
 pub use transfer::{read_all, write_all};
+pub use visible::push_visible;

@@ -75,10 +75,8 @@ pub fn write_all<S: Sink>(sink: &mut S, bytes: &[u8]) -> Result<(), Failed>
 {
     let mut written = 0;
     while written < bytes.len() {
-        match sink.write(&bytes[written..]) {
-            Ok(n) => written += n,
-            Err(Failed) => return Err(Failed),
-        }
+        let n = sink.write(&bytes[written..])?;
+        written += n;
     }
     Ok(())
 }

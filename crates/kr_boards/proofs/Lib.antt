@@ -1,1 +1,2 @@
+-- The lemmas of what is played on a board.
 pub mod Plays

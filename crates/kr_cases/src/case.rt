@@ -3,6 +3,7 @@ use kr_base::{List, NoMemory};
 use std::alloc::{AllocError, Global};
 
 /// Why a line adds nothing to a case.
+#[derive(Drop)]
 pub enum Wrong {
     Form,
     Memory,
@@ -93,16 +94,13 @@ impl Case {
 
     /// The numbers of the object's calls that fail.
     pub fn fails_of(&self, alloc: Global, object: Object) -> Result<List<u64>, NoMemory> {
-        let mut numbers = List::new(alloc);
+        let mut numbers = Vec::new(alloc);
         for (other, number) in &self.fails {
             if *other == object {
-                match numbers.push(*number) {
-                    Ok(()) => {}
-                    Err(_) => return Err(NoMemory),
-                }
+                numbers.push(*number)?;
             }
         }
-        Ok(numbers)
+        Ok(List::from_vec(numbers))
     }
 
     /// The numbers of such calls of the tape that fail.
@@ -112,15 +110,12 @@ impl Case {
         calls: TapeCalls,
         name: &str,
     ) -> Result<List<u64>, NoMemory> {
-        let mut numbers = List::new(alloc);
+        let mut numbers = Vec::new(alloc);
         for (kind, other, number) in &self.tape_fails {
             if *kind == calls && other.as_str() == name {
-                match numbers.push(*number) {
-                    Ok(()) => {}
-                    Err(_) => return Err(NoMemory),
-                }
+                numbers.push(*number)?;
             }
         }
-        Ok(numbers)
+        Ok(List::from_vec(numbers))
     }
 }

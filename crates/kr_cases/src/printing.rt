@@ -1,6 +1,7 @@
 //! The line that is printed for a call.
 use crate::calling::Left;
 use crate::case::Case;
+use crate::making::whole;
 use sha2::{Digest, Sha256};
 use std::alloc::{AllocError, Global};
 
@@ -9,38 +10,71 @@ const MOST: usize = 2048;
 
 /// The case's name, and what the call left.
 pub fn line_of(alloc: Global, case: &Case, left: &Left) -> Result<String, AllocError> {
-    let output = bytes_text(alloc, left.output.as_slice())?;
-    let errors = bytes_text(alloc, left.errors.as_slice())?;
-    let mut line = format!(in alloc;
-        "{} status={} output={output} errors={errors}",
-        case.name.as_str(),
-        left.status
+    let mut line = String::new(alloc);
+    let done = add_all(alloc, &mut line, case, left);
+    whole(line, done)
+}
+
+fn add_all(alloc: Global, line: &mut String, case: &Case, left: &Left) -> Result<(), AllocError> {
+    line.push_str(case.name.as_str())?;
+    add(line, format!(in alloc; " status={}", left.status))?;
+    add_bytes(alloc, line, " output=", left.output.as_slice())?;
+    add_bytes(alloc, line, " errors=", left.errors.as_slice())?;
+    add(
+        line,
+        format!(in alloc;
+            " left={} faults={}:{}:{}:{}",
+            left.input, left.input_faults, left.output_faults, left.error_faults, left.file_faults
+        ),
     )?;
-    let rest = format!(in alloc;
-        " left={} faults={}:{}:{}:{}",
-        left.input, left.input_faults, left.output_faults, left.error_faults, left.file_faults
-    )?;
-    line.push_str(rest.as_str())?;
+    add_objects(alloc, line, left)?;
+    add_links(alloc, line, left)
+}
+
+/// Adds a text that was made.
+fn add(line: &mut String, text: Result<String, AllocError>) -> Result<(), AllocError> {
+    match text {
+        Ok(text) => {
+            let added = line.push_str(text.as_str());
+            drop(text);
+            added
+        }
+        Err(why) => Err(why),
+    }
+}
+
+/// Adds bytes behind a label.
+fn add_bytes(
+    alloc: Global,
+    line: &mut String,
+    label: &str,
+    bytes: &[u8],
+) -> Result<(), AllocError> {
+    line.push_str(label)?;
+    add(line, bytes_text(alloc, bytes))
+}
+
+/// What is left of random sources and of tapes.
+fn add_objects(alloc: Global, line: &mut String, left: &Left) -> Result<(), AllocError> {
     for dice in left.dice.as_slice() {
         let text = match dice.home {
-            Some((bytes, faults)) => format!(in alloc; " dice:{}={bytes}:{faults}", dice.seat)?,
-            None => format!(in alloc; " dice:{}=out", dice.seat)?,
+            Some((bytes, faults)) => format!(in alloc; " dice:{}={bytes}:{faults}", dice.seat),
+            None => format!(in alloc; " dice:{}=out", dice.seat),
         };
-        line.push_str(text.as_str())?;
+        add(line, text)?;
     }
     for tape in left.tapes.as_slice() {
         let name = tape.name.as_str();
-        let text = match &tape.home {
+        match &tape.home {
             Some((bytes, faults)) => {
-                let bytes = bytes_text(alloc, bytes.as_slice())?;
-                format!(in alloc; " tape:{name}={bytes}:{faults}")?
+                add(line, format!(in alloc; " tape:{name}="))?;
+                add_bytes(alloc, line, "", bytes.as_slice())?;
+                add(line, format!(in alloc; ":{faults}"))?;
             }
-            None => format!(in alloc; " tape:{name}=out")?,
-        };
-        line.push_str(text.as_str())?;
+            None => add(line, format!(in alloc; " tape:{name}=out"))?,
+        }
     }
-    add_links(alloc, &mut line, left)?;
-    Ok(line)
+    Ok(())
 }
 
 /// The links that were asked for, and what is left of those that there are.
@@ -48,18 +82,20 @@ fn add_links(alloc: Global, line: &mut String, left: &Left) -> Result<(), AllocE
     for asked in left.asked.as_slice() {
         let name = asked.name.as_str();
         let program = asked.program.as_str();
-        let text = format!(in alloc; " link:{}:{name}={program}", asked.seat)?;
-        line.push_str(text.as_str())?;
+        add(
+            line,
+            format!(in alloc; " link:{}:{name}={program}", asked.seat),
+        )?;
     }
     for link in left.links.as_slice() {
         let name = link.name.as_str();
         let text = match link.home {
             Some((made, faults)) => {
-                format!(in alloc; " plugin:{}:{name}={made}:{faults}", link.seat)?
+                format!(in alloc; " plugin:{}:{name}={made}:{faults}", link.seat)
             }
-            None => format!(in alloc; " plugin:{}:{name}=out", link.seat)?,
+            None => format!(in alloc; " plugin:{}:{name}=out", link.seat),
         };
-        line.push_str(text.as_str())?;
+        add(line, text)?;
     }
     Ok(())
 }
@@ -73,5 +109,7 @@ fn bytes_text(alloc: Global, bytes: &[u8]) -> Result<String, AllocError> {
         return hex::encode(alloc, bytes);
     }
     let digest = hex::encode(alloc, Sha256::digest(bytes))?;
-    format!(in alloc; "{}:{digest}", bytes.len())
+    let text = format!(in alloc; "{}:{digest}", bytes.len());
+    drop(digest);
+    text
 }

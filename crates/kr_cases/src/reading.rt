@@ -1,5 +1,6 @@
 //! The lines of a case: a key, and behind a space what it says.
 use crate::case::{Case, Object, Plugin, TapeCalls, Wrong};
+use crate::making::both;
 use crate::spelling::{add_bytes, bytes_of};
 use std::alloc::{AllocError, Global};
 
@@ -42,7 +43,10 @@ pub fn add(alloc: Global, current: &mut Option<Case>, line: &str) -> Result<(), 
 fn text_of(alloc: Global, spelled: &str) -> Result<String, Wrong> {
     match String::from_utf8(bytes_of(alloc, spelled)?) {
         Ok(text) => Ok(text),
-        Err(_) => Err(Wrong::Form),
+        Err(refused) => {
+            drop(refused);
+            Err(Wrong::Form)
+        }
     }
 }
 
@@ -69,7 +73,7 @@ fn add_file(alloc: Global, case: &mut Case, rest: &str) -> Result<(), Wrong> {
         Some(parts) => parts,
         None => (rest, ""),
     };
-    let file = (text_of(alloc, name)?, bytes_of(alloc, content)?);
+    let file = both(text_of(alloc, name), bytes_of(alloc, content))?;
     case.files.push(file).map_err(AllocError::from)?;
     Ok(())
 }
@@ -80,7 +84,7 @@ fn add_tape(alloc: Global, case: &mut Case, rest: &str) -> Result<(), Wrong> {
         Some(parts) => parts,
         None => (rest, ""),
     };
-    let tape = (text_of(alloc, name)?, bytes_of(alloc, content)?);
+    let tape = both(text_of(alloc, name), bytes_of(alloc, content))?;
     case.tapes.push(tape).map_err(AllocError::from)?;
     Ok(())
 }
@@ -126,18 +130,34 @@ fn add_plugin(alloc: Global, case: &mut Case, rest: &str) -> Result<(), Wrong> {
     let Ok(salt) = salt.parse::<u8>() else {
         return Err(Wrong::Form);
     };
-    let plugin = Plugin {
-        seat,
-        name: text_of(alloc, name)?,
-        key_id: text_of(alloc, key_id)?,
-        salt,
-        version: text_of(alloc, "v2")?,
-        healthz: text_of(alloc, "ok")?,
-        key_ids: Vec::new(alloc),
-        fails: Vec::new(alloc),
-    };
+    let plugin = plugin_of(alloc, seat, name, key_id, salt)?;
     case.plugins.push(plugin).map_err(AllocError::from)?;
     Ok(())
+}
+
+/// A healthy plugin whose calls don't fail.
+fn plugin_of(
+    alloc: Global,
+    seat: u32,
+    name: &str,
+    key_id: &str,
+    salt: u8,
+) -> Result<Plugin, Wrong> {
+    let named = both(text_of(alloc, name), text_of(alloc, key_id));
+    let told = both(text_of(alloc, "v2"), text_of(alloc, "ok"));
+    let (named, told) = both(named, told)?;
+    let (name, key_id) = named;
+    let (version, healthz) = told;
+    Ok(Plugin {
+        seat,
+        name,
+        key_id,
+        salt,
+        version,
+        healthz,
+        key_ids: Vec::new(alloc),
+        fails: Vec::new(alloc),
+    })
 }
 
 /// The version and the health of the plugin named last.

@@ -1,6 +1,6 @@
 -- What comes of a question, and of the reply to a request.
 use Rattle.std.proofs.Common.{true, false, ◌≡◌, ◌≤◌, ℕ, List, length, take, Option, refl, sym, ◌∙◌, ap, subst, arith, ◌⊎◌, inl, inr}
-use Rattle.std.specs.Prelude.{Result, Ok, Err, ⊤}
+use Rattle.std.specs.Prelude.{OnErr, Result, Ok, Err, ⊤}
 use Rattle.std.proofs.lemmas.List.{length-take, take_all}
 use Rattle.std.specs.Io.KnownBytes.{Appends}
 use Rattle.std.proofs.KnownBytes.{Appends-nil}
@@ -58,6 +58,15 @@ cut_reading old new question room before whole size none is = record {
   );
   broken = is;
 }
+
+-- the same of an answer that hands on why nothing was read
+pub not_read : {T E : Type 0} (result : Result T E) (old new : Ends) (question : List ℕ)
+    (room : ℕ) → old.broken ≡ false → Appends old.written new.written question → room ≡ 131073
+    → Rose old.read_faults new.read_faults ⊎ TakesNoLine room old.left new.left
+    → new.broken ≡ true → OnErr result (IsCutOff old new question)
+not_read (Ok x) old new question room before whole size none is = tt
+not_read (Err why) old new question room before whole size none is =
+    cut_reading old new question room before whole size none is
 
 pub exchanged : (old new : Ends) (question line : List ℕ) (size : ℕ) → old.broken ≡ false
     → Appends old.written new.written question → TakesLine old.left new.left (take size line)

@@ -52,17 +52,10 @@ impl<W: Write, R: Read> Exchange<W, R> {
             return Err(Failed);
         }
         self.broken = true;
-        match write_all(&mut self.input, question) {
-            Ok(()) => {}
-            Err(Failed) => return Err(Failed),
-        }
-        match read_line(&mut self.output, self.line.line.as_mut_slice()) {
-            Ok(size) => {
-                self.broken = false;
-                Ok(size)
-            }
-            Err(Failed) => Err(Failed),
-        }
+        write_all(&mut self.input, question)?;
+        let size = read_line(&mut self.output, self.line.line.as_mut_slice())?;
+        self.broken = false;
+        Ok(size)
     }
 
     /// The answer that was read last, of this size.
@@ -83,10 +76,7 @@ fn read_line<S: Source>(source: &mut S, line: &mut [u8]) -> Result<usize, Failed
 {
     let mut filled = 0;
     while filled < line.len() {
-        let (count, end) = match read_piece(source, &mut line[filled..]) {
-            Ok(piece) => piece,
-            Err(Failed) => return Err(Failed),
-        };
+        let (count, end) = read_piece(source, &mut line[filled..])?;
         match end {
             Some(at) => {
                 if at + 1 == count {
@@ -117,10 +107,7 @@ fn read_piece<S: Source>(source: &mut S, into: &mut [u8]) -> Result<(usize, Opti
     ensures within { IfOk result (λ piece. IfSome piece.1 (λ at. at < piece.0)) }
     ensures cause { IsCounted (S.count source.old) (S.count source.new) result }
 {
-    let count = match source.read(into) {
-        Ok(count) => count,
-        Err(Failed) => return Err(Failed),
-    };
+    let count = source.read(into)?;
     Ok((count, end_in(&into[..count])))
 }
 

@@ -15,7 +15,7 @@ use crate::files::{NamedFiles, OpenNo, StartNo};
 use crate::streams::StdSource;
 use crate::tape::FileTape;
 use kr_base::{Bytes, Dice, Failed, FaultCount, List, ReadNo, Text, read_all};
-use kr_kms::{FileFaults, FileNo, Kms, Shelf, World};
+use kr_kms::{FileFaults, FileNo, Kms, Shelf, World, name_place, plugin_place};
 use std::alloc::Global;
 use std::fs::File;
 use std::io::Read;
@@ -304,22 +304,4 @@ fn link_place(counts: &[((u32, Text), u64)], seat: u32, plugin: &str) -> Option<
     counts
         .iter()
         .position(|entry| entry.0.0 == seat && entry.0.1.as_str() == plugin)
-}
-
-/// Where the name stands.
-fn name_place(out: &[Text], name: &str) -> Option<usize>
-    ensures first { result ≡ position (λ other. bytes_eq other name.now) out.now }
-    ensures within { IfSome result (λ at. at < length out.now) }
-{
-    out.iter().position(|other| other.as_str() == name)
-}
-
-/// Where the seat stands with the plugin.
-fn plugin_place(out: &[(u32, Text)], seat: u32, plugin: &str) -> Option<usize>
-    ensures first { result ≡ position
-        (λ other. (other.0 == seat) && bytes_eq other.1 plugin.now) out.now }
-    ensures within { IfSome result (λ at. at < length out.now) }
-{
-    out.iter()
-        .position(|other| other.0 == seat && other.1.as_str() == plugin)
 }

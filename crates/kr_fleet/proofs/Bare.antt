@@ -1,19 +1,14 @@
 -- Where no configuration names a plugin, values read by any truth of plugins.
-use Rattle.std.proofs.Common.{◌≡◌, ℕ, false, List, Option, None, Some, refl, subst, ◌∙◌}
+use Rattle.std.proofs.Common.{◌≡◌, ℕ, false, List, Option, None, Some, refl, subst}
 use Rattle.std.specs.Prelude.{All}
-use Rattle.std.specs.List.{slice_get, list_any}
+use Rattle.std.specs.List.{slice_get}
 use Rattle.std.specs.Option.{option_map}
 use Rattle.std.proofs.lemmas.Option.{none-some, same_Some}
-use Rattle.kr_config.specs.declared.who.Who.{Who}
 use Rattle.kr_config.specs.Kept.{Row as settings_row}
 use Rattle.kr_config.specs.Lists.{list_of}
-use Rattle.kr_config.specs.Providers.{is_kms}
 use Rattle.kr_kms.specs.Truth.{Opens}
-use Rattle.kr_provider.specs.Envelopes.{unknown}
 use Rattle.kr_provider.specs.Publication.{Publication, names_plugin}
-use Rattle.kr_provider.specs.Readers.{reader_in}
 use Rattle.kr_provider.specs.Reading.{Reading, HasReading, HasSomeReading}
-use Rattle.kr_provider.proofs.OneReading as readings
 use Rattle.kr_provider.proofs.WithoutPlugins.{none_listed}
 use Rattle.kr_rollout.specs.declared.generation.Generation.{Generation}
 use Rattle.kr_rollout.specs.declared.opening.Entry.{Entry}
@@ -23,14 +18,7 @@ use Rattle.kr_rollout.specs.Entries.{published_at}
 use Rattle.kr_rollout.specs.Histories.{state_of}
 use Rattle.kr_rollout.specs.States.{IsLive}
 use Rattle.kr_rollout.proofs.HeldFacts.{there_holds}
-
-some_reads : (opens : Opens) (list : List Who) (path bytes : List ℕ) (reading : Reading)
-    → list_any is_kms list ≡ false → HasSomeReading list path bytes reading
-    → HasReading opens list path bytes reading
-some_reads opens list path bytes reading none r =
-    (readings.without_plugin opens list path bytes reading none).1
-    (readings.any_envelope (reader_in list bytes) path bytes unknown r.0
-    (readings.no_plugin list bytes none) ∙ r.2)
+use Rattle.kr_rollout.proofs.WithoutPlugin.{some_reads}
 
 -- a live configuration names none
 none_live : (generations : List Generation) (number : ℕ) (rows : List settings_row)

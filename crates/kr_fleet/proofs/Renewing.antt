@@ -1,10 +1,10 @@
 -- How `refresh` compares key ids.
-use Rattle.std.proofs.Common.{◌≡◌, ◌≢◌, ℕ, suc, zero, ◌<◌, Bool, true, false, List, [], ◌∷◌, ◌++◌, get_or, below_more, ◌+◌, Some, Result, Ok, Err, refl, sym, ap, subst, ◌∙◌, arith}
+use Rattle.std.proofs.Common.{◌≡◌, ◌≢◌, ℕ, suc, zero, ◌<◌, Bool, true, false, List, [], ◌∷◌, ◌++◌, drop-cons, get_or, below_more, ◌+◌, Some, Result, Ok, Err, refl, sym, ap, subst, ◌∙◌, arith}
 use Rattle.std.specs.Prelude.{not, length, take, drop, Contains}
 use Rattle.std.specs.Str.{bytes_eq}
 use Rattle.std.proofs.lemmas.Bool.{false≢true}
 use Rattle.std.proofs.lemmas.Slice.Eq.{bytes_eq-Decides}
-use Rattle.std.proofs.lemmas.List.{get_or_default}
+use Rattle.std.proofs.lemmas.List.{get_or_default, take-append-drop}
 use Rattle.std.proofs.lemmas.List.Elements.{All-cons, All-nil}
 use Rattle.kr_base.specs.Told.{Agrees}
 use Rattle.kr_kms.specs.Calls.{Link, IsSameLink}
@@ -52,13 +52,6 @@ same_before link links (x ∷ seeds) (suc n) same =
     All-cons (λ r. HasLinkWith link r.name (MayTellKey r.key_id) links) x (take n seeds)
     (same 0 (omega arith) x)
     (same_before link links seeds n (λ k l d. same (suc k) (omega (arith, l)) d))
-
-parted_at : (seeds : List SeedRow) (n : ℕ) (d : SeedRow) → n < length seeds
-    → seeds ≡ take n seeds ++ get_or seeds n d ∷ drop (suc n) seeds
-parted_at [] n d l = absurd (omega (arith, l))
-parted_at (x ∷ seeds) zero d l = refl
-parted_at (x ∷ seeds) (suc n) d l =
-    ap (λ s. x ∷ s) (parted_at seeds n d (omega (arith, l)))
 
 abbrev first_row : SeedRow → List SeedRow → SeedRow
 first_row d [] = d
@@ -111,7 +104,8 @@ module _ {L : Type 0} (link : L → Link) (seeds : List SeedRow) (row : SeedRow)
     before = take k seeds;
     row = row;
     rest = drop (suc k) seeds;
-    seeds_are = parted_at seeds k row below
+    seeds_are = sym (take-append-drop k seeds)
+        ∙ ap (λ s. take k seeds ++ s) (drop-cons seeds k row below)
         ∙ ap (λ (r : SeedRow). take k seeds ++ r ∷ drop (suc k) seeds) (sym at);
     named = ap (λ (r : SeedRow). r.name) (only_row row u.row u.before u.rest u.seeds_are) ∙ u.named;
     same = same_before link olds seeds k before;

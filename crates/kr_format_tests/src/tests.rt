@@ -2,5 +2,6 @@
 mod envelope;
 mod kms;
 mod lines;
+mod making;
 mod store;
 mod world;

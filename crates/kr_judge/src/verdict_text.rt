@@ -120,10 +120,7 @@ fn write_each<S: Sink>(sink: &mut S, pieces: &[&str]) -> Result<(), Failed>
     ensures cause { IsCounted (S.count sink.old) (S.count sink.new) result }
 {
     for piece in pieces {
-        match write_all(sink, piece.as_bytes()) {
-            Ok(()) => {}
-            Err(Failed) => return Err(Failed),
-        }
+        write_all(sink, piece.as_bytes())?;
     }
     Ok(())
 }

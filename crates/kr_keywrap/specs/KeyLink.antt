@@ -1,7 +1,6 @@
 -- A link in memory that wraps under the keys of a ring.
-use Rattle.std.specs.Prelude.{◌≡◌, ℕ, ◌⊎◌, true, List, [], codes, Contains, Some, Result, Ok, Err}
-use Rattle.kr_base.specs.InMemory.{Calls}
-use Rattle.kr_base.specs.Numbering.{next_number}
+use Rattle.std.specs.Prelude.{◌≡◌, ℕ, ◌⊎◌, true, List, [], codes, Some, Result, Ok, Err}
+use Rattle.kr_base.specs.InMemory.{Calls, IsListed, after_call, after_fault}
 use Rattle.kr_kms.specs.Calls.{Link}
 use Rattle.kr_kms.specs.Truth.{Truth}
 use Rattle.kr_kms.specs.declared.plugin.Status.{Status}
@@ -44,32 +43,15 @@ abbrev pub IsWrapBy : Keys → KeyLinkState → List ℕ → Wrapped → Type 0
 IsWrapBy keys link plain wrapped =
     (kek : List ℕ) × (keys link.key_id ≡ Some kek) × (wrapped ≡ wrapped_by kek link.key_id plain)
 
--- the number of the next call is that of a failing one
-abbrev pub IsListed : KeyLinkState → Type 0
-IsListed link = Contains link.calls.fails (next_number link.calls.made)
-
--- one more call was made, and it didn't fail
-abbrev pub after_call : KeyLinkState → KeyLinkState
-after_call link = record link {
-  calls = record link.calls { made = next_number link.calls.made };
-}
-
--- one more call was made, and it failed
-abbrev pub after_fault : KeyLinkState → KeyLinkState
-after_fault link = record link {
-  calls = record link.calls {
-    made = next_number link.calls.made;
-    faults = next_number link.calls.faults;
-  };
-}
-
 -- a call has a right answer where it can be served, as far as there is memory for it; it fails
 -- exactly where its number is listed or it can't be served
 abbrev pub Answers : {T : Type 0} → KeyLinkState → Type 0 → (T → Type 0) → Result T KmsNo
     → KeyLinkState → Type 0
 Answers old Served IsRight (Ok given) new =
-    (IsListed old → ⊥) × Served × IsRight given × (new ≡ after_call old)
+    (IsListed old.calls → ⊥) × Served × IsRight given
+    × (new ≡ record old { calls = after_call old.calls })
 Answers old Served IsRight (Err Failed) new =
-    (IsListed old ⊎ (Served → ⊥)) × (new ≡ after_fault old)
+    (IsListed old.calls ⊎ (Served → ⊥)) × (new ≡ record old { calls = after_fault old.calls })
 Answers old Served IsRight (Err NoMemory) new =
-    (IsListed old → ⊥) × Served × (new ≡ after_call old)
+    (IsListed old.calls → ⊥) × Served
+    × (new ≡ record old { calls = after_call old.calls })

@@ -3,13 +3,14 @@ ghost use Rattle.std.specs.Prelude.{◌≡◌, ◌⊎◌, ◌↔◌, ◌≤◌, 
 ghost use Rattle.std.specs.Prelude.{if◌then◌else◌};
 ghost use Rattle.std.specs.Bool.{OnTrue};
 ghost use Rattle.kr_base.specs.Faults.{Rose};
+ghost use Rattle.kr_base.specs.InMemory.{IsListed, after_call, after_fault};
 ghost use Rattle.kr_base.specs.Limits.{IsShort};
 ghost use Rattle.kr_kms.specs.Calls.{Says, Wraps, Unwraps};
 ghost use Rattle.kr_kms.specs.Limits.{IsWithinLimits};
 ghost use Rattle.kr_keywrap.specs.KeyWrap.{IsWrappable};
 ghost use Rattle.kr_keywrap.specs.Keys.{opened_by};
-ghost use Rattle.kr_keywrap.specs.KeyLink.{Answers, IsListed, IsWrapBy, after_call, after_fault};
-ghost use Rattle.kr_keywrap.specs.KeyLink.{link_of, status_of, truth_of, wrapped_by};
+ghost use Rattle.kr_keywrap.specs.KeyLink.{Answers, IsWrapBy, link_of, status_of, truth_of};
+ghost use Rattle.kr_keywrap.specs.KeyLink.{wrapped_by};
 
 use crate::key_wrap::is_wrappable;
 use crate::keys::{ROOM, unwrap_under, wrap_under};
@@ -67,9 +68,10 @@ impl<R: Ring> KeyLink<R> {
 
     /// Counts one more call, and answers whether it fails.
     fn fails(&mut self, served: bool) -> bool
-        ensures failed { IsTrue result ↔ (IsListed self.old ⊎ (IsTrue served → ⊥)) }
-        ensures after { self.new
-            ≡ (if result then after_fault self.old else after_call self.old) }
+        ensures failed { IsTrue result ↔ (IsListed self.old.calls ⊎ (IsTrue served → ⊥)) }
+        ensures after { self.new ≡ record self.old {
+          calls = if result then after_fault self.old.calls else after_call self.old.calls;
+        } }
         ensures later { self.old.calls.faults ≤ self.new.calls.faults }
         ensures rose { OnTrue result (Rose self.old.calls.faults self.new.calls.faults) }
     {

@@ -3,9 +3,10 @@ use Rattle.std.proofs.Common.{◌≡◌, ℕ, List, [], ◌∷◌, ◌≤◌, bi
 use Rattle.std.specs.Int.Bits.{xor_assoc, xor_self, xor_zero_r}
 use Rattle.std.proofs.lemmas.List.{length-map}
 use Rattle.kr_kms.specs.Calls.{key_in, Wraps}
+use Rattle.kr_base.specs.InMemory.{after_call}
 use Rattle.kr_base.specs.Limits.{IsShort}
 use Rattle.kr_kms.specs.Limits.{IsWithinLimits}
-use Rattle.kr_kms.specs.Table.{Table, xor_of, mask_of, salt_pair, wrapped_by, table_truth, link_of, after_call}
+use Rattle.kr_kms.specs.Table.{Table, xor_of, mask_of, salt_pair, wrapped_by, table_truth, link_of}
 use Rattle.kr_kms.specs.declared.plugin.Wrapped.{Wrapped}
 
 pub xor_twice : (mask : ℕ) (bytes : List ℕ) → xor_of mask (xor_of mask bytes) ≡ bytes
@@ -42,11 +43,13 @@ within_back table plain w = (
 
 -- an answer that it gave is as a link's must be
 pub wraps : (old new : Table) (plain : List ℕ) (wrapped : Wrapped)
-    → IsWithinLimits (wrapped_by old plain) → new ≡ after_call old → wrapped ≡ wrapped_by new plain
+    → IsWithinLimits (wrapped_by old plain) → new ≡ record old { calls = after_call old.calls }
+    → wrapped ≡ wrapped_by new plain
     → Wraps table_truth (link_of old) plain (Ok wrapped) (link_of new)
 wraps old new plain wrapped limits after is =
     subst (λ t. Wraps table_truth (link_of old) plain (Ok wrapped) (link_of t)) (sym after)
-    (subst (λ w. Wraps table_truth (link_of old) plain (Ok w) (link_of (after_call old)))
+    (subst (λ w. Wraps table_truth (link_of old) plain (Ok w)
+    (link_of (record old { calls = after_call old.calls })))
     (sym (is ∙ ap (λ t. wrapped_by t plain) after)) (
       record {
         same = record { name = refl; status = refl; later = omega arith };

@@ -1,12 +1,11 @@
 -- The plugin in memory: a table of texts, whose wrapped sources are masked by the sum of a key id
 -- and a salt.
-use Rattle.std.specs.Prelude.{◌≡◌, ℕ, ◌+◌, ◌%◌, ◌⊎◌, true, List, [], ◌∷◌, map, sum, codes, bit_xor, Contains, Some, Result, Ok, Err}
+use Rattle.std.specs.Prelude.{◌≡◌, ℕ, ◌+◌, ◌%◌, ◌⊎◌, true, List, [], ◌∷◌, map, sum, codes, bit_xor, Some, Result, Ok, Err}
 use Rattle.std.specs.Option.{unwrap_or}
 use Rattle.std.specs.Str.{bytes_eq}
 use Rattle.std.specs.Map.{lookup}
 use Rattle.kr_base.specs.Pairs.{Pairs}
-use Rattle.kr_base.specs.InMemory.{Calls}
-use Rattle.kr_base.specs.Numbering.{next_number}
+use Rattle.kr_base.specs.InMemory.{Calls, IsListed, after_call, after_fault}
 use Rattle.kr_kms.specs.Calls.{Link}
 use Rattle.kr_kms.specs.Truth.{Truth}
 use Rattle.kr_kms.specs.declared.plugin.Status.{Status}
@@ -73,31 +72,14 @@ link_of table = record {
   status = Some (status_of table);
 }
 
--- the number of the next call is that of a failing one
-abbrev pub IsListed : Table → Type 0
-IsListed table = Contains table.calls.fails (next_number table.calls.made)
-
--- one more call was made, and it didn't fail
-abbrev pub after_call : Table → Table
-after_call table = record table {
-  calls = record table.calls { made = next_number table.calls.made };
-}
-
--- one more call was made, and it failed
-abbrev pub after_fault : Table → Table
-after_fault table = record table {
-  calls = record table.calls {
-    made = next_number table.calls.made;
-    faults = next_number table.calls.faults;
-  };
-}
-
 -- a call has this answer where it can be served, as far as there is memory for it; it fails exactly
 -- where its number is listed or it can't be served
 abbrev pub Answers : {T : Type 0} → Table → Type 0 → T → Result T KmsNo → Table → Type 0
 Answers old Served answer (Ok given) new =
-    (IsListed old → ⊥) × Served × (given ≡ answer) × (new ≡ after_call old)
+    (IsListed old.calls → ⊥) × Served × (given ≡ answer)
+    × (new ≡ record old { calls = after_call old.calls })
 Answers old Served answer (Err Failed) new =
-    (IsListed old ⊎ (Served → ⊥)) × (new ≡ after_fault old)
+    (IsListed old.calls ⊎ (Served → ⊥)) × (new ≡ record old { calls = after_fault old.calls })
 Answers old Served answer (Err NoMemory) new =
-    (IsListed old → ⊥) × Served × (new ≡ after_call old)
+    (IsListed old.calls → ⊥) × Served
+    × (new ≡ record old { calls = after_call old.calls })

@@ -27,6 +27,6 @@ pub use plugin::{Kms, KmsNo, Status, Wrapped, is_within_limits};
 pub use replies::{Answered, Asked, Reply, ReplyNo, read_reply, reply_line};
 pub use requests::{Request, RequestNo, read_request, request_line};
 pub use seeds::{SeedKey, SeedRow, make_seed};
-pub use shelf::Shelf;
+pub use shelf::{Shelf, name_place, plugin_place};
 pub use table_plugin::TablePlugin;
 pub use world::{FileNo, World, WorldCall};

@@ -14,7 +14,7 @@ ghost use Rattle.kr_kms.specs.MemWorld.{GivesFile, GivesFirst, GivesTape};
 
 use crate::file_faults::FileFaults;
 use crate::plugin::Kms;
-use crate::shelf::Shelf;
+use crate::shelf::{Shelf, name_place, plugin_place};
 use crate::world::{FileNo, World, WorldCall};
 use kr_base::{Bytes, List, MemDice, MemTape, Text};
 use std::alloc::Global;
@@ -490,28 +490,10 @@ fn link_place<L: Kms>(links: &[(u32, L)], seat: u32, plugin: &str) -> Option<usi
         .position(|entry| entry.0 == seat && entry.1.name() == plugin)
 }
 
-/// Where the name stands.
-fn name_place(out: &[Text], name: &str) -> Option<usize>
-    ensures first { result ≡ position (λ other. bytes_eq other name.now) out.now }
-    ensures within { IfSome result (λ at. at < length out.now) }
-{
-    out.iter().position(|other| other.as_str() == name)
-}
-
 /// Where the seat stands.
 fn seat_place(out: &[u32], seat: u32) -> Option<usize>
     ensures first { result ≡ position (λ other. other == seat) out.now }
     ensures within { IfSome result (λ at. at < length out.now) }
 {
     out.iter().position(|other| *other == seat)
-}
-
-/// Where the seat stands with the plugin.
-fn plugin_place(out: &[(u32, Text)], seat: u32, plugin: &str) -> Option<usize>
-    ensures first { result ≡ position
-        (λ other. (other.0 == seat) && bytes_eq other.1 plugin.now) out.now }
-    ensures within { IfSome result (λ at. at < length out.now) }
-{
-    out.iter()
-        .position(|other| other.0 == seat && other.1.as_str() == plugin)
 }

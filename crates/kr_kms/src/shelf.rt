@@ -1,9 +1,10 @@
 //! Objects in memory that are lent and come back.
-ghost use Rattle.std.specs.Prelude.{◌≡◌, ◌<◌, [], ◌∷◌, ◌++◌, length, IfOk, OnOk, OnErr};
-ghost use Rattle.std.specs.Prelude.{slice_index_or};
+ghost use Rattle.std.specs.Prelude.{◌≡◌, ◌<◌, ◌==◌, ◌&&◌, [], ◌∷◌, ◌++◌, length, position};
+ghost use Rattle.std.specs.Prelude.{IfOk, IfSome, OnOk, OnErr, slice_index_or};
 ghost use Rattle.std.specs.List.{remove};
+ghost use Rattle.std.specs.Str.{bytes_eq};
 
-use kr_base::{List, NoMemory};
+use kr_base::{List, NoMemory, Text};
 use std::alloc::Global;
 use std::marker::Model;
 
@@ -118,4 +119,22 @@ impl<K: Drop, T> Shelf<K, (K, T)> {
             Err(_) => unreachable!(),
         }
     }
+}
+
+/// Where the name stands among those that are out.
+pub fn name_place(out: &[Text], name: &str) -> Option<usize>
+    ensures first { result ≡ position (λ other. bytes_eq other name.now) out.now }
+    ensures within { IfSome result (λ at. at < length out.now) }
+{
+    out.iter().position(|other| other.as_str() == name)
+}
+
+/// Where the seat stands with the plugin among those that are out.
+pub fn plugin_place(out: &[(u32, Text)], seat: u32, plugin: &str) -> Option<usize>
+    ensures first { result ≡ position
+        (λ other. (other.0 == seat) && bytes_eq other.1 plugin.now) out.now }
+    ensures within { IfSome result (λ at. at < length out.now) }
+{
+    out.iter()
+        .position(|other| other.0 == seat && other.1.as_str() == plugin)
 }

@@ -3,11 +3,11 @@ ghost use Rattle.std.specs.Prelude.{◌≡◌, ◌⊎◌, ◌↔◌, ◌%◌, �
 ghost use Rattle.std.specs.Prelude.{if◌then◌else◌};
 ghost use Rattle.std.specs.Bool.{OnTrue};
 ghost use Rattle.kr_base.specs.Faults.{Rose};
+ghost use Rattle.kr_base.specs.InMemory.{IsListed, after_call, after_fault};
 ghost use Rattle.kr_kms.specs.Calls.{Says, Wraps, Unwraps};
 ghost use Rattle.kr_kms.specs.Limits.{IsWithinLimits};
-ghost use Rattle.kr_kms.specs.Table.{IsListed, after_call, after_fault, Answers, salt_in, mask_of};
-ghost use Rattle.kr_kms.specs.Table.{xor_of, salt_pair, wrapped_by, status_of, table_truth};
-ghost use Rattle.kr_kms.specs.Table.{link_of};
+ghost use Rattle.kr_kms.specs.Table.{Answers, salt_in, mask_of, xor_of, salt_pair, wrapped_by};
+ghost use Rattle.kr_kms.specs.Table.{status_of, table_truth, link_of};
 
 use crate::plugin::{Kms, KmsNo, Status, Wrapped};
 use kr_base::{Annotations, Bytes, CallLog, List, NoMemory, Text, is_short};
@@ -83,9 +83,10 @@ impl TablePlugin {
 
     /// Counts one more call, and answers whether it fails.
     fn fails(&mut self, served: bool) -> bool
-        ensures failed { IsTrue result ↔ (IsListed self.old ⊎ (IsTrue served → ⊥)) }
-        ensures after { self.new
-            ≡ (if result then after_fault self.old else after_call self.old) }
+        ensures failed { IsTrue result ↔ (IsListed self.old.calls ⊎ (IsTrue served → ⊥)) }
+        ensures after { self.new ≡ record self.old {
+          calls = if result then after_fault self.old.calls else after_call self.old.calls;
+        } }
         ensures later { self.old.calls.faults ≤ self.new.calls.faults }
         ensures rose { OnTrue result (Rose self.old.calls.faults self.new.calls.faults) }
     {

@@ -4,7 +4,7 @@ use Rattle.std.specs.List.{list_any, range_with_len, slice_get, slice_index}
 use Rattle.std.proofs.Common.{◌≡◌, ℕ, ◌+◌, ◌*◌, ◌<◌, ◌≤◌, ◌⊎◌, ◌||◌, Bool, true, false, List, [], ◌∷◌, ◌++◌, length, map, get_or, Option, Some, inl, inr, refl, ap, sym, subst, ◌∙◌, arith}
 use Rattle.std.proofs.lemmas.Bool.{false≢true}
 use Rattle.std.proofs.lemmas.List.{get_or-map, length-map}
-use Rattle.std.proofs.lemmas.List.Elements.{All-contains, All-cons, All-head, All-nil, All-tail}
+use Rattle.std.proofs.lemmas.List.Elements.{All-contains, All-cons, All-nil}
 use Rattle.std.proofs.lemmas.List.Folds.{list_any_none}
 use Rattle.std.proofs.lemmas.List.FromFn.{get_or-range_with_len}
 use Rattle.std.proofs.lemmas.Option.{get_or_from_slice_get, same_Some, slice_get-get_or}
@@ -31,7 +31,7 @@ use Rattle.kr_script.specs.declared.script.Part.{Part}
 use Rattle.kr_script.specs.declared.told.Told.{Told}
 use Rattle.kr_workers.specs.Endings.{is_same, kind_of, some_is}
 use Rattle.kr_workers.specs.Histories.{first_place}
-use Rattle.kr_workers.specs.Runs.{LineDone, replies_in}
+use Rattle.kr_workers.specs.Runs.{LineDone}
 use Rattle.kr_workers.specs.Sentences.{RepliesAreTrue, TellsRun}
 use Rattle.kr_workers.specs.declared.ending.Ending.{Ending}
 use Rattle.kr_workers.specs.declared.ending.Ending.TheVariants as ending
@@ -49,7 +49,7 @@ use Rattle.kr_load.proofs.FullReplies.{IsElse, IsFullWorker, full_worker}
 use Rattle.kr_load.proofs.LoadHistories.{IsLoadEntry, IsLoads, OpensKeyed, is_not_full, is_not_gone, names_keyed}
 use Rattle.kr_load.proofs.LoadLines.{of_load, opening_keyed}
 use Rattle.kr_load.proofs.LoadReplies.{IsCalm}
-use Rattle.kr_load.proofs.LoadSeats.{entries_owned, none_failed, reloads_lines, run_full, seat_few}
+use Rattle.kr_load.proofs.LoadSeats.{entries_owned, mapped_all, none_failed, reloads_lines, run_full, seat_few}
 use Rattle.kr_load.proofs.RunParts.{four_seats, own_there, parted, split_lines}
 
 -- ---- lists
@@ -78,13 +78,6 @@ four_of (a ∷ (b ∷ [])) is = absurd (omega (arith, is))
 four_of (a ∷ (b ∷ (c ∷ []))) is = absurd (omega (arith, is))
 four_of (a ∷ (b ∷ (c ∷ (d ∷ [])))) is = record { a = a; b = b; c = c; d = d; is = refl }
 four_of (a ∷ (b ∷ (c ∷ (d ∷ (e ∷ xs))))) is = absurd (omega (arith, is))
-
-replies_all : (P : Told → Type 0) (run : List LineDone) → All P (replies_in run)
-    → All (λ (done : LineDone). P done.reply) run
-replies_all P [] all = All-nil (λ (done : LineDone). P done.reply)
-replies_all P (done ∷ run) all = All-cons (λ (d : LineDone). P d.reply) done run
-    (All-head P done.reply (replies_in run) all)
-    (replies_all P run (All-tail P done.reply (replies_in run) all))
 
 -- ---- tests
 
@@ -313,7 +306,8 @@ module _ (T : Type 0) {L D : Type 0} (truth : Truth) (link : L → Link)
           let gets = map (get_of worker) (range_with_len 0 size) in
           let p = split_lines s.run puts (reloads_of worker ++ gets) lines in
           let q = split_lines p.rest (reloads_of worker) gets p.rest_is in
-          let none = replies_all (λ reply. of_kind ending.Memory reply ≡ false) s.run
+          let none = mapped_all (λ reply. of_kind ending.Memory reply ≡ false)
+          (λ (d : LineDone). d.reply) s.run
           (subst (λ l. All (λ reply. of_kind ending.Memory reply ≡ false) l) s.replies_are
           (none_passes (of_kind ending.Memory) (now worker few).x.told.0 enough)) in
           let all = run_full truth link left count files history o seed size worker

@@ -34,10 +34,10 @@ use Rattle.kr_script.specs.declared.told.Told.TheVariants as told
 use Rattle.kr_store.specs.Rows.{log_row_at, put_of, row_of}
 use Rattle.kr_store.specs.declared.rows.LogRow.{LogRow}
 use Rattle.kr_workers.specs.Files.{rows_at}
-use Rattle.kr_workers.specs.Runs.{LineDone, lines_in, replies_in}
 use Rattle.kr_workers.specs.Sentences.{Replies}
 use Rattle.kr_workers.specs.declared.files.SettingsFile.{SettingsFile}
 use Rattle.kr_workers.specs.declared.worker.Worker.{Worker}
+use Rattle.kr_workers.proofs.Sentencing.{done_at}
 use Rattle.kr_load.specs.KeptPuts.{HasRow, PutsAreKept}
 use Rattle.kr_load.specs.LoadRuns.{IsLoadRun, opening_rows}
 use Rattle.kr_load.specs.Loads.{configurations, named_rows, path_of, plain_of}
@@ -193,32 +193,6 @@ at_the_seam : (xs : List LogRow) (x : LogRow) (ys : List LogRow)
     → slice_get ((xs ++ x ∷ []) ++ ys) (length xs) ≡ Some x
 at_the_seam [] x ys = refl
 at_the_seam (z ∷ xs) x ys = at_the_seam xs x ys
-
--- ---- the line at a place of a run
-
-record IsDoneAt (run : List LineDone) (asked : ScriptLine) (reply : Told) : Type 0 where
-  done : LineDone
-  there : Contains run done
-  line_is : done.line ≡ asked
-  reply_is : done.reply ≡ reply
-
-done_at : (run : List LineDone) (at : ℕ) (asked : ScriptLine) (reply : Told)
-    → slice_get (lines_in run) at ≡ Some asked → slice_get (replies_in run) at ≡ Some reply
-    → IsDoneAt run asked reply
-done_at [] at asked reply l r = absurd (none-some asked l)
-done_at (done ∷ run) zero asked reply l r = record {
-  done = done;
-  there = (0, omega arith, refl);
-  line_is = same_Some done.line asked l;
-  reply_is = same_Some done.reply reply r;
-}
-done_at (done ∷ run) (suc at) asked reply l r =
-    let d = done_at run at asked reply l r in record {
-      done = d.done;
-      there = (suc d.there.0, (let c = d.there in omega (arith, c.1)), d.there.2);
-      line_is = d.line_is;
-      reply_is = d.reply_is;
-    }
 
 -- ---- an entry that wrote
 

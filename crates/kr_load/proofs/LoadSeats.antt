@@ -3,7 +3,7 @@ use Rattle.std.specs.Prelude.{All, Contains}
 use Rattle.std.specs.List.{range_with_len}
 use Rattle.std.proofs.Common.{◌≡◌, ℕ, ◌+◌, ◌*◌, ◌<◌, ◌≤◌, ◌==◌, false, List, [], ◌∷◌, ◌++◌, length, map, get_or, Option, Some, Ok, inl, inr, refl, ap, sym, subst, ◌∙◌, arith}
 use Rattle.std.proofs.lemmas.List.{append_assoc, length-map}
-use Rattle.std.proofs.lemmas.List.Elements.{All-append, All-contains, All-cons, All-head, All-nil, All-tail, Contains-append_left, Contains-append_right, Contains-get_or}
+use Rattle.std.proofs.lemmas.List.Elements.{All-append, All-contains, All-cons, All-head, All-map, All-nil, All-tail, Contains-append_left, Contains-append_right, Contains-get_or}
 use Rattle.kr_base.specs.Lines.{of_seat}
 use Rattle.kr_kms.specs.Calls.{Link}
 use Rattle.kr_kms.specs.Truth.{Truth}
@@ -23,7 +23,7 @@ use Rattle.kr_workers.specs.Causes.{HasCause}
 use Rattle.kr_workers.specs.Endings.{is_same, kind_of}
 use Rattle.kr_workers.specs.Gets.{TellContents}
 use Rattle.kr_workers.specs.Histories.{StandsIn, first_place}
-use Rattle.kr_workers.specs.Runs.{LineDone, entries_in, lines_in, replies_in}
+use Rattle.kr_workers.specs.Runs.{LineDone, entries_in}
 use Rattle.kr_workers.specs.ScriptLines.{Does}
 use Rattle.kr_workers.specs.declared.ending.Ending.TheVariants as ending
 use Rattle.kr_workers.specs.declared.files.SettingsFile.{SettingsFile}
@@ -41,20 +41,12 @@ use Rattle.kr_load.proofs.RunParts.{IsNumbered, Splits, WasDone, all_by_parts, a
 
 -- ---- lists
 
-all_lines : (P : ScriptLine → Type 0) (run : List LineDone) → All P (lines_in run)
-    → All (λ (done : LineDone). P done.line) run
-all_lines P [] all = All-nil (λ (done : LineDone). P done.line)
-all_lines P (done ∷ run) all = All-cons (λ (d : LineDone). P d.line) done run
-    (All-head P done.line (lines_in run) all)
-    (all_lines P run (All-tail P done.line (lines_in run) all))
-
-all_replies : (P : Told → Type 0) (run : List LineDone)
-    → All (λ (done : LineDone). P done.reply) run → All P (replies_in run)
-all_replies P [] all = All-nil P
-all_replies P (done ∷ run) all =
-    let Is : LineDone → Type 0 = λ d. P d.reply in
-    All-cons P done.reply (replies_in run) (All-head Is done run all)
-    (all_replies P run (All-tail Is done run all))
+-- what holds of each image holds of what it is of
+pub mapped_all : {X Y : Type 0} (P : Y → Type 0) (f : X → Y) (xs : List X) → All P (map f xs)
+    → All (λ x. P (f x)) xs
+mapped_all P f [] all = All-nil (λ x. P (f x))
+mapped_all P f (x ∷ xs) all = All-cons (λ y. P (f y)) x xs (All-head P (f x) (map f xs) all)
+    (mapped_all P f xs (All-tail P (f x) (map f xs) all))
 
 -- one fact of each from two
 both_all : {X : Type 0} (P Q R : X → Type 0) (xs : List X) → ((x : X) → P x → Q x → R x)
@@ -70,7 +62,7 @@ module _ {L D : Type 0} (truth : Truth) (link : L → Link) (left : D → Option
     (s : StandsIn truth link left count files history part (first_place o worker budget bench)
     replies after) (lines : part.lines.0 ≡ lines_of seed size worker) where
   run_lines : All (λ (done : LineDone). IsLoadLine seed size worker done.line) s.run
-  run_lines = all_lines (IsLoadLine seed size worker) s.run
+  run_lines = mapped_all (IsLoadLine seed size worker) (λ (d : LineDone). d.line) s.run
       (subst (λ l. All (IsLoadLine seed size worker) l) (sym (s.lines_are ∙ lines))
       (lines_are seed size worker))
 
@@ -179,7 +171,8 @@ module _ {L D : Type 0} (truth : Truth) (link : L → Link) (left : D → Option
     pub none_failed : All (λ (reply : Told). is_same (kind_of reply) ending.Fault ≡ false) replies
     none_failed =
         let P : Told → Type 0 = λ reply. is_same (kind_of reply) ending.Fault ≡ false in
-        subst (λ l. All P l) (sym s.replies_are) (all_replies P s.run (λ k d below.
+        subst (λ l. All P l) (sym s.replies_are)
+        (All-map P (λ (d : LineDone). d.reply) s.run (λ k d below.
         let done = get_or s.run k d in
         no_fault link count history (first_place o worker budget bench) after.links after.dice calm
         done.line done.reply (caused done (Contains-get_or s.run k d below))))
@@ -241,7 +234,7 @@ module _ {L D : Type 0} (truth : Truth) (link : L → Link) (left : D → Option
             done.reply history after.links after.dice) is (caused done there)))
 
         pub reloads_lines : All (λ (done : LineDone). IsReloading done.line) q.front
-        reloads_lines = all_lines IsReloading q.front
+        reloads_lines = mapped_all IsReloading (λ (d : LineDone). d.line) q.front
             (subst (λ l. All IsReloading l) (sym q.front_is) (reloading worker))
 
         -- ---- the gets, where memory lacked for none

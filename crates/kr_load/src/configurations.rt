@@ -22,8 +22,8 @@ pub const TURNED: &str = "C";
 /// The resource of each object.
 pub const RESOURCE: &str = "secrets";
 
-/// The configurations: objects are written by g1, by g1 where g2 is read too, and by g2 where g1
-/// is.
+/// The configurations. A: g1 writes. B: it writes, and g2 is read too. C: g2 writes, and g1 is read
+/// too.
 pub fn files_of(alloc: Global, g1: &[u8], g2: &[u8]) -> Result<List<SettingsFile>, NoMemory>
     requires g1 { length g1.now ≡ 32 }
     requires g2 { length g2.now ≡ 32 }

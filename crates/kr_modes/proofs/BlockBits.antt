@@ -1,11 +1,11 @@
 -- The bits of a block's polynomial are those of the block, from the left.
-use Rattle.std.proofs.Common.{◌≡◌, ℕ, zero, suc, ◌+◌, ◌*◌, ◌-◌, ◌/◌, ◌%◌, ◌^◌, ◌<◌, List, length, map, slice_index, refl, subst, sym, ap, ◌∙◌, arith, inl, inr}
+use Rattle.std.proofs.Common.{◌≡◌, ℕ, zero, suc, ◌+◌, ◌*◌, ◌-◌, ◌/◌, ◌%◌, ◌^◌, ◌<◌, List, length, slice_index, refl, subst, sym, ap, ◌∙◌, arith, inl, inr}
 use Rattle.std.proofs.Math.Nat.{pow-suc}
 use Rattle.std.proofs.lemmas.Bool.{cases_lt}
-use Rattle.std.proofs.lemmas.List.{ext_get_or, get_or-map}
+use Rattle.std.proofs.lemmas.List.{ext_get_or}
 use Rattle.std.proofs.lemmas.Nat.{mod_below, pow-add, shr-shr}
 use Rattle.std.proofs.lemmas.Nat.Bits.{bit_at-suc, bit_at_cat_high, bit_at_cat_low, bit_at_lowest, same_from_bits_below}
-use Rattle.std.specs.Int.{w8, w128, bit_at, byte_at, bytes_high_first, from_be_bytes, from_le_bytes, reverse_bits, reverse_bits_onto}
+use Rattle.std.specs.Int.{w128, bit_at, byte_at, bytes_high_first, from_be_bytes, from_le_bytes, reverse_bits, reverse_bits_onto}
 use Rattle.kr_aes.specs.Cipher.{IsBlock}
 use Rattle.kr_aes.proofs.Blocks.{cell-lt}
 use Rattle.kr_modes.specs.Ghash.{block_of, polynomial}
@@ -25,7 +25,7 @@ reversed_above (suc k) n a j =
     ∙ bit_at-suc (a * 2 + n % 2) j
     ∙ ap (λ (x : ℕ). bit_at x j) half
 
-reversed_bit : (k n a i : ℕ) → i < k → bit_at (reverse_bits_onto k n a) i ≡ bit_at n (k - 1 - i)
+pub reversed_bit : (k n a i : ℕ) → i < k → bit_at (reverse_bits_onto k n a) i ≡ bit_at n (k - 1 - i)
 unfolding reverse_bits_onto
 reversed_bit zero n a i lt = absurd (omega arith)
 reversed_bit (suc k) n a i lt = elim (cases_lt i k) [
@@ -78,9 +78,7 @@ bit_of_polynomial block i is lt =
     ∙ joined_bit 16 (slice_index block) (cell-lt block is) j (omega arith)
     ∙ (λ k. bit_at (slice_index block (place k)) (bit k))
 
--- ---- the same from the bytes' mirrors, the lowest first
-
-reversed-lt : (k m n a : ℕ) → a < 2 ^ m → reverse_bits_onto k n a < 2 ^ (m + k)
+pub reversed-lt : (k m n a : ℕ) → a < 2 ^ m → reverse_bits_onto k n a < 2 ^ (m + k)
 unfolding reverse_bits_onto
 reversed-lt zero m n a lt =
     let e : m ≡ m + 0 = omega arith in
@@ -96,31 +94,6 @@ pub joined_low_16 : (bytes : List ℕ)
 unfolding joined
 joined_low_16 bytes = omega arith
 
-pub polynomial_of_mirrored : (block bytes : List ℕ) (p : ℕ) → IsBlock block
-    → bytes ≡ map (reverse_bits w8) block → p ≡ from_le_bytes w128 bytes → p < 2 ^ 128
-    → p ≡ polynomial block
-unfolding polynomial
-polynomial_of_mirrored block bytes p is e from fits =
-    let size : length block ≡ 16 = is.size in
-    let cell : (k : ℕ) → k < 16 → slice_index bytes k ≡ reverse_bits w8 (slice_index block k) =
-    λ k lt. ap (λ (xs : List ℕ). slice_index xs k) e
-    ∙ get_or-map (reverse_bits w8) block k 0 0 (omega arith) in
-    let byte : (i : ℕ) → slice_index bytes (15 - i) < 256 =
-    λ i. rw (cell (15 - i) (omega arith))
-    (reversed-lt 8 0 (slice_index block (15 - i)) 0 (omega arith)) in
-    same_from_bits_below 128 p (polynomial block) fits
-    (reversed-lt 128 0 (from_be_bytes w128 block) 0 (omega arith))
-    (λ j lt.
-    let place : 15 - (16 - 1 - j / 8) ≡ j / 8 = omega arith in
-    let bit : 8 - 1 - j % 8 ≡ 7 - j % 8 = omega arith in
-    ap (λ (x : ℕ). bit_at x j) (from ∙ joined_low_16 bytes)
-    ∙ joined_bit 16 (λ k. slice_index bytes (15 - k)) byte j lt
-    ∙ ap (λ (k : ℕ). bit_at (slice_index bytes k) (j % 8)) place
-    ∙ ap (λ (x : ℕ). bit_at x (j % 8)) (cell (j / 8) (omega arith))
-    ∙ reversed_bit 8 (slice_index block (j / 8)) 0 (j % 8) (omega arith)
-    ∙ ap (bit_at (slice_index block (j / 8))) bit
-    ∙ sym (bit_of_polynomial block j is lt))
-
 -- ---- and back
 
 pub low_byte : (x j : ℕ) → j < 8 → bit_at (x % 256) j ≡ bit_at x j
@@ -134,7 +107,7 @@ pow_of_bytes (suc i) =
     let e : 8 * i + 8 ≡ 8 * suc i = omega arith in
     pow-suc 256 i ∙ ap (λ (x : ℕ). x * 256) (pow_of_bytes i) ∙ sym (pow-add 2 (8 * i) 8) ∙ ap (λ (k : ℕ). 2 ^ k) e
 
-bit_of_byte : (i n j : ℕ) → j < 8 → bit_at (byte_at i n) j ≡ bit_at n (8 * i + j)
+pub bit_of_byte : (i n j : ℕ) → j < 8 → bit_at (byte_at i n) j ≡ bit_at n (8 * i + j)
 bit_of_byte zero n j lt =
     let e : j ≡ 8 * 0 + j = omega arith in
     low_byte n j lt ∙ ap (bit_at n) e
@@ -143,11 +116,11 @@ bit_of_byte (suc i) n j lt =
     ∙ ap (λ (x : ℕ). n / x / 2 ^ j % 2) (pow_of_bytes (suc i))
     ∙ ap (λ (x : ℕ). x % 2) (shr-shr n (8 * suc i) j)
 
-byte_at-lt : (i n : ℕ) → byte_at i n < 256
+pub byte_at-lt : (i n : ℕ) → byte_at i n < 256
 byte_at-lt zero n = mod_below n 256 (omega arith)
 byte_at-lt (suc i) n = mod_below (n / 256 ^ suc i) 256 (omega arith)
 
-high_first : (m n k : ℕ) → k < m → slice_index (bytes_high_first m n) k ≡ byte_at (m - 1 - k) n
+pub high_first : (m n k : ℕ) → k < m → slice_index (bytes_high_first m n) k ≡ byte_at (m - 1 - k) n
 high_first zero n k lt = absurd (omega arith)
 high_first (suc m) n zero lt =
     let e : m ≡ suc m - 1 - 0 = omega arith in

@@ -1,13 +1,9 @@
 -- Products by the tables, a group of four coefficients after another.
-use Rattle.std.proofs.Common.{◌≡◌, ℕ, zero, suc, ◌+◌, ◌*◌, ◌/◌, ◌%◌, ◌^◌, ◌<◌, ◌≤◌, List, ◌∷◌, [], length, map, slice_index, bit_xor, sym, ap, ◌∙◌, arith, rules, inl, inr}
+use Rattle.std.proofs.Common.{◌≡◌, ℕ, zero, suc, ◌+◌, ◌*◌, ◌/◌, ◌%◌, ◌^◌, ◌<◌, ◌≤◌, slice_index, bit_xor, sym, ap, ◌∙◌, arith, inl, inr}
 use Rattle.std.specs.Int.{w128, bit_at, byte_at, bytes_low_first, to_le_bytes}
-use Rattle.std.specs.Int.Bits.{xor_zero_l, xor_zero_r}
-use Rattle.std.specs.List.{range_with_len}
-use Rattle.std.proofs.lemmas.List.{places}
-use Rattle.std.proofs.lemmas.List.FromFn.{get_or-map-range_with_len}
+use Rattle.std.specs.Int.Bits.{xor_zero_r}
 use Rattle.std.proofs.lemmas.Nat.{shr-shr}
 use Rattle.std.proofs.lemmas.Nat.Bits.{bit_at-lt, bit_at_cat_low}
-use borrow.Rule.Slice.PartMut.{put_mid}
 use lib.Bits.{xor_assoc}
 use Rattle.kr_aes.proofs.Linear.{below_two, one_times, zero_times}
 use Rattle.kr_modes.specs.inner.Tables.{four_terms, power, times_x}
@@ -16,7 +12,7 @@ use Rattle.kr_modes.proofs.Remainders.{partial_product, partial_product_next, pa
 
 -- ---- four coefficients
 
-bit_of_group : (a i k : ℕ) → k < 4 → bit_at (a / 2 ^ i % 16) k ≡ bit_at a (i + k)
+pub bit_of_group : (a i k : ℕ) → k < 4 → bit_at (a / 2 ^ i % 16) k ≡ bit_at a (i + k)
 bit_of_group a i k lt =
     let x : ℕ = a / 2 ^ i in
     let split : x / 16 * 2 ^ 4 + x % 16 ≡ x = omega arith in
@@ -61,29 +57,9 @@ group_more i a h within fits =
     ∙ sym m3
     ∙ ap (λ (k : ℕ). partial_product k a h) end
 
--- ---- a table
-
-pub multiples_are : (p q r s : ℕ) → q ≡ times_x p → r ≡ times_x q → s ≡ times_x r
-    → 0 ∷ p ∷ q ∷ bit_xor p q ∷ r ∷ bit_xor p r ∷ bit_xor q r ∷ bit_xor (bit_xor p q) r
-    ∷ s ∷ bit_xor p s ∷ bit_xor q s ∷ bit_xor (bit_xor p q) s
-    ∷ bit_xor r s ∷ bit_xor p (bit_xor r s) ∷ bit_xor q (bit_xor r s) ∷ bit_xor (bit_xor p q) (bit_xor r s) ∷ []
-    ≡ map (λ v. four_terms v p) (range_with_len 0 16)
-unfolding four_terms
-multiples_are p q r s eq er es =
-    rw (es, er, eq) (simp (zero_times, one_times, xor_zero_l, xor_zero_r))
-
-pub cell_of_multiples : (p v : ℕ) → v < 16 → slice_index (map (λ v. four_terms v p) (range_with_len 0 16)) v ≡ four_terms v p
-cell_of_multiples p v lt = get_or-map-range_with_len (λ v. four_terms v p) 0 16 v v 0 lt (omega arith)
-
-pub cell_before : (xs ys : List ℕ) (a k n : ℕ) → n < a → a + k ≤ length xs → length ys ≡ k → slice_index (put_mid a k xs ys) n ≡ slice_index xs n
-cell_before xs ys a k n lt fits long = search (rules, places)
-
-pub cell_within : (xs ys : List ℕ) (a k n : ℕ) → n < k → a + k ≤ length xs → length ys ≡ k → slice_index (put_mid a k xs ys) (a + n) ≡ slice_index ys n
-cell_within xs ys a k n lt fits long = search (rules, places)
-
 -- ---- the bytes of a factor
 
-low_first : (m i n k : ℕ) → k < m → slice_index (bytes_low_first i m n) k ≡ byte_at (i + k) n
+pub low_first : (m i n k : ℕ) → k < m → slice_index (bytes_low_first i m n) k ≡ byte_at (i + k) n
 low_first zero i n k lt = absurd (omega arith)
 low_first (suc m) i n zero lt =
     let e : i ≡ i + 0 = omega arith in
@@ -92,7 +68,7 @@ low_first (suc m) i n (suc k) lt =
     let e : suc i + k ≡ i + suc k = omega arith in
     low_first m (suc i) n k (omega arith) ∙ ap (λ (j : ℕ). byte_at j n) e
 
-byte_is : (i n : ℕ) → byte_at i n ≡ n / 2 ^ (8 * i) % 256
+pub byte_is : (i n : ℕ) → byte_at i n ≡ n / 2 ^ (8 * i) % 256
 byte_is zero n = omega arith
 byte_is (suc i) n = ap (λ (x : ℕ). n / x % 256) (pow_of_bytes (suc i))
 

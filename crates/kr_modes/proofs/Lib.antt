@@ -11,5 +11,6 @@ pub mod Opening
 pub mod Streams
 pub mod Sealed
 pub mod BlockBits
-pub mod Mirrors
 pub mod BlockSums
+pub mod Numbers
+pub mod Counters

@@ -1,14 +1,15 @@
 //! GCM (SP 800-38D sections 6.5 and 7) for nonces of 12 bytes.
 
-ghost use Rattle.std.specs.Prelude.{◌≡◌, ◌↔◌, ◌≤◌, ◌<◌, ◌+◌, ◌*◌, ◌^◌, ◌++◌, length, take, drop, IfOk, OnErr, IsTrue, MatchResult};
+ghost use Rattle.std.specs.Prelude.{◌≡◌, ◌≢◌, ◌↔◌, ℕ, ◌≤◌, ◌<◌, ◌+◌, ◌*◌, ◌^◌, ◌++◌, List, length, take, drop, slice_index, IfOk, OnErr, IsTrue, MatchResult};
 ghost use Rattle.std.specs.Int.{w64, to_be_bytes};
 ghost use Rattle.kr_aes.specs.Cipher.{cipher};
 ghost use Rattle.kr_aes.specs.KeyExpansion.{IsSchedule};
+ghost use Rattle.kr_aes.specs.Begun.{IsBegun};
 ghost use Rattle.kr_modes.specs.Gcm.{gctr, counter_block, gcm, gcm_opened, gcm_tag};
 
 use crate::blocks::{self, BLOCK};
 use crate::{ModeNo, ghash};
-use kr_aes::Rounds;
+use kr_aes::{Begun, Rounds};
 
 /// The length of a nonce in bytes.
 const NONCE: usize = 12;
@@ -108,6 +109,21 @@ fn counter_block(nonce: &[u8; NONCE], n: u32) -> [u8; BLOCK]
     block
 }
 
+/// What begins the counter block: it is begun anew where its last byte is 0, since the block before
+/// it differs elsewhere too.
+#[inline(always)]
+fn begun_for(words: &[u32; 60], begun: Begun, block: &[u8; BLOCK]) -> Begun
+    ensures { (before : List ℕ) → IsBegun words.now before begun
+        → (slice_index block.now 15 ≢ 0 → take 15 block.now ≡ take 15 before)
+        → IsBegun words.now block.now result }
+{
+    if block[BLOCK - 1] == 0 {
+        Begun::new(words, block)
+    } else {
+        begun
+    }
+}
+
 /// Writes the exclusive or of the bytes and the key stream.
 fn gctr(words: &[u32; 60], rounds: Rounds, nonce: &[u8; NONCE], bytes: &[u8], out: &mut [u8])
     requires schedule { IsSchedule words.now rounds }
@@ -116,13 +132,13 @@ fn gctr(words: &[u32; 60], rounds: Rounds, nonce: &[u8; NONCE], bytes: &[u8], ou
     ensures { out.new ≡ gctr (cipher words.now rounds) nonce.now bytes.now }
 {
     let whole = bytes.len() / BLOCK;
+    let mut begun = Begun::new(words, &counter_block(nonce, 0));
     for index in 0..whole {
         let start = BLOCK * index;
-        let mut block = blocks::whole_block(bytes, index);
-        blocks::add(
-            &mut block,
-            &stream_block(words, rounds, nonce, (index + 1) as u32),
-        );
+        let mut block = counter_block(nonce, (index + 1) as u32);
+        begun = begun_for(words, begun, &block);
+        begun.encrypt_block(words, rounds, &mut block);
+        blocks::add(&mut block, &blocks::whole_block(bytes, index));
         out[start..start + BLOCK].copy_from_slice(&block);
     }
     if bytes.len() % BLOCK != 0 {
@@ -163,12 +179,12 @@ fn tag_of(
 {
     let mut subkey = [0; BLOCK];
     kr_aes::encrypt_block(words, rounds, &mut subkey);
-    let mut products = [0; 512];
-    ghash::fill(ghash::polynomial(subkey), &mut products);
+    let mut products = [[0; 16]; 32];
+    ghash::fill(&subkey, &mut products);
     let value = ghash::absorb(&products, 0, aad);
     let value = ghash::absorb(&products, value, ciphertext);
     let value = ghash::absorb(&products, value, &length_block(aad.len(), ciphertext.len()));
-    let mut tag = ghash::block_of(value);
+    let mut tag = value.to_le_bytes();
     blocks::add(&mut tag, &stream_block(words, rounds, nonce, 0));
     tag
 }

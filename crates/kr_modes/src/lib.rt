@@ -7,7 +7,6 @@ mod cbc;
 mod gcm;
 mod ghash;
 pub mod laws;
-mod mirror;
 
 pub use cbc::{cbc_length, cbc_seal, cbc_unseal};
 pub use gcm::{gcm_seal, gcm_unseal};

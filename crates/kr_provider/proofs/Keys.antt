@@ -18,12 +18,13 @@ use Rattle.kr_config.specs.Kept.{Row, keeps_row, keys_in, row_of, rows_of}
 use Rattle.kr_config.specs.Lists.{first_list, list_of}
 use Rattle.kr_config.specs.Patterns.{matches}
 use Rattle.kr_config.specs.Providers.{is_key, is_provider, is_secret}
+use Rattle.kr_config.proofs.Inversions.{left as and_left, right as and_right}
 use Rattle.kr_pages.specs.Pool.{words_of}
 use Rattle.kr_provider.specs.KeyPages.{HoldKeys, KeyPages, words_out, secret_of, secrets_among, secrets_in}
 use Rattle.kr_provider.specs.Publication.{Publication}
 use Rattle.kr_provider.specs.Readers.{writer_of}
 use Rattle.kr_provider.specs.inner.Scan.{AreAmong, HasWords, IsAmong, place_from}
-use Rattle.kr_provider.proofs.Booleans.{and_left, and_right, or_left}
+use Rattle.kr_provider.proofs.Booleans.{or_left}
 use Rattle.kr_provider.proofs.Lists.{of_row}
 
 -- ---- what is left of a list behind an item

@@ -10,10 +10,11 @@ use Rattle.kr_config.specs.Kept.{Row, apart, keeps, keeps_row, keeps_patterns, k
 use Rattle.kr_config.specs.Lists.{first_list, list_of}
 use Rattle.kr_config.specs.Patterns.{matches}
 use Rattle.kr_config.specs.Providers.{is_kms, is_provider, plugins_among, rivals}
+use Rattle.kr_config.proofs.Inversions.{left as and_left, right as and_right}
 use Rattle.kr_provider.specs.Names.{HasLinks}
 use Rattle.kr_provider.specs.Publication.{IsProviderList, names_plugin}
 use Rattle.kr_provider.specs.Readers.{writer_of}
-use Rattle.kr_provider.proofs.Booleans.{and_left, and_right, or_left, or_right}
+use Rattle.kr_provider.proofs.Booleans.{or_left, or_right}
 
 some_of : (n : ℕ) → nat_le 1 n ≡ true → 1 ≤ n
 some_of n e = grind (arith, nat_tests)

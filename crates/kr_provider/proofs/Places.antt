@@ -1,14 +1,13 @@
 -- The reader of a value, by its place in the list.
 use Rattle.std.proofs.Common.{◌≡◌, ℕ, zero, suc, ◌<◌, ◌≤◌, Bool, true, false, List, [], ◌∷◌, length, get_or, Option, Some, None, Ok, refl, sym, ◌∙◌, ap, subst, arith}
-use Rattle.std.specs.Prelude.{◌&&◌, ◌||◌, cond, not, nat_eq, nat_lt, find, position, slice_get}
+use Rattle.std.specs.Prelude.{◌&&◌, ◌||◌, not, nat_eq}
 use Rattle.std.proofs.lemmas.Bool.Decides.{nat_tests}
 use Rattle.std.proofs.lemmas.List.Quantifiers.{position-Some}
-use Rattle.std.proofs.lemmas.Option.{slice_get-get_or}
 use Rattle.kr_config.specs.declared.who.Who.{Who}
 use Rattle.kr_config.specs.declared.who.Who.TheVariants.{Identity, Aescbc, Aesgcm, Kms}
 use Rattle.kr_config.specs.Providers.{is_kms}
 use Rattle.kr_kms.specs.declared.seeds.SeedRow.{SeedRow}
-use Rattle.kr_kms.proofs.Lent.{no_place, place_found}
+use Rattle.kr_kms.proofs.Lent.{found_at, no_place}
 use Rattle.kr_provider.specs.Envelopes.{Envelope}
 use Rattle.kr_envelope.specs.declared.object.EncryptedObject.{EncryptedObject}
 use Rattle.kr_provider.specs.Publication.{seed_of}
@@ -19,10 +18,7 @@ use Rattle.kr_provider.specs.inner.Sources.{IsReadBy}
 pub reader_found : (list : List Who) (bytes : List ℕ) (place : ℕ) (who : Who)
     → reader_place list bytes ≡ Some place → who ≡ get_or list place who
     → reader_in list bytes ≡ Some who
-reader_found list bytes place who e is =
-    let found = position-Some (is_reader bytes) list place who e in
-    place_found (is_reader bytes) list place e ∙ slice_get-get_or list place who found.0
-    ∙ ap (λ w. Some w) (sym is)
+reader_found list bytes place who e is = found_at (is_reader bytes) list place who e is
 
 pub reader_within : (list : List Who) (bytes : List ℕ) (place : ℕ) (who : Who)
     → reader_place list bytes ≡ Some place → place < length list

@@ -14,6 +14,7 @@ use Rattle.kr_config.specs.Kept.{Row, keeps, keeps_row, plugins_in}
 use Rattle.kr_config.specs.Lists.{first_list, list_of}
 use Rattle.kr_config.specs.Patterns.{matches}
 use Rattle.kr_config.specs.Providers.{is_provider, plugin_of, plugins_among}
+use Rattle.kr_config.proofs.Inversions.{left as and_left, right as and_right}
 use Rattle.kr_kms.specs.Calls.{Link}
 use Rattle.kr_kms.specs.Truth.{Truth}
 use Rattle.kr_kms.specs.declared.seeds.SeedRow.{SeedRow}
@@ -21,7 +22,6 @@ use Rattle.kr_provider.specs.Publication.{IsPublished, Publication, seed_of}
 use Rattle.kr_provider.specs.Publishing.{AreSeedsOf}
 use Rattle.kr_provider.specs.Readers.{writer_of}
 use Rattle.kr_provider.specs.inner.Scan.{AreNamedIn, HasSeed, HaveSeeds, IsNamedIn}
-use Rattle.kr_provider.proofs.Booleans.{and_left, and_right}
 use Rattle.kr_provider.proofs.Lists.{of_row, rows_keep}
 use Rattle.kr_provider.proofs.NameOrder.{is_before}
 use Rattle.kr_provider.proofs.Rivals.{name_of}

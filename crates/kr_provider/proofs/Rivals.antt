@@ -14,8 +14,8 @@ use Rattle.kr_config.specs.declared.who.Who.{Who}
 use Rattle.kr_config.specs.declared.who.Who.TheVariants.{Identity, Aescbc, Aesgcm, Kms}
 use Rattle.kr_config.specs.Kept.{apart, keeps_providers}
 use Rattle.kr_config.specs.Providers.{is_provider, is_secret, rivals}
+use Rattle.kr_config.proofs.Inversions.{left as and_left, right as and_right}
 use Rattle.kr_provider.specs.Readers.{is_reader, reader_in}
-use Rattle.kr_provider.proofs.Booleans.{and_left, and_right}
 
 pub name_of : (name : List ℕ) → is_name name ≡ true → IsName name
 name_of name t = (rules.name name).0 t

@@ -22,6 +22,7 @@ use Rattle.kr_envelope.proofs.Sizes.{canonical_length, canonical_size}
 use Rattle.kr_config.specs.declared.who.Who.{Who}
 use Rattle.kr_config.specs.declared.who.Who.TheVariants.{Identity, Aescbc, Aesgcm, Kms}
 use Rattle.kr_config.specs.Providers.{is_provider}
+use Rattle.kr_config.proofs.Inversions.{left as and_left}
 use Rattle.kr_kms.specs.Seeds.{IsSeedRow}
 use Rattle.kr_kms.specs.declared.seeds.SeedRow.{SeedRow}
 use Rattle.kr_provider.specs.Ciphers.{cipher_under, rounds_under}
@@ -31,7 +32,6 @@ use Rattle.kr_provider.specs.Publication.{Publication, list_at, seed_of, writer_
 use Rattle.kr_provider.specs.Readers.{writer_of}
 use Rattle.kr_provider.specs.Sealing.{IsBytes, IsSealing, Seals, draw_size, sealed_by, value_by, value_size}
 use Rattle.kr_provider.specs.declared.refusal.SealNo.{SealNo}
-use Rattle.kr_provider.proofs.Booleans.{and_left}
 use Rattle.kr_provider.proofs.Lists.{listed}
 use Rattle.kr_provider.proofs.Rivals.{key_name, name_of}
 use Rattle.kr_provider.proofs.SealedReads.{value_is}

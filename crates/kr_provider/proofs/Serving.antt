@@ -8,10 +8,10 @@ use Rattle.kr_config.specs.declared.who.Who.{Who}
 use Rattle.kr_config.specs.declared.who.Who.TheVariants.{Identity, Aescbc, Aesgcm, Kms}
 use Rattle.kr_config.specs.Kept.{plugins_in, rows_of}
 use Rattle.kr_config.specs.Providers.{plugin_of, plugins_among}
+use Rattle.kr_config.proofs.Inversions.{both as and_both, left as and_left, right as and_right}
 use Rattle.kr_kms.specs.Calls.{Link}
 use Rattle.kr_provider.specs.Names.{HasLinks, names_of}
 use Rattle.kr_provider.specs.inner.Scan.{is_served}
-use Rattle.kr_provider.proofs.Booleans.{and_both, and_left, and_right}
 use Rattle.kr_provider.proofs.LinkNames.{named}
 
 module _ {L : Type 0} (link : L → Link) (links : List L) where

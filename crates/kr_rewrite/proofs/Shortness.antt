@@ -1,10 +1,10 @@
 -- That a drive needs few entries: it finds each path at most once.
-use Rattle.std.proofs.Common.{◌≡◌, ℕ, ◌+◌, ◌*◌, ◌<◌, ◌≤◌, true, false, List, [], ◌∷◌, ◌++◌, length, count_by, Option, Some, Result, Ok, Err, refl, sym, ap, subst, ◌∙◌, inl, inr, arith}
+use Rattle.std.proofs.Common.{◌≡◌, ℕ, ◌+◌, ◌*◌, ◌<◌, ◌≤◌, List, [], ◌∷◌, ◌++◌, length, count_by, Option, Some, Result, Ok, Err, refl, sym, ap, subst, ◌∙◌, inl, inr, arith}
 use Rattle.std.specs.Prelude.{Contains, IsSome}
 use Rattle.std.specs.Cmp.Lexicographic.{slice_cmp}
-use Rattle.std.specs.Ordering.{is_lt, nat_cmp, ordering_reverse}
+use Rattle.std.specs.Ordering.{is_lt, nat_cmp}
 use Rattle.std.specs.declared.cmp.Ordering.{Ordering}
-use Rattle.std.specs.declared.cmp.Ordering.TheVariants.{Less, Equal, Greater}
+use Rattle.std.specs.declared.cmp.Ordering.TheVariants.{Less}
 use Rattle.std.proofs.lemmas.Cmp.{nat_list_cmp_total}
 use Rattle.std.proofs.lemmas.List.{append_assoc}
 use Rattle.std.proofs.lemmas.List.Sums.{count_by-le-length}
@@ -20,7 +20,7 @@ use Rattle.kr_rollout.specs.Acting.{Caller}
 use Rattle.kr_rollout.specs.Histories.{state_of}
 use Rattle.kr_rollout.specs.Parts.{AddsWithin}
 use Rattle.kr_rollout.proofs.PartsAdd.{nothing_within}
-use Rattle.kr_rollout.proofs.Walking.{count_less}
+use Rattle.kr_rollout.proofs.Walking.{count_less, itself, lt_is}
 use Rattle.kr_rewrite.specs.DriveLaws.{DrivesNeedFew, LiveAmong}
 use Rattle.kr_rewrite.specs.Drives.{EndsBy, FindsRow, Walks, last_of, path_of}
 use Rattle.kr_rewrite.specs.declared.outcome.Report.{Report}
@@ -31,24 +31,6 @@ use Rattle.kr_rewrite.proofs.Spending.{Spends, StepNeeds, step_needs}
 
 abbrev path_cmp : List ℕ → List ℕ → Ordering
 path_cmp a b = slice_cmp nat_cmp a b
-
--- ---- paths
-
-lt_is : (a b : List ℕ) → is_lt (path_cmp a b) ≡ true → path_cmp a b ≡ Less
-lt_is a b e = by (path_cmp a b) e
-  where
-    by : (r : Ordering) → is_lt r ≡ true → r ≡ Less
-    by Less e = refl
-    by Equal e = cc
-    by Greater e = cc
-
-itself : (path : List ℕ) → is_lt (path_cmp path path) ≡ false
-itself path = by (path_cmp path path) (nat_list_cmp_total.antisymm path path)
-  where
-    by : (r : Ordering) → r ≡ ordering_reverse r → is_lt r ≡ false
-    by Less e = cc
-    by Equal e = refl
-    by Greater e = refl
 
 -- ---- the paths that are still above
 

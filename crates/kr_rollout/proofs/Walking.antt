@@ -1,7 +1,7 @@
 -- Going through the live rows by paths: what stands on the board, and that the walk ends.
-use Rattle.std.proofs.Common.{◌≡◌, ◌≢◌, ℕ, zero, suc, ◌<◌, ◌≤◌, Bool, true, false, cond, List, [], ◌∷◌, ◌++◌, length, get_or, count_by, is_some, Option, None, Some, Ok, Err, IsSome, refl, sym, ap, subst, ◌∙◌, arith, ◌⊎◌, inl, inr}
-use Rattle.std.specs.Prelude.{if◌then◌else◌, find, position, nat_lt}
-use Rattle.std.specs.List.{slice_get, position_or_len}
+use Rattle.std.proofs.Common.{◌≡◌, ◌≢◌, ℕ, zero, suc, ◌<◌, ◌≤◌, Bool, true, false, cond, List, [], ◌∷◌, ◌++◌, get_or, count_by, is_some, Option, None, Some, Ok, Err, IsSome, refl, sym, ap, subst, ◌∙◌, arith, ◌⊎◌, inl, inr}
+use Rattle.std.specs.Prelude.{if◌then◌else◌}
+use Rattle.std.specs.List.{slice_get}
 use Rattle.std.specs.Option.{option_map}
 use Rattle.std.specs.Str.{bytes_eq}
 use Rattle.std.specs.Ordering.{is_lt, ordering_reverse}
@@ -10,12 +10,10 @@ use Rattle.std.specs.declared.cmp.Ordering.{Ordering}
 use Rattle.std.specs.declared.cmp.Ordering.TheVariants.{Less, Equal, Greater}
 use Rattle.std.proofs.lemmas.Cmp.{nat_list_cmp_total}
 use Rattle.std.proofs.lemmas.List.Sums.{sum_by-cons}
-use Rattle.std.proofs.lemmas.Option.{none-some, same_Some, slice_get-get_or}
-use Rattle.std.proofs.lemmas.Bool.Decides.{nat_tests}
-use Rattle.std.proofs.lemmas.List.Folds.{find_at}
-use Rattle.std.proofs.lemmas.List.Quantifiers.{position-Some}
+use Rattle.std.proofs.lemmas.Option.{none-some, same_Some}
 use Rattle.kr_base.specs.Rules.{IsPath}
 use Rattle.kr_config.specs.Lists.{list_of}
+use Rattle.kr_kms.proofs.Lent.{found_at, no_place}
 use Rattle.kr_provider.specs.Readers.{is_reader, reader_in, reader_place}
 use Rattle.kr_store.specs.declared.format.Format.{Format}
 use Rattle.kr_store.specs.declared.rows.LogRow.{LogRow}
@@ -180,7 +178,8 @@ pub stray_next : (first : List Row) (rows : List LogRow) (after : List ℕ) (nee
     → IsLeastStray first rows row.path
 stray_next first rows after needs row noted next none = record {
   stray = (row, next.1, none);
-  least = λ lesser stray l. by lesser stray l (name_cmp after lesser) refl;
+  least = λ lesser stray l. missing lesser stray
+      (λ c. next.2 lesser (some_live rows lesser stray.0 stray.1) c l);
 }
   where
     missing : (lesser : List ℕ) → IsStray first rows lesser → name_cmp after lesser ≢ Less → ⊥
@@ -189,18 +188,6 @@ stray_next first rows after needs row noted next none = record {
         let both : is_some (provider_of first stray.0.resource stray.0.stored) ≡ false =
         ap is_some stray.2 in
         both_ways (is_some (provider_of first stray.0.resource stray.0.stored)) both old.1
-
-    equal_less : (r : Ordering) → r ≡ Equal → r ≡ Less → ⊥
-    equal_less r a b = cc
-
-    greater_less : (r : Ordering) → r ≡ Greater → r ≡ Less → ⊥
-    greater_less r a b = cc
-
-    by : (lesser : List ℕ) → IsStray first rows lesser → name_cmp lesser row.path ≡ Less
-        → (r : Ordering) → name_cmp after lesser ≡ r → ⊥
-    by lesser stray l Less c = next.2 lesser (some_live rows lesser stray.0 stray.1) c l
-    by lesser stray l Equal c = missing lesser stray (equal_less (name_cmp after lesser) c)
-    by lesser stray l Greater c = missing lesser stray (greater_less (name_cmp after lesser) c)
 
 -- what the last row of a path needs is what its live row needs
 live_last : (first : List Row) (rows : List LogRow) (path : List ℕ) (row : stored_row.Row)
@@ -306,13 +293,21 @@ module _ {X : Type 0} (p q : X → Bool) (fewer : (x : X) → q x ≡ true → p
         count_less ys i x e h n,
       )
 
-lt_is : (a b : List ℕ) → is_lt (name_cmp a b) ≡ true → name_cmp a b ≡ Less
+pub lt_is : (a b : List ℕ) → is_lt (name_cmp a b) ≡ true → name_cmp a b ≡ Less
 lt_is a b e = by (name_cmp a b) e
   where
     by : (r : Ordering) → is_lt r ≡ true → r ≡ Less
     by Less e = refl
     by Equal e = cc
     by Greater e = cc
+
+pub itself : (path : List ℕ) → is_lt (name_cmp path path) ≡ false
+itself path = by (name_cmp path path) (nat_list_cmp_total.antisymm path path)
+  where
+    by : (r : Ordering) → r ≡ ordering_reverse r → is_lt r ≡ false
+    by Less e = cc
+    by Equal e = refl
+    by Greater e = refl
 
 pub goes_on : (rows : List LogRow) (after : List ℕ) (row : stored_row.Row)
     → IsNext rows after (Some row) → left_after row.path rows < left_after after rows
@@ -322,14 +317,6 @@ goes_on rows after row next = by (latest rows row.path) refl next.1
         → is_lt (name_cmp after other.path) ≡ true
     further other e = ap is_lt (nat_list_cmp_total.trans after row.path other.path next.0
         (lt_is row.path other.path e))
-
-    itself : (path : List ℕ) → is_lt (name_cmp path path) ≡ false
-    itself path = not_less (name_cmp path path) (nat_list_cmp_total.antisymm path path)
-      where
-        not_less : (r : Ordering) → r ≡ ordering_reverse r → is_lt r ≡ false
-        not_less Less e = cc
-        not_less Equal e = refl
-        not_less Greater e = refl
 
     by : (l : Option (ℕ × LogRow)) → latest rows row.path ≡ l → live_row l ≡ Some row
         → left_after row.path rows < left_after after rows
@@ -344,39 +331,11 @@ goes_on rows after row next = by (latest rows row.path) refl next.1
 
 -- ---- the reader of a value, by its place
 
-place_found : {X : Type 0} (p : X → Bool) (xs : List X) (place : ℕ) (x : X)
-    → position p xs ≡ Some place → x ≡ get_or xs place x → find p xs ≡ Some x
-place_found p xs place x e is =
-    find_at p xs ∙ ap (slice_get xs) (same (nat_lt (position_or_len p xs) (length xs))
-    (position_or_len p xs) e)
-    ∙ slice_get-get_or xs place x (position-Some p xs place x e).0 ∙ ap Some (sym is)
-  where
-    same : (b : Bool) (n : ℕ) → cond b (Some n) None ≡ Some place → n ≡ place
-    same true n e = cc
-    same false n e = absurd (cc)
-
 pub reader_is : (first : List Row) (list : List Who) (resource bytes : List ℕ) (place : ℕ)
     (who : Who) → list ≡ list_of first resource → reader_place list bytes ≡ Some place
     → who ≡ get_or list place who → provider_of first resource bytes ≡ Some who
 reader_is first list resource bytes place who l e is = ap (λ ws. reader_in ws bytes) (sym l)
-    ∙ place_found (is_reader bytes) list place who e is
-
-beyond : {X : Type 0} (xs : List X) (i : ℕ) → (i < length xs → ⊥) → slice_get xs i ≡ None
-beyond [] i n = refl
-beyond (x ∷ xs) zero n = absurd (n (omega arith))
-beyond (x ∷ xs) (suc i) n = beyond xs i (λ l. n (omega (arith, l)))
-
-no_place : {X : Type 0} (p : X → Bool) (xs : List X) → position p xs ≡ None → find p xs ≡ None
-no_place p xs e = find_at p xs ∙ beyond xs (position_or_len p xs)
-    (λ l. within (position_or_len p xs) (length xs) l
-    (outside (nat_lt (position_or_len p xs) (length xs)) (position_or_len p xs) e))
-  where
-    outside : (b : Bool) (n : ℕ) → cond b (Some n) None ≡ None → b ≡ false
-    outside true n e = absurd (cc)
-    outside false n e = refl
-
-    within : (n m : ℕ) → n < m → nat_lt n m ≡ false → ⊥
-    within n m l f = grind (arith, nat_tests)
+    ∙ found_at (is_reader bytes) list place who e is
 
 pub reader_none : (first : List Row) (list : List Who) (resource bytes : List ℕ)
     → list ≡ list_of first resource → reader_place list bytes ≡ None
@@ -433,22 +392,9 @@ module _ (first : List Row) (rows : List LogRow) (after : List ℕ) (row : store
       → IsLeastOther first rows row.path
   other_next kept old = record {
     other = (row, who, next.1, is, kept);
-    least = λ lesser other l. by lesser other l (name_cmp after lesser) refl;
+    least = λ lesser other l. old lesser other
+        (λ c. next.2 lesser (some_live rows lesser other.0 other.2) c l);
   }
-    where
-      equal_less : (r : Ordering) → r ≡ Equal → r ≡ Less → ⊥
-      equal_less r a b = cc
-
-      greater_less : (r : Ordering) → r ≡ Greater → r ≡ Less → ⊥
-      greater_less r a b = cc
-
-      by : (lesser : List ℕ) → IsOtherSecret first rows lesser → name_cmp lesser row.path ≡ Less
-          → (r : Ordering) → name_cmp after lesser ≡ r → ⊥
-      by lesser other l Less c = next.2 lesser (some_live rows lesser other.0 other.2) c l
-      by lesser other l Equal c =
-          old lesser other (equal_less (name_cmp after lesser) c)
-      by lesser other l Greater c =
-          old lesser other (greater_less (name_cmp after lesser) c)
 
   pub kept_step : (found : Option (List ℕ)) (kept : Bool) → kept ≡ keeps_check row.check who
       → AreKept first rows after found → AreKept first rows row.path (first_other found kept row.path)

@@ -65,7 +65,7 @@ no_seeds opens p k none = λ i d l.
     )))
 
 -- and reads by any truth
-some_reads : (opens : Opens) (list : List Who) (path bytes : List ℕ) (reading : Reading)
+pub some_reads : (opens : Opens) (list : List Who) (path bytes : List ℕ) (reading : Reading)
     → list_any is_kms list ≡ false → HasSomeReading list path bytes reading
     → HasReading opens list path bytes reading
 some_reads opens list path bytes reading none r =

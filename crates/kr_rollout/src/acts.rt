@@ -13,11 +13,11 @@ use kr_base::Spent;
 pub trait Acts {
     type Place;
 
-    /// The core that each of its events is one of. Nothing that a caller does leaves it.
+    // The core that each of its events is one of. Nothing that a caller does leaves it.
     ghost place: { Self → Self.Place };
 
-    /// What it knows: its opening, its seat, a front of the journal that has all its lines so far,
-    /// these, and how many it may still add.
+    // What it knows: its opening, its seat, a front of the journal that has all its lines so far,
+    // these, and how many it may still add.
     ghost caller: { Self → Caller };
 
     /// Its seat.

@@ -153,21 +153,21 @@ record IsReading (rs : Replicas) (ws : List Worker) (d : Draft) : Type 0 where
   replicas : d.replicas ≡ rs
   workers : workers_in d ≡ ws
 
+opens : (rs : Replicas) (ws : List Worker) (d : Draft) (w : Worker) → IsReading rs ws d
+    → with_statement d (statement.Worker w.name w.replica)
+    ≡ working rs ws (new_worker w.name w.replica)
+opens rs ws d w h = λ i. record {
+  begun = h.begun i;
+  replicas = h.replicas i;
+  workers = h.workers i;
+  last = Some (new_worker w.name w.replica);
+}
+
 after_worker : (rs : Replicas) (ws : List Worker) (d : Draft) (w : Worker) → IsReading rs ws d
     → after d (worker_statements w) ≡ working rs ws w
 after_worker rs ws d w h =
     ap (λ (x : Draft). after x (map statement.Line w.lines)) (opens rs ws d w h)
     ∙ after_lines rs ws (new_worker w.name w.replica) w.lines
-  where
-    opens : (rs : Replicas) (ws : List Worker) (d : Draft) (w : Worker) → IsReading rs ws d
-        → with_statement d (statement.Worker w.name w.replica)
-        ≡ working rs ws (new_worker w.name w.replica)
-    opens rs ws d w h = λ i. record {
-      begun = h.begun i;
-      replicas = h.replicas i;
-      workers = h.workers i;
-      last = Some (new_worker w.name w.replica);
-    }
 
 follow_worker : (rs : Replicas) (ws : List Worker) (d : Draft) (w : Worker) → IsReading rs ws d
     → are_distinct (map (λ replica. replica.0) rs) ≡ true
@@ -202,16 +202,6 @@ follow_worker rs ws d w h apart rule new =
           (sym (opens rs ws d w h))
           (follow_lines rs ws (new_worker w.name w.replica) w.lines apart parts.1),
     )
-  where
-    opens : (rs : Replicas) (ws : List Worker) (d : Draft) (w : Worker) → IsReading rs ws d
-        → with_statement d (statement.Worker w.name w.replica)
-        ≡ working rs ws (new_worker w.name w.replica)
-    opens rs ws d w h = λ i. record {
-      begun = h.begun i;
-      replicas = h.replicas i;
-      workers = h.workers i;
-      last = Some (new_worker w.name w.replica);
-    }
 
 reading_on : (rs : Replicas) (ws : List Worker) (d : Draft) (w : Worker) → IsReading rs ws d
     → IsReading rs (ws ++ w ∷ []) (after d (worker_statements w))

@@ -1,8 +1,9 @@
 -- The fleet's output: the lines of the journal, and what each worker told of its lines.
-use Rattle.std.specs.Prelude.{ℕ, ◌+◌, ◌&&◌, nat_le, List, [], ◌∷◌, ◌++◌, map, codes, decimal}
-use Rattle.std.specs.Prelude.{slice_index_or, if◌then◌else◌}
+use Rattle.std.specs.Prelude.{ℕ, ◌+◌, List, [], ◌∷◌, ◌++◌, codes, decimal}
+use Rattle.std.specs.Prelude.{slice_index_or}
 use Rattle.base64.specs.Engines.{standard}
 use Rattle.base64.specs.GeneralPurpose.{encode_of}
+use Rattle.kr_base.specs.Visible.{visible}
 use Rattle.kr_judge.specs.Texts.{verdict_text}
 use Rattle.kr_kms.specs.declared.health.Field.{Field}
 use Rattle.kr_kms.specs.declared.health.Field.TheVariants.{Version, Healthz, KeyId}
@@ -26,13 +27,6 @@ three a b c = a ++ (codes " " ++ two b c)
 
 abbrev pub four : List ℕ → List ℕ → List ℕ → List ℕ → List ℕ
 four a b c d = a ++ (codes " " ++ three b c d)
-
--- a foreign text as it is printed: a byte outside 20 to 7E hex is a `?`
-abbrev pub visible_byte : ℕ → ℕ
-visible_byte byte = if nat_le 0x20 byte && nat_le byte 0x7E then byte else 0x3F
-
-abbrev pub visible : List ℕ → List ℕ
-visible text = map visible_byte text
 
 -- ---- the journal
 

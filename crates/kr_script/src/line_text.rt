@@ -1,10 +1,11 @@
 //! A line of text in memory, to which pieces are added.
 ghost use Rattle.std.specs.Prelude.{◌≡◌, ◌++◌, [], IfOk, MatchResult, Some, length, decimal, codes};
+ghost use Rattle.kr_base.specs.Visible.{visible};
 ghost use Rattle.kr_judge.specs.Texts.{verdict_text};
-ghost use Rattle.kr_script.specs.Output.{two, three, visible, visible_byte};
+ghost use Rattle.kr_script.specs.Output.{two, three};
 
 use itoa::Buffer;
-use kr_base::{Failed, FaultCount, NoMemory, Sink};
+use kr_base::{Failed, FaultCount, NoMemory, Sink, push_visible};
 use kr_judge::Verdict;
 use std::alloc::Global;
 
@@ -114,7 +115,7 @@ impl LineText {
         self.add_two(second, third)
     }
 
-    /// Adds a foreign text as it is printed: a byte outside 20 to 7E hex is a `?`.
+    /// Adds a foreign text as it is printed.
     pub fn add_visible(&mut self, foreign: &str) -> Result<(), NoMemory>
         ensures { IfOk result (λ done. self.new.bytes.items
             ≡ self.old.bytes.items ++ visible foreign.now) }
@@ -131,26 +132,5 @@ impl LineText {
             Ok(()) => Ok(()),
             Err(Failed) => Err(NoMemory),
         }
-    }
-}
-
-fn push_visible(bytes: &mut Vec<u8>, foreign: &str) -> Result<(), NoMemory>
-    ensures { IfOk result (λ done. bytes.new.items ≡ bytes.old.items ++ visible foreign.now) }
-{
-    for byte in foreign.as_bytes() {
-        if bytes.push(visible_byte(*byte)).is_err() {
-            return Err(NoMemory);
-        }
-    }
-    Ok(())
-}
-
-fn visible_byte(byte: u8) -> u8
-    ensures { result ≡ visible_byte byte }
-{
-    if byte >= 0x20 && byte <= 0x7E {
-        byte
-    } else {
-        b'?'
     }
 }

@@ -1,7 +1,8 @@
 //! The text of what a worker told.
 ghost use Rattle.std.specs.Prelude.{◌≡◌, ◌++◌, IfOk, codes, decimal};
+ghost use Rattle.kr_base.specs.Visible.{visible};
 ghost use Rattle.kr_judge.specs.Texts.{verdict_text};
-ghost use Rattle.kr_script.specs.Output.{two, three, four, visible, data_text, field_text};
+ghost use Rattle.kr_script.specs.Output.{two, three, four, data_text, field_text};
 ghost use Rattle.kr_provider.specs.Refusals.{number_of, name_of};
 ghost use Rattle.kr_script.specs.Output.{reply_text, told_text};
 

@@ -32,10 +32,10 @@ use Rattle.kr_store.proofs.Indexes.{some_live}
 use Rattle.kr_store.proofs.Places.{live_at_revision, found_in, follows_at}
 use Rattle.kr_store.proofs.Written.{was_live}
 
-abbrev path_cmp : List ℕ → List ℕ → Ordering
+abbrev pub path_cmp : List ℕ → List ℕ → Ordering
 path_cmp = slice_cmp nat_cmp
 
-contains_mapped : {X Y : Type 0} (f : X → Y) (xs : List X) (x : X) → Contains xs x
+pub contains_mapped : {X Y : Type 0} (f : X → Y) (xs : List X) (x : X) → Contains xs x
     → Contains (map f xs) (f x)
 contains_mapped f xs x c = (
   c.0,
@@ -45,18 +45,18 @@ contains_mapped f xs x c = (
 
 -- rows in order, with the same rows in them, are the same
 
-abbrev paths_of : List Row → List (List ℕ)
+abbrev pub paths_of : List Row → List (List ℕ)
 paths_of listing = map (λ row. row.path) listing
 
-abbrev AreSorted : List Row → Type 0
+abbrev pub AreSorted : List Row → Type 0
 AreSorted listing = IsStrictlySortedBy path_cmp (paths_of listing)
 
-both_less : (p q : List ℕ) → path_cmp p q ≡ Less → path_cmp q p ≡ Less → ⊥
+pub both_less : (p q : List ℕ) → path_cmp p q ≡ Less → path_cmp q p ≡ Less → ⊥
 both_less p q l m =
     let x : Less ≡ Greater = sym l ∙ nat_list_cmp_total.antisymm p q ∙ ap ordering_reverse m in cc
 
 -- a row behind the first one has a greater path
-first_below : (x : Row) (more : List Row) (row : Row) → AreSorted (x ∷ more) → Contains more row
+pub first_below : (x : Row) (more : List Row) (row : Row) → AreSorted (x ∷ more) → Contains more row
     → path_cmp x.path row.path ≡ Less
 first_below x more row s c =
     All-contains (λ q. path_cmp x.path q ≡ Less) (paths_of more) row.path
@@ -173,7 +173,7 @@ finds rows path (first ∷ more) f q row e l =
         absurd (f.0.2 q (is_there rows q row e) l
         (nat_list_cmp_total.antisymm q first.path ∙ ap ordering_reverse c))
 
-no_empty_path : (format : Format) (rows : List LogRow) (row : Row) → AreRows format rows
+pub no_empty_path : (format : Format) (rows : List LogRow) (row : Row) → AreRows format rows
     → live rows [] ≡ Some row → ⊥
 no_empty_path format rows row a e = by (latest rows []) refl e
   where

@@ -1,40 +1,40 @@
 //! The call that does a command.
 ghost use Rattle.std.specs.Prelude.{◌≡◌, ◌≤◌, Some, None};
 ghost use Rattle.kr_words.specs.Grammar.{texts};
-ghost use Rattle.kr_top.specs.Afterwards.{AreLeft};
-ghost use Rattle.kr_top.specs.Around.{Around, around, with_world};
-ghost use Rattle.kr_top.specs.Commands.{steps};
-ghost use Rattle.kr_top.specs.FleetAsked.{AskAlone, AskNoFleet, AsksFleet};
-ghost use Rattle.kr_top.specs.FleetReadings.{FleetReadings};
-ghost use Rattle.kr_top.specs.Fleets.{RanAlone, RanFleet};
-ghost use Rattle.kr_top.specs.GeneratedLoads.{RanLoad};
-ghost use Rattle.kr_top.specs.LoadAsked.{AskNoLoad, AsksLoad};
-ghost use Rattle.kr_top.specs.LoadReadings.{LoadReadings};
-ghost use Rattle.kr_top.specs.Ran.{receipt, Answers, Ran, Readings};
-ghost use Rattle.kr_top.specs.declared.fleet_words.FleetWords.{FleetWords};
-ghost use Rattle.kr_top.specs.declared.load_words.LoadWords.{LoadWords};
-ghost use Rattle.kr_top.specs.inner.Phases.{Does, KeepsRules};
-ghost use Rattle.kr_top.specs.inner.Reporting.{saying};
+ghost use Rattle.kr_steps.specs.Afterwards.{AreLeft};
+ghost use Rattle.kr_steps.specs.Around.{Around, around, with_world};
+ghost use Rattle.kr_steps.specs.Commands.{steps};
+ghost use Rattle.kr_commands.specs.FleetAsked.{AskAlone, AskNoFleet, AsksFleet};
+ghost use Rattle.kr_outfits.specs.FleetReadings.{FleetReadings};
+ghost use Rattle.kr_outfits.specs.Fleets.{RanAlone, RanFleet};
+ghost use Rattle.kr_outfits.specs.GeneratedLoads.{RanLoad};
+ghost use Rattle.kr_commands.specs.LoadAsked.{AskNoLoad, AsksLoad};
+ghost use Rattle.kr_outfits.specs.LoadReadings.{LoadReadings};
+ghost use Rattle.kr_steps.specs.Ran.{Answers, Ran, Readings};
+ghost use Rattle.kr_commands.specs.Message.{line_of, status_of};
+ghost use Rattle.kr_commands.specs.Receipts.{Tells, receipt};
+ghost use Rattle.kr_commands.specs.declared.fleet_words.FleetWords.{FleetWords};
+ghost use Rattle.kr_commands.specs.declared.load_words.LoadWords.{LoadWords};
+ghost use Rattle.kr_steps.specs.inner.Phases.{Does};
+ghost use Rattle.kr_commands.specs.inner.Asking.{KeepsRules};
+ghost use Rattle.kr_steps.specs.inner.Reporting.{saying};
 
-use crate::check::check;
-use crate::command::{Command, read_command};
-use crate::convert::convert;
-use crate::fleet::fleet;
-use crate::fleet_words::{FleetWords, read_fleet};
-use crate::generated::generated;
-use crate::inspect::inspect;
-use crate::judge::judge;
-use crate::load_words::{LoadWords, read_load};
-use crate::lookup::get;
-use crate::message::tell;
-use crate::migration::migrate;
-use crate::phases::write_output;
-use crate::refusal::{Done, Ended, Outcome, Stop};
-use crate::rewriting::rewrite;
-use crate::rows::list;
-use crate::storing::put;
 use kr_base::{Sink, Source};
+use kr_commands::{
+    Command, Done, Ended, FleetWords, LoadWords, Outcome, Stop, read_command, read_fleet,
+    read_load, tell,
+};
+use kr_fleet_runs::fleet::fleet;
+use kr_fleet_runs::generated::generated;
 use kr_kms::World;
+use kr_objects::judge::judge;
+use kr_objects::{get, migrate, put};
+use kr_rewriting::rewrite;
+use kr_steps::write_output;
+use kr_values::check::check;
+use kr_values::convert::convert;
+use kr_values::inspect::inspect;
+use kr_values::list;
 use std::alloc::Global;
 use std::sync::Wait;
 use std::thread::Threads;
@@ -117,9 +117,13 @@ pub fn run<R: Threads + Wait + Sync, W: World, I: Source, O: Sink, E: Sink>(
         result }
 {
     match read_fleet(alloc, words) {
-        Ok(Some(asked)) => run_fleet(rt, alloc, &asked, world, output, errors),
+        Ok(Some(asked)) => {
+            let status = run_fleet(rt, alloc, &asked, world, output, errors);
+            drop(asked);
+            status
+        }
         Ok(None) => run_other(rt, alloc, words, world, input, output, errors),
-        Err(stop) => tell(errors, &Err(stop)),
+        Err(stop) => tell_end(errors, Err(stop)),
     }
 }
 
@@ -174,9 +178,13 @@ fn run_other<R: Threads + Wait + Sync, W: World, I: Source, O: Sink, E: Sink>(
         result }
 {
     match read_load(alloc, words) {
-        Ok(Some(asked)) => run_load(rt, alloc, &asked, world, output, errors),
+        Ok(Some(asked)) => {
+            let status = run_load(rt, alloc, &asked, world, output, errors);
+            drop(asked);
+            status
+        }
         Ok(None) => alone(alloc, words, world, input, output, errors),
-        Err(stop) => tell(errors, &Err(stop)),
+        Err(stop) => tell_end(errors, Err(stop)),
     }
 }
 
@@ -198,7 +206,7 @@ fn run_load<R: Threads + Wait + Sync, W: World, O: Sink, E: Sink>(
 {
     match generated(rt, alloc, asked, world, output) {
         Ok(ending) => ending.status(),
-        Err(stop) => tell(errors, &Err(stop)),
+        Err(stop) => tell_end(errors, Err(stop)),
     }
 }
 
@@ -222,9 +230,12 @@ pub fn run_alone<W: World, I: Source, O: Sink, E: Sink>(
         result }
 {
     match read_fleet(alloc, words) {
-        Ok(Some(_asked)) => None,
+        Ok(Some(asked)) => {
+            drop(asked);
+            None
+        }
         Ok(None) => other_alone(alloc, words, world, input, output, errors),
-        Err(stop) => Some(tell(errors, &Err(stop))),
+        Err(stop) => Some(tell_end(errors, Err(stop))),
     }
 }
 
@@ -248,9 +259,12 @@ fn other_alone<W: World, I: Source, O: Sink, E: Sink>(
         result }
 {
     match read_load(alloc, words) {
-        Ok(Some(_asked)) => None,
+        Ok(Some(asked)) => {
+            drop(asked);
+            None
+        }
         Ok(None) => Some(alone(alloc, words, world, input, output, errors)),
-        Err(stop) => Some(tell(errors, &Err(stop))),
+        Err(stop) => Some(tell_end(errors, Err(stop))),
     }
 }
 
@@ -272,11 +286,11 @@ fn run_fleet<R: Threads + Wait + Sync, W: World, O: Sink, E: Sink>(
 {
     match fleet(rt, alloc, asked, world, output) {
         Ok(ending) => ending.status(),
-        Err(stop) => tell(errors, &Err(stop)),
+        Err(stop) => tell_end(errors, Err(stop)),
     }
 }
 
-/// Does a command that no one waits in. Words that ask for a fleet mean none here.
+/// Does a command that no one waits in. Words that ask for a fleet or a load mean none here.
 fn alone<W: World, I: Source, O: Sink, E: Sink>(
     alloc: Global,
     words: &[String],
@@ -308,7 +322,7 @@ fn alone<W: World, I: Source, O: Sink, E: Sink>(
         (I.count input.new)) result }
 {
     let answer = answer(alloc, words, world, input, output);
-    tell(errors, &answer)
+    tell_end(errors, answer)
 }
 
 /// Does the command that the words mean, and writes what it made.
@@ -333,6 +347,7 @@ fn answer<W: World, I: Source, O: Sink>(
         Err(stop) => return Err(stop),
     };
     let ended = perform(alloc, &command, world, input);
+    drop(command);
     write_output(output, ended)
 }
 
@@ -372,4 +387,16 @@ fn silent(made: Result<Outcome, Stop>) -> Ended
     ensures { result ≡ record { made = made; said = None } }
 {
     Ended { made, said: None }
+}
+
+/// Tells how a call ended, and lets that go.
+fn tell_end<E: Sink>(errors: &mut E, answer: Result<Done, Stop>) -> u8
+    ensures told { Tells (line_of answer) (status_of answer)
+        (receipt (E.held errors.old) (E.held errors.new) (E.count errors.old) (E.count errors.new))
+        result }
+    ensures later { E.count errors.old ≤ E.count errors.new }
+{
+    let status = tell(errors, &answer);
+    drop(answer);
+    status
 }

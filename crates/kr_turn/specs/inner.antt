@@ -3,4 +3,3 @@ pub mod Tokens
 pub mod Rule
 pub mod Steps
 pub mod Endings
-pub mod Homes

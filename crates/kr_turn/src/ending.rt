@@ -2,7 +2,7 @@
 ghost use Rattle.std.specs.Prelude.{◌≡◌, ◌<◌, [], length, map, Some, All};
 ghost use Rattle.kr_turn.specs.declared.view.Stage.TheVariants.{Idle};
 ghost use Rattle.kr_turn.specs.inner.Endings.{Covers, IsEnd, IsGathered};
-ghost use Rattle.kr_turn.specs.inner.Homes.{terms_of};
+ghost use Rattle.kr_turn.specs.Keys.{terms_of};
 ghost use Rattle.kr_base.specs.Lines.{Stands, of_seat};
 ghost use Rattle.kr_turn.specs.inner.Tokens.{IsSized};
 

@@ -12,6 +12,7 @@ mod lock;
 mod opening;
 mod rule;
 mod seat;
+mod sleepers;
 mod turn;
 mod turned;
 mod view;

@@ -10,11 +10,11 @@ ghost use Rattle.kr_turn.specs.inner.Steps.{view_after};
 ghost use Rattle.kr_turn.specs.inner.Tokens.{IsSized, resting_token};
 
 use crate::rule::{About, Draw, Look, PassOn, TurnRule};
+use crate::sleepers::{Pause, Sleepers};
 use crate::turned::Turned;
 use crate::view::View;
 use atomic_table::Shared;
 use std::sync::Wait;
-use std::thread;
 
 /// The shared part of a lock's table.
 pub(crate) type Lock<S: Turned> = Shared<Option<S>, View<S::Line, S::Ground>, About<S>, TurnRule>;
@@ -35,18 +35,26 @@ fn draw<S: Turned>(lock: &Lock<S>, token: &mut Token<S>) -> u64
     lock.fetch_add::<Draw>(token, 0, 1)
 }
 
-/// Looks until the ticket is served. Between two looks it gives the processor away.
-fn wait<S: Turned, R: Wait>(rt: &R, lock: &Lock<S>, token: &mut Token<S>, ticket: u64)
+/// Looks until the ticket is served. Between two looks it spins or sleeps.
+fn wait<S: Turned, R: Wait>(
+    rt: &R,
+    lock: &Lock<S>,
+    sleepers: &Sleepers,
+    token: &mut Token<S>,
+    ticket: u64,
+)
     requires lock { (token.old.table_id ≡ lock.now.table_id) × IsSized lock.now.table_id }
     requires waits { (token.old.me.0.stage ≡ Waiting ticket) × (token.old.me.1 ≡ []) }
     ensures lock { (token.new.table_id ≡ token.old.table_id) × (token.new.id ≡ token.old.id) }
     ensures served { IsServed S.lines S.basis S.room S.seat_of ticket token.old.me token.new.me }
 {
+    let mut pause = Pause::Spin(0);
     for _ in rt.forever() {
-        if lock.load::<Look>(token, 1) == ticket {
+        let served = lock.load::<Look>(token, 1);
+        if served == ticket {
             return;
         }
-        thread::yield_now();
+        pause = sleepers.pass_time(rt, ticket, served, pause);
     }
     unreachable!()
 }
@@ -67,6 +75,7 @@ fn pass_on<S: Turned>(lock: &Lock<S>, token: &mut Token<S>, ticket: u64)
 pub(crate) fn take_turn<S: Turned, R: Wait>(
     rt: &R,
     lock: &Lock<S>,
+    sleepers: &Sleepers,
     token: &mut Token<S>,
     number: u32,
     event: S::Event,
@@ -84,11 +93,12 @@ pub(crate) fn take_turn<S: Turned, R: Wait>(
         token.old.me.0.seen token.old.me.0.mine token.new.me.0.seen token.new.me.0.mine }
 {
     let ticket = draw(lock, token);
-    wait(rt, lock, token, ticket);
+    wait(rt, lock, sleepers, token, ticket);
     let mut state = lock.exchange(token, 0, None).unwrap();
     let answer = state.turn(number, event);
     let taken = lock.exchange(token, 0, Some(state));
     let None = taken else { unreachable!() };
     pass_on(lock, token, ticket);
+    sleepers.wake_after(ticket);
     answer
 }

@@ -1,8 +1,7 @@
 //! How a lock and its seats are made.
 ghost use Rattle.std.specs.Prelude.{◌≡◌, ◌+◌, ◌<◌, ◌≤◌, [], length, Some};
-ghost use Rattle.kr_turn.specs.inner.Homes.{terms_of, home_of};
 ghost use Rattle.kr_turn.specs.inner.Rule.{blank_view};
-ghost use Rattle.kr_turn.specs.Keys.{budget_of};
+ghost use Rattle.kr_turn.specs.Keys.{terms_of, home_of, budget_of};
 ghost use Rattle.kr_turn.specs.Seats.{AreFresh};
 ghost use Rattle.kr_turn.specs.inner.Steps.{maker};
 ghost use Rattle.kr_turn.specs.inner.Tokens.{IsSized, resting_token};

@@ -19,7 +19,7 @@ pub struct TurnRule;
 
 impl<S: Turned> TableRule<Option<S>, View<S::Line, S::Ground>, About<S>> for TurnRule {
     ghost use Rattle.kr_turn.specs.inner.Rule.{KeepsRule, blank_view};
-    ghost use Rattle.kr_turn.specs.inner.Homes.{terms_of};
+    ghost use Rattle.kr_turn.specs.Keys.{terms_of};
 
     ghost holds = { λ key.
         KeepsRule S.lines S.basis S.room S.seat_of (terms_of S.basis S.room key) };

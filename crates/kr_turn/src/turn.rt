@@ -7,6 +7,7 @@ use crate::lock::take_turn;
 use crate::opening::{fill, make_seats};
 use crate::rule::{About, TurnRule};
 use crate::seat::Seat;
+use crate::sleepers::Sleepers;
 use crate::turned::Turned;
 use crate::view::View;
 use atomic_table::Table;
@@ -20,12 +21,12 @@ use std::sync::Wait;
 #[derive(Drop)]
 pub struct Turn<S: Turned> {
     table: Table<Option<S>, View<S::Line, S::Ground>, About<S>, TurnRule, Global>,
+    sleepers: Sleepers,
 }
 
 impl<S: Turned> Model for Turn<S> {
     ghost use Rattle.std.specs.Prelude.{◌<◌, length};
-    ghost use Rattle.kr_turn.specs.Keys.{Home};
-    ghost use Rattle.kr_turn.specs.inner.Homes.{home_of};
+    ghost use Rattle.kr_turn.specs.Keys.{Home, home_of};
     ghost use Rattle.kr_turn.specs.inner.Tokens.{IsSized};
 
     ghost Value = { Home S.Ground };
@@ -80,7 +81,8 @@ impl<S: Turned> Turn<S> {
         };
         fill(&table.shared, &mut token, state);
         make_seats(&table.shared, token, budgets, &mut seats);
-        Ok((Turn { table }, seats))
+        let sleepers = Sleepers::new();
+        Ok((Turn { table, sleepers }, seats))
     }
 
     /// Makes one turn: draws a ticket, waits until it is served, turns the state and passes on. It
@@ -106,7 +108,14 @@ impl<S: Turned> Turn<S> {
         if seat.left == 0 {
             return Err(Spent);
         }
-        let answer = take_turn(rt, &self.table.shared, &mut seat.token, seat.number, event);
+        let answer = take_turn(
+            rt,
+            &self.table.shared,
+            &self.sleepers,
+            &mut seat.token,
+            seat.number,
+            event,
+        );
         seat.left -= 1;
         Ok(answer)
     }
@@ -123,7 +132,7 @@ impl<S: Turned> Turn<S> {
         ensures no_other { (number : ℕ) → length self.terms.budgets ≤ number
             → of_seat S.seat_of number (S.lines result) ≡ [] }
     {
-        let Turn { table } = self;
+        let Turn { table, sleepers: _ } = self;
         let Some(first) = seats.pop() else {
             unreachable!()
         };

@@ -21,19 +21,19 @@ pub trait Turned {
     /// What the lines stand on, which no turn changes.
     type Ground;
 
-    /// The lines so far.
+    // The lines so far.
     ghost lines: { Self → List Self.Line };
-    /// How many lines there may be.
+    // How many lines there may be.
     ghost room: { Self → ℕ };
-    /// What the lines stand on.
+    // What the lines stand on.
     ghost basis: { Self → Self.Ground };
-    /// The number of the seat that a line is of.
+    // The number of the seat that a line is of.
     ghost seat_of: { Self.Line → ℕ };
-    /// Whether a seat with these lines of its own may make an event.
+    // Whether a seat with these lines of its own may make an event.
     ghost may: { Self.Ground → ℕ → List Self.Line → Self.Event → Type 0 };
-    /// The law that the lines keep.
+    // The law that the lines keep.
     ghost law: { Self.Ground → List Self.Line → Type 0 };
-    /// How the answer and the line of a seat's event stand to the lines before.
+    // How the answer and the line of a seat's event stand to the lines before.
     ghost tells: { Self.Ground → List Self.Line → ℕ
         → Self.Event → Self.Answer → Self.Line → Type 0 };
 

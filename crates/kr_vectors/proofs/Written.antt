@@ -1,3 +1,4 @@
+-- Words of hexadecimal digits stand for the bytes that they were written for.
 use Rattle.std.proofs.Common.{◌≡◌, ◌≢◌, ◌<◌, ℕ, ◌*◌, List, [], ◌∷◌, length, Ok, refl, sym, ◌∙◌, ap, inl, inr, arith}
 use Rattle.hex.specs.Hex.{IsBytes, decode_sized, encode_lower, encode_with}
 use Rattle.hex.proofs.HexLemmas.{decode_of-encode_lower, decode_of-ok, decode_sized-ok, decode_sized-twice}

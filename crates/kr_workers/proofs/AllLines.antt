@@ -1,6 +1,6 @@
 -- Lines one behind another.
-use Rattle.std.proofs.Common.{◌≡◌, ℕ, zero, suc, ◌<◌, ◌≤◌, ◌+◌, List, [], ◌∷◌, ◌++◌, length, take, drop, drop-cons, get_or, Option, Result, Ok, Err, refl, ap, sym, subst, ◌∙◌, arith}
-use Rattle.std.proofs.lemmas.List.{take_more, map-append}
+use Rattle.std.proofs.Common.{◌≡◌, ℕ, suc, ◌<◌, ◌≤◌, ◌+◌, List, [], ◌∷◌, ◌++◌, length, take, drop, drop-cons, get_or, Option, Result, Ok, Err, refl, ap, sym, subst, ◌∙◌, arith}
+use Rattle.std.proofs.lemmas.List.{take_more, map-append, take-append-drop}
 use Rattle.kr_base.specs.declared.errors.Spent.{Spent}
 use Rattle.kr_kms.specs.Calls.{Link}
 use Rattle.kr_kms.specs.Truth.{Truth}
@@ -22,15 +22,6 @@ use Rattle.kr_workers.specs.inner.WholeRuns.{AreReady, Runs}
 use Rattle.kr_workers.specs.ScriptLines.{MayDo, Workplace}
 use Rattle.kr_workers.specs.inner.Serving.{IsReadyFor, Serves, place_of}
 use Rattle.kr_workers.specs.inner.Going.{IsGoing}
-
--- ---- lists
-
-parted_at : (lines : List ScriptLine) (n : ℕ) (d : ScriptLine) → n < length lines
-    → lines ≡ take n lines ++ get_or lines n d ∷ drop (suc n) lines
-parted_at [] n d l = absurd (omega (arith, l))
-parted_at (x ∷ lines) zero d l = refl
-parted_at (x ∷ lines) (suc n) d l =
-    ap (λ s. x ∷ s) (parted_at lines n d (omega (arith, l)))
 
 module _ {L D : Type 0} (truth : Truth) (link : L → Link) (left : D → Option (List ℕ))
     (count : D → ℕ) (files : List SettingsFile) (replica : ℕ) where
@@ -164,7 +155,8 @@ module _ {L D : Type 0} (truth : Truth) (link : L → Link) (left : D → Option
             ends = record {
               line = asked;
               rest = drop (suc k) lines;
-              lines_are = parted_at lines k asked below
+              lines_are = sym (take-append-drop k lines)
+                  ∙ ap (λ l. take k lines ++ l) (drop-cons lines k asked below)
                   ∙ (λ i. sym going.lines_are i ++ sym at i ∷ drop (suc k) lines);
               does = s.does;
               part = s.adds.0;

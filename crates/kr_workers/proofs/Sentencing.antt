@@ -39,13 +39,13 @@ there_of (y ∷ xs) zero x d is = same_Some y x is
 there_of (y ∷ xs) (suc i) x d is = there_of xs i x d is
 
 -- the line that was done at a place of a run
-record IsDoneAt (run : List LineDone) (asked : ScriptLine) (reply : Told) : Type 0 where
-  done : LineDone
-  there : Contains run done
-  line_is : done.line ≡ asked
-  reply_is : done.reply ≡ reply
+pub record IsDoneAt (run : List LineDone) (asked : ScriptLine) (reply : Told) : Type 0 where
+  pub done : LineDone
+  pub there : Contains run done
+  pub line_is : done.line ≡ asked
+  pub reply_is : done.reply ≡ reply
 
-done_at : (run : List LineDone) (at : ℕ) (asked : ScriptLine) (reply : Told)
+pub done_at : (run : List LineDone) (at : ℕ) (asked : ScriptLine) (reply : Told)
     → slice_get (lines_in run) at ≡ Some asked → slice_get (replies_in run) at ≡ Some reply
     → IsDoneAt run asked reply
 done_at [] at asked reply l r = absurd (false≢true (ap is_some l))

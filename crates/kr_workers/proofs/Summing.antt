@@ -65,7 +65,8 @@ lines_fit : (paths : ℕ) (lines : List ScriptLine) → reloads_of lines ≤ bud
 lines_fit paths [] = omega arith
 lines_fit paths (asked ∷ lines) = omega (arith, line_fits paths asked, lines_fit paths lines)
 
-parts_fit : (paths : ℕ) (parts : List Part) → sum (all_reloads parts) ≤ sum (budgets_of paths parts)
+pub parts_fit : (paths : ℕ) (parts : List Part)
+    → sum (all_reloads parts) ≤ sum (budgets_of paths parts)
 parts_fit paths parts = omega (
   arith,
   sum-map (λ (p : Part). reloads_of p.lines.0) parts,

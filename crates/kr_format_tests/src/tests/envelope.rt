@@ -1,4 +1,5 @@
 //! The prefix of a stored value, and encrypted objects read and written.
+use crate::tests::making::gives;
 use kr_base::name_ok;
 use kr_envelope::{EncryptedObject, Kind, prefix_of};
 use std::alloc::Global;
@@ -8,10 +9,7 @@ fn is_prefix(alloc: Global, name: &str, wanted: &[u8]) -> bool {
     if !name_ok(name) {
         return false;
     }
-    match prefix_of(alloc, Kind::Kms, name) {
-        Ok(prefix) => prefix.as_slice() == wanted,
-        Err(_) => false,
-    }
+    gives(prefix_of(alloc, Kind::Kms, name), wanted)
 }
 
 #[test]
@@ -29,12 +27,16 @@ const STRAY: &[u8] = b"\x28\x01\x12\x01x\x1a\x01\xcc\x30\x07\x0a\x02\xaa\xbb\x12
 
 /// Whether a message is an object that is written as that.
 fn is_written_as(alloc: Global, bytes: &[u8], wanted: &[u8]) -> bool {
-    let Ok(object) = EncryptedObject::read(alloc, bytes) else {
-        return false;
-    };
-    match object.write(alloc) {
-        Ok(written) => written.as_slice() == wanted,
-        Err(_) => false,
+    match EncryptedObject::read(alloc, bytes) {
+        Ok(object) => {
+            let written = object.write(alloc);
+            drop(object);
+            gives(written, wanted)
+        }
+        Err(why) => {
+            drop(why);
+            false
+        }
     }
 }
 

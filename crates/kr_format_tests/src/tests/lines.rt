@@ -1,39 +1,57 @@
 //! Lines to and from a plugin.
-use kr_base::{Annotations, Bytes, Text};
+use crate::tests::making::{annotate, both, gives, text};
+use kr_base::{Annotations, Bytes};
 use kr_kms::{
     Answered, Asked, Reply, ReplyNo, Request, RequestNo, Status, read_reply, read_request,
     reply_line, request_line,
 };
 use std::alloc::Global;
 
-/// Whether the request is asked by this line.
-fn asks(alloc: Global, request: &Request, line: &[u8]) -> bool {
-    match request_line(alloc, request) {
-        Ok(asked) => asked.as_slice() == line,
-        Err(_) => false,
+/// Whether the request is made, and asked by this line.
+fn asks(alloc: Global, request: Option<Request>, line: &[u8]) -> bool {
+    match request {
+        Some(request) => {
+            let asked = request_line(alloc, &request);
+            drop(request);
+            gives(asked, line)
+        }
+        None => false,
     }
 }
 
 fn encrypt(alloc: Global) -> Option<Request> {
-    let plain = Bytes::copy(alloc, b"hi").ok()?;
-    Some(Request::Encrypt { plain, uid: 3 })
+    match Bytes::copy(alloc, b"hi") {
+        Ok(plain) => Some(Request::Encrypt { plain, uid: 3 }),
+        Err(_) => None,
+    }
 }
 
-/// A decrypt of `hi` with the annotations `b.io` and `a.io`, put in this order.
+/// The annotations `b.io` and `a.io`, put in this order.
+fn annotations(alloc: Global) -> Option<Annotations> {
+    let mut all = Annotations::new(alloc);
+    if annotate(alloc, &mut all, "b.io", b"") && annotate(alloc, &mut all, "a.io", b"\x01") {
+        Some(all)
+    } else {
+        drop(all);
+        None
+    }
+}
+
+/// A decrypt of `hi` with them.
 fn decrypt(alloc: Global) -> Option<Request> {
-    let mut annotations = Annotations::new(alloc);
-    let key = Text::copy(alloc, "b.io").ok()?;
-    annotations.insert(key, Bytes::copy(alloc, b"").ok()?).ok()?;
-    let key = Text::copy(alloc, "a.io").ok()?;
-    annotations
-        .insert(key, Bytes::copy(alloc, b"\x01").ok()?)
-        .ok()?;
-    Some(Request::Decrypt {
-        source: Bytes::copy(alloc, b"hi").ok()?,
-        key_id: Text::copy(alloc, "\"").ok()?,
-        annotations,
-        uid: u64::MAX,
-    })
+    let source = both(Bytes::copy(alloc, b"hi").ok(), text(alloc, "\""));
+    match both(source, annotations(alloc)) {
+        Some((source, annotations)) => {
+            let (source, key_id) = source;
+            Some(Request::Decrypt {
+                source,
+                key_id,
+                annotations,
+                uid: u64::MAX,
+            })
+        }
+        None => None,
+    }
 }
 
 const ENCRYPT: &[u8] = b"{\"call\":\"encrypt\",\"plaintext\":\"aGk=\",\"uid\":\"3\"}\n";
@@ -41,33 +59,44 @@ const ENCRYPT: &[u8] = b"{\"call\":\"encrypt\",\"plaintext\":\"aGk=\",\"uid\":\"
 const DECRYPT: &[u8] = b"{\"annotations\":{\"a.io\":\"AQ==\",\"b.io\":\"\"},\"call\":\"decrypt\",\
     \"ciphertext\":\"aGk=\",\"key_id\":\"\\\"\",\"uid\":\"18446744073709551615\"}\n";
 
-/// Whether both requests are asked by their lines.
-fn asks_both(alloc: Global) -> bool {
-    match (encrypt(alloc), decrypt(alloc)) {
-        (Some(encrypt), Some(decrypt)) => {
-            asks(alloc, &encrypt, ENCRYPT) && asks(alloc, &decrypt, DECRYPT)
-        }
-        _ => false,
-    }
-}
-
 #[test]
 fn writes_requests(rt: HostRuntime) {
     let alloc = rt.alloc();
-    assert!(rt; asks(alloc, &Request::Status, b"{\"call\":\"status\"}\n"));
-    assert!(rt; asks_both(alloc));
+    assert!(rt; asks(alloc, Some(Request::Status), b"{\"call\":\"status\"}\n"));
+    assert!(rt; asks(alloc, encrypt(alloc), ENCRYPT));
+    assert!(rt; asks(alloc, decrypt(alloc), DECRYPT));
 }
 
 /// What a line is read as, in a word: its kind, and its text or its bytes.
 fn reads(alloc: Global, call: Asked, line: &[u8], kind: &str, content: &[u8]) -> bool {
     match read_reply(alloc, call, line) {
-        Ok(Reply::Status(status)) => kind == "status" && is_v2(&status, content),
-        Ok(Reply::Encrypt(wrapped)) => kind == "wrapped" && wrapped.cipher.as_slice() == content,
-        Ok(Reply::Decrypt(plain)) => kind == "plain" && plain.as_slice() == content,
-        Err(ReplyNo::NotJson) => kind == "no JSON",
-        Err(ReplyNo::Shape) => kind == "shape",
-        Err(ReplyNo::Error(text)) => kind == "error" && text.as_str().as_bytes() == content,
-        Err(ReplyNo::NoMemory) => false,
+        Ok(reply) => {
+            let is = is_reply(&reply, kind, content);
+            drop(reply);
+            is
+        }
+        Err(why) => {
+            let is = is_refusal(&why, kind, content);
+            drop(why);
+            is
+        }
+    }
+}
+
+fn is_reply(reply: &Reply, kind: &str, content: &[u8]) -> bool {
+    match reply {
+        Reply::Status(status) => kind == "status" && is_v2(status, content),
+        Reply::Encrypt(wrapped) => kind == "wrapped" && wrapped.cipher.as_slice() == content,
+        Reply::Decrypt(plain) => kind == "plain" && plain.as_slice() == content,
+    }
+}
+
+fn is_refusal(why: &ReplyNo, kind: &str, content: &[u8]) -> bool {
+    match why {
+        ReplyNo::NotJson => kind == "no JSON",
+        ReplyNo::Shape => kind == "shape",
+        ReplyNo::Error(text) => kind == "error" && text.as_str().as_bytes() == content,
+        ReplyNo::NoMemory => false,
     }
 }
 
@@ -140,19 +169,22 @@ fn refuses_annotations(rt: HostRuntime) {
 /// What a line is read as, in a word: the call of a request, or why it is none.
 fn call_of(alloc: Global, line: &[u8]) -> &'static str {
     match read_request(alloc, line) {
-        Ok(Request::Status) => "status",
-        Ok(Request::Encrypt { plain: _, uid: _ }) => "encrypt",
-        Ok(
-            Request::Decrypt {
-                source: _,
-                key_id: _,
-                annotations: _,
-                uid: _,
-            },
-        ) => "decrypt",
+        Ok(request) => {
+            let call = name_of(&request);
+            drop(request);
+            call
+        }
         Err(RequestNo::NotJson) => "no JSON",
         Err(RequestNo::Shape) => "shape",
         Err(RequestNo::NoMemory) => "memory",
+    }
+}
+
+fn name_of(request: &Request) -> &'static str {
+    match request {
+        Request::Status => "status",
+        Request::Encrypt { .. } => "encrypt",
+        Request::Decrypt { .. } => "decrypt",
     }
 }
 
@@ -170,34 +202,37 @@ fn reads_requests(rt: HostRuntime) {
     assert!(rt; call_of(alloc, b"{") == "no JSON");
 }
 
-/// Whether this is the line of the answer.
-fn answers(alloc: Global, answered: &Answered, line: &[u8]) -> bool {
-    match reply_line(alloc, answered) {
-        Ok(reply) => reply.as_slice() == line,
-        Err(_) => false,
+/// Whether the answer is made, and this is its line.
+fn answers(alloc: Global, answered: Option<Answered>, line: &[u8]) -> bool {
+    match answered {
+        Some(answered) => {
+            let reply = reply_line(alloc, &answered);
+            drop(answered);
+            gives(reply, line)
+        }
+        None => false,
     }
 }
 
 fn refusal(alloc: Global) -> Option<Answered> {
-    Some(Answered::Error(Text::copy(alloc, "request").ok()?))
+    match text(alloc, "request") {
+        Some(why) => Some(Answered::Error(why)),
+        None => None,
+    }
 }
 
 fn status(alloc: Global) -> Option<Answered> {
-    Some(Answered::Reply(Reply::Status(Status {
-        version: Text::copy(alloc, "v2").ok()?,
-        healthz: Text::copy(alloc, "ok").ok()?,
-        key_id: Text::copy(alloc, "example-1").ok()?,
-    })))
-}
-
-/// Whether a refusal and a status are answered by their lines.
-fn answers_both(alloc: Global) -> bool {
-    match (refusal(alloc), status(alloc)) {
-        (Some(refusal), Some(status)) => {
-            answers(alloc, &refusal, b"{\"error\":\"request\"}\n")
-                && answers(alloc, &status, STATUS)
+    let health = both(text(alloc, "v2"), text(alloc, "ok"));
+    match both(health, text(alloc, "example-1")) {
+        Some((health, key_id)) => {
+            let (version, healthz) = health;
+            Some(Answered::Reply(Reply::Status(Status {
+                version,
+                healthz,
+                key_id,
+            })))
         }
-        _ => false,
+        None => None,
     }
 }
 
@@ -205,5 +240,7 @@ const STATUS: &[u8] = b"{\"healthz\":\"ok\",\"key_id\":\"example-1\",\"version\"
 
 #[test]
 fn writes_answers(rt: HostRuntime) {
-    assert!(rt; answers_both(rt.alloc()));
+    let alloc = rt.alloc();
+    assert!(rt; answers(alloc, refusal(alloc), b"{\"error\":\"request\"}\n"));
+    assert!(rt; answers(alloc, status(alloc), STATUS));
 }

@@ -2,7 +2,7 @@
 //! breaches, and files that are read ahead.
 use kr_base::{Bytes, List, MemTape, path_ok, resource_ok};
 use kr_store::{
-    Check, Format, PutNo, RowRef, Store, StoreNo, one_breach, one_file, one_listing, one_row,
+    Check, Format, PutNo, Row, RowRef, Store, StoreNo, one_breach, one_file, one_listing, one_row,
     some_answer,
 };
 use std::alloc::Global;
@@ -47,8 +47,15 @@ fn rows_of(alloc: Global, bytes: &[u8], limit: u16) -> Result<u64, StoreNo> {
         return Err(StoreNo::NoMemory);
     };
     match Store::load(alloc, tape, limit as u64) {
-        Ok(store) => Ok(store.revision()),
-        Err((why, _tape)) => Err(why),
+        Ok(store) => {
+            let rows = store.revision();
+            drop(store);
+            Ok(rows)
+        }
+        Err((why, tape)) => {
+            drop(tape);
+            Err(why)
+        }
     }
 }
 
@@ -60,6 +67,7 @@ fn put(alloc: Global, store: &mut Store<MemTape>, path: &str, stored: &[u8]) -> 
     if path_ok(path) && resource_ok("secrets") && stored.as_slice().len() <= 10_000 {
         store.put(path, "secrets", stored, NO_SECRET)
     } else {
+        drop(stored);
         Err(PutNo::NoMemory)
     }
 }
@@ -71,13 +79,16 @@ fn puts(alloc: Global, store: &mut Store<MemTape>, path: &str, stored: &[u8]) ->
 
 /// The revision of another value, where the path has this revision.
 fn replaces(alloc: Global, store: &mut Store<MemTape>, path: &str, revision: u64) -> Option<u64> {
-    let stored = Bytes::copy(alloc, b"new").ok()?;
-    if !path_ok(path) || stored.as_slice().len() > 10_000 {
+    let Ok(stored) = Bytes::copy(alloc, b"new") else {
         return None;
-    }
-    match store.replace_if(path, revision, stored, Check { value: 7 }) {
-        Ok(revision) => Some(revision),
-        Err(_) => None,
+    };
+    if path_ok(path) && stored.as_slice().len() <= 10_000 {
+        store
+            .replace_if(path, revision, stored, Check { value: 7 })
+            .ok()
+    } else {
+        drop(stored);
+        None
     }
 }
 
@@ -94,18 +105,27 @@ fn deletes(store: &mut Store<MemTape>, path: &str) -> Result<Option<u64>, PutNo>
 fn has(store: &Store<MemTape>, path: &str, revision: u64, stored: &[u8]) -> bool {
     match store.get(path) {
         Ok(Some(row)) => {
-            let row = row.get();
-            row.path.as_str() == path && row.revision == revision && row.stored.as_slice() == stored
+            let is = is_row(row.get(), path, revision, stored);
+            drop(row);
+            is
         }
-        _ => false,
+        Ok(None) | Err(_) => false,
     }
+}
+
+fn is_row(row: &Row, path: &str, revision: u64, stored: &[u8]) -> bool {
+    row.path.as_str() == path && row.revision == revision && row.stored.as_slice() == stored
 }
 
 /// The revision of the live row with the least path above, or 0.
 fn after(store: &Store<MemTape>, path: &str) -> u64 {
     match store.next_after(path) {
-        Ok(Some(row)) => row.get().revision,
-        _ => 0,
+        Ok(Some(row)) => {
+            let revision = row.get().revision;
+            drop(row);
+            revision
+        }
+        Ok(None) | Err(_) => 0,
     }
 }
 
@@ -122,8 +142,17 @@ fn is_written(alloc: Global, wanted: &[u8]) -> bool {
         return false;
     };
     match Store::load(alloc, tape, 44) {
-        Ok(mut store) => fills(alloc, &mut store) && store.close().bytes() == wanted,
-        Err(_) => false,
+        Ok(mut store) => {
+            let is = fills(alloc, &mut store);
+            let tape = store.close();
+            let leaves = tape.bytes() == wanted;
+            drop(tape);
+            is && leaves
+        }
+        Err(refused) => {
+            drop(refused);
+            false
+        }
     }
 }
 
@@ -147,8 +176,12 @@ fn finds(alloc: Global, store: &mut Store<MemTape>) -> bool {
 /// The check of the path's live row: none where the row has none, or there is no row.
 fn check(store: &Store<MemTape>, path: &str) -> Option<Check> {
     match store.get(path) {
-        Ok(Some(row)) => row.get().check,
-        _ => None,
+        Ok(Some(row)) => {
+            let check = row.get().check;
+            drop(row);
+            check
+        }
+        Ok(None) | Err(_) => None,
     }
 }
 
@@ -180,22 +213,64 @@ fn lends(store: &mut Store<MemTape>) -> bool {
         && lent(store, 3) == 2_000
 }
 
+/// Whether a store has this format and this length, and then this one with a put at `/t`.
+fn grows(
+    alloc: Global,
+    store: &mut Store<MemTape>,
+    format: Format,
+    length: u64,
+    then: u64,
+) -> bool {
+    store.format() == format
+        && store.length() == length
+        && puts(alloc, store, "/t", b"") > 0
+        && store.length() == then
+}
+
+/// Whether a store is torn behind a write that failed, and no more behind the next one.
+fn tears(alloc: Global, store: &mut Store<MemTape>) -> bool {
+    puts(alloc, store, "/s", b"1") == 0
+        && store.torn()
+        && puts(alloc, store, "/s", b"2") == 1
+        && !store.torn()
+}
+
 /// What is asked of the store of a file.
 #[derive(Clone, Copy)]
 enum Ask {
     Finds,
     Replaces(Option<Check>),
     Lends,
+    Grows {
+        format: Format,
+        length: u64,
+        then: u64,
+    },
+    Tears,
 }
 
-/// Whether the store of a file answers so.
-fn answers(alloc: Global, bytes: &[u8], ask: Ask) -> bool {
-    match loaded(alloc, bytes, &[]) {
-        Some(mut store) => match ask {
-            Ask::Finds => finds(alloc, &mut store),
-            Ask::Replaces(check) => replaces_with(alloc, &mut store, check),
-            Ask::Lends => lends(&mut store),
-        },
+fn answer(alloc: Global, store: &mut Store<MemTape>, ask: Ask) -> bool {
+    match ask {
+        Ask::Finds => finds(alloc, store),
+        Ask::Replaces(check) => replaces_with(alloc, store, check),
+        Ask::Lends => lends(store),
+        Ask::Grows {
+            format,
+            length,
+            then,
+        } => grows(alloc, store, format, length, then),
+        Ask::Tears => tears(alloc, store),
+    }
+}
+
+/// Whether the store of a file whose writes with these numbers fail answers so.
+fn answers(alloc: Global, bytes: &[u8], fails: &[u64], ask: Ask) -> bool {
+    match loaded(alloc, bytes, fails) {
+        Some(mut store) => {
+            let is = answer(alloc, &mut store, ask);
+            drop(store);
+            is
+        }
         None => false,
     }
 }
@@ -204,10 +279,10 @@ fn answers(alloc: Global, bytes: &[u8], ask: Ask) -> bool {
 #[test]
 fn finds_and_replaces_rows(rt: HostRuntime) {
     let alloc = rt.alloc();
-    assert!(rt; answers(alloc, b"", Ask::Finds));
-    assert!(rt; answers(alloc, ONE_ROW, Ask::Replaces(Some(Check { value: 7 }))));
-    assert!(rt; answers(alloc, OLD_ROW, Ask::Replaces(None)));
-    assert!(rt; answers(alloc, ONE_ROW, Ask::Lends));
+    assert!(rt; answers(alloc, b"", &[], Ask::Finds));
+    assert!(rt; answers(alloc, ONE_ROW, &[], Ask::Replaces(Some(Check { value: 7 }))));
+    assert!(rt; answers(alloc, OLD_ROW, &[], Ask::Replaces(None)));
+    assert!(rt; answers(alloc, ONE_ROW, &[], Ask::Lends));
 }
 
 /// Whether the first bytes of a file of one row are answered as they must be.
@@ -246,35 +321,48 @@ fn refuses_every_cut_of_a_row(rt: HostRuntime) {
     assert_eq!(rt; rows_of(alloc, ONE_ROW, 43), Err(StoreNo::TooLong));
 }
 
-/// Whether a file has this format and this length, and then this one with a put at `/t`.
-fn grows(alloc: Global, bytes: &[u8], format: Format, then: u64) -> bool {
-    match loaded(alloc, bytes, &[]) {
-        Some(mut store) => {
-            store.format() == format
-                && store.length() == bytes.len() as u64
-                && puts(alloc, &mut store, "/t", b"") > 0
-                && store.length() == then
-        }
-        None => false,
-    }
+/// Whether a file has this format, and is so long then.
+fn keeps(alloc: Global, bytes: &[u8], format: Format, then: u64) -> bool {
+    let length = bytes.len() as u64;
+    answers(
+        alloc,
+        bytes,
+        &[],
+        Ask::Grows {
+            format,
+            length,
+            then,
+        },
+    )
 }
 
 // The first format keeps no check, so its rows are 8 bytes shorter.
 #[test]
 fn keeps_the_format(rt: HostRuntime) {
     let alloc = rt.alloc();
-    assert!(rt; grows(alloc, b"", Format::Two, 42));
-    assert!(rt; grows(alloc, b"KRSTORE2", Format::Two, 42));
-    assert!(rt; grows(alloc, b"KRSTORE1", Format::One, 34));
-    assert!(rt; grows(alloc, OLD_ROW, Format::One, 62));
+    assert!(rt; keeps(alloc, b"", Format::Two, 42));
+    assert!(rt; keeps(alloc, b"KRSTORE2", Format::Two, 42));
+    assert!(rt; keeps(alloc, b"KRSTORE1", Format::One, 34));
+    assert!(rt; keeps(alloc, OLD_ROW, Format::One, 62));
+}
+
+fn set(bytes: &mut [u8], at: usize, byte: u8) {
+    if let Some(place) = bytes.get_mut(at) {
+        *place = byte;
+    }
 }
 
 /// Why a file of one row in which one byte is another isn't loaded.
 fn refusal(alloc: Global, at: usize, byte: u8) -> Option<StoreNo> {
-    let mut changed = Vec::from_slice(alloc, ONE_ROW).ok()?;
-    let place = changed.get_mut(at)?;
-    *place = byte;
-    rows_of(alloc, changed.as_slice(), 44).err()
+    match Vec::from_slice(alloc, ONE_ROW) {
+        Ok(mut changed) => {
+            set(changed.as_mut_slice(), at, byte);
+            let found = rows_of(alloc, changed.as_slice(), 44).err();
+            drop(changed);
+            found
+        }
+        Err(_) => None,
+    }
 }
 
 #[test]
@@ -309,7 +397,9 @@ fn has_long(store: &Store<MemTape>, half: &[u8], long: &[u8]) -> bool {
 /// The store of the file of another store that is closed.
 fn again(alloc: Global, store: Store<MemTape>) -> Option<Store<MemTape>> {
     let tape = store.close();
-    loaded(alloc, tape.bytes(), &[])
+    let again = loaded(alloc, tape.bytes(), &[]);
+    drop(tape);
+    again
 }
 
 fn reads_long(alloc: Global, half: &[u8], long: &[u8]) -> bool {
@@ -318,7 +408,11 @@ fn reads_long(alloc: Global, half: &[u8], long: &[u8]) -> bool {
     };
     puts_long(alloc, &mut store, half, long);
     match again(alloc, store) {
-        Some(again) => has_long(&again, half, long),
+        Some(again) => {
+            let is = has_long(&again, half, long);
+            drop(again);
+            is
+        }
         None => false,
     }
 }
@@ -348,29 +442,25 @@ fn refusals(alloc: Global, store: &mut Store<MemTape>) -> Option<u64> {
     Some(refused)
 }
 
-/// Whether of six puts, of which calls on the tape with these numbers fail, so many are refused,
-/// and the others are there when the tape is loaded again.
-fn loses(alloc: Global, fails: &[u64], refused: u64) -> bool {
-    let Some(mut store) = loaded(alloc, b"", fails) else {
-        return false;
-    };
-    if refusals(alloc, &mut store) != Some(refused) || store.faults() != refused {
-        return false;
-    }
-    match again(alloc, store) {
-        Some(again) => again.revision() == 6u64.wrapping_sub(refused),
+/// Whether there is a store, of this revision.
+fn is_at(store: Option<Store<MemTape>>, revision: u64) -> bool {
+    match store {
+        Some(store) => {
+            let is = store.revision() == revision;
+            drop(store);
+            is
+        }
         None => false,
     }
 }
 
-/// Whether a store is torn behind a write that failed, and no more behind the next one.
-fn is_torn_between(alloc: Global) -> bool {
-    match loaded(alloc, b"", &[1]) {
+/// Whether of six puts, of which calls on the tape with these numbers fail, so many are refused,
+/// and the others are there when the tape is loaded again.
+fn loses(alloc: Global, fails: &[u64], refused: u64) -> bool {
+    match loaded(alloc, b"", fails) {
         Some(mut store) => {
-            puts(alloc, &mut store, "/s", b"1") == 0
-                && store.torn()
-                && puts(alloc, &mut store, "/s", b"2") == 1
-                && !store.torn()
+            let is = refusals(alloc, &mut store) == Some(refused) && store.faults() == refused;
+            is_at(again(alloc, store), 6u64.wrapping_sub(refused)) && is
         }
         None => false,
     }
@@ -384,5 +474,5 @@ fn loses_no_row_that_was_answered(rt: HostRuntime) {
         assert!(rt; loses(alloc, &[fails], 1));
     }
     assert!(rt; loses(alloc, &[2, 3], 2));
-    assert!(rt; is_torn_between(alloc));
+    assert!(rt; answers(alloc, b"", &[1], Ask::Tears));
 }

@@ -1,27 +1,18 @@
 //! The world in memory: a tape and a link that go out and come back.
 ghost use Rattle.std.specs.Prelude.{◌≡◌};
 
-use kr_base::{List, Tape, Text};
+use crate::tests::making::plugin;
+use kr_base::{List, Tape};
 use kr_kms::{FileNo, Kms, MemWorld, TablePlugin, World};
 use std::alloc::Global;
 
-/// The plugin `p` under the key `k1`.
-fn plugin(alloc: Global) -> Option<TablePlugin> {
-    Some(TablePlugin::new(
-        Text::copy(alloc, "p").ok()?,
-        Text::copy(alloc, "k1").ok()?,
-        1,
-        Text::copy(alloc, "v2").ok()?,
-        Text::copy(alloc, "ok").ok()?,
-        List::new(alloc),
-    ))
-}
-
 /// A world of nothing but a link of the seat 3 to it.
 fn world(alloc: Global) -> Option<MemWorld<TablePlugin>> {
-    let link = plugin(alloc)?;
     let mut links = Vec::new(alloc);
-    links.push((3, link)).ok()?;
+    match plugin(alloc, "k1", &[]) {
+        Some(link) => links.push((3, link)).ok()?,
+        None => return None,
+    }
     Some(MemWorld::new(
         alloc,
         List::new(alloc),
@@ -95,7 +86,11 @@ fn tells<L: Kms>(alloc: Global, link: &mut L) -> bool
     ensures { (L.link link.new).name ≡ (L.link link.old).name }
 {
     match link.status(alloc) {
-        Ok(status) => status.key_id.as_str() == "k1",
+        Ok(status) => {
+            let is = status.key_id.as_str() == "k1";
+            drop(status);
+            is
+        }
         Err(_) => false,
     }
 }
@@ -116,11 +111,13 @@ fn keeps_a_link(world: &mut MemWorld<TablePlugin>, alloc: Global) -> bool {
 fn keeps(alloc: Global, tape: bool) -> bool {
     match world(alloc) {
         Some(mut world) => {
-            if tape {
+            let is = if tape {
                 keeps_a_tape(&mut world, alloc)
             } else {
                 keeps_a_link(&mut world, alloc)
-            }
+            };
+            drop(world);
+            is
         }
         None => false,
     }

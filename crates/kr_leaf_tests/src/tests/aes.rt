@@ -2,8 +2,8 @@
 //! refusal.
 
 use kr_aes::{
-    KeyLength, Rounds, decrypt_block, decrypt_block_by_inverse, encrypt_block, expand, invert,
-    plain,
+    Begun, KeyLength, Rounds, decrypt_block, decrypt_block_by_inverse, encrypt_block, expand,
+    invert, plain,
 };
 
 // The keys are the first 16, 24 and 32 of the bytes 0, 1, 2 and so on.
@@ -23,6 +23,9 @@ fn is_vector(key: &[u8], wanted_rounds: Rounds, ciphertext: u128) -> bool {
     let mut block = PLAINTEXT.to_be_bytes();
     encrypt_block(&words, rounds, &mut block);
     let by_tables = block == ciphertext.to_be_bytes();
+    let mut begun_block = PLAINTEXT.to_be_bytes();
+    Begun::new(&words, &begun_block).encrypt_block(&words, rounds, &mut begun_block);
+    let by_begun = begun_block == ciphertext.to_be_bytes();
     plain::decrypt_block(&words, rounds, &mut block);
     let back = block == PLAINTEXT.to_be_bytes();
     plain::encrypt_block(&words, rounds, &mut block);
@@ -34,7 +37,13 @@ fn is_vector(key: &[u8], wanted_rounds: Rounds, ciphertext: u128) -> bool {
     let mut block = ciphertext.to_be_bytes();
     decrypt_block_by_inverse(&inverse, rounds, &mut block);
     let back_by_inverse = block == PLAINTEXT.to_be_bytes();
-    rounds == wanted_rounds && by_tables && back && by_bytes && back_by_tables && back_by_inverse
+    rounds == wanted_rounds
+        && by_tables
+        && by_begun
+        && back
+        && by_bytes
+        && back_by_tables
+        && back_by_inverse
 }
 
 #[test]

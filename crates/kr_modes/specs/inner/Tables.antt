@@ -1,9 +1,16 @@
--- GHASH by tables: 32 tables of 16 polynomials, one behind another, for the 32 groups of four
--- coefficients of a factor.
-use Rattle.std.specs.Prelude.{◌≡◌, ℕ, ◌+◌, ◌*◌, ◌^◌, ◌<◌, List, bit_xor, slice_index}
-use Rattle.std.specs.Int.{bit_at}
+-- GHASH by tables: 32 tables of 16 blocks, for the 32 groups of four coefficients of a factor.
+use Rattle.std.specs.Prelude.{◌≡◌, ℕ, ◌+◌, ◌*◌, ◌^◌, ◌<◌, List, [], bit_xor, get_or, slice_index}
+use Rattle.std.specs.Int.{w128, bit_at, to_le_bytes}
 use Rattle.kr_aes.specs.Field.{remainder}
-use Rattle.kr_modes.specs.Ghash.{modulus}
+use Rattle.kr_modes.specs.Ghash.{modulus, polynomial}
+
+-- the polynomial that the block of a number's bytes, the lowest first, stands for
+unfoldable pub polynomial_of : ℕ → ℕ
+polynomial_of n = polynomial (to_le_bytes w128 n)
+
+-- a number of four bits with its bits in the other order
+abbrev pub turned : ℕ → ℕ
+turned v = 8 * bit_at v 0 + 4 * bit_at v 1 + 2 * bit_at v 2 + bit_at v 3
 
 -- x to the power i, times a polynomial
 unfoldable pub power : ℕ → ℕ → ℕ
@@ -22,7 +29,8 @@ four_terms v p =
     bit_xor (bit_xor (bit_at v 0 * p) (bit_at v 1 * q)) (bit_xor (bit_at v 2 * r) (bit_at v 3 * s))
 
 -- the tables of a hash subkey
-pub record IsTableOf (products : List ℕ) (subkey : ℕ) : Type 0 where
+pub record IsTableOf (products : List (List ℕ)) (subkey : ℕ) : Type 0 where
   pub fits : subkey < 2 ^ 128
   pub cells : (place v : ℕ) → place < 32 → v < 16
-      → slice_index products (16 * place + v) ≡ four_terms v (power (4 * place) subkey)
+      → polynomial_of (slice_index (get_or products place []) v)
+      ≡ four_terms (turned v) (power (4 * place) subkey)

@@ -10,8 +10,8 @@ use kr_rollout::Core;
 use kr_store::Store;
 use std::alloc::Global;
 
-/// A store's file: `/s` with `hello` and `/t` with `there`, sealed under two sources that the plugin
-/// `p` wrapped. The data was sealed by AES-GCM of Python's cryptography.
+/// A store's file: `/s` with `hello` and `/t` with `there`, sealed under two sources that the
+/// plugin `p` wrapped. The data was sealed by AES-GCM of Python's cryptography.
 const ROWS: &[u8] =
     b"KRSTORE1\x01\0\0\0\0\0\0\0\x01\0\x02/s\0\x07secrets\0\0\0rk8s:enc:kms:v2:p:\n!\0\0\0\0\0\0\0\0\0\0\0\0\xd7P\xf4\xb0\x1a\xc0\xd1\x93\x01\x19|\x8bH&\xc7\x1dm\0g1\x8a\x12\x02k1\x1a \x9c\x9c\x9c\x9c\x9c\x9c\x9c\x9c\x9c\x9c\x9c\x9c\x9c\x9c\x9c\x9c\x9c\x9c\x9c\x9c\x9c\x9c\x9c\x9c\x9c\x9c\x9c\x9c\x9c\x9c\x9c\x9c\"\x16\n\x11test.kmsrest/salt\x12\x01\x01\x01\0\0\0\0\0\0\0\x02\0\x02/t\0\x07secrets\0\0\0rk8s:enc:kms:v2:p:\n!\0\0\0\0\0\0\0\0\0\0\0\0.\x1a_\xbc\x80._\x84}\xcf\xe4D\x94\x08Npy\xff\xaf\xfd\xae\x12\x02k1\x1a \x9f\x9f\x9f\x9f\x9f\x9f\x9f\x9f\x9f\x9f\x9f\x9f\x9f\x9f\x9f\x9f\x9f\x9f\x9f\x9f\x9f\x9f\x9f\x9f\x9f\x9f\x9f\x9f\x9f\x9f\x9f\x9f\"\x16\n\x11test.kmsrest/salt\x12\x01\x01";
 

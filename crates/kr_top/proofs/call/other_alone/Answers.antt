@@ -1,18 +1,18 @@
 -- `other_alone`: another command than a load, or words that mean none.
 use Rattle.std.proofs.Common.{Err, Ok, refl, inl, inr, arith, subst}
 use Rattle.kr_words.specs.Grammar.{texts}
-use Rattle.kr_top.specs.Around.{around}
-use Rattle.kr_top.specs.Ran.{receipt}
-use Rattle.kr_top.specs.inner.LoadAsked.{IsLoadAsked}
-use Rattle.kr_top.proofs.Leaving.{tapes_left}
-use Rattle.kr_top.proofs.LoadRuns.{load_at_once, no_load_or_memory}
-use Rattle.kr_top.proofs.Readings.{readings}
+use Rattle.kr_steps.specs.Around.{around}
+use Rattle.kr_commands.specs.Receipts.{receipt}
+use Rattle.kr_commands.specs.inner.LoadAsked.{IsLoadAsked}
+use Rattle.kr_readings.proofs.Leaving.{tapes_left}
+use Rattle.kr_fleet_runs.proofs.LoadRuns.{load_at_once, no_load_or_memory}
+use Rattle.kr_readings.proofs.Readings.{readings}
 use Rattle.kr_top.proofs.call.other_alone.Goals as goal
 
 pub returns-in-Ok-Some : goal.returns-in-Ok-Some
 returns-in-Ok-Some g c = (
   inr (
-    c.in-Ok-Some._asked,
+    c.in-Ok-Some.asked,
     subst (λ o. IsLoadAsked (texts c.args.words.now) (Ok o)) c.in-Ok-Some.field-0-is
         c.in-Ok-Some.ensures,
   ),
@@ -41,17 +41,17 @@ returns-in-Err g c =
     let left_alone = tapes_left (texts c.args.words.now) a a (receipt held held count count) _ _
     (Err c.in-Err.stop)
     (inl (load_at_once _ c.in-Err.stop c.in-Err.ensures, (refl, (refl, refl))))
-    c.tell.ensures.told in (
+    c.tell_end.ensures.told in (
       record {
         result = Err c.in-Err.stop;
         answers = inl (load_at_once _ c.in-Err.stop c.in-Err.ensures, (refl, (refl, refl)));
-        tells = c.tell.ensures.told;
+        tells = c.tell_end.ensures.told;
         written = omega arith;
-        told = c.tell.ensures.later;
+        told = c.tell_end.ensures.later;
       },
       readings _ _ _ _ _ _ (Err c.in-Err.stop)
           (inl (load_at_once _ c.in-Err.stop c.in-Err.ensures, (refl, (refl, refl))))
-          c.tell.ensures.told,
+          c.tell_end.ensures.told,
       left_alone,
-      no_load_or_memory _ c.requires c.in-Err.stop c.in-Err.ensures _ _ c.tell.ensures.told,
+      no_load_or_memory _ c.requires c.in-Err.stop c.in-Err.ensures _ _ c.tell_end.ensures.told,
     )

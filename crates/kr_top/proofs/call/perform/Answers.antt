@@ -1,13 +1,14 @@
 use Rattle.std.proofs.Common.{◌≡◌, Result, None, Some, refl, sym, ◌∙◌, ap, subst}
-use Rattle.kr_top.specs.Around.{Around, around}
-use Rattle.kr_top.specs.Commands.{steps}
-use Rattle.kr_top.specs.inner.Phases.{Does, KeepsRules}
-use Rattle.kr_top.specs.inner.Reporting.{saying}
-use Rattle.kr_top.specs.declared.command.Command.{Command}
-use Rattle.kr_top.specs.declared.command.Command.TheVariants.{Check, Rows}
-use Rattle.kr_top.specs.declared.refusal.Ended.{Ended}
-use Rattle.kr_top.specs.declared.refusal.Outcome.{Outcome}
-use Rattle.kr_top.specs.declared.refusal.Stop.{Stop}
+use Rattle.kr_steps.specs.Around.{Around, around}
+use Rattle.kr_steps.specs.Commands.{steps}
+use Rattle.kr_steps.specs.inner.Phases.{Does}
+use Rattle.kr_commands.specs.inner.Asking.{KeepsRules}
+use Rattle.kr_steps.specs.inner.Reporting.{saying}
+use Rattle.kr_commands.specs.declared.command.Command.{Command}
+use Rattle.kr_commands.specs.declared.command.Command.TheVariants.{Check, Rows}
+use Rattle.kr_commands.specs.declared.refusal.Ended.{Ended}
+use Rattle.kr_commands.specs.declared.refusal.Outcome.{Outcome}
+use Rattle.kr_commands.specs.declared.refusal.Stop.{Stop}
 use Rattle.kr_top.proofs.call.perform.Goals as goal
 
 does_by : {a b : Command} {old new : Around} {result : Result Outcome Stop} → a ≡ b

@@ -1,16 +1,16 @@
 -- `run`: a fleet, or another command, or words that mean none.
 use Rattle.std.proofs.Common.{Err, Ok, refl, inl, arith, subst}
 use Rattle.kr_words.specs.Grammar.{texts}
-use Rattle.kr_top.specs.Around.{around}
-use Rattle.kr_top.specs.Ran.{receipt}
-use Rattle.kr_top.specs.inner.FleetAsked.{IsFleetAsked}
-use Rattle.kr_top.proofs.FleetReadings.{fleet_readings}
-use Rattle.kr_top.proofs.FleetRuns.{at_once, for_asked, one_fleet, unread}
-use Rattle.kr_top.proofs.LoadAsked.{asked_small, not_both}
-use Rattle.kr_top.proofs.LoadReadings.{load_readings}
-use Rattle.kr_top.proofs.LoadRuns.{fleet_unread}
-use Rattle.kr_top.proofs.Readings.{readings}
-use Rattle.kr_top.proofs.Leaving.{tapes_left}
+use Rattle.kr_steps.specs.Around.{around}
+use Rattle.kr_commands.specs.Receipts.{receipt}
+use Rattle.kr_commands.specs.inner.FleetAsked.{IsFleetAsked}
+use Rattle.kr_fleet_readings.proofs.FleetReadings.{fleet_readings}
+use Rattle.kr_fleet_runs.proofs.FleetRuns.{at_once, for_asked, one_fleet, unread}
+use Rattle.kr_commands.proofs.LoadAsked.{asked_small, not_both}
+use Rattle.kr_fleet_readings.proofs.LoadReadings.{load_readings}
+use Rattle.kr_fleet_runs.proofs.LoadRuns.{fleet_unread}
+use Rattle.kr_readings.proofs.Readings.{readings}
+use Rattle.kr_readings.proofs.Leaving.{tapes_left}
 use Rattle.kr_top.proofs.call.run.Goals as goal
 
 pub returns-in-Ok-Some-clause-ran : goal.returns-in-Ok-Some-clause-ran
@@ -36,7 +36,7 @@ returns-in-Ok-Some-clause-fleet g c asked asks =
     (one_fleet (texts c.args.words.now) c.in-Ok-Some.asked asked
     (subst (λ o. IsFleetAsked (texts c.args.words.now) (Ok o)) c.in-Ok-Some.field-0-is
     c.in-Ok-Some.ensures) asks)
-    (c.run_fleet.ensures (around g.W.Link.Kms.truth (g.W.World.told c.args.world.now)
+    (c.run_fleet-status.ensures (around g.W.Link.Kms.truth (g.W.World.told c.args.world.now)
     (g.I.Source.left c.args.input.now) (g.I.Source.count c.args.input.now)) refl)
 
 pub returns-in-Ok-None-clause-ran : goal.returns-in-Ok-None-clause-ran
@@ -57,14 +57,14 @@ pub returns-in-Err-clause-ran : goal.returns-in-Err-clause-ran
 returns-in-Err-clause-ran g c none = record {
   result = Err c.in-Err.stop;
   answers = inl (at_once _ c.in-Err.stop c.in-Err.ensures, (refl, (refl, refl)));
-  tells = c.tell.ensures.told;
+  tells = c.tell_end.ensures.told;
   written = omega arith;
-  told = c.tell.ensures.later;
+  told = c.tell_end.ensures.later;
 }
 
 pub returns-in-Err-clause-readings : goal.returns-in-Err-clause-readings
 returns-in-Err-clause-readings g c none = readings _ _ _ _ _ _ (Err c.in-Err.stop)
-    (inl (at_once _ c.in-Err.stop c.in-Err.ensures, (refl, (refl, refl)))) c.tell.ensures.told
+    (inl (at_once _ c.in-Err.stop c.in-Err.ensures, (refl, (refl, refl)))) c.tell_end.ensures.told
 
 pub returns-in-Err-clause-tapes : goal.returns-in-Err-clause-tapes
 returns-in-Err-clause-tapes g c none =
@@ -74,15 +74,15 @@ returns-in-Err-clause-tapes g c none =
     let count = g.O.Sink.count c.args.output.now in
     tapes_left (texts c.args.words.now) a a (receipt held held count count) _ _
     (Err c.in-Err.stop)
-    (inl (at_once _ c.in-Err.stop c.in-Err.ensures, (refl, (refl, refl)))) c.tell.ensures.told
+    (inl (at_once _ c.in-Err.stop c.in-Err.ensures, (refl, (refl, refl)))) c.tell_end.ensures.told
 
 pub returns-in-Err-clause-fleet : goal.returns-in-Err-clause-fleet
 returns-in-Err-clause-fleet g c asked asks = record {
   result = Err c.in-Err.stop;
   did = unread _ _ _ _ _ _ asked asks c.in-Err.stop c.in-Err.ensures _ _ (refl, refl);
-  tells = c.tell.ensures.told;
+  tells = c.tell_end.ensures.told;
   written = omega arith;
-  told = c.tell.ensures.later;
+  told = c.tell_end.ensures.later;
 }
 
 pub returns-in-Ok-Some-clause-fleet_readings : goal.returns-in-Ok-Some-clause-fleet_readings
@@ -93,7 +93,7 @@ returns-in-Ok-Some-clause-fleet_readings g c asked asks =
     (one_fleet (texts c.args.words.now) c.in-Ok-Some.asked asked
     (subst (λ o. IsFleetAsked (texts c.args.words.now) (Ok o)) c.in-Ok-Some.field-0-is
     c.in-Ok-Some.ensures) asks)
-    (c.run_fleet.ensures (around g.W.Link.Kms.truth (g.W.World.told c.args.world.now)
+    (c.run_fleet-status.ensures (around g.W.Link.Kms.truth (g.W.World.told c.args.world.now)
     (g.I.Source.left c.args.input.now) (g.I.Source.count c.args.input.now)) refl))
 
 pub returns-in-Ok-None-clause-fleet_readings : goal.returns-in-Ok-None-clause-fleet_readings
@@ -108,9 +108,9 @@ returns-in-Err-clause-fleet_readings g c asked asks =
     (record {
       result = Err c.in-Err.stop;
       did = unread _ _ _ _ _ _ asked asks c.in-Err.stop c.in-Err.ensures _ _ (refl, refl);
-      tells = c.tell.ensures.told;
+      tells = c.tell_end.ensures.told;
       written = omega arith;
-      told = c.tell.ensures.later;
+      told = c.tell_end.ensures.later;
     })
 
 pub returns-in-Ok-Some-clause-load : goal.returns-in-Ok-Some-clause-load
@@ -137,9 +137,9 @@ returns-in-Err-clause-load g c asked asks = record {
   result = Err c.in-Err.stop;
   did = fleet_unread g.row.W-Tap.Denot g.W.Link.Kms.truth g.W.Link.Kms.link
       (texts c.args.words.now) asked asks c.in-Err.stop c.in-Err.ensures _ _ (refl, refl);
-  tells = c.tell.ensures.told;
+  tells = c.tell_end.ensures.told;
   written = omega arith;
-  told = c.tell.ensures.later;
+  told = c.tell_end.ensures.later;
 }
 
 pub returns-in-Err-clause-load_readings : goal.returns-in-Err-clause-load_readings
@@ -150,7 +150,7 @@ returns-in-Err-clause-load_readings g c asked asks =
       result = Err c.in-Err.stop;
       did = fleet_unread g.row.W-Tap.Denot g.W.Link.Kms.truth g.W.Link.Kms.link
           (texts c.args.words.now) asked asks c.in-Err.stop c.in-Err.ensures _ _ (refl, refl);
-      tells = c.tell.ensures.told;
+      tells = c.tell_end.ensures.told;
       written = omega arith;
-      told = c.tell.ensures.later;
+      told = c.tell_end.ensures.later;
     })

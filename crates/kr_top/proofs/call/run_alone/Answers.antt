@@ -1,18 +1,18 @@
 -- `run_alone`: another command than a fleet, or words that mean none.
 use Rattle.std.proofs.Common.{Err, Ok, refl, inl, arith, subst}
 use Rattle.kr_words.specs.Grammar.{texts}
-use Rattle.kr_top.specs.Around.{around}
-use Rattle.kr_top.specs.Ran.{receipt}
-use Rattle.kr_top.specs.inner.FleetAsked.{IsFleetAsked}
-use Rattle.kr_top.proofs.FleetRuns.{alone_or_memory, at_once}
-use Rattle.kr_top.proofs.Leaving.{tapes_left}
-use Rattle.kr_top.proofs.Readings.{readings}
+use Rattle.kr_steps.specs.Around.{around}
+use Rattle.kr_commands.specs.Receipts.{receipt}
+use Rattle.kr_commands.specs.inner.FleetAsked.{IsFleetAsked}
+use Rattle.kr_fleet_runs.proofs.FleetRuns.{alone_or_memory, at_once}
+use Rattle.kr_readings.proofs.Leaving.{tapes_left}
+use Rattle.kr_readings.proofs.Readings.{readings}
 use Rattle.kr_top.proofs.call.run_alone.Goals as goal
 
 pub returns-in-Ok-Some : goal.returns-in-Ok-Some
 returns-in-Ok-Some g c = (
   inl (
-    c.in-Ok-Some._asked,
+    c.in-Ok-Some.asked,
     subst (λ o. IsFleetAsked (texts c.args.words.now) (Ok o)) c.in-Ok-Some.field-0-is
         c.in-Ok-Some.ensures,
   ),
@@ -44,16 +44,16 @@ returns-in-Err g c =
     let count = g.O.Sink.count c.args.output.now in
     let left_alone = tapes_left (texts c.args.words.now) a a (receipt held held count count) _ _
     (Err c.in-Err.stop)
-    (inl (at_once _ c.in-Err.stop c.in-Err.ensures, (refl, (refl, refl)))) c.tell.ensures.told in (
+    (inl (at_once _ c.in-Err.stop c.in-Err.ensures, (refl, (refl, refl)))) c.tell_end.ensures.told in (
       record {
         result = Err c.in-Err.stop;
         answers = inl (at_once _ c.in-Err.stop c.in-Err.ensures, (refl, (refl, refl)));
-        tells = c.tell.ensures.told;
+        tells = c.tell_end.ensures.told;
         written = omega arith;
-        told = c.tell.ensures.later;
+        told = c.tell_end.ensures.later;
       },
       readings _ _ _ _ _ _ (Err c.in-Err.stop)
-          (inl (at_once _ c.in-Err.stop c.in-Err.ensures, (refl, (refl, refl)))) c.tell.ensures.told,
+          (inl (at_once _ c.in-Err.stop c.in-Err.ensures, (refl, (refl, refl)))) c.tell_end.ensures.told,
       left_alone,
-      alone_or_memory _ c.in-Err.stop c.in-Err.ensures _ _ c.tell.ensures.told,
+      alone_or_memory _ c.in-Err.stop c.in-Err.ensures _ _ c.tell_end.ensures.told,
     )

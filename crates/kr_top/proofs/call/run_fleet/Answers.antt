@@ -15,7 +15,7 @@ pub returns-in-Err : goal.returns-in-Err
 returns-in-Err g c a truth = record {
   result = Err c.in-Err.stop;
   did = c.in-Err.ensures.did a truth;
-  tells = c.tell.ensures.told;
+  tells = c.tell_end.ensures.told;
   written = c.in-Err.ensures.later;
-  told = c.tell.ensures.later;
+  told = c.tell_end.ensures.later;
 }

@@ -1,14 +1,14 @@
 -- `run_other`: a load, or another command, or words that mean none.
 use Rattle.std.proofs.Common.{Err, Ok, refl, inl, arith, subst}
 use Rattle.kr_words.specs.Grammar.{texts}
-use Rattle.kr_top.specs.Around.{around}
-use Rattle.kr_top.specs.Ran.{receipt}
-use Rattle.kr_top.specs.inner.LoadAsked.{IsLoadAsked}
-use Rattle.kr_top.proofs.Leaving.{tapes_left}
-use Rattle.kr_top.proofs.LoadAsked.{asked_small, one_load}
-use Rattle.kr_top.proofs.LoadReadings.{load_readings}
-use Rattle.kr_top.proofs.LoadRuns.{for_load, load_at_once, load_unread}
-use Rattle.kr_top.proofs.Readings.{readings}
+use Rattle.kr_steps.specs.Around.{around}
+use Rattle.kr_commands.specs.Receipts.{receipt}
+use Rattle.kr_commands.specs.inner.LoadAsked.{IsLoadAsked}
+use Rattle.kr_readings.proofs.Leaving.{tapes_left}
+use Rattle.kr_commands.proofs.LoadAsked.{asked_small, one_load}
+use Rattle.kr_fleet_readings.proofs.LoadReadings.{load_readings}
+use Rattle.kr_fleet_runs.proofs.LoadRuns.{for_load, load_at_once, load_unread}
+use Rattle.kr_readings.proofs.Readings.{readings}
 use Rattle.kr_top.proofs.call.run_other.Goals as goal
 
 pub returns-in-Ok-Some-clause-ran : goal.returns-in-Ok-Some-clause-ran
@@ -32,7 +32,7 @@ returns-in-Ok-Some-clause-load g c asked asks =
     (one_load (texts c.args.words.now) c.in-Ok-Some.asked asked
     (subst (λ o. IsLoadAsked (texts c.args.words.now) (Ok o)) c.in-Ok-Some.field-0-is
     c.in-Ok-Some.ensures) asks)
-    (c.run_load.ensures (around g.W.Link.Kms.truth (g.W.World.told c.args.world.now)
+    (c.run_load-status.ensures (around g.W.Link.Kms.truth (g.W.World.told c.args.world.now)
     (g.I.Source.left c.args.input.now) (g.I.Source.count c.args.input.now)) refl)
 
 pub returns-in-Ok-Some-clause-load_readings : goal.returns-in-Ok-Some-clause-load_readings
@@ -43,7 +43,7 @@ returns-in-Ok-Some-clause-load_readings g c asked asks =
     (one_load (texts c.args.words.now) c.in-Ok-Some.asked asked
     (subst (λ o. IsLoadAsked (texts c.args.words.now) (Ok o)) c.in-Ok-Some.field-0-is
     c.in-Ok-Some.ensures) asks)
-    (c.run_load.ensures (around g.W.Link.Kms.truth (g.W.World.told c.args.world.now)
+    (c.run_load-status.ensures (around g.W.Link.Kms.truth (g.W.World.told c.args.world.now)
     (g.I.Source.left c.args.input.now) (g.I.Source.count c.args.input.now)) refl))
 
 pub returns-in-Ok-None-clause-ran : goal.returns-in-Ok-None-clause-ran
@@ -69,15 +69,15 @@ pub returns-in-Err-clause-ran : goal.returns-in-Err-clause-ran
 returns-in-Err-clause-ran g c none = record {
   result = Err c.in-Err.stop;
   answers = inl (load_at_once _ c.in-Err.stop c.in-Err.ensures, (refl, (refl, refl)));
-  tells = c.tell.ensures.told;
+  tells = c.tell_end.ensures.told;
   written = omega arith;
-  told = c.tell.ensures.later;
+  told = c.tell_end.ensures.later;
 }
 
 pub returns-in-Err-clause-readings : goal.returns-in-Err-clause-readings
 returns-in-Err-clause-readings g c none = readings _ _ _ _ _ _ (Err c.in-Err.stop)
     (inl (load_at_once _ c.in-Err.stop c.in-Err.ensures, (refl, (refl, refl))))
-    c.tell.ensures.told
+    c.tell_end.ensures.told
 
 pub returns-in-Err-clause-tapes : goal.returns-in-Err-clause-tapes
 returns-in-Err-clause-tapes g c none =
@@ -88,16 +88,16 @@ returns-in-Err-clause-tapes g c none =
     tapes_left (texts c.args.words.now) a a (receipt held held count count) _ _
     (Err c.in-Err.stop)
     (inl (load_at_once _ c.in-Err.stop c.in-Err.ensures, (refl, (refl, refl))))
-    c.tell.ensures.told
+    c.tell_end.ensures.told
 
 pub returns-in-Err-clause-load : goal.returns-in-Err-clause-load
 returns-in-Err-clause-load g c asked asks = record {
   result = Err c.in-Err.stop;
   did = load_unread g.row.W-Tap.Denot g.W.Link.Kms.truth g.W.Link.Kms.link
       (texts c.args.words.now) asked asks c.in-Err.stop c.in-Err.ensures _ _ (refl, refl);
-  tells = c.tell.ensures.told;
+  tells = c.tell_end.ensures.told;
   written = omega arith;
-  told = c.tell.ensures.later;
+  told = c.tell_end.ensures.later;
 }
 
 pub returns-in-Err-clause-load_readings : goal.returns-in-Err-clause-load_readings
@@ -108,7 +108,7 @@ returns-in-Err-clause-load_readings g c asked asks =
       result = Err c.in-Err.stop;
       did = load_unread g.row.W-Tap.Denot g.W.Link.Kms.truth g.W.Link.Kms.link
           (texts c.args.words.now) asked asks c.in-Err.stop c.in-Err.ensures _ _ (refl, refl);
-      tells = c.tell.ensures.told;
+      tells = c.tell_end.ensures.told;
       written = omega arith;
-      told = c.tell.ensures.later;
+      told = c.tell_end.ensures.later;
     })

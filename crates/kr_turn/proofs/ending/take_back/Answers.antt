@@ -3,7 +3,7 @@ use Rattle.std.proofs.Common.{rules, ◌≡◌, sym, ◌∙◌, subst, Option, S
 use mathlib.Core.Option.{some-injective}
 use Rattle.std.specs.Prelude.{IsSome}
 use Rattle.kr_turn.specs.inner.Endings.{IsEnd}
-use Rattle.kr_turn.specs.inner.Homes.{terms_of}
+use Rattle.kr_turn.specs.Keys.{terms_of}
 use Rattle.kr_turn.proofs.Acts.{some_same}
 use Rattle.kr_turn.proofs.Ends.{ends}
 use Rattle.kr_turn.proofs.ending.take_back.Goals as goal

@@ -3,8 +3,8 @@ use Rattle.std.proofs.Common.{rules, ap, ◌∙◌}
 use Rattle.kr_turn.proofs.Keeps.{looks}
 use Rattle.kr_turn.proofs.lock.wait.Goals as goal
 
-pub load-requires : goal.load-requires
-load-requires g c = (
+pub load-served-requires : goal.load-served-requires
+load-served-requires g c = (
   search rules,
   search rules,
   looks _ _ _ _ _ _ _ _ c.args.ticket (ap (λ m. m.0.stage) c.loop.invariant.2 ∙ c.requires.waits.0)
@@ -13,8 +13,8 @@ load-requires g c = (
 
 pub loop-preserved : goal.loop-preserved
 loop-preserved g c = (
-  c.load.ensures.0 ∙ c.loop.invariant.0,
-  c.load.ensures.1 ∙ c.loop.invariant.1,
-  (c.load.ensures.2 c.args.ticket (ap (λ m. m.0.stage) c.loop.invariant.2 ∙ c.requires.waits.0)).1
-      c.if-load-ticket.false ∙ c.loop.invariant.2,
+  c.load-served.ensures.0 ∙ c.loop.invariant.0,
+  c.load-served.ensures.1 ∙ c.loop.invariant.1,
+  (c.load-served.ensures.2 c.args.ticket (ap (λ m. m.0.stage) c.loop.invariant.2 ∙ c.requires.waits.0)).1
+      c.if-served-ticket.false ∙ c.loop.invariant.2,
 )

@@ -3,9 +3,8 @@ use Rattle.std.proofs.Common.{rules, arith, ◌≡◌, ℕ, ◌+◌, ◌-◌, []
 use Rattle.std.proofs.Common.{subst, Some}
 use Rattle.atomic_table.specs.Table.{Splits}
 use Rattle.kr_turn.specs.declared.view.View.{View}
-use Rattle.kr_turn.specs.inner.Homes.{terms_of, home_of}
 use Rattle.kr_turn.specs.inner.Rule.{KeepsRule}
-use Rattle.kr_turn.specs.Keys.{budget_of}
+use Rattle.kr_turn.specs.Keys.{terms_of, home_of, budget_of}
 use Rattle.kr_turn.specs.Seats.{AreFresh}
 use Rattle.kr_turn.specs.inner.Steps.{SeatState, next_of, new_of}
 use Rattle.kr_turn.proofs.Acts.{rests_by}

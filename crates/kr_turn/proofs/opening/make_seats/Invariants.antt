@@ -1,6 +1,6 @@
 -- What the loop of `make_seats` keeps.
 use Rattle.std.proofs.Common.{◌≡◌, ◌+◌, ◌≤◌, [], length, Some}
-use Rattle.kr_turn.specs.inner.Homes.{terms_of, home_of}
+use Rattle.kr_turn.specs.Keys.{terms_of, home_of}
 use Rattle.kr_turn.specs.Seats.{AreFresh}
 use Rattle.kr_turn.specs.inner.Steps.{maker}
 use Rattle.kr_turn.proofs.opening.make_seats.Given as goal

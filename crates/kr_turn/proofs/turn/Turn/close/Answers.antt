@@ -1,6 +1,6 @@
 -- What the tactic leaves open of `close`.
 use Rattle.std.proofs.Common.{sym, subst}
-use Rattle.kr_turn.specs.inner.Homes.{home_of}
+use Rattle.kr_turn.specs.Keys.{home_of}
 use Rattle.kr_turn.specs.Seats.{AreAll}
 use Rattle.kr_turn.proofs.Rows.{covers, all_stand}
 use Rattle.kr_turn.proofs.turn.Turn.close.Goals as goal

@@ -1,6 +1,6 @@
 -- What the tactic leaves open of `new`.
 use Rattle.std.proofs.Common.{arith, sum, ap}
-use Rattle.kr_turn.specs.inner.Homes.{terms_of}
+use Rattle.kr_turn.specs.Keys.{terms_of}
 use Rattle.kr_turn.proofs.Makes.{begins}
 use Rattle.kr_turn.proofs.turn.Turn.new.Goals as goal
 

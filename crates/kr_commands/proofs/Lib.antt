@@ -1,0 +1,7 @@
+-- The lemmas that the answers cite.
+pub mod Asked
+pub mod FleetAsked
+pub mod LoadAsked
+pub mod OneCommand
+pub mod Pieces
+pub mod VisibleTexts

@@ -1,0 +1,47 @@
+//! Texts that are written a piece at a time.
+ghost use Rattle.std.specs.Prelude.{◌≡◌, ◌++◌, IfOk, decimal};
+ghost use Rattle.kr_base.specs.Visible.{visible};
+
+use itoa::Buffer;
+use kr_base::{NoMemory, Text, push_visible};
+use std::alloc::Global;
+
+/// Adds the piece.
+pub fn add(text: &mut Vec<u8>, piece: &str) -> Result<(), NoMemory>
+    ensures { IfOk result (λ done. text.new.items ≡ text.old.items ++ piece.now) }
+{
+    match text.extend_from_slice(piece.as_bytes()) {
+        Ok(()) => Ok(()),
+        Err(_) => Err(NoMemory),
+    }
+}
+
+/// Adds the two pieces.
+pub fn add_pair(text: &mut Vec<u8>, first: &str, second: &str) -> Result<(), NoMemory>
+    ensures { IfOk result (λ done. text.new.items ≡ text.old.items ++ (first.now ++ second.now)) }
+{
+    add(text, first)?;
+    add(text, second)
+}
+
+/// Adds the number in decimal digits.
+pub fn add_number(text: &mut Vec<u8>, number: usize) -> Result<(), NoMemory>
+    ensures { IfOk result (λ done. text.new.items ≡ text.old.items ++ decimal number) }
+{
+    let mut buffer = Buffer::new();
+    add(text, buffer.format(number))
+}
+
+/// A foreign text as it is printed.
+pub fn visible(alloc: Global, foreign: &str) -> Result<Text, NoMemory>
+    ensures { IfOk result (λ copy. copy ≡ visible foreign.now) }
+{
+    let Ok(mut bytes) = Vec::with_capacity(alloc, foreign.len()) else {
+        return Err(NoMemory);
+    };
+    push_visible(&mut bytes, foreign)?;
+    match String::from_utf8(bytes) {
+        Ok(string) => Ok(Text::from_string(string)),
+        Err(_) => unreachable!(),
+    }
+}

@@ -1,0 +1,10 @@
+-- The lemmas that the answers cite.
+pub mod Beginnings
+pub mod ClosedCores
+pub mod FleetCrews
+pub mod FleetOutfits
+pub mod FleetRuns
+pub mod Generating
+pub mod LoadPlans
+pub mod LoadRuns
+pub mod Publishings

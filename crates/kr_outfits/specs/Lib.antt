@@ -1,0 +1,10 @@
+-- The definitions that contracts cite.
+pub mod Causes
+pub mod FleetFiles
+pub mod FleetReadings
+pub mod FleetReady
+pub mod Fleets
+pub mod FullLoads
+pub mod GeneratedLoads
+pub mod LoadReadings
+pub mod inner

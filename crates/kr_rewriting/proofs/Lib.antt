@@ -1,0 +1,13 @@
+-- The lemmas that the answers cite.
+pub mod CutShorts
+pub mod DriveEnds
+pub mod DriveSteps
+pub mod Driven
+pub mod DroveAll
+pub mod LiveRows
+pub mod LoneCallers
+pub mod Reported
+pub mod RowCuts
+pub mod RowDrives
+pub mod Said
+pub mod Started

@@ -1,0 +1,6 @@
+//! The command `rewrite`, over a store.
+#![tactic(auto)]
+
+mod rewriting;
+
+pub use rewriting::rewrite;

@@ -1,0 +1,24 @@
+-- The lemmas that the answers cite.
+pub mod AddedRows
+pub mod Adding
+pub mod Apart
+pub mod EmptyFiles
+pub mod Frames
+pub mod GivesOnly
+pub mod Goes
+pub mod Lending
+pub mod Linked
+pub mod Links
+pub mod Loading
+pub mod Made
+pub mod NamedPrograms
+pub mod OneVerdict
+pub mod Points
+pub mod ProgramNames
+pub mod RisingCounts
+pub mod Rooms
+pub mod SeedSteps
+pub mod Tapes
+pub mod Unsealed
+pub mod ValueRead
+pub mod Works

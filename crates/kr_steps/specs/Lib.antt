@@ -1,0 +1,14 @@
+-- The definitions that contracts cite.
+pub mod Afterwards
+pub mod Around
+pub mod Check
+pub mod Commands
+pub mod Configuration
+pub mod Inspect
+pub mod Judgements
+pub mod Plugins
+pub mod Ran
+pub mod RowLines
+pub mod Steps
+pub mod StoreFiles
+pub mod inner

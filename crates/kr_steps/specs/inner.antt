@@ -1,0 +1,8 @@
+-- The definitions of inner contracts.
+pub mod Lent
+pub mod Phases
+pub mod Plugins
+pub mod ProgramNames
+pub mod Reporting
+pub mod Starts
+pub mod Tapes

@@ -1,0 +1,20 @@
+//! The steps that commands are made of, and the phases that do them.
+#![tactic(auto)]
+
+mod bench;
+mod phases;
+mod programs;
+mod publication;
+mod starts;
+mod stores;
+mod work;
+
+pub use phases::{
+    close_dice, close_link, configure, load_settings, open_dice, open_link, show, take_input,
+    write_output,
+};
+pub use programs::{Program, Programs, names_of, programs_of, tell_text, without_program};
+pub use publication::publish_by;
+pub use starts::start_stop;
+pub use stores::{add_delete, add_put, close_tape, load_store, open_tape};
+pub use work::{Task, first_of, make, take_last};

@@ -1,0 +1,3 @@
+-- The lemmas that the answers cite.
+pub mod Listings
+pub mod Walk
