@@ -110,7 +110,7 @@ def make():
 def program():
     """The program; rt proves and builds it where it isn't built or older than what it is made of."""
     built = CRATE / "out" / "kmsplug"
-    sources = [it for name in ("kmsplug", "kr_edge", "kr_keywrap", "kr_kms", "kr_aes", "kr_base") for it in (CRATES / name / "src").rglob("*.rt")]
+    sources = [it for name in ("kmsplug", "kr_edge", "kr_keywrap", "kr_plugin_lines", "kr_kms", "kr_aes", "kr_base") for it in (CRATES / name / "src").rglob("*.rt")]
     if not built.exists() or any(it.stat().st_mtime > built.stat().st_mtime for it in sources):
         subprocess.run(["rt", "run"], cwd=CRATE, stdin=subprocess.DEVNULL, stdout=subprocess.DEVNULL, check=True)
     return built

@@ -1,14 +1,15 @@
 -- The first two rounds of blocks with the same first 15 bytes.
 use Rattle.std.specs.Prelude.{[]}
-use Rattle.std.proofs.Common.{◌≡◌, ℕ, zero, suc, ◌+◌, ◌*◌, ◌<◌, List, ◌∷◌, bit_xor, slice_index, take, refl, sym, ap, ◌∙◌, arith, lit<}
-use Rattle.std.proofs.lemmas.List.{get_or-take}
+use Rattle.std.proofs.Common.{◌≡◌, ℕ, zero, suc, ◌+◌, ◌*◌, ◌<◌, List, ◌∷◌, ◌++◌, All, length, bit_xor, slice_index, take, refl, sym, ap, ◌∙◌, arith, lit<}
+use Rattle.std.proofs.lemmas.List.{get_or-take, length-append, length-take-le, take-append-le, take_all}
+use Rattle.std.proofs.lemmas.List.Elements.{All-push, All-take}
+use Rattle.std.proofs.Math.Seq.{get_or-append_seam}
 use Rattle.std.proofs.lemmas.Nat.{xor_comm}
 use Rattle.std.specs.Int.{w32, from_be_bytes}
 use Rattle.std.specs.Int.Bits.{xor_self, xor_zero_r}
 use lib.Bits.{xor_assoc}
-use Rattle.kr_aes.specs.declared.begun.Begun.{Begun}
 use Rattle.kr_aes.specs.Cipher.{IsBlock, add_round_key, after_rounds, column_sum, matrix_product, mix_columns, sbox, shift_rows, sub_bytes, word_byte}
-use Rattle.kr_aes.specs.Begun.{IsBegun, begun_columns, forward_word}
+use Rattle.kr_aes.specs.inner.TwoRounds.{IsBegun, begun_columns, forward_word}
 use Rattle.kr_aes.specs.inner.Columns.{IsKeyed, block_of_columns, forward_byte}
 use Rattle.kr_aes.proofs.Blocks.{cell-lt}
 use Rattle.kr_aes.proofs.ColumnWords.{IsKeyed-xor, bytes4-lt, forward_keyed, word_byte-from_be_bytes, word_byte-xor}
@@ -171,16 +172,17 @@ last_word words other is row lt =
     ∙ ap (λ (x : ℕ). bit_xor x (word_byte (slice_index words 3) row))
     (four_rows (slice_index bytes) (λ row. slice_index other (row + 12)) refl refl refl refl row lt)
 
-pub begins : (words block : List ℕ) (begun : Begun) (a b c d p q r s w x y z : ℕ)
+pub begins : (words block : List ℕ) (head : ℕ) (columns : List ℕ) (a b c d p q r s w x y z : ℕ)
     → block_of_columns (a ∷ b ∷ c ∷ d ∷ []) ≡ add_round_key words 0 block
     → block_of_columns (p ∷ q ∷ r ∷ s ∷ []) ≡ add_round_key words 1 (mix_columns (shift_rows (sub_bytes (block_of_columns (a ∷ b ∷ c ∷ d ∷ [])))))
     → block_of_columns (w ∷ x ∷ y ∷ z ∷ []) ≡ add_round_key words 2 (mix_columns (shift_rows (sub_bytes (block_of_columns (p ∷ q ∷ r ∷ s ∷ [])))))
-    → begun.head ≡ bit_xor p (forward_word 3 (word_byte d 3))
-    → begun.columns ≡ bit_xor w (forward_word 0 (word_byte p 0)) ∷ bit_xor x (forward_word 3 (word_byte p 3))
+    → head ≡ bit_xor p (forward_word 3 (word_byte d 3))
+    → columns ≡ bit_xor w (forward_word 0 (word_byte p 0)) ∷ bit_xor x (forward_word 3 (word_byte p 3))
     ∷ bit_xor y (forward_word 2 (word_byte p 2)) ∷ bit_xor z (forward_word 1 (word_byte p 1)) ∷ []
-    → IsBegun words block begun
+    → (other : List ℕ) → IsBlock other → take 15 other ≡ take 15 block
+    → block_of_columns (begun_columns words head columns (slice_index other 15)) ≡ after_rounds words other 2
 unfolding after_rounds
-begins words block begun a b c d p q r s w x y z e0 e1 e2 head columns other is same =
+begins words block head columns a b c d p q r s w x y z e0 e1 e2 the_head the_columns other is same =
     let o : ℕ = bit_xor (from_be_bytes w32 (slice_index other 12 ∷ slice_index other 13 ∷ slice_index other 14 ∷ slice_index other 15 ∷ [])) (slice_index words 3) in
     let at = first_byte words block a b c d e0 in
     let cell = λ (k : ℕ) (lt : k < 15). same_cell other block k same lt in
@@ -200,11 +202,36 @@ begins words block begun a b c d p q r s w x y z e0 e1 e2 head columns other is 
     (same_second c d o a b (slice_index words 6) r (high 1 (lit< tt)) one.1.1.0)
     (same_first d o a b c (slice_index words 7) s (high 0 (lit< tt)) one.1.1.1) in
     let two = keyed_columns words 2 p q r s w x y z e2 in
-    let third : block_of_columns (begun_columns words begun (slice_index other 15)) ≡ add_round_key words 2 (mix_columns (shift_rows (sub_bytes (block_of_columns (u ∷ q ∷ r ∷ s ∷ []))))) =
-    rw (columns, head, sym (ho 3 (lit< tt))) (forward_columns words 2 u q r s _ _ _ _
+    let third : block_of_columns (begun_columns words head columns (slice_index other 15)) ≡ add_round_key words 2 (mix_columns (shift_rows (sub_bytes (block_of_columns (u ∷ q ∷ r ∷ s ∷ []))))) =
+    rw (the_columns, the_head, sym (ho 3 (lit< tt))) (forward_columns words 2 u q r s _ _ _ _
     (exchanged_0 p u q r s (slice_index words 8) w two.0)
     (exchanged_3 q r s p u (slice_index words 9) x two.1.0)
     (exchanged_2 r s p u q (slice_index words 10) y two.1.1.0)
     (exchanged_1 s p u q r (slice_index words 11) z two.1.1.1)) in
     third ∙ ap (λ (t : List ℕ). add_round_key words 2 (mix_columns (shift_rows (sub_bytes t))))
     (second ∙ ap (λ (t : List ℕ). add_round_key words 1 (mix_columns (shift_rows (sub_bytes t)))) first)
+
+-- ---- a block from its first 15 bytes and its last
+
+IsBlock-last : (block : List ℕ) (last : ℕ) → IsBlock block → last < 256 → IsBlock (take 15 block ++ last ∷ [])
+IsBlock-last block last is lt = record {
+  size = length-append (take 15 block) (last ∷ []) ∙ ap (λ (n : ℕ). n + 1) (length-take-le 15 block (omega (arith, is.size)));
+  bytes = All-push (λ (byte : ℕ). byte < 256) (take 15 block) last (All-take (λ (byte : ℕ). byte < 256) 15 block is.bytes) lt;
+}
+
+front_of_last : (block : List ℕ) (last : ℕ) → IsBlock block → take 15 (take 15 block ++ last ∷ []) ≡ take 15 block
+front_of_last block last is =
+    take-append-le 15 (take 15 block) (last ∷ []) (omega (arith, length-take-le 15 block (omega (arith, is.size))))
+    ∙ take_all 15 (take 15 block) (omega (arith, length-take-le 15 block (omega (arith, is.size))))
+
+last_of_last : (block : List ℕ) (last : ℕ) → IsBlock block → slice_index (take 15 block ++ last ∷ []) 15 ≡ last
+last_of_last block last is =
+    ap (slice_index (take 15 block ++ last ∷ [])) (sym (length-take-le 15 block (omega (arith, is.size))))
+    ∙ get_or-append_seam (take 15 block) last [] 0
+
+-- what is kept gives the columns of a block by its last byte
+pub begun_for_last : (words block : List ℕ) (head : ℕ) (columns : List ℕ) (last : ℕ) → IsBegun words block head columns → last < 256
+    → block_of_columns (begun_columns words head columns last) ≡ after_rounds words (take 15 block ++ last ∷ []) 2
+begun_for_last words block head columns last begun lt =
+    ap (λ (b : ℕ). block_of_columns (begun_columns words head columns b)) (sym (last_of_last block last begun.whole))
+    ∙ begun.begins (take 15 block ++ last ∷ []) (IsBlock-last block last begun.whole lt) (front_of_last block last begun.whole)

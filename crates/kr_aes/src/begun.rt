@@ -1,28 +1,47 @@
 //! The first two rounds of blocks that differ in their last byte alone, as counter blocks do: that
 //! byte is in one cell of the first round, and so in one column of the second.
 
-ghost use Rattle.std.specs.Prelude.{◌≡◌, ℕ, ◌<◌, List, All, take};
-ghost use Rattle.kr_aes.specs.Cipher.{cipher};
+ghost use Rattle.std.specs.Prelude.{◌≡◌, ◌<◌, ◌++◌, [], ◌∷◌, All, take};
+ghost use Rattle.kr_aes.specs.Begun.{BegunState};
+ghost use Rattle.kr_aes.specs.Cipher.{after_rounds, cipher};
 ghost use Rattle.kr_aes.specs.KeyExpansion.{IsSchedule};
-ghost use Rattle.kr_aes.specs.Begun.{IsBegun, begun_columns};
+ghost use Rattle.kr_aes.specs.inner.Columns.{block_of_columns};
 
 use crate::{Rounds, cells, columns};
+use std::marker::Model;
 
 /// What the first two rounds make of all blocks with the same first 15 bytes, as far as their last
 /// byte has no part in it.
-#[derive(Clone, Copy)]
-pub struct Begun {
+#[derive(Drop)]
+pub struct Begun<'a> {
+    words: &'a [u32; 60],
+    /// The block that it was begun with. Only contracts read it.
+    block: [u8; 16],
     /// The first column behind the first round, without the last byte's part.
     head: u32,
     /// The columns behind the second round, each without the part of the first round's first.
     columns: [u32; 4],
 }
 
-impl Begun {
+impl<'a> Model for Begun<'a> {
+    ghost use Rattle.std.specs.Prelude.{take};
+    ghost use Rattle.kr_aes.specs.Begun.{BegunState};
+    ghost use Rattle.kr_aes.specs.inner.TwoRounds.{IsBegun};
+
+    ghost Value = { BegunState };
+
+    ghost view = { λ begun. record { words = begun.words.now; front = take 15 begun.block } };
+
+    ghost invariant = { λ begun.
+        IsBegun begun.words.now begun.block begun.head begun.columns };
+}
+
+impl<'a> Begun<'a> {
     /// Begins the blocks that have the first 15 bytes of this one.
-    pub fn new(words: &[u32; 60], block: &[u8; 16]) -> Begun
-        ensures { IsBegun words.now block.now result }
+    pub fn new(words: &'a [u32; 60], block: &[u8; 16]) -> Begun<'a>
+        ensures { result ≡ record { words = words.now; front = take 15 block.now } }
     {
+        known(block);
         let state = columns::first(words, 0, block);
         let one = columns::forward_round(words, 1, state);
         let two = columns::forward_round(words, 2, one);
@@ -30,6 +49,8 @@ impl Begun {
         let [first, _, _, _] = one;
         let [a, b, c, d] = two;
         Begun {
+            words,
+            block: *block,
             head: first ^ cells::forward_3(last.to_be_bytes()[3]),
             columns: [
                 a ^ cells::forward_0(first.to_be_bytes()[0]),
@@ -42,10 +63,11 @@ impl Begun {
 
     /// The columns behind the second round of the block with this last byte.
     #[inline(always)]
-    fn columns(&self, words: &[u32; 60], last: u8) -> [u32; 4]
-        ensures { result ≡ begun_columns words.now self.now last }
+    fn columns(&self, last: u8) -> [u32; 4]
+        ensures { block_of_columns result
+            ≡ after_rounds self.now.words (self.now.front ++ last ∷ []) 2 }
     {
-        let first = self.head ^ cells::forward_3(last ^ words[3].to_be_bytes()[3]);
+        let first = self.head ^ cells::forward_3(last ^ self.words[3].to_be_bytes()[3]);
         let [a, b, c, d] = self.columns;
         [
             a ^ cells::forward_0(first.to_be_bytes()[0]),
@@ -55,24 +77,28 @@ impl Begun {
         ]
     }
 
-    /// Puts the cipher of a block in its place, as `encrypt_block` does. The block has the first 15
-    /// bytes of the one that this was made of by the same words.
+    /// The cipher of the block that has this last byte behind the 15 that it was begun for.
     #[inline(always)]
-    pub fn encrypt_block(&self, words: &[u32; 60], rounds: Rounds, block: &mut [u8; 16])
-        requires { IsSchedule words.now rounds }
-        ensures { (begun : List ℕ) → IsBegun words.now begun self.now
-            → take 15 block.old ≡ take 15 begun
-            → block.new ≡ cipher words.now rounds block.old }
+    pub fn encrypt_block(&self, rounds: Rounds, last: u8) -> [u8; 16]
+        requires { IsSchedule self.now.words rounds }
+        ensures { result ≡ cipher self.now.words rounds (self.now.front ++ last ∷ []) }
     {
-        known(block);
-        let last = rounds.count();
-        let mut state = self.columns(words, block[15]);
-        for round in 3..last {
+        let words = self.words();
+        let count = rounds.count();
+        let mut state = self.columns(last);
+        for round in 3..count {
             let next = columns::forward_round(words, round, state);
             state = next;
         }
-        let ciphered = columns::last_forward_round(words, last, state);
-        *block = columns::block_of(ciphered);
+        let ciphered = columns::last_forward_round(words, count, state);
+        columns::block_of(ciphered)
+    }
+
+    #[inline(always)]
+    fn words(&self) -> &'a [u32; 60]
+        ensures { result.now ≡ self.now.words }
+    {
+        self.words
     }
 }
 

@@ -36,6 +36,10 @@ value_limit = 2162688
 abbrev pub config_limit : ℕ
 config_limit = 1048576
 
+-- the most lines of a journal
+abbrev pub journal_limit : ℕ
+journal_limit = 4000000
+
 -- the most bytes of a store's file
 abbrev pub store_limit : ℕ
 store_limit = 67108864

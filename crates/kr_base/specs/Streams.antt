@@ -1,5 +1,6 @@
 -- What reading and writing whole contents does to the bytes that an object tells.
-use Rattle.std.specs.Prelude.{◌≡◌, ℕ, ◌+◌, ◌≤◌, List, length, take, Option, Result, Ok, Err}
+use Rattle.std.specs.Prelude.{◌≡◌, ℕ, ◌+◌, ◌≤◌, List, [], ◌∷◌, ◌++◌, length, take, Option, Result, Ok, Err}
+use Rattle.std.specs.Borrow.{Bor}
 use Rattle.std.specs.Io.KnownBytes.{Appends, Consumes, IsAtEnd}
 use Rattle.kr_base.specs.declared.errors.ReadNo.{ReadNo}
 use Rattle.kr_base.specs.declared.errors.ReadNo.TheVariants.{Failed, TooLong, NoMemory}
@@ -23,3 +24,8 @@ ReadsWhole old new limit (Ok bytes) = Consumes old new bytes × IsAtEnd new × (
 ReadsWhole old new limit (Err TooLong) = TakesCount old new (limit + 1)
 ReadsWhole old new limit (Err Failed) = TakesAtMost old new limit
 ReadsWhole old new limit (Err NoMemory) = TakesAtMost old new limit
+
+-- pieces of a text, one behind another
+abbrev pub whole_text : List (Bor (List ℕ)) → List ℕ
+whole_text [] = []
+whole_text (piece ∷ pieces) = piece.now ++ whole_text pieces

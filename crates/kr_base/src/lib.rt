@@ -29,8 +29,8 @@ pub use call_log::CallLog;
 pub use errors::{Failed, NoMemory, ReadNo, Spent};
 pub use fault_count::FaultCount;
 pub use limits::{
-    ANNOTATIONS_LIMIT, ANNOTATIONS_SIZE_LIMIT, CONFIG_LIMIT, DATA_LIMIT, NAME_LIMIT, PATH_LIMIT,
-    SHORT_LIMIT, STORE_LIMIT, VALUE_LIMIT, are_few, is_short,
+    ANNOTATIONS_LIMIT, ANNOTATIONS_SIZE_LIMIT, CONFIG_LIMIT, DATA_LIMIT, JOURNAL_LIMIT, NAME_LIMIT,
+    PATH_LIMIT, SHORT_LIMIT, STORE_LIMIT, VALUE_LIMIT, are_few, is_short,
 };
 pub use list::List;
 pub use mem_dice::MemDice;
@@ -42,5 +42,5 @@ pub use seeded_dice::SeededDice;
 pub use shared::Shared;
 pub use text::Text;
 pub use traits::{Dice, Sink, Source, Tape};
-pub use transfer::{read_all, write_all};
+pub use transfer::{read_all, write_all, write_each};
 pub use visible::push_visible;

@@ -29,6 +29,9 @@ pub const VALUE_LIMIT: u64 = 2_162_688;
 /// The most bytes of a configuration.
 pub const CONFIG_LIMIT: u64 = 1_048_576;
 
+/// The most lines that a journal may have.
+pub const JOURNAL_LIMIT: u64 = 4_000_000;
+
 /// The most bytes of a store's file.
 pub const STORE_LIMIT: u64 = 67_108_864;
 

@@ -2,7 +2,7 @@
 ghost use Rattle.std.specs.Prelude.{◌≡◌, ◌≤◌, ◌+◌, min, [], IsErrOf, MatchResult, OnOk, OnErr};
 ghost use Rattle.std.specs.Io.KnownBytes.{Appends};
 ghost use Rattle.kr_base.specs.Faults.{Rose, IsCounted};
-ghost use Rattle.kr_base.specs.Streams.{ReadsWhole, AppendsFront};
+ghost use Rattle.kr_base.specs.Streams.{ReadsWhole, AppendsFront, whole_text};
 
 use crate::bytes::Bytes;
 use crate::errors::{Failed, ReadNo};
@@ -15,6 +15,10 @@ const PIECE: usize = 8192;
 /// For how many bytes there is room from the start, at most: a page that isn't touched costs
 /// nothing, and a vector that grows is made anew and copied.
 const ROOM: u64 = 4_194_304;
+
+/// For how many more there is room, so that what is made of the bytes in their own place may be
+/// somewhat longer.
+const MORE: u64 = 4096;
 
 /// How many bytes the next read asks for: one more than may come, so that a source above the limit
 /// shows itself.
@@ -32,7 +36,7 @@ fn next_ask(rest: u64) -> usize
 fn room_for(alloc: Global, limit: u64) -> Result<Vec<u8>, ReadNo>
     ensures { MatchResult result (λ room. room.items ≡ []) (λ why. why ≡ ReadNo.NoMemory) }
 {
-    match Vec::with_capacity(alloc, limit.min(ROOM) as usize) {
+    match Vec::with_capacity(alloc, (limit.min(ROOM) + MORE) as usize) {
         Ok(room) => Ok(room),
         Err(_) => Err(ReadNo::NoMemory),
     }
@@ -77,6 +81,20 @@ pub fn write_all<S: Sink>(sink: &mut S, bytes: &[u8]) -> Result<(), Failed>
     while written < bytes.len() {
         let n = sink.write(&bytes[written..])?;
         written += n;
+    }
+    Ok(())
+}
+
+/// Writes the pieces of a text, one behind another. After a fault the sink has taken a prefix of
+/// them all.
+pub fn write_each<S: Sink>(sink: &mut S, pieces: &[&str]) -> Result<(), Failed>
+    ensures ok { OnOk result (Appends (S.held sink.old) (S.held sink.new) (whole_text pieces.now)) }
+    ensures err { OnErr result
+        (AppendsFront (S.held sink.old) (S.held sink.new) (whole_text pieces.now)) }
+    ensures cause { IsCounted (S.count sink.old) (S.count sink.new) result }
+{
+    for piece in pieces {
+        write_all(sink, piece.as_bytes())?;
     }
     Ok(())
 }

@@ -5,11 +5,11 @@ use crate::call::{Call, serve_or_tell};
 use crate::desk::Desk;
 use crate::linked::Spelled;
 use crate::page::Page;
-use crate::words::Wrong;
 use kr_base::{MemDice, Spent};
 use kr_provider::Bench;
 use kr_rollout::{Acts, Answer, Event};
 use std::alloc::Global;
+use std::mem;
 
 /// A call that is made before the event of this number of another caller, the first being 1.
 #[derive(Drop)]
@@ -48,16 +48,15 @@ impl<A: Acts, B: Acts, L: Spelled> Between<A, B, L> {
     pub fn plan(&mut self, planned: Planned)
         ensures { self.new.own ≡ self.old.own }
     {
-        self.next = Some(planned);
+        drop(mem::replace(&mut self.next, Some(planned)));
     }
 
     /// Adds what the rival's call answered, if it was made.
-    pub fn tell(&mut self, page: &mut Page) -> Result<(), Wrong>
+    pub fn tell(&mut self, page: &mut Page)
         ensures { self.new.own ≡ self.old.own }
     {
-        page.add(&self.said)?;
-        self.said = Page::new(self.alloc);
-        Ok(())
+        page.add(&self.said);
+        drop(mem::replace(&mut self.said, Page::new(self.alloc)));
     }
 
     /// Gives both callers and the rival's bench up.
@@ -66,26 +65,26 @@ impl<A: Acts, B: Acts, L: Spelled> Between<A, B, L> {
             alloc: _,
             own,
             rival,
-            next: _,
-            said: _,
+            next,
+            said,
         } = self;
+        drop(next);
+        drop(said);
         let (acts, bench) = rival.into_parts();
         (own, acts, bench)
     }
 
-    /// Makes the rival's call, if its time has come. What finds no memory isn't told.
+    /// Makes the rival's call, if its time has come.
     fn let_rival(&mut self)
         ensures { self.new.own ≡ self.old.own }
     {
         match self.next.take() {
             Some(Planned { number: 1, call }) => {
-                let _ = serve_or_tell(self.alloc, &mut self.rival, call, &mut self.said);
+                serve_or_tell(self.alloc, &mut self.rival, call, &mut self.said);
             }
             Some(Planned { number, call }) => {
-                self.next = Some(Planned {
-                    number: number.saturating_sub(1),
-                    call,
-                });
+                let number = number.saturating_sub(1);
+                drop(mem::replace(&mut self.next, Some(Planned { number, call })));
             }
             None => {}
         }

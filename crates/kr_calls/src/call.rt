@@ -3,7 +3,7 @@ use crate::desk::Desk;
 use crate::linked::{Spelled, bench_of, end_bench};
 use crate::named::Named;
 use crate::page::Page;
-use crate::words::{Wrong, number_of, text_of, two_words};
+use crate::words::{Wrong, both, kept, number_before, number_of, text_of, two_words};
 use hex::FromHexError;
 use kr_base::{Bytes, Shared, Text};
 use kr_config::Settings;
@@ -77,54 +77,99 @@ impl Call {
     ///     step REPLICA AFTER
     ///     drive REPLICA AFTER
     pub fn spelled(alloc: Global, named: &Named, line: &str) -> Result<Call, Wrong> {
-        let (key, rest) = two_words(line)?;
-        match key {
-            "read" => read_of(alloc, rest),
-            "write" => write_of(alloc, rest),
-            "delete" => Ok(Call::Object(ObjectCall::Delete {
-                path: Text::copy(alloc, rest)?,
-            })),
-            "leave" => Ok(Call::Load(LoadCall::Leave {
-                replica: number_of(rest)?,
-            })),
-            "reload" => load_of(named, rest, true),
-            "join" => load_of(named, rest, false),
-            "refresh" => Ok(Call::Load(LoadCall::Refresh {
-                replica: number_of(rest)?,
-            })),
-            "step" => rewrite_of(alloc, rest, false),
-            "drive" => rewrite_of(alloc, rest, true),
-            _ => Err(Wrong::Form),
+        let (word, rest) = two_words(line)?;
+        match key_of(word)? {
+            Key::Read => read_of(alloc, rest),
+            Key::Write => write_of(alloc, rest),
+            Key::Delete => delete_of(alloc, rest),
+            Key::Leave => leave_of(rest),
+            Key::Reload => load_of(named, rest, true),
+            Key::Join => load_of(named, rest, false),
+            Key::Refresh => refresh_of(rest),
+            Key::Step => rewrite_of(alloc, rest, false),
+            Key::Drive => rewrite_of(alloc, rest, true),
         }
+    }
+}
+
+/// Which call a line spells.
+#[derive(Clone, Copy)]
+enum Key {
+    Read,
+    Write,
+    Delete,
+    Leave,
+    Reload,
+    Join,
+    Refresh,
+    Step,
+    Drive,
+}
+
+fn key_of(word: &str) -> Result<Key, Wrong> {
+    match word {
+        "read" => Ok(Key::Read),
+        "write" => Ok(Key::Write),
+        "delete" => Ok(Key::Delete),
+        "leave" => Ok(Key::Leave),
+        "reload" => Ok(Key::Reload),
+        "join" => Ok(Key::Join),
+        "refresh" => Ok(Key::Refresh),
+        "step" => Ok(Key::Step),
+        "drive" => Ok(Key::Drive),
+        _ => Err(Wrong::Form),
     }
 }
 
 /// `REPLICA PATH`.
 fn read_of(alloc: Global, words: &str) -> Result<Call, Wrong> {
-    let (replica, path) = two_words(words)?;
-    Ok(Call::Object(ObjectCall::Read {
-        replica: number_of(replica)?,
-        path: Text::copy(alloc, path)?,
-    }))
+    let (replica, path) = number_before(words)?;
+    let path = kept(alloc, path)?;
+    Ok(Call::Object(ObjectCall::Read { replica, path }))
+}
+
+/// `PATH`.
+fn delete_of(alloc: Global, path: &str) -> Result<Call, Wrong> {
+    let path = kept(alloc, path)?;
+    Ok(Call::Object(ObjectCall::Delete { path }))
+}
+
+/// `REPLICA`.
+fn leave_of(replica: &str) -> Result<Call, Wrong> {
+    let replica = number_of(replica)?;
+    Ok(Call::Load(LoadCall::Leave { replica }))
+}
+
+/// `REPLICA`.
+fn refresh_of(replica: &str) -> Result<Call, Wrong> {
+    let replica = number_of(replica)?;
+    Ok(Call::Load(LoadCall::Refresh { replica }))
 }
 
 /// `REPLICA PATH RESOURCE HEX`.
 fn write_of(alloc: Global, words: &str) -> Result<Call, Wrong> {
-    let (replica, rest) = two_words(words)?;
+    let (replica, rest) = number_before(words)?;
     let (path, rest) = two_words(rest)?;
     let (resource, plain) = two_words(rest)?;
-    Ok(Call::Object(ObjectCall::Write {
-        replica: number_of(replica)?,
-        path: Text::copy(alloc, path)?,
-        resource: Text::copy(alloc, resource)?,
-        plain: Bytes::from_vec(bytes_of(alloc, plain)?),
-    }))
+    let names = both(kept(alloc, path), kept(alloc, resource));
+    match both(names, bytes_of(alloc, plain)) {
+        Ok((names, plain)) => {
+            let (path, resource) = names;
+            let plain = Bytes::from_vec(plain);
+            Ok(Call::Object(ObjectCall::Write {
+                replica,
+                path,
+                resource,
+                plain,
+            }))
+        }
+        Err(why) => Err(why),
+    }
 }
 
 /// `REPLICA NAME`.
 fn load_of(named: &Named, words: &str, again: bool) -> Result<Call, Wrong> {
-    let (replica, name) = two_words(words)?;
-    let replica = number_of(replica)?;
+    let (replica, name) = number_before(words)?;
     let settings = named.share(name)?;
     if again {
         return Ok(Call::Load(LoadCall::Reload { replica, settings }));
@@ -134,10 +179,11 @@ fn load_of(named: &Named, words: &str, again: bool) -> Result<Call, Wrong> {
 
 /// `REPLICA AFTER`.
 fn rewrite_of(alloc: Global, words: &str, all: bool) -> Result<Call, Wrong> {
-    let (replica, after) = two_words(words)?;
+    let (replica, after) = number_before(words)?;
+    let after = kept(alloc, text_of(after))?;
     Ok(Call::Rewrite(RewriteCall {
-        replica: number_of(replica)?,
-        after: Text::copy(alloc, text_of(after))?,
+        replica,
+        after,
         all,
     }))
 }
@@ -160,8 +206,9 @@ fn serve_object<A: Acts, L: Kms>(
 ) -> Result<(), Wrong> {
     match call {
         ObjectCall::Read { replica, path } => {
-            let done = desk.read(alloc, replica, path.as_str())?;
-            page.told_read(alloc, done)
+            let done = desk.read(alloc, replica, path.as_str());
+            drop(path);
+            page.told_read(alloc, done?);
         }
         ObjectCall::Write {
             replica,
@@ -169,14 +216,18 @@ fn serve_object<A: Acts, L: Kms>(
             resource,
             plain,
         } => {
-            let done = desk.write(alloc, replica, resource.as_str(), path.as_str(), plain)?;
-            page.told_write(done)
+            let done = desk.write(alloc, replica, resource.as_str(), path.as_str(), plain);
+            drop(path);
+            drop(resource);
+            page.told_write(done?);
         }
         ObjectCall::Delete { path } => {
-            let done = desk.delete(alloc, path.as_str())?;
-            page.told_delete(done)
+            let done = desk.delete(alloc, path.as_str());
+            drop(path);
+            page.told_delete(done?);
         }
     }
+    Ok(())
 }
 
 /// Makes a call for a configuration, and prints what it answered.
@@ -189,21 +240,22 @@ fn serve_load<A: Acts, L: Kms>(
     match call {
         LoadCall::Leave { replica } => {
             let done = desk.leave(replica)?;
-            page.told_leave(done)
+            page.told_leave(done);
         }
         LoadCall::Reload { replica, settings } => {
             let done = desk.reload(alloc, replica, settings)?;
-            page.told_load(alloc, done)
+            page.told_load(alloc, done);
         }
         LoadCall::Join { replica, settings } => {
             let done = desk.join(alloc, replica, settings)?;
-            page.told_join(alloc, done)
+            page.told_join(alloc, done);
         }
         LoadCall::Refresh { replica } => {
             let done = desk.refresh(alloc, replica)?;
-            page.told_load(alloc, done)
+            page.told_load(alloc, done);
         }
     }
+    Ok(())
 }
 
 /// Takes steps of the rewrite, and prints what they did.
@@ -213,12 +265,22 @@ fn serve_rewrite<A: Acts, L: Kms>(
     call: RewriteCall,
     page: &mut Page,
 ) -> Result<(), Wrong> {
-    if call.all {
-        let (report, done) = desk.drive(alloc, call.replica, call.after.as_str())?;
-        return page.told_drive(report, done);
+    let RewriteCall {
+        replica,
+        after,
+        all,
+    } = call;
+    if all {
+        let driven = desk.drive(alloc, replica, after.as_str());
+        drop(after);
+        let (report, done) = driven?;
+        page.told_drive(report, done);
+        return Ok(());
     }
-    let done = desk.step(alloc, call.replica, call.after.as_str())?;
-    page.told_step(done)
+    let done = desk.step(alloc, replica, after.as_str());
+    drop(after);
+    page.told_step(done?);
+    Ok(())
 }
 
 /// Makes the call, and prints what it answered.
@@ -241,13 +303,11 @@ pub fn serve_or_tell<A: Acts, L: Kms>(
     desk: &mut Desk<A, L>,
     call: Call,
     page: &mut Page,
-) -> Result<(), Wrong> {
+) {
     match serve(alloc, desk, call, page) {
-        Ok(()) => {}
-        Err(Wrong::Form) => page.word("line")?,
-        Err(Wrong::Memory) => return Err(Wrong::Memory),
+        Ok(()) => page.end_line(),
+        Err(why) => page.told_wrong(why),
     }
-    page.end_line()
 }
 
 /// Makes the call of a line, and prints what it answered, or `line`.
@@ -257,14 +317,10 @@ fn serve_spelled<A: Acts, L: Kms>(
     desk: &mut Desk<A, L>,
     line: &str,
     page: &mut Page,
-) -> Result<(), Wrong> {
+) {
     match Call::spelled(alloc, named, line) {
         Ok(call) => serve_or_tell(alloc, desk, call, page),
-        Err(Wrong::Form) => {
-            page.word("line")?;
-            page.end_line()
-        }
-        Err(Wrong::Memory) => Err(Wrong::Memory),
+        Err(why) => page.told_wrong(why),
     }
 }
 
@@ -276,7 +332,8 @@ fn change_bench<A: Acts, L: Spelled>(
     page: &mut Page,
 ) -> Result<(), Wrong> {
     let bench = bench_of(alloc, words)?;
-    end_bench(desk.change(bench), page)
+    end_bench(desk.change(bench), page);
+    Ok(())
 }
 
 /// Does what the line asks: `# TEXT` says nothing, `bench WORDS` brings another bench, and else it
@@ -288,9 +345,12 @@ pub fn serve_line<A: Acts, L: Spelled>(
     line: &str,
     page: &mut Page,
 ) -> Result<(), Wrong> {
-    match line.split_once(' ') {
-        Some(("#", _)) => Ok(()),
-        Some(("bench", words)) => change_bench(alloc, desk, words, page),
-        _ => serve_spelled(alloc, named, desk, line, page),
+    if line.starts_with("# ") {
+        return Ok(());
     }
+    if let Some(words) = line.strip_prefix("bench ") {
+        return change_bench(alloc, desk, words, page);
+    }
+    serve_spelled(alloc, named, desk, line, page);
+    Ok(())
 }

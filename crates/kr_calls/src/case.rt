@@ -76,9 +76,7 @@ fn begin<L: Spelled, R: Wait>(
 ) -> Result<(), Wrong> {
     let (second, rest) = two_lines(rest)?;
     let (third, calls) = two_lines(rest)?;
-    let (kind, third) = two_words(third)?;
-    let stored = behind("store", second)?;
-    let beginning = beginning_of(alloc, named, stored, third, kind == "two")?;
+    let beginning = beginning_of(alloc, named, second, third)?;
     match bench_of::<L>(alloc, words) {
         Ok(bench) => play(rt, alloc, named, beginning, bench, words, calls, page),
         Err(why) => {
@@ -88,14 +86,16 @@ fn begin<L: Spelled, R: Wait>(
     }
 }
 
-/// A store, and the terms of a core over it.
+/// A store, and the terms of a core over it, by a case's second and third line.
 fn beginning_of(
     alloc: Global,
     named: &Named,
-    stored: &str,
-    words: &str,
-    with_rival: bool,
+    second: &str,
+    third: &str,
 ) -> Result<Beginning, Wrong> {
+    let stored = behind("store", second)?;
+    let (kind, words) = two_words(third)?;
+    let with_rival = kind == "two";
     let terms = terms_of(named, words)?;
     match load(alloc, stored) {
         Ok(store) => Ok(Beginning {
@@ -138,7 +138,7 @@ fn play<L: Spelled, R: Wait>(
             }
         }
         Err(why) => {
-            end_bench(bench, page)?;
+            end_bench(bench, page);
             Err(why)
         }
     }
@@ -163,7 +163,7 @@ fn play_with_rival<L: Spelled, R: Wait>(
         Ok(other) => play_seated(rt, alloc, named, core, budget, bench, other, calls, page),
         Err(why) => {
             drop(core);
-            end_bench(bench, page)?;
+            end_bench(bench, page);
             Err(why)
         }
     }
@@ -188,7 +188,7 @@ fn play_seated<L: Spelled, R: Wait>(
     match seated(alloc, core, budget) {
         Some(seats) => play_two(rt, alloc, named, seats, budget, bench, other, calls, page),
         None => {
-            end_benches(bench, other, page)?;
+            end_benches(bench, other, page);
             Err(Wrong::Memory)
         }
     }
@@ -213,21 +213,12 @@ fn play_alone<L: Spelled>(
     let (solo, bench) = desk.into_parts();
     let (store, lines) = solo.into_core().close();
     drop(lines);
-    let ended = add_ending(bench, done, &store, page);
+    end_bench(bench, page);
+    if done.is_ok() {
+        add_rows(page, &store);
+    }
     drop(store);
-    ended
-}
-
-/// Adds how the bench ended and, where all calls were made, the store's rows.
-fn add_ending<L: Spelled>(
-    bench: Bench<L, MemDice>,
-    done: Result<(), Wrong>,
-    store: &Store<MemTape>,
-    page: &mut Page,
-) -> Result<(), Wrong> {
-    end_bench(bench, page)?;
-    done?;
-    add_rows(page, store)
+    done
 }
 
 /// Makes the calls, one behind another.

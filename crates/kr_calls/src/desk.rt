@@ -135,9 +135,11 @@ impl<A: Acts, L: Kms> Desk<A, L> {
         plain: Bytes,
     ) -> Result<Done<u64>, Wrong> {
         if !may(self.ended, self.replicas, replica) {
+            drop(plain);
             return Err(Wrong::Form);
         }
         if !path_ok(path) || !resource_ok(resource) {
+            drop(plain);
             return Err(Wrong::Form);
         }
         let done = write(
@@ -182,13 +184,16 @@ impl<A: Acts, L: Kms> Desk<A, L> {
         settings: Shared<Settings>,
     ) -> Result<Done<Loaded>, Wrong> {
         if !may(self.ended, self.replicas, replica) {
+            drop(settings);
             return Err(Wrong::Form);
         }
         if !may_bring(self.left) {
+            drop(settings);
             return Err(Wrong::Form);
         }
         let known = names_one(alloc, &settings)?;
         if !known {
+            drop(settings);
             return Err(Wrong::Form);
         }
         self.left -= 1;
@@ -204,13 +209,16 @@ impl<A: Acts, L: Kms> Desk<A, L> {
         settings: Shared<Settings>,
     ) -> Result<Done<Joining>, Wrong> {
         if !may(self.ended, self.replicas, replica) {
+            drop(settings);
             return Err(Wrong::Form);
         }
         if !may_bring(self.left) {
+            drop(settings);
             return Err(Wrong::Form);
         }
         let known = names_one(alloc, &settings)?;
         if !known {
+            drop(settings);
             return Err(Wrong::Form);
         }
         self.left -= 1;
@@ -272,8 +280,8 @@ impl<A: Acts, B: Acts, L: Spelled> Desk<Between<A, B, L>, L> {
     }
 
     /// Prints what the rival's call answered, if it was made.
-    pub fn tell(&mut self, page: &mut Page) -> Result<(), Wrong> {
-        self.acts.tell(page)
+    pub fn tell(&mut self, page: &mut Page) {
+        self.acts.tell(page);
     }
 }
 

@@ -6,7 +6,7 @@ ghost use Rattle.kr_rollout.specs.Openings.{NamesAmong};
 ghost use Rattle.kr_calls.specs.Desks.{IsBench};
 
 use crate::page::Page;
-use crate::words::{Wrong, longs_of, number_of, two_words};
+use crate::words::{Wrong, both, kept, longs_of, number_of, two_words};
 use kr_base::{Bytes, List, MemDice, Shared, Text};
 use kr_config::Settings;
 use kr_keywrap::{ExampleRing, KeyLink};
@@ -32,7 +32,11 @@ impl Spelled for KeyLink<ExampleRing> {
         match word {
             "k1" => Ok(KeyLink::new(ExampleRing, name, Text::copy(alloc, "k1")?, fails)),
             "k2" => Ok(KeyLink::new(ExampleRing, name, Text::copy(alloc, "k2")?, fails)),
-            _ => Err(Wrong::Form),
+            _ => {
+                drop(name);
+                drop(fails);
+                Err(Wrong::Form)
+            }
         }
     }
 }
@@ -44,14 +48,19 @@ impl Spelled for TablePlugin {
             Some(parts) => parts,
             None => (word, "ok"),
         };
-        Ok(TablePlugin::new(
-            Text::copy(alloc, "p")?,
-            Text::copy(alloc, key_id)?,
-            1,
-            Text::copy(alloc, "v2")?,
-            Text::copy(alloc, healthz)?,
-            fails,
-        ))
+        let named = both(kept(alloc, "p"), kept(alloc, key_id));
+        let told = both(kept(alloc, "v2"), kept(alloc, healthz));
+        match both(named, told) {
+            Ok((named, told)) => {
+                let (name, key_id) = named;
+                let (version, healthz) = told;
+                Ok(TablePlugin::new(name, key_id, 1, version, healthz, fails))
+            }
+            Err(why) => {
+                drop(fails);
+                Err(why)
+            }
+        }
     }
 }
 
@@ -60,12 +69,17 @@ fn one_link<L: Kms + Drop>(alloc: Global, link: L) -> Result<Links<L>, Wrong>
     ensures { IfOk result (λ links. names_of L.link links ≡ codes "p" ∷ []) }
 {
     if link.name() != "p" {
+        drop(link);
         return Err(Wrong::Form);
     }
     let mut links = Links::new(alloc);
     match links.add(link) {
         Ok(()) => Ok(links),
-        Err(_) => Err(Wrong::Memory),
+        Err(refused) => {
+            drop(refused);
+            drop(links);
+            Err(Wrong::Memory)
+        }
     }
 }
 
@@ -76,16 +90,29 @@ pub fn names_one(alloc: Global, settings: &Shared<Settings>) -> Result<bool, Wro
 {
     let link = TablePlugin::spelled(alloc, "k1", List::new(alloc))?;
     let links = one_link(alloc, link)?;
-    Ok(links.serve(settings.get()))
+    let serves = links.serve(settings.get());
+    drop(links);
+    Ok(serves)
 }
 
 /// So many bytes, which count up from 00 and begin again behind ff.
 fn counted_bytes(alloc: Global, size: u32) -> Result<Bytes, Wrong> {
     let mut bytes = Vec::new(alloc);
+    let done = add_counted(&mut bytes, size);
+    match done {
+        Ok(()) => Ok(Bytes::from_vec(bytes)),
+        Err(why) => {
+            drop(bytes);
+            Err(why)
+        }
+    }
+}
+
+fn add_counted(bytes: &mut Vec<u8>, size: u32) -> Result<(), Wrong> {
     for place in 0..size {
         bytes.push((place % 256) as u8)?;
     }
-    Ok(Bytes::from_vec(bytes))
+    Ok(())
 }
 
 /// `KEYID FAILS DRAWN DICEFAILS`: a bench with a link whose calls of these numbers fail, and so
@@ -108,34 +135,61 @@ pub fn bench_around<L: Kms + Drop>(
 ) -> Result<Bench<L, MemDice>, Wrong>
     ensures { IfOk result (λ bench. IsBench (names_of L.link bench.links) bench.pages) }
 {
-    let (drawn, dice_fails) = two_words(words)?;
-    let bytes = counted_bytes(alloc, number_of(drawn)?)?;
-    let dice = MemDice::new(bytes, longs_of(alloc, dice_fails)?);
-    let links = one_link(alloc, link)?;
-    match Bench::new(alloc, links, dice, PAGES, SEEDS) {
-        Ok(bench) => Ok(bench),
-        Err(_) => Err(Wrong::Memory),
+    match dice_of(alloc, words) {
+        Ok(dice) => bench_with(alloc, link, dice),
+        Err(why) => {
+            drop(link);
+            Err(why)
+        }
     }
 }
 
+/// A bench with this link and this random source.
+fn bench_with<L: Kms + Drop>(
+    alloc: Global,
+    link: L,
+    dice: MemDice,
+) -> Result<Bench<L, MemDice>, Wrong>
+    ensures { IfOk result (λ bench. IsBench (names_of L.link bench.links) bench.pages) }
+{
+    let links = match one_link(alloc, link) {
+        Ok(links) => links,
+        Err(why) => {
+            drop(dice);
+            return Err(why);
+        }
+    };
+    match Bench::new(alloc, links, dice, PAGES, SEEDS) {
+        Ok(bench) => Ok(bench),
+        Err(refused) => {
+            drop(refused);
+            Err(Wrong::Memory)
+        }
+    }
+}
+
+/// `DRAWN DICEFAILS`: a random source.
+fn dice_of(alloc: Global, words: &str) -> Result<MemDice, Wrong> {
+    let (drawn, fails) = two_words(words)?;
+    let size = number_of(drawn)?;
+    let (bytes, fails) = both(counted_bytes(alloc, size), longs_of(alloc, fails))?;
+    Ok(MemDice::new(bytes, fails))
+}
+
 /// Ends a bench, and prints how often its link and its random source failed.
-pub fn end_bench<L: Kms + Drop>(bench: Bench<L, MemDice>, page: &mut Page) -> Result<(), Wrong> {
+pub fn end_bench<L: Kms + Drop>(bench: Bench<L, MemDice>, page: &mut Page) {
     let faults = bench.dice_faults();
     let (mut links, dice) = bench.close();
     drop(dice);
     let link = links.take();
     drop(links);
-    add_faults(link, faults, page)
-}
-
-/// Adds how often the link and the random source failed.
-fn add_faults<L: Kms + Drop>(link: Option<L>, dice: u64, page: &mut Page) -> Result<(), Wrong> {
-    page.word("faults")?;
+    page.word("faults");
     if let Some(link) = link {
-        page.counted("link", link.faults())?;
+        page.counted("link", link.faults());
+        drop(link);
     }
-    page.counted("dice", dice)?;
-    page.end_line()
+    page.counted("dice", faults);
+    page.end_line();
 }
 
 /// Ends both benches.
@@ -143,9 +197,7 @@ pub fn end_benches<L: Kms + Drop>(
     own: Bench<L, MemDice>,
     other: Bench<L, MemDice>,
     page: &mut Page,
-) -> Result<(), Wrong> {
-    let first = end_bench(own, page);
-    let second = end_bench(other, page);
-    first?;
-    second
+) {
+    end_bench(own, page);
+    end_bench(other, page);
 }

@@ -19,7 +19,7 @@ use crate::named::Named;
 use crate::page::Page;
 use crate::words::Wrong;
 use std::alloc::Global;
-use std::io::{self, BufRead, BufReader, BufWriter, Write};
+use std::io::{self, BufRead, BufReader, BufWriter, Lines, Write};
 use std::sync::Wait;
 
 fn main(rt: HostRuntime) -> io::Result<()> {
@@ -28,10 +28,26 @@ fn main(rt: HostRuntime) -> io::Result<()> {
     let lines = BufReader::new(alloc, rt.stdin())?.lines(alloc);
     let mut named = Named::new(alloc);
     let mut case = String::new(alloc);
-    for line in lines {
-        add_line(&rt, alloc, &mut named, &mut case, line, &mut output)?;
-    }
+    let done = add_lines(&rt, alloc, &mut named, &mut case, lines, &mut output);
+    drop(named);
+    drop(case);
+    done?;
     output.flush()
+}
+
+/// Adds the lines to cases, and prints what comes of these.
+fn add_lines<R: Wait, I: BufRead + Drop, W: Write>(
+    rt: &R,
+    alloc: Global,
+    named: &mut Named,
+    case: &mut String,
+    lines: Lines<I>,
+    output: &mut W,
+) -> io::Result<()> {
+    for line in lines {
+        add_line(rt, alloc, named, case, line, output)?;
+    }
+    Ok(())
 }
 
 /// Adds a line to the case; the empty one ends it.
@@ -45,10 +61,13 @@ fn add_line<R: Wait, W: Write>(
 ) -> io::Result<()> {
     let line = line?;
     if !line.is_empty() {
-        case.push_str(line.as_str())?;
+        let added = case.push_str(line.as_str());
+        drop(line);
+        added?;
         case.push('\n')?;
         return Ok(());
     }
+    drop(line);
     let mut page = Page::new(alloc);
     let done = case::run(rt, alloc, named, case.as_str(), &mut page);
     case.clear();
@@ -57,7 +76,16 @@ fn add_line<R: Wait, W: Write>(
 
 /// Prints what came of a case, and an empty line.
 fn tell<W: Write>(done: Result<(), Wrong>, page: Page, output: &mut W) -> io::Result<()> {
-    output.write_all(page.bytes())?;
+    let printed = print(done, &page, output);
+    drop(page);
+    printed
+}
+
+fn print<W: Write>(done: Result<(), Wrong>, page: &Page, output: &mut W) -> io::Result<()> {
+    let Ok(bytes) = page.bytes() else {
+        return Err(io::ErrorKind::OutOfMemory.into());
+    };
+    output.write_all(bytes)?;
     match done {
         Ok(()) => output.write_all(b"\n"),
         Err(Wrong::Form) => output.write_all(b"case\n\n"),

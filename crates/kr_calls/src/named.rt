@@ -1,5 +1,5 @@
 //! Settings by their names.
-use crate::words::{Wrong, two_words};
+use crate::words::{Wrong, both, two_words};
 use kr_base::Shared;
 use kr_config::{ConfigErr, Settings, read};
 use std::alloc::Global;
@@ -21,7 +21,7 @@ impl Named {
     /// `NAME JSON`.
     pub fn add(&mut self, alloc: Global, rest: &str) -> Result<(), Wrong> {
         let (name, text) = two_words(rest)?;
-        let own = (name.to_string(alloc)?, settings_of(alloc, text)?);
+        let own = both(string_of(alloc, name), settings_of(alloc, text))?;
         self.all.push(own)?;
         Ok(())
     }
@@ -35,6 +35,10 @@ impl Named {
         }
         Err(Wrong::Form)
     }
+}
+
+fn string_of(alloc: Global, name: &str) -> Result<String, Wrong> {
+    Ok(name.to_string(alloc)?)
 }
 
 fn settings_of(alloc: Global, text: &str) -> Result<Shared<Settings>, Wrong> {

@@ -6,7 +6,7 @@ ghost use Rattle.kr_calls.specs.Desks.{IsBench, IsCore};
 
 use crate::linked::names_one;
 use crate::named::Named;
-use crate::words::{Wrong, number_of, two_words};
+use crate::words::{Wrong, both, number_before, two_words};
 use kr_base::{List, MemDice, MemTape, Shared, Text};
 use kr_config::Settings;
 use kr_kms::Kms;
@@ -33,22 +33,26 @@ pub struct Terms {
 /// `ROOM RELOADS NAME NAME`: the journal's room, how many configurations each seat may bring, and
 /// each replica's settings, `-` for one that is out.
 pub fn terms_of(named: &Named, words: &str) -> Result<Terms, Wrong> {
-    let (room, rest) = two_words(words)?;
-    let (reloads, names) = two_words(rest)?;
+    let (room, rest) = number_before(words)?;
+    let (reloads, names) = number_before(rest)?;
     let (first, second) = two_words(names)?;
-    let second = if second == "-" {
-        None
-    } else {
-        Some(named.share(second)?)
-    };
-    Ok(Terms {
-        first: named.share(first)?,
-        second,
-        budget: Budget {
-            reloads: number_of(reloads)?,
-            room: number_of(room)?,
-        },
-    })
+    let budget = Budget { reloads, room };
+    match both(named.share(first), share_some(named, second)) {
+        Ok((first, second)) => Ok(Terms {
+            first,
+            second,
+            budget,
+        }),
+        Err(why) => Err(why),
+    }
+}
+
+/// The settings of the name; `-` stands for none.
+fn share_some(named: &Named, name: &str) -> Result<Option<Shared<Settings>>, Wrong> {
+    if name == "-" {
+        return Ok(None);
+    }
+    Ok(Some(named.share(name)?))
 }
 
 /// A configuration to be shared.
@@ -57,7 +61,10 @@ fn shared(alloc: Global, published: Published) -> Result<Shared<Published>, Wron
 {
     match Shared::new(alloc, published) {
         Ok(shared) => Ok(shared),
-        Err(_) => Err(Wrong::Memory),
+        Err(refused) => {
+            drop(refused);
+            Err(Wrong::Memory)
+        }
     }
 }
 
@@ -73,11 +80,15 @@ fn published<L: Kms>(
 {
     let known = names_one(alloc, &settings)?;
     if !known {
+        drop(settings);
         return Err(Wrong::Form);
     }
     match bench.publish(alloc, settings) {
         Ok(published) => shared(alloc, published),
-        Err(_) => Err(Wrong::Form),
+        Err(refused) => {
+            drop(refused);
+            Err(Wrong::Form)
+        }
     }
 }
 

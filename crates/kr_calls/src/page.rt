@@ -3,12 +3,15 @@ use crate::words::Wrong;
 use itoa::Buffer;
 use std::alloc::Global;
 
-/// Lines in the making.
+/// Lines in the making. What finds no memory is left out, and the page remembers that, so that it
+/// is told once and not at each word.
 #[derive(Drop)]
 pub struct Page {
     bytes: Vec<u8>,
     /// Whether the line at hand has a word.
     begun: bool,
+    /// Whether all that was added is there.
+    whole: bool,
 }
 
 impl Page {
@@ -17,53 +20,74 @@ impl Page {
         Page {
             bytes: Vec::new(alloc),
             begun: false,
+            whole: true,
         }
+    }
+
+    /// Adds bytes, if there is memory.
+    fn put(&mut self, bytes: &[u8]) {
+        if self.bytes.extend_from_slice(bytes).is_err() {
+            self.whole = false;
+        }
+    }
+
+    /// Something that was to be added found no memory.
+    pub fn lack(&mut self) {
+        self.whole = false;
     }
 
     /// Adds a word to the line; the empty one is `-`.
-    pub fn word(&mut self, word: &str) -> Result<(), Wrong> {
+    pub fn word(&mut self, word: &str) {
+        self.piece(if word.is_empty() { "-" } else { word }.as_bytes());
+    }
+
+    /// Adds a word of these bytes.
+    pub fn piece(&mut self, bytes: &[u8]) {
         if self.begun {
-            self.bytes.extend_from_slice(b" ")?;
+            self.put(b" ");
         }
         self.begun = true;
-        let shown = if word.is_empty() { "-" } else { word };
-        self.bytes.extend_from_slice(shown.as_bytes())?;
-        Ok(())
+        self.put(bytes);
     }
 
     /// Adds a number as a word of its own.
-    pub fn number(&mut self, number: u64) -> Result<(), Wrong> {
+    pub fn number(&mut self, number: u64) {
         let mut digits = Buffer::new();
-        self.word(digits.format(number))
+        self.word(digits.format(number));
     }
 
     /// Adds a word with a number.
-    pub fn counted(&mut self, word: &str, number: u64) -> Result<(), Wrong> {
-        self.word(word)?;
-        self.number(number)
+    pub fn counted(&mut self, word: &str, number: u64) {
+        self.word(word);
+        self.number(number);
     }
 
     /// Adds a word with a text.
-    pub fn named(&mut self, word: &str, text: &str) -> Result<(), Wrong> {
-        self.word(word)?;
-        self.word(text)
+    pub fn named(&mut self, word: &str, text: &str) {
+        self.word(word);
+        self.word(text);
     }
 
     /// Ends the line, so that the next word begins another.
-    pub fn end_line(&mut self) -> Result<(), Wrong> {
+    pub fn end_line(&mut self) {
         self.begun = false;
-        self.bytes.extend_from_slice(b"\n")?;
-        Ok(())
+        self.put(b"\n");
     }
 
     /// Adds the lines of another page.
-    pub fn add(&mut self, other: &Page) -> Result<(), Wrong> {
-        self.bytes.extend_from_slice(other.bytes.as_slice())?;
-        Ok(())
+    pub fn add(&mut self, other: &Page) {
+        self.put(other.bytes.as_slice());
+        if !other.whole {
+            self.whole = false;
+        }
     }
 
-    /// All that was added.
-    pub fn bytes(&self) -> &[u8] {
-        self.bytes.as_slice()
+    /// All that was added, if there was memory for it.
+    pub fn bytes(&self) -> Result<&[u8], Wrong> {
+        if self.whole {
+            Ok(self.bytes.as_slice())
+        } else {
+            Err(Wrong::Memory)
+        }
     }
 }

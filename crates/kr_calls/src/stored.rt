@@ -1,7 +1,7 @@
 //! Stores: how they come to be, and what is printed of them.
 use crate::call::bytes_of;
 use crate::page::Page;
-use crate::words::{Wrong, longs_of, number_of, two_words};
+use crate::words::{Wrong, both, longs_of, number_of, two_words};
 use kr_base::{Bytes, List, MemTape};
 use kr_store::{Row, RowRef, Store};
 use std::alloc::Global;
@@ -13,13 +13,9 @@ const ROOM: usize = 262_144;
 pub fn load(alloc: Global, words: &str) -> Result<Store<MemTape>, Wrong> {
     let (content, rest) = two_words(words)?;
     let (limit, fails) = two_words(rest)?;
-    let content = bytes_of(alloc, content)?;
     let limit = number_of(limit)?;
-    let fails = longs_of(alloc, fails)?;
-    if content.len() > ROOM {
-        return Err(Wrong::Form);
-    }
-    let tape = MemTape::new(Bytes::from_vec(content), ROOM, List::new(alloc), fails)?;
+    let (content, fails) = both(bytes_of(alloc, content), longs_of(alloc, fails))?;
+    let tape = tape_of(alloc, content, fails)?;
     match Store::load(alloc, tape, limit as u64) {
         Ok(store) => Ok(store),
         Err(refused) => {
@@ -29,31 +25,41 @@ pub fn load(alloc: Global, words: &str) -> Result<Store<MemTape>, Wrong> {
     }
 }
 
+/// A tape of these bytes, whose writes of these numbers fail.
+fn tape_of(alloc: Global, content: Vec<u8>, fails: List<u64>) -> Result<MemTape, Wrong> {
+    if content.len() > ROOM {
+        drop(content);
+        drop(fails);
+        return Err(Wrong::Form);
+    }
+    Ok(MemTape::new(Bytes::from_vec(content), ROOM, List::new(alloc), fails)?)
+}
+
 /// The rows, and then how often the tape failed and whether a write is broken off.
-pub fn add_rows(page: &mut Page, store: &Store<MemTape>) -> Result<(), Wrong> {
+pub fn add_rows(page: &mut Page, store: &Store<MemTape>) {
     for before in 0..store.revision() {
         let revision = before + 1;
         match store.row_at(revision) {
-            Some(RowRef::Put(row)) => add_put(page, row)?,
-            Some(RowRef::Delete(path)) => add_delete(page, revision, path)?,
+            Some(RowRef::Put(row)) => add_put(page, row),
+            Some(RowRef::Delete(path)) => add_delete(page, revision, path),
             None => {}
         }
     }
-    page.counted("faults", store.faults())?;
-    page.word(if store.torn() { "torn" } else { "whole" })?;
-    page.end_line()
+    page.counted("faults", store.faults());
+    page.word(if store.torn() { "torn" } else { "whole" });
+    page.end_line();
 }
 
 /// A row's revision, path, resource and the length of its value.
-fn add_put(page: &mut Page, row: &Row) -> Result<(), Wrong> {
-    page.counted("row", row.revision)?;
-    page.word(row.path.as_str())?;
-    page.counted(row.resource.as_str(), row.stored.as_slice().len() as u64)?;
-    page.end_line()
+fn add_put(page: &mut Page, row: &Row) {
+    page.counted("row", row.revision);
+    page.word(row.path.as_str());
+    page.counted(row.resource.as_str(), row.stored.as_slice().len() as u64);
+    page.end_line();
 }
 
-fn add_delete(page: &mut Page, revision: u64, path: &str) -> Result<(), Wrong> {
-    page.counted("row", revision)?;
-    page.named(path, "deleted")?;
-    page.end_line()
+fn add_delete(page: &mut Page, revision: u64, path: &str) {
+    page.counted("row", revision);
+    page.named(path, "deleted");
+    page.end_line();
 }

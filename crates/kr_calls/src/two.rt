@@ -11,7 +11,7 @@ use crate::linked::{Spelled, end_benches};
 use crate::named::Named;
 use crate::opening::Budget;
 use crate::page::Page;
-use crate::words::{Wrong, number_of, two_words};
+use crate::words::{Wrong, number_before};
 use kr_base::{List, MemDice, MemTape};
 use kr_provider::Bench;
 use kr_rollout::{Acts, Core};
@@ -102,7 +102,7 @@ pub fn play_two<L: Spelled, R: Wait>(
     drop(own.into_seat());
     drop(rival.into_seat());
     drop(fleet);
-    end_benches(bench, other, page)?;
+    end_benches(bench, other, page);
     done
 }
 
@@ -118,21 +118,31 @@ fn serve_both<A: Acts, B: Acts, L: Spelled>(
     page: &mut Page,
 ) -> Result<(), Wrong> {
     for line in calls.lines() {
-        match line.split_once(' ') {
-            Some(("between", words)) => desk.plan(planned(alloc, named, words)?),
-            _ => {
-                serve_line(alloc, named, desk, line, page)?;
-                desk.tell(page)?;
-            }
-        }
+        serve_either(alloc, named, desk, line, page)?;
     }
     Ok(())
 }
 
+/// Makes the call of a line, or plans one of the rival's.
+fn serve_either<A: Acts, B: Acts, L: Spelled>(
+    alloc: Global,
+    named: &Named,
+    desk: &mut Both<A, B, L>,
+    line: &str,
+    page: &mut Page,
+) -> Result<(), Wrong> {
+    if let Some(words) = line.strip_prefix("between ") {
+        desk.plan(planned(alloc, named, words)?);
+        return Ok(());
+    }
+    let done = serve_line(alloc, named, desk, line, page);
+    desk.tell(page);
+    done
+}
+
 /// `NUMBER CALL`.
 fn planned(alloc: Global, named: &Named, words: &str) -> Result<Planned, Wrong> {
-    let (number, line) = two_words(words)?;
-    let number = number_of(number)?;
+    let (number, line) = number_before(words)?;
     let call = Call::spelled(alloc, named, line)?;
     Ok(Planned { number, call })
 }

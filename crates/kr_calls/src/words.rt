@@ -1,5 +1,5 @@
 //! Why a line has no answer, and the words of a line.
-use kr_base::{List, NoMemory};
+use kr_base::{List, NoMemory, Text};
 use std::alloc::{AllocError, AllocFailed, Global};
 
 /// Why a line has no answer.
@@ -33,6 +33,32 @@ impl From<NoMemory> for Wrong {
     fn from(_error: NoMemory) -> Wrong {
         Wrong::Memory
     }
+}
+
+/// Both values, or why one isn't there. What isn't used is dropped as a value of some type, which
+/// costs a proof less than by its fields.
+pub fn both<A: Drop, B: Drop>(
+    first: Result<A, Wrong>,
+    second: Result<B, Wrong>,
+) -> Result<(A, B), Wrong> {
+    match first {
+        Ok(first) => match second {
+            Ok(second) => Ok((first, second)),
+            Err(why) => {
+                drop(first);
+                Err(why)
+            }
+        },
+        Err(why) => {
+            drop(second);
+            Err(why)
+        }
+    }
+}
+
+/// A word to be kept.
+pub fn kept(alloc: Global, word: &str) -> Result<Text, Wrong> {
+    Ok(Text::copy(alloc, word)?)
 }
 
 /// The first word, and what stands behind the space.
@@ -69,6 +95,12 @@ pub fn number_of(text: &str) -> Result<u32, Wrong> {
     }
 }
 
+/// A number of 32 bits in digits, and what stands behind the space.
+pub fn number_before(text: &str) -> Result<(u32, &str), Wrong> {
+    let (number, rest) = two_words(text)?;
+    Ok((number_of(number)?, rest))
+}
+
 /// A number of 64 bits in digits.
 fn long_of(text: &str) -> Result<u64, Wrong> {
     match text.parse::<u64>() {
@@ -83,10 +115,20 @@ pub fn longs_of(alloc: Global, word: &str) -> Result<List<u64>, Wrong> {
     if word == "-" {
         return Ok(numbers);
     }
+    match add_longs(&mut numbers, word) {
+        Ok(()) => Ok(numbers),
+        Err(why) => {
+            drop(numbers);
+            Err(why)
+        }
+    }
+}
+
+fn add_longs(numbers: &mut List<u64>, word: &str) -> Result<(), Wrong> {
     for part in word.split(',') {
         numbers.push(long_of(part)?)?;
     }
-    Ok(numbers)
+    Ok(())
 }
 
 /// The text of a word; `-` stands for the empty one.

@@ -1,6 +1,6 @@
 -- What a command says at its end: its status, and its line on the errors sink.
 use Rattle.std.specs.Prelude.{ℕ, List, [], ◌++◌, codes, decimal, Result, Ok, Err}
-use Rattle.kr_base.specs.Limits.{config_limit, data_limit, value_limit, store_limit}
+use Rattle.kr_base.specs.Limits.{config_limit, data_limit, journal_limit, value_limit, store_limit}
 use Rattle.kr_words.specs.Grammar.{replica_limit, size_limit}
 use Rattle.kr_config.specs.declared.refusal.ConfigNo.{ConfigNo}
 use Rattle.kr_config.specs.declared.refusal.ConfigNo.TheVariants as config
@@ -105,10 +105,6 @@ limit_text limit.Script = codes "script"
 limit_text limit.Replicas = codes "replicas"
 limit_text limit.Workers = codes "workers"
 limit_text limit.Journal = codes "journal"
-
--- how many lines a journal may have
-abbrev pub journal_limit : ℕ
-journal_limit = 4000000
 
 abbrev pub limit_size : limits.Limit → ℕ
 limit_size limit.Config = config_limit

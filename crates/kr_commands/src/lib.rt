@@ -17,8 +17,6 @@ pub use fleet_words::{FleetWords, read_fleet};
 pub use load_words::{LoadWords, read_load};
 pub use message::tell;
 pub use options::Options;
-pub use refusal::{
-    BadWords, Breach, Done, Ended, JOURNAL_LIMIT, Limit, Object, Outcome, Refusal, Stop,
-};
+pub use refusal::{BadWords, Breach, Done, Ended, Limit, Object, Outcome, Refusal, Stop};
 pub use report::{Counts, report_text, write_report};
 pub use text::{add, add_number, add_pair, visible};

@@ -1,13 +1,17 @@
 //! What a command says at its end.
 ghost use Rattle.std.specs.Prelude.{◌≡◌, ◌≤◌};
+ghost use Rattle.kr_base.specs.Streams.{whole_text};
 ghost use Rattle.kr_commands.specs.Message.{status_of, status_of_words, status_of_configuration, status_of_refusal, status_of_done};
 ghost use Rattle.kr_commands.specs.Message.{words_line, limit_line, limit_text, limit_size, refusal_line, done_line, counted_text, counted_line, broken_code, place_of, breach_line, configuration_line, fault_line, line_of, field_text, unhealthy_line};
 ghost use Rattle.kr_commands.specs.Receipts.{receipt, Tells};
-ghost use Rattle.kr_commands.specs.inner.Sayings.{whole, Says};
+ghost use Rattle.kr_commands.specs.inner.Sayings.{Says};
 
 use crate::refusal::{BadWords, Breach, Done, Limit, Object, Refusal, Stop};
 use itoa::Buffer;
-use kr_base::{CONFIG_LIMIT, DATA_LIMIT, Failed, STORE_LIMIT, Sink, Text, VALUE_LIMIT, write_all};
+use kr_base::{
+    CONFIG_LIMIT, DATA_LIMIT, Failed, JOURNAL_LIMIT, STORE_LIMIT, Sink, Text, VALUE_LIMIT,
+    write_each,
+};
 use kr_config::{ConfigNo, Counted};
 use kr_judge::Verdict;
 use kr_kms::Field;
@@ -136,9 +140,9 @@ fn write_refusal<E: Sink>(errors: &mut E, why: &Refusal) -> Result<(), Failed>
         (refusal_line why.now) result }
 {
     match why {
-        Refusal::Absent(name) => write_each(errors, &["kmsrest: text 40 ", name.as_str(), "\n"]),
+        Refusal::Absent(name) => say(errors, &["kmsrest: text 40 ", name.as_str(), "\n"]),
         Refusal::Configuration(why) => write_configuration(errors, *why),
-        Refusal::NoPlugin(name) => write_each(errors, &["kmsrest: text 44 ", name.as_str(), "\n"]),
+        Refusal::NoPlugin(name) => say(errors, &["kmsrest: text 44 ", name.as_str(), "\n"]),
         Refusal::Unhealthy(name, field, text) => {
             write_unhealthy(errors, name.as_str(), field_text(*field), text.as_str())
         }
@@ -146,13 +150,11 @@ fn write_refusal<E: Sink>(errors: &mut E, why: &Refusal) -> Result<(), Failed>
         Refusal::Value(why) => write_value(errors, *why),
         Refusal::Placed(why, at) => write_placed(errors, *why, *at),
         Refusal::Broken(why) => write_broken(errors, *why),
-        Refusal::NoPath(path) => write_each(errors, &["kmsrest: absent ", path.as_str(), "\n"]),
+        Refusal::NoPath(path) => say(errors, &["kmsrest: absent ", path.as_str(), "\n"]),
         Refusal::NotEmpty(length) => write_counted(errors, "kmsrest: text ", "52", *length),
         Refusal::NotOld => write_text(errors, "kmsrest: text 53 2\n"),
-        Refusal::Stray(path) => write_each(errors, &["kmsrest: text 48 ", path.as_str(), "\n"]),
-        Refusal::OtherSecret(path) => {
-            write_each(errors, &["kmsrest: text 51 ", path.as_str(), "\n"])
-        }
+        Refusal::Stray(path) => say(errors, &["kmsrest: text 48 ", path.as_str(), "\n"]),
+        Refusal::OtherSecret(path) => { say(errors, &["kmsrest: text 51 ", path.as_str(), "\n"]) }
         Refusal::Unfit(replica, verdict) => write_unfit(errors, *replica, verdict),
         Refusal::Script(line) => write_counted(errors, "kmsrest: text ", "47", *line),
     }
@@ -169,7 +171,7 @@ fn write_unhealthy<'a, E: Sink>(
         (E.count errors.old) (E.count errors.new))
         (unhealthy_line name.now field.now text.now) result }
 {
-    write_each(
+    say(
         errors,
         &["kmsrest: text 45 ", name, " ", field, " ", text, "\n"],
     )
@@ -221,7 +223,7 @@ fn limit_size(which: Limit) -> u64
         Limit::Script => STORE_LIMIT,
         Limit::Replicas => 16,
         Limit::Workers => 64,
-        Limit::Journal => 4_000_000,
+        Limit::Journal => JOURNAL_LIMIT,
     }
 }
 
@@ -233,7 +235,7 @@ fn write_value<E: Sink>(errors: &mut E, why: ValueNo) -> Result<(), Failed>
 {
     let mut buffer = Buffer::new();
     let digits = buffer.format(why.number());
-    write_each(
+    say(
         errors,
         &["kmsrest: refused ", digits, " ", why.name(), "\n"],
     )
@@ -249,7 +251,7 @@ fn write_placed<E: Sink>(errors: &mut E, why: ValueNo, at: u64) -> Result<(), Fa
     let digits = buffer.format(why.number());
     let mut place_buffer = Buffer::new();
     let place = place_buffer.format(at);
-    write_each(
+    say(
         errors,
         &[
             "kmsrest: refused ",
@@ -280,7 +282,7 @@ fn write_unfit<E: Sink>(errors: &mut E, replica: u32, verdict: &Verdict) -> Resu
 {
     let mut buffer = Buffer::new();
     let digits = buffer.format(replica);
-    match write_each(errors, &["kmsrest: text 49 ", digits, " "]) {
+    match say(errors, &["kmsrest: text 49 ", digits, " "]) {
         Ok(()) => {}
         Err(Failed) => return Err(Failed),
     }
@@ -342,7 +344,7 @@ fn write_breach<E: Sink>(errors: &mut E, why: ConfigNo) -> Result<(), Failed>
     let first = first_buffer.format(why.first_number());
     let mut second_buffer = Buffer::new();
     let second = second_buffer.format(why.second_number());
-    write_each(
+    say(
         errors,
         &["kmsrest: text ", code, " ", first, " ", second, "\n"],
     )
@@ -407,7 +409,7 @@ fn write_counted<E: Sink>(
 {
     let mut buffer = Buffer::new();
     let digits = buffer.format(number);
-    write_each(errors, &[start, word, " ", digits, "\n"])
+    say(errors, &[start, word, " ", digits, "\n"])
 }
 
 /// Writes the text.
@@ -416,20 +418,14 @@ fn write_text<E: Sink>(errors: &mut E, text: &str) -> Result<(), Failed>
         (E.count errors.old) (E.count errors.new))
         text.now result }
 {
-    write_each(errors, &[text])
+    say(errors, &[text])
 }
 
 /// Writes the pieces, one behind another.
-pub fn write_each<E: Sink>(errors: &mut E, pieces: &[&str]) -> Result<(), Failed>
+pub(crate) fn say<E: Sink>(errors: &mut E, pieces: &[&str]) -> Result<(), Failed>
     ensures { Says (receipt (E.held errors.old) (E.held errors.new)
         (E.count errors.old) (E.count errors.new))
-        (whole pieces.now) result }
+        (whole_text pieces.now) result }
 {
-    for piece in pieces {
-        match write_all(errors, piece.as_bytes()) {
-            Ok(()) => {}
-            Err(Failed) => return Err(Failed),
-        }
-    }
-    Ok(())
+    write_each(errors, pieces)
 }

@@ -7,9 +7,6 @@ use kr_judge::Verdict;
 use kr_kms::Field;
 use kr_provider::ValueNo;
 
-/// How many lines a journal may have.
-pub const JOURNAL_LIMIT: u64 = 4_000_000;
-
 /// An object of the outside, as a fault's line names it.
 #[derive(Debug, Drop, PartialEq, Eq)]
 pub enum Object {

@@ -4,7 +4,7 @@ ghost use Rattle.kr_commands.specs.Receipts.{receipt};
 ghost use Rattle.kr_commands.specs.Reports.{count_line, report_text};
 ghost use Rattle.kr_commands.specs.inner.Sayings.{Says};
 
-use crate::message::write_each;
+use crate::message::say;
 use crate::text::add;
 use itoa::Buffer;
 use kr_base::{Bytes, Failed, NoMemory, Sink};
@@ -54,7 +54,7 @@ pub fn write_report<S: Sink>(sink: &mut S, counts: Counts) -> Result<(), Failed>
     let mut fresh = Buffer::new();
     let mut changed = Buffer::new();
     let mut left = Buffer::new();
-    write_each(
+    say(
         sink,
         &[
             "rewritten ",

@@ -1,5 +1,5 @@
 //! Texts that are written a piece at a time.
-ghost use Rattle.std.specs.Prelude.{◌≡◌, ◌++◌, IfOk, decimal};
+ghost use Rattle.std.specs.Prelude.{◌≡◌, ◌⊎◌, ◌++◌, IfOk, OnErr, decimal};
 ghost use Rattle.kr_base.specs.Visible.{visible};
 
 use itoa::Buffer;
@@ -8,7 +8,8 @@ use std::alloc::Global;
 
 /// Adds the piece.
 pub fn add(text: &mut Vec<u8>, piece: &str) -> Result<(), NoMemory>
-    ensures { IfOk result (λ done. text.new.items ≡ text.old.items ++ piece.now) }
+    ensures added { IfOk result (λ done. text.new.items ≡ text.old.items ++ piece.now) }
+    ensures kept { OnErr result (text.new.items ≡ text.old.items) }
 {
     match text.extend_from_slice(piece.as_bytes()) {
         Ok(()) => Ok(()),
@@ -18,7 +19,10 @@ pub fn add(text: &mut Vec<u8>, piece: &str) -> Result<(), NoMemory>
 
 /// Adds the two pieces.
 pub fn add_pair(text: &mut Vec<u8>, first: &str, second: &str) -> Result<(), NoMemory>
-    ensures { IfOk result (λ done. text.new.items ≡ text.old.items ++ (first.now ++ second.now)) }
+    ensures added { IfOk result
+        (λ done. text.new.items ≡ text.old.items ++ (first.now ++ second.now)) }
+    ensures kept { OnErr result ((text.new.items ≡ text.old.items)
+        ⊎ (text.new.items ≡ text.old.items ++ first.now)) }
 {
     add(text, first)?;
     add(text, second)
@@ -26,7 +30,8 @@ pub fn add_pair(text: &mut Vec<u8>, first: &str, second: &str) -> Result<(), NoM
 
 /// Adds the number in decimal digits.
 pub fn add_number(text: &mut Vec<u8>, number: usize) -> Result<(), NoMemory>
-    ensures { IfOk result (λ done. text.new.items ≡ text.old.items ++ decimal number) }
+    ensures added { IfOk result (λ done. text.new.items ≡ text.old.items ++ decimal number) }
+    ensures kept { OnErr result (text.new.items ≡ text.old.items) }
 {
     let mut buffer = Buffer::new();
     add(text, buffer.format(number))

@@ -12,7 +12,7 @@ use crate::play::{Play, Stage};
 use crate::request::Request;
 use crate::stored::add_parts;
 use crate::table::Table;
-use crate::words::{Wrong, bytes_of, number_of, option_of, text_of, two_words};
+use crate::words::{Wrong, both, bytes_of, number_of, option_of, text_of, two_words};
 use kr_base::{Bytes, Text};
 use kr_rollout::{Event, Gave};
 use std::alloc::Global;
@@ -66,8 +66,9 @@ impl Play {
 /// The last line of the journal, and how many there are.
 fn add_turns(alloc: Global, page: &mut Page, table: &Table, seat: u32) -> Result<(), Wrong> {
     add_last(alloc, page, table, seat)?;
-    page.counted(b"lines", table.journal().len() as u64)?;
-    page.end_line()
+    page.counted(b"lines", table.journal().len() as u64);
+    page.end_line();
+    Ok(())
 }
 
 fn request_of(alloc: Global, named: &Named, event: &str) -> Result<Request, Wrong> {
@@ -89,14 +90,19 @@ fn request_of(alloc: Global, named: &Named, event: &str) -> Result<Request, Wron
 fn putting(alloc: Global, rest: &str) -> Result<Request, Wrong> {
     let (path, rest) = two_words(rest)?;
     let (resource, plain) = two_words(rest)?;
-    let plain = Bytes::from_vec(bytes_of(alloc, plain)?);
-    let path = text_of(alloc, path)?;
-    let resource = text_of(alloc, resource)?;
-    Ok(Request::Put {
-        path,
-        resource,
-        plain,
-    })
+    let names = both(text_of(alloc, path), text_of(alloc, resource));
+    match both(names, bytes_of(alloc, plain)) {
+        Ok((names, plain)) => {
+            let (path, resource) = names;
+            let plain = Bytes::from_vec(plain);
+            Ok(Request::Put {
+                path,
+                resource,
+                plain,
+            })
+        }
+        Err(why) => Err(why),
+    }
 }
 
 fn about_path(key: &str, path: Text) -> Request {
@@ -146,9 +152,10 @@ fn add_last(alloc: Global, page: &mut Page, table: &Table, seat: u32) -> Result<
     let Some(line) = table.journal().last() else {
         return Err(Wrong::Form);
     };
-    add_line(alloc, page, line)?;
+    add_line(alloc, page, line);
     if let Gave::Found { .. } = &line.gave {
-        add_parts(page, table.found(seat)?)?;
+        add_parts(page, table.found(seat)?);
     }
-    page.end_line()
+    page.end_line();
+    Ok(())
 }

@@ -26,12 +26,12 @@ pub fn add_board(
     }
     match board_of(alloc, store, replicas, room) {
         Ok(board) => {
-            let printed = add_live(page, board.live());
+            add_live(page, board.live());
             drop(board);
-            printed
         }
         Err(why) => add_refusal(alloc, page, why),
     }
+    Ok(())
 }
 
 /// Whether the first replica is in.
@@ -45,10 +45,10 @@ fn is_first_in(replicas: &[Option<Shared<Settings>>]) -> bool
 }
 
 /// A line with the numbers of live generations.
-pub fn add_live(page: &mut Page, numbers: &[u32]) -> Result<(), Wrong> {
-    page.word(b"live")?;
+pub fn add_live(page: &mut Page, numbers: &[u32]) {
+    page.word(b"live");
     for number in numbers {
-        page.number(*number as u64)?;
+        page.number(*number as u64);
     }
-    page.end_line()
+    page.end_line();
 }

@@ -1,10 +1,10 @@
 //! Published configurations by their names. None names a plugin.
-use crate::words::{Wrong, two_words};
+use crate::words::{Wrong, add, both, two_words, whole};
 use kr_base::{Bytes, List, MemDice, Shared};
 use kr_config::{ConfigErr, Settings, read};
 use kr_kms::TablePlugin;
 use kr_provider::{Links, Published, publish};
-use std::alloc::{AllocError, Global};
+use std::alloc::Global;
 
 /// Configurations that a line named.
 #[derive(Drop)]
@@ -23,9 +23,14 @@ impl Named {
     /// `NAME JSON`.
     pub fn add(&mut self, alloc: Global, rest: &str) -> Result<(), Wrong> {
         let (name, text) = two_words(rest)?;
-        let own = (name.to_string(alloc)?, published(alloc, text)?);
-        self.all.push(own).map_err(AllocError::from)?;
-        Ok(())
+        let own = both(string_of(alloc, name), published(alloc, text))?;
+        match self.all.push(own) {
+            Ok(()) => Ok(()),
+            Err(refused) => {
+                drop(refused);
+                Err(Wrong::Memory)
+            }
+        }
     }
 
     /// The configuration of the name.
@@ -45,13 +50,19 @@ impl Named {
         names: &str,
     ) -> Result<List<Option<Shared<Published>>>, Wrong> {
         let mut replicas = List::new(alloc);
+        let done = self.add_replicas(names, &mut replicas);
+        whole(replicas, done)
+    }
+
+    fn add_replicas(
+        &self,
+        names: &str,
+        all: &mut List<Option<Shared<Published>>>,
+    ) -> Result<(), Wrong> {
         for name in names.split(',') {
-            match replicas.push(self.replica(name)?) {
-                Ok(()) => {}
-                Err(_) => return Err(Wrong::Memory),
-            }
+            add(all, self.replica(name))?;
         }
-        Ok(replicas)
+        Ok(())
     }
 
     fn replica(&self, name: &str) -> Result<Option<Shared<Published>>, Wrong> {
@@ -68,13 +79,19 @@ impl Named {
         names: &str,
     ) -> Result<List<Option<Shared<Settings>>>, Wrong> {
         let mut replicas = List::new(alloc);
+        let done = self.add_settings(names, &mut replicas);
+        whole(replicas, done)
+    }
+
+    fn add_settings(
+        &self,
+        names: &str,
+        all: &mut List<Option<Shared<Settings>>>,
+    ) -> Result<(), Wrong> {
         for name in names.split(',') {
-            match replicas.push(self.settings_of(name)?) {
-                Ok(()) => {}
-                Err(_) => return Err(Wrong::Memory),
-            }
+            add(all, self.settings_of(name))?;
         }
-        Ok(replicas)
+        Ok(())
     }
 
     fn settings_of(&self, name: &str) -> Result<Option<Shared<Settings>>, Wrong> {
@@ -85,15 +102,30 @@ impl Named {
     }
 }
 
+fn string_of(alloc: Global, name: &str) -> Result<String, Wrong> {
+    Ok(name.to_string(alloc)?)
+}
+
 fn published(alloc: Global, text: &str) -> Result<Shared<Published>, Wrong> {
     let settings = match read(alloc, text.as_bytes()) {
         Ok(settings) => settings,
         Err(ConfigErr::No(_)) => return Err(Wrong::Form),
         Err(ConfigErr::NoMemory) => return Err(Wrong::Memory),
     };
-    match Shared::new(alloc, settings) {
+    match shared(alloc, settings) {
         Ok(settings) => publish_bare(alloc, settings),
-        Err(_) => Err(Wrong::Memory),
+        Err(why) => Err(why),
+    }
+}
+
+/// A value to be shared.
+fn shared<T: Drop>(alloc: Global, value: T) -> Result<Shared<T>, Wrong> {
+    match Shared::new(alloc, value) {
+        Ok(shared) => Ok(shared),
+        Err(refused) => {
+            drop(refused);
+            Err(Wrong::Memory)
+        }
     }
 }
 
@@ -101,14 +133,19 @@ fn published(alloc: Global, text: &str) -> Result<Shared<Published>, Wrong> {
 fn publish_bare(alloc: Global, settings: Shared<Settings>) -> Result<Shared<Published>, Wrong> {
     let mut links = Links::<TablePlugin>::new(alloc);
     if !links.serve(settings.get()) {
+        drop(links);
+        drop(settings);
         return Err(Wrong::Form);
     }
     let mut dice = MemDice::new(Bytes::new(alloc), List::new(alloc));
-    match publish(alloc, settings, &mut links, &mut dice) {
-        Ok(published) => match Shared::new(alloc, published) {
-            Ok(shared) => Ok(shared),
-            Err(_) => Err(Wrong::Memory),
-        },
-        Err(_) => Err(Wrong::Memory),
+    let made = publish(alloc, settings, &mut links, &mut dice);
+    drop(links);
+    drop(dice);
+    match made {
+        Ok(published) => shared(alloc, published),
+        Err(why) => {
+            drop(why);
+            Err(Wrong::Memory)
+        }
     }
 }

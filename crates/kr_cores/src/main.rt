@@ -53,6 +53,11 @@ fn answer_line<W: Write>(
     line: io::Result<String>,
     output: &mut W,
 ) -> io::Result<()> {
-    let text = reading::answer(alloc, play, line?.as_str())?;
-    output.write_all(text.as_slice())
+    let line = line?;
+    let answer = reading::answer(alloc, play, line.as_str());
+    drop(line);
+    let answer = answer?;
+    let written = output.write_all(answer.as_slice());
+    drop(answer);
+    written
 }

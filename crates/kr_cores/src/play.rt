@@ -10,7 +10,7 @@ use crate::page::Page;
 use crate::stored::add_rows;
 use crate::table::Table;
 use crate::terms::Terms;
-use crate::words::{Wrong, long_of, number_of, numbers_of, two_words};
+use crate::words::{Wrong, both, long_of, number_of, numbers_of, two_words};
 use kr_base::{List, MemTape};
 use kr_rollout::{Line, StartNo};
 use kr_store::Store;
@@ -117,8 +117,14 @@ impl Play {
     ) -> Result<(), Wrong> {
         let terms = self.terms(alloc, rest)?;
         match self.take_store() {
-            Ok(store) => self.start_with(alloc, page, store, terms, is_alone),
-            Err(why) => Err(why),
+            Ok(store) => {
+                self.start_with(alloc, page, store, terms, is_alone);
+                Ok(())
+            }
+            Err(why) => {
+                drop(terms);
+                Err(why)
+            }
         }
     }
 
@@ -130,9 +136,9 @@ impl Play {
         let (room, rest) = two_words(words)?;
         let (reloads, names) = two_words(rest)?;
         let room = long_of(room)?;
-        let reloads = numbers_of(alloc, reloads)?;
-        match self.named.replicas(alloc, names) {
-            Ok(replicas) => Terms::new(replicas, reloads, room),
+        let reloads = numbers_of(alloc, reloads);
+        match both(self.named.replicas(alloc, names), reloads) {
+            Ok((replicas, reloads)) => Terms::new(replicas, reloads, room),
             Err(why) => Err(why),
         }
     }
@@ -145,35 +151,40 @@ impl Play {
         store: Store<MemTape>,
         terms: Terms,
         is_alone: bool,
-    ) -> Result<(), Wrong>
+    )
         requires { AreTerms terms.replicas.0 terms.reloads.items terms.room }
     {
         match started(alloc, store, terms, is_alone) {
             Ok(stage) => {
                 self.put(stage);
-                page.word(b"started")?;
-                page.end_line()
+                page.word(b"started");
+                page.end_line();
             }
             Err((why, store)) => {
                 self.begin(store);
-                add_refusal(alloc, page, why)
+                add_refusal(alloc, page, why);
             }
         }
     }
 
     /// The numbers of the live generations.
     pub fn live(&mut self, page: &mut Page) -> Result<(), Wrong> {
-        add_live(page, self.table()?.live())
+        add_live(page, self.table()?.live());
+        Ok(())
     }
 
     /// Ends the core, and prints its store's rows; before them, of a core with one caller, all
     /// lines.
     pub fn close(&mut self, alloc: Global, page: &mut Page) -> Result<(), Wrong> {
         match self.exchange(Stage::Empty) {
-            Stage::Running(table) => self.end(alloc, page, table.close(), List::new(alloc)),
+            Stage::Running(table) => {
+                self.end(alloc, page, table.close(), List::new(alloc));
+                Ok(())
+            }
             Stage::Alone(alone) => {
                 let (store, lines) = alone.close();
-                self.end(alloc, page, store, lines)
+                self.end(alloc, page, store, lines);
+                Ok(())
             }
             other => {
                 self.put(other);
@@ -183,16 +194,11 @@ impl Play {
     }
 
     /// Prints what a core leaves, whose store takes its place.
-    fn end(
-        &mut self,
-        alloc: Global,
-        page: &mut Page,
-        store: Store<MemTape>,
-        lines: List<Line>,
-    ) -> Result<(), Wrong> {
-        let printed = add_ending(alloc, page, &store, lines.as_slice());
+    fn end(&mut self, alloc: Global, page: &mut Page, store: Store<MemTape>, lines: List<Line>) {
+        add_lines(alloc, page, lines.as_slice());
+        drop(lines);
+        add_rows(page, &store);
         self.begin(store);
-        printed
     }
 }
 
@@ -236,22 +242,10 @@ fn started(
     }
 }
 
-/// Adds the lines, and the store's rows.
-fn add_ending(
-    alloc: Global,
-    page: &mut Page,
-    store: &Store<MemTape>,
-    lines: &[Line],
-) -> Result<(), Wrong> {
-    add_lines(alloc, page, lines)?;
-    add_rows(page, store)
-}
-
 /// Adds the lines of a journal.
-fn add_lines(alloc: Global, page: &mut Page, lines: &[Line]) -> Result<(), Wrong> {
+fn add_lines(alloc: Global, page: &mut Page, lines: &[Line]) {
     for line in lines {
-        add_line(alloc, page, line)?;
-        page.end_line()?;
+        add_line(alloc, page, line);
+        page.end_line();
     }
-    Ok(())
 }

@@ -28,9 +28,15 @@ use std::alloc::{AllocError, Global};
 pub fn answer(alloc: Global, play: &mut Play, line: &str) -> Result<Vec<u8>, AllocError> {
     let mut page = Page::new(alloc);
     match act(alloc, play, &mut page, line) {
-        Ok(()) => Ok(page.into_bytes()),
-        Err(Wrong::Form) => b"line\n".to_vec(alloc),
-        Err(Wrong::Memory) => Err(AllocError),
+        Ok(()) => page.into_bytes(),
+        Err(Wrong::Form) => {
+            drop(page);
+            b"line\n".to_vec(alloc)
+        }
+        Err(Wrong::Memory) => {
+            drop(page);
+            Err(AllocError)
+        }
     }
 }
 

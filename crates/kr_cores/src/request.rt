@@ -1,6 +1,7 @@
 //! What a seat asks, and as which event its hand lets it ask that.
 ghost use Rattle.std.specs.Prelude.{◌≡◌, ◌⊎◌, IsTrue, [], Err, IfOk};
 ghost use Rattle.kr_base.specs.Rules.{IsPath, IsResource};
+ghost use Rattle.kr_rollout.specs.declared.event.Event.TheVariants.{Put};
 ghost use Rattle.kr_cores.specs.Hands.{CanBring, Permits};
 ghost use Rattle.kr_cores.specs.declared.words.Wrong.TheVariants.{Form};
 
@@ -102,17 +103,39 @@ impl Hand {
     ) -> Result<Event, Wrong>
         ensures { IfOk result (λ event. Permits self.now event) }
     {
+        match self.sealed_at(alloc, &path, &resource, &plain) {
+            Ok(stored) => Ok(Event::Put {
+                path,
+                resource,
+                plain,
+                stored,
+            }),
+            Err(why) => {
+                drop(path);
+                drop(resource);
+                drop(plain);
+                Err(why)
+            }
+        }
+    }
+
+    /// The value of the data, sealed by what it holds.
+    fn sealed_at(
+        &self,
+        alloc: Global,
+        path: &Text,
+        resource: &Text,
+        plain: &Bytes,
+    ) -> Result<Bytes, Wrong>
+        ensures { IfOk result (λ stored.
+            Permits self.now (Put path.now resource.now plain.now stored)) }
+    {
         let held = self.held()?;
-        if !is_place(&path, &resource) {
+        if !is_place(path, resource) {
             return Err(Wrong::Form);
         }
-        let stored = sealed(alloc, held, &resource, &path, &plain)?;
-        Ok(Event::Put {
-            path,
-            resource,
-            plain,
-            stored,
-        })
+        let stored = sealed(alloc, held, resource, path, plain)?;
+        Ok(stored)
     }
 
     fn replacing(&self, alloc: Global) -> Result<Event, Wrong>
@@ -124,12 +147,17 @@ impl Hand {
             return Err(Wrong::Form);
         }
         let stored = resealed(alloc, held, row)?;
-        let path = copy_of(alloc, &row.path)?;
-        Ok(Event::Replace {
-            path,
-            revision: row.revision,
-            stored,
-        })
+        match copy_of(alloc, &row.path) {
+            Ok(path) => Ok(Event::Replace {
+                path,
+                revision: row.revision,
+                stored,
+            }),
+            Err(why) => {
+                drop(stored);
+                Err(why)
+            }
+        }
     }
 }
 

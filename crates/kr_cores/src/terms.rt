@@ -88,6 +88,8 @@ impl Terms {
         ensures { IfOk result (λ t. AreTerms t.replicas.0 t.reloads.items t.room) }
     {
         if !may_start(replicas.as_slice(), reloads.as_slice(), room) {
+            drop(replicas);
+            drop(reloads);
             return Err(Wrong::Form);
         }
         Ok(Terms {

@@ -4,6 +4,7 @@ use kr_base::{List, NoMemory, Spent, Text};
 use std::alloc::{AllocError, Global};
 
 /// Why a line has no answer.
+#[derive(Drop)]
 pub enum Wrong {
     /// It isn't of the form, or it asks for what the core doesn't allow.
     Form,
@@ -26,6 +27,52 @@ impl From<NoMemory> for Wrong {
 impl From<Spent> for Wrong {
     fn from(_error: Spent) -> Wrong {
         Wrong::Form
+    }
+}
+
+/// Both values, or why one isn't there. What isn't used is dropped as a value of some type, which
+/// costs a proof less than by its fields.
+pub fn both<A: Drop, B: Drop>(
+    first: Result<A, Wrong>,
+    second: Result<B, Wrong>,
+) -> Result<(A, B), Wrong> {
+    match first {
+        Ok(first) => match second {
+            Ok(second) => Ok((first, second)),
+            Err(why) => {
+                drop(first);
+                Err(why)
+            }
+        },
+        Err(why) => {
+            drop(second);
+            Err(why)
+        }
+    }
+}
+
+/// What was made, if all went well that was done with it.
+pub fn whole<T: Drop>(made: T, done: Result<(), Wrong>) -> Result<T, Wrong> {
+    match done {
+        Ok(()) => Ok(made),
+        Err(why) => {
+            drop(made);
+            Err(why)
+        }
+    }
+}
+
+/// Puts an item that was made at the end.
+pub fn add<T: Drop>(all: &mut List<T>, item: Result<T, Wrong>) -> Result<(), Wrong> {
+    match item {
+        Ok(item) => match all.push(item) {
+            Ok(()) => Ok(()),
+            Err(refused) => {
+                drop(refused);
+                Err(Wrong::Memory)
+            }
+        },
+        Err(why) => Err(why),
     }
 }
 
@@ -59,22 +106,32 @@ pub fn longs_of(alloc: Global, word: &str) -> Result<List<u64>, Wrong> {
     if word == "-" {
         return Ok(numbers);
     }
+    let done = add_longs(&mut numbers, word);
+    whole(numbers, done)
+}
+
+fn add_longs(numbers: &mut List<u64>, word: &str) -> Result<(), Wrong> {
     for part in word.split(',') {
-        match numbers.push(long_of(part)?) {
-            Ok(()) => {}
-            Err(_) => return Err(Wrong::Memory),
-        }
+        add(numbers, long_of(part))?;
     }
-    Ok(numbers)
+    Ok(())
 }
 
 /// Numbers of 32 bits parted by commas.
 pub fn numbers_of(alloc: Global, word: &str) -> Result<Vec<u32>, Wrong> {
     let mut numbers = Vec::new(alloc);
+    let done = add_numbers(&mut numbers, word);
+    whole(numbers, done)
+}
+
+fn add_numbers(numbers: &mut Vec<u32>, word: &str) -> Result<(), Wrong> {
     for part in word.split(',') {
-        numbers.push(number_of(part)?).map_err(AllocError::from)?;
+        let number = number_of(part)?;
+        if numbers.push(number).is_err() {
+            return Err(Wrong::Memory);
+        }
     }
-    Ok(numbers)
+    Ok(())
 }
 
 /// A number; `-` stands for none.

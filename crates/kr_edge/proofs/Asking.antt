@@ -8,9 +8,9 @@ use Rattle.kr_base.specs.Numbering.{next_number}
 use Rattle.kr_base.specs.Streams.{AppendsFront}
 use Rattle.kr_kms.specs.declared.plugin.KmsNo.{KmsNo}
 use Rattle.kr_kms.specs.declared.plugin.KmsNo.TheVariants.{Failed, NoMemory}
-use Rattle.kr_kms.specs.declared.replies.Asked.{Asked}
-use Rattle.kr_kms.specs.declared.replies.Reply.{Reply}
-use Rattle.kr_kms.specs.declared.requests.Request.{Request}
+use Rattle.kr_plugin_lines.specs.declared.replies.Asked.{Asked}
+use Rattle.kr_plugin_lines.specs.declared.replies.Reply.{Reply}
+use Rattle.kr_plugin_lines.specs.declared.requests.Request.{Request}
 use Rattle.kr_base.specs.Faults.{Rose}
 use Rattle.kr_edge.specs.Lines.{Ends, Exchanged, IsCutOff, TakesLine, TakesNoLine}
 use Rattle.kr_edge.specs.Plugins.{Answers}

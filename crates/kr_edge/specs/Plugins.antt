@@ -4,11 +4,11 @@ use Rattle.kr_base.specs.Numbering.{next_number}
 use Rattle.kr_kms.specs.Calls.{Link}
 use Rattle.kr_kms.specs.declared.plugin.KmsNo.{KmsNo}
 use Rattle.kr_kms.specs.declared.plugin.KmsNo.TheVariants.{Failed, NoMemory}
-use Rattle.kr_kms.specs.declared.replies.Asked.{Asked}
-use Rattle.kr_kms.specs.declared.replies.Reply.{Reply}
-use Rattle.kr_kms.specs.declared.requests.Request.{Request}
-use Rattle.kr_kms.specs.Replies.{reply_of}
-use Rattle.kr_kms.specs.Requests.{request_text}
+use Rattle.kr_plugin_lines.specs.declared.replies.Asked.{Asked}
+use Rattle.kr_plugin_lines.specs.declared.replies.Reply.{Reply}
+use Rattle.kr_plugin_lines.specs.declared.requests.Request.{Request}
+use Rattle.kr_plugin_lines.specs.Replies.{reply_of}
+use Rattle.kr_plugin_lines.specs.Requests.{request_text}
 use Rattle.kr_edge.specs.Lines.{Ends, Exchanged, IsCutOff}
 
 -- the request's line was exchanged for a line of which this holds

@@ -4,9 +4,9 @@ ghost use Rattle.kr_base.specs.Numbering.{next_number};
 ghost use Rattle.kr_kms.specs.Calls.{Says, Unwraps, Wraps};
 ghost use Rattle.kr_kms.specs.Limits.{IsWithinLimits};
 ghost use Rattle.kr_kms.specs.Truth.{untold};
-ghost use Rattle.kr_kms.specs.declared.replies.Asked.{Asked};
-ghost use Rattle.kr_kms.specs.declared.replies.Reply.{Reply};
-ghost use Rattle.kr_kms.specs.declared.requests.Request.{Request};
+ghost use Rattle.kr_plugin_lines.specs.declared.replies.Asked.{Asked};
+ghost use Rattle.kr_plugin_lines.specs.declared.replies.Reply.{Reply};
+ghost use Rattle.kr_plugin_lines.specs.declared.requests.Request.{Request};
 ghost use Rattle.kr_edge.specs.Lines.{ends_of};
 ghost use Rattle.kr_edge.specs.Plugins.{Answers, Counts, line_link};
 

@@ -2,6 +2,7 @@
 ghost use Rattle.std.specs.Prelude.{◌≡◌, ℕ, true, List, Option, None, IfErr};
 ghost use Rattle.kr_edge.specs.Opened.{Opens};
 
+use crate::system_error::kind_of;
 use std::alloc::Global;
 use std::fs::{File, OpenOptions};
 use std::io::{ErrorKind, Read};
@@ -72,7 +73,7 @@ impl<R: Files<File = File> + Processes<Started = SystemProcess>> NamedFiles for 
         match File::open(self.rt, name) {
             Ok(file) => Ok(file),
             Err(error) => {
-                if error.kind() == ErrorKind::NotFound {
+                if kind_of(error) == ErrorKind::NotFound {
                     Err(OpenNo::Absent)
                 } else {
                     Err(OpenNo::Failed)
@@ -85,7 +86,11 @@ impl<R: Files<File = File> + Processes<Started = SystemProcess>> NamedFiles for 
         match self.plain_file(name, make) {
             Ok(file) => match file.try_lock() {
                 Ok(()) => Ok(file),
-                Err(_) => Err(OpenNo::Failed),
+                Err(why) => {
+                    drop(why);
+                    drop(file);
+                    Err(OpenNo::Failed)
+                }
             },
             Err(OpenNo::Absent) => {
                 if make {
@@ -106,10 +111,12 @@ impl<R: Files<File = File> + Processes<Started = SystemProcess>> NamedFiles for 
             .stdin(Stdio::piped())
             .stdout(Stdio::piped())
             .stderr(Stdio::null());
-        match command.spawn(self.rt) {
+        let started = command.spawn(self.rt);
+        drop(command);
+        match started {
             Ok(child) => Ok(child),
             Err(error) => {
-                if error.kind() == ErrorKind::OutOfMemory {
+                if kind_of(error) == ErrorKind::OutOfMemory {
                     Err(StartNo::NoMemory)
                 } else {
                     Err(StartNo::Failed)
@@ -132,7 +139,7 @@ impl<R: Files<File = File>> SystemFiles<'_, R> {
                 }
             }
             Err(error) => {
-                if error.kind() != ErrorKind::NotFound {
+                if kind_of(error) != ErrorKind::NotFound {
                     return Err(OpenNo::Failed);
                 }
                 if !make {
@@ -149,10 +156,15 @@ impl<R: Files<File = File>> SystemFiles<'_, R> {
                 if found.is_file() {
                     Ok(file)
                 } else {
+                    drop(file);
                     Err(OpenNo::Failed)
                 }
             }
-            Err(_) => Err(OpenNo::Failed),
+            Err(error) => {
+                drop(error);
+                drop(file);
+                Err(OpenNo::Failed)
+            }
         }
     }
 }

@@ -20,4 +20,5 @@ mod plugin_lines;
 mod real_world;
 mod standard;
 mod streams;
+mod system_error;
 mod tape;

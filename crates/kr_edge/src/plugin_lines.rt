@@ -1,22 +1,20 @@
 //! The calls on a plugin that reads a line for each, and answers with one.
-ghost use Rattle.std.specs.Prelude.{◌≡◌, ◌≤◌, ⊤, false, IsErrOf};
+ghost use Rattle.std.specs.Prelude.{◌≡◌, ◌≤◌, ⊤, false, IfOk, IsErrOf};
 ghost use Rattle.kr_base.specs.Faults.{Rose};
 ghost use Rattle.kr_base.specs.Numbering.{next_number};
 ghost use Rattle.kr_kms.specs.Limits.{IsWithinLimits};
-ghost use Rattle.kr_kms.specs.declared.replies.Asked.{Asked};
-ghost use Rattle.kr_kms.specs.declared.replies.Reply.{Reply};
-ghost use Rattle.kr_kms.specs.declared.requests.Request.{Request};
+ghost use Rattle.kr_plugin_lines.specs.declared.replies.Asked.{Asked};
+ghost use Rattle.kr_plugin_lines.specs.declared.replies.Reply.{Reply};
+ghost use Rattle.kr_plugin_lines.specs.declared.requests.Request.{Request};
 ghost use Rattle.kr_kms.specs.declared.plugin.KmsNo.{KmsNo};
 ghost use Rattle.kr_edge.specs.Lines.{ends_of};
 ghost use Rattle.kr_edge.specs.Plugins.{Answers, Counts, Judges};
 
 use crate::answer_room::AnswerRoom;
 use crate::exchange::Exchange;
-use kr_base::{Annotations, Bytes, FaultCount, Text};
-use kr_kms::{
-    Asked, KmsNo, Reply, ReplyNo, Request, Status, Wrapped, is_within_limits, read_reply,
-    request_line,
-};
+use kr_base::{Annotations, Bytes, FaultCount, NoMemory, Text};
+use kr_kms::{KmsNo, Status, Wrapped, is_within_limits};
+use kr_plugin_lines::{Asked, Reply, ReplyNo, Request, read_reply, request_line};
 use std::alloc::Global;
 use std::io::{Read, Write};
 
@@ -67,7 +65,8 @@ impl<W: Write, R: Read> PluginLines<W, R> {
     {
         match self.ask(alloc, Asked::Status, &Request::Status) {
             Ok(Reply::Status(status)) => Ok(status),
-            Ok(_) => {
+            Ok(other) => {
+                drop(other);
                 self.faults.rise();
                 Err(KmsNo::Failed)
             }
@@ -93,16 +92,20 @@ impl<W: Write, R: Read> PluginLines<W, R> {
             return Err(KmsNo::NoMemory);
         };
         let request = Request::Encrypt { plain, uid };
-        match self.ask(alloc, Asked::Encrypt, &request) {
+        let answered = self.ask(alloc, Asked::Encrypt, &request);
+        drop(request);
+        match answered {
             Ok(Reply::Encrypt(wrapped)) => {
                 if is_within_limits(&wrapped) {
                     Ok(wrapped)
                 } else {
+                    drop(wrapped);
                     self.faults.rise();
                     Err(KmsNo::Failed)
                 }
             }
-            Ok(_) => {
+            Ok(other) => {
+                drop(other);
                 self.faults.rise();
                 Err(KmsNo::Failed)
             }
@@ -130,24 +133,15 @@ impl<W: Write, R: Read> PluginLines<W, R> {
         ensures uid { self.new.uid ≡ next_number self.old.uid }
     {
         let uid = self.next_uid();
-        let Ok(source) = Bytes::copy(alloc, source) else {
+        let Ok(request) = decrypt_request(alloc, source, key_id, annotations, uid) else {
             return Err(KmsNo::NoMemory);
         };
-        let Ok(key_id) = Text::copy(alloc, key_id) else {
-            return Err(KmsNo::NoMemory);
-        };
-        let Ok(annotations) = annotations.copy(alloc) else {
-            return Err(KmsNo::NoMemory);
-        };
-        let request = Request::Decrypt {
-            source,
-            key_id,
-            annotations,
-            uid,
-        };
-        match self.ask(alloc, Asked::Decrypt, &request) {
+        let answered = self.ask(alloc, Asked::Decrypt, &request);
+        drop(request);
+        match answered {
             Ok(Reply::Decrypt(plain)) => Ok(plain),
-            Ok(_) => {
+            Ok(other) => {
+                drop(other);
                 self.faults.rise();
                 Err(KmsNo::Failed)
             }
@@ -180,7 +174,9 @@ impl<W: Write, R: Read> PluginLines<W, R> {
             Ok(line) => line,
             Err(_) => return Err(KmsNo::NoMemory),
         };
-        match self.exchange.ask(line.as_slice()) {
+        let exchanged = self.exchange.ask(line.as_slice());
+        drop(line);
+        match exchanged {
             Ok(size) => match judge(alloc, asked, self.exchange.answer(size)) {
                 Ok(reply) => Ok(reply),
                 Err(KmsNo::NoMemory) => Err(KmsNo::NoMemory),
@@ -197,6 +193,37 @@ impl<W: Write, R: Read> PluginLines<W, R> {
     }
 }
 
+/// The request to unwrap.
+fn decrypt_request(
+    alloc: Global,
+    source: &[u8],
+    key_id: &str,
+    annotations: &Annotations,
+    uid: u64,
+) -> Result<Request, NoMemory>
+    ensures { IfOk result (λ request. request
+        ≡ Request.Decrypt source.now key_id.now annotations.now uid) }
+{
+    let source = Bytes::copy(alloc, source)?;
+    let Ok(key_id) = Text::copy(alloc, key_id) else {
+        drop(source);
+        return Err(NoMemory);
+    };
+    match annotations.copy(alloc) {
+        Ok(annotations) => Ok(Request::Decrypt {
+            source,
+            key_id,
+            annotations,
+            uid,
+        }),
+        Err(NoMemory) => {
+            drop(source);
+            drop(key_id);
+            Err(NoMemory)
+        }
+    }
+}
+
 /// Reads a reply. A refusal is a fault, as what is none.
 fn judge(alloc: Global, asked: Asked, line: &[u8]) -> Result<Reply, KmsNo>
     ensures { Judges asked line.now result }
@@ -205,7 +232,10 @@ fn judge(alloc: Global, asked: Asked, line: &[u8]) -> Result<Reply, KmsNo>
         Ok(reply) => Ok(reply),
         Err(ReplyNo::NotJson) => Err(KmsNo::Failed),
         Err(ReplyNo::Shape) => Err(KmsNo::Failed),
-        Err(ReplyNo::Error(_)) => Err(KmsNo::Failed),
+        Err(ReplyNo::Error(text)) => {
+            drop(text);
+            Err(KmsNo::Failed)
+        }
         Err(ReplyNo::NoMemory) => Err(KmsNo::NoMemory),
     }
 }

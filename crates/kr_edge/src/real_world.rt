@@ -131,20 +131,33 @@ impl<'a, F: NamedFiles> World for RealWorld<'a, F> {
         };
         let file = match self.files.open_store(name, make) {
             Ok(file) => file,
-            Err(OpenNo::Absent) => return Err(FileNo::Absent),
+            Err(OpenNo::Absent) => {
+                drop(key);
+                return Err(FileNo::Absent);
+            }
             Err(OpenNo::Failed) => {
+                drop(key);
                 self.faults.tapes.rise();
                 return Err(FileNo::Failed);
             }
         };
         match tape_place(self.tapes.items(), name) {
             Some(at) => match self.tapes.lend(at, key) {
-                Ok((_name, count)) => Ok(FileTape::new(file, count)),
-                Err(_) => Err(FileNo::NoMemory),
+                Ok((key, count)) => {
+                    drop(key);
+                    Ok(FileTape::new(file, count))
+                }
+                Err(_) => {
+                    drop(file);
+                    Err(FileNo::NoMemory)
+                }
             },
             None => match self.tapes.add(key) {
                 Ok(()) => Ok(FileTape::first(file)),
-                Err(_) => Err(FileNo::NoMemory),
+                Err(_) => {
+                    drop(file);
+                    Err(FileNo::NoMemory)
+                }
             },
         }
     }
@@ -231,20 +244,29 @@ impl<'a, F: NamedFiles> World for RealWorld<'a, F> {
         };
         let child = match self.files.start(alloc, program) {
             Ok(child) => child,
-            Err(StartNo::NoMemory) => return Err(FileNo::NoMemory),
+            Err(StartNo::NoMemory) => {
+                drop((name, key, room));
+                return Err(FileNo::NoMemory);
+            }
             Err(StartNo::Failed) => {
+                drop((name, key, room));
                 self.faults.links.rise();
                 return Err(FileNo::Failed);
             }
         };
         let Some(ends) = take_ends(child) else {
+            drop((name, key, room));
             self.faults.links.rise();
             return Err(FileNo::Failed);
         };
         match link_place(self.links.items(), seat, plugin) {
             Some(at) => match self.links.lend(at, (seat, key)) {
-                Ok((_key, count)) => Ok(ChildLink::new(name, ends, room, count)),
+                Ok((key, count)) => {
+                    drop(key);
+                    Ok(ChildLink::new(name, ends, room, count))
+                }
                 Err(_) => {
+                    drop((name, room));
                     ends.close();
                     Err(FileNo::NoMemory)
                 }
@@ -252,6 +274,7 @@ impl<'a, F: NamedFiles> World for RealWorld<'a, F> {
             None => match self.links.add((seat, key)) {
                 Ok(()) => Ok(ChildLink::first(name, ends, room)),
                 Err(_) => {
+                    drop((name, room));
                     ends.close();
                     Err(FileNo::NoMemory)
                 }

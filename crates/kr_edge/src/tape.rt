@@ -2,6 +2,7 @@
 ghost use Rattle.std.specs.Prelude.{◌≡◌, None};
 ghost use Rattle.std.specs.Io.{ReadsAtMost};
 
+use crate::system_error::kind_of;
 use kr_base::{Failed, FaultCount, Tape};
 use std::fs::OpenFile;
 use std::io::ErrorKind;
@@ -57,7 +58,8 @@ impl<F: FileExt + OpenFile> Tape for FileTape<F> {
     fn len(&mut self) -> Result<u64, Failed> {
         match self.file.metadata() {
             Ok(found) => Ok(found.len()),
-            Err(_) => {
+            Err(error) => {
+                drop(error);
                 self.faults.rise();
                 Err(Failed)
             }
@@ -87,7 +89,8 @@ impl<F: FileExt + OpenFile> Tape for FileTape<F> {
     fn cut(&mut self, len: u64) -> Result<(), Failed> {
         match self.file.set_len(len) {
             Ok(()) => Ok(()),
-            Err(_) => {
+            Err(error) => {
+                drop(error);
                 self.faults.rise();
                 Err(Failed)
             }
@@ -119,7 +122,7 @@ fn fill_at<F: FileExt>(file: &F, at: u64, into: &mut [u8]) -> Result<usize, Fail
                 filled += n;
             }
             Err(error) => {
-                if error.kind() != ErrorKind::Interrupted {
+                if kind_of(error) != ErrorKind::Interrupted {
                     return Err(Failed);
                 }
             }
@@ -131,13 +134,17 @@ fn fill_at<F: FileExt>(file: &F, at: u64, into: &mut [u8]) -> Result<usize, Fail
 /// Writes all bytes. Where that fails, one try is made to bring the file back to its old length, so
 /// that a full disk leaves what was there.
 fn put_or_restore<F: FileExt + OpenFile>(file: &F, at: u64, bytes: &[u8]) -> Result<(), Failed> {
-    let Ok(found) = file.metadata() else {
-        return Err(Failed);
+    let found = match file.metadata() {
+        Ok(found) => found,
+        Err(error) => {
+            drop(error);
+            return Err(Failed);
+        }
     };
     match put_all(file, at, bytes) {
         Ok(()) => Ok(()),
         Err(Failed) => {
-            let _restored = file.set_len(found.len());
+            drop(file.set_len(found.len()));
             Err(Failed)
         }
     }
@@ -161,7 +168,7 @@ fn put_all<F: FileExt>(file: &F, at: u64, bytes: &[u8]) -> Result<(), Failed> {
                 place = next;
             }
             Err(error) => {
-                if error.kind() != ErrorKind::Interrupted {
+                if kind_of(error) != ErrorKind::Interrupted {
                     return Err(Failed);
                 }
             }

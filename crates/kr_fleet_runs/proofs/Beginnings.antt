@@ -6,12 +6,12 @@ use Rattle.kr_rollout.specs.declared.opening_board.StartNo.{StartNo}
 use Rattle.kr_rollout.specs.declared.opening_board.StartNo.TheVariants as no
 use Rattle.kr_store.specs.Stores.{Kept}
 use Rattle.kr_steps.specs.Around.{Around}
-use Rattle.kr_outfits.specs.Fleets.{Replicas, starting}
-use Rattle.kr_outfits.specs.declared.fleet_file.Plan.{Plan}
+use Rattle.kr_fleet_steps.specs.Fleets.{Replicas, starting}
+use Rattle.kr_fleet_steps.specs.declared.fleet_file.Plan.{Plan}
 use Rattle.kr_commands.specs.declared.refusal.Refusal.TheVariants.{Stray, OtherSecret, Unfit}
 use Rattle.kr_fleet_runs.specs.inner.Beginnings.{begun_with}
 use Rattle.kr_steps.specs.inner.Starts.{start_stop}
-use Rattle.kr_outfits.specs.inner.FleetFiles.{plan_of}
+use Rattle.kr_fleet_steps.specs.inner.FleetFiles.{plan_of}
 use Rattle.kr_steps.specs.inner.Phases.{Does}
 use Rattle.kr_steps.specs.inner.Tapes.{stored_of}
 use Rattle.kr_steps.proofs.Goes.{home_refl, reach}

@@ -31,29 +31,29 @@ use Rattle.kr_workers.specs.Histories.{IsOneHistory}
 use Rattle.kr_workers.specs.Sentences.{RepliesAreTrue}
 use Rattle.kr_workers.specs.declared.worker.Worker.{Worker}
 use Rattle.kr_steps.specs.Around.{Around, IsHome, with_lent}
-use Rattle.kr_outfits.specs.FleetFiles.{all_rows}
-use Rattle.kr_outfits.specs.Fleets.{AreEquipped, Begun, HasRows, IsEquipped, LeavesRest, Replicas, RunsFleet, opening_of, launching, parts_of, publishing, starting}
+use Rattle.kr_fleet_steps.specs.FleetFiles.{all_rows}
+use Rattle.kr_fleet_steps.specs.Fleets.{AreEquipped, Begun, HasRows, IsEquipped, LeavesRest, Replicas, RunsFleet, opening_of, launching, parts_of, publishing, starting}
 use Rattle.kr_steps.specs.Steps.{Steps}
 use Rattle.kr_fleet_runs.specs.declared.fleet.Record.{Record}
-use Rattle.kr_outfits.specs.declared.fleet_file.Plan.{Plan}
-use Rattle.kr_outfits.specs.declared.outfit.Outfit.{Outfit}
+use Rattle.kr_fleet_steps.specs.declared.fleet_file.Plan.{Plan}
+use Rattle.kr_fleet_steps.specs.declared.outfit.Outfit.{Outfit}
 use Rattle.kr_steps.specs.declared.programs.Program.{Program}
 use Rattle.kr_commands.specs.declared.refusal.Stop.{Stop}
 use Rattle.kr_commands.specs.declared.refusal.Stop.TheVariants.{NoMemory}
 use Rattle.kr_fleet_runs.specs.inner.Beginnings.{begun_with, first_core}
-use Rattle.kr_outfits.specs.inner.Crews.{IsReadyCore, outfit_of, outfits_of}
+use Rattle.kr_fleet_steps.specs.inner.Crews.{IsReadyCore, outfit_of, outfits_of}
 use Rattle.kr_fleet_runs.specs.inner.CrewRuns.{KeepsStore, RunsCrew, WorkersRan}
-use Rattle.kr_outfits.specs.inner.FleetFiles.{IsWholePlan, named, plan_of}
+use Rattle.kr_fleet_steps.specs.inner.FleetFiles.{IsWholePlan, named, plan_of}
 use Rattle.kr_fleet_runs.specs.inner.Fleets.{ArePublished, LacksWorkers}
 use Rattle.kr_steps.specs.inner.Lent.{Tapes, lent_links, with_lent_tape}
-use Rattle.kr_outfits.specs.inner.Outfits.{AreLater, AreNamed, with_outfits}
+use Rattle.kr_fleet_steps.specs.inner.Outfits.{AreLater, AreNamed, with_outfits}
 use Rattle.kr_steps.specs.inner.ProgramNames.{names_in}
 use Rattle.kr_steps.specs.inner.Phases.{Does}
 use Rattle.kr_steps.specs.inner.Tapes.{stored_of}
 use Rattle.kr_fleet_runs.specs.inner.Workings.{RunsWith}
 use Rattle.kr_steps.proofs.Goes.{files_same, goes_on}
 use Rattle.kr_steps.proofs.Lending.{by_key, home_behind, home_same}
-use Rattle.kr_outfits.proofs.Outfits.{LinksOf, later_named, later_refl, later_trans, names_differ, outfits_asked, outfits_equipped, outfits_file, outfits_home, outfits_input, outfits_said, outfits_tapes, outfits_truth, told_apart, outfits_faults, later_many}
+use Rattle.kr_fleet_steps.proofs.Outfits.{LinksOf, later_named, later_refl, later_trans, names_differ, outfits_asked, outfits_equipped, outfits_file, outfits_home, outfits_input, outfits_said, outfits_tapes, outfits_truth, told_apart, outfits_faults, later_many}
 use Rattle.kr_fleet_runs.proofs.Publishings.{published_open, published_settings}
 use Rattle.kr_steps.proofs.Tapes.{own_name}
 

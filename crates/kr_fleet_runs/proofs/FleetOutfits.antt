@@ -5,20 +5,20 @@ use Rattle.kr_kms.specs.Calls.{Link}
 use Rattle.kr_kms.specs.Outside.{Outside, same_name}
 use Rattle.kr_kms.specs.Truth.{Truth}
 use Rattle.kr_steps.specs.Around.{Around, with_lent, with_world}
-use Rattle.kr_outfits.specs.FleetFiles.{FleetPlan}
-use Rattle.kr_outfits.specs.Fleets.{Begun, equipping}
+use Rattle.kr_fleet_steps.specs.FleetFiles.{FleetPlan}
+use Rattle.kr_fleet_steps.specs.Fleets.{Begun, equipping}
 use Rattle.kr_steps.specs.Steps.{Steps, and_then}
 use Rattle.kr_fleet_runs.specs.declared.fleet.Record.{Record}
-use Rattle.kr_outfits.specs.declared.outfit.Outfit.{Outfit}
+use Rattle.kr_fleet_steps.specs.declared.outfit.Outfit.{Outfit}
 use Rattle.kr_steps.specs.declared.programs.Program.{Program}
 use Rattle.kr_commands.specs.declared.refusal.Stop.{Stop}
 use Rattle.kr_fleet_runs.specs.inner.Fleets.{RunsBy}
 use Rattle.kr_steps.specs.inner.Lent.{Tapes, with_lent_tape, with_tapes}
-use Rattle.kr_outfits.specs.inner.Outfits.{with_outfits}
+use Rattle.kr_fleet_steps.specs.inner.Outfits.{with_outfits}
 use Rattle.kr_steps.specs.inner.Phases.{Does}
 use Rattle.kr_fleet_runs.proofs.FleetRuns.{before}
 use Rattle.kr_steps.proofs.Goes.{nothing, stops}
-use Rattle.kr_outfits.proofs.Outfitting.{equipped_then}
+use Rattle.kr_fleet_steps.proofs.Outfitting.{equipped_then}
 
 module _ (T : Type 0) {L D : Type 0} (truth : Truth) (link : L → Link)
     (left : D → Option (List ℕ)) (count : D → ℕ) (name : List ℕ) (plan : FleetPlan)

@@ -15,7 +15,8 @@ use Rattle.kr_store.specs.declared.rows.LogRow.{LogRow}
 use Rattle.kr_words.specs.declared.command.Verb.TheVariants as verbs
 use Rattle.kr_words.proofs.Meanings.{mean_one}
 use Rattle.kr_words.specs.Options.{value_of}
-use Rattle.kr_workers.specs.Budgets.{AreBudgets, all_reloads, budget_of, budgets_of, is_put, journal_limit, put_lines}
+use Rattle.kr_base.specs.Limits.{journal_limit}
+use Rattle.kr_workers.specs.Budgets.{AreBudgets, all_reloads, budget_of, budgets_of, is_put, put_lines}
 use Rattle.kr_workers.specs.Endings.{ending_of}
 use Rattle.kr_workers.specs.declared.budget.BudgetNo.{BudgetNo}
 use Rattle.kr_workers.specs.declared.budget.BudgetNo.TheVariants as budget
@@ -25,8 +26,8 @@ use Rattle.kr_workers.proofs.Summing.{parts_fit}
 use Rattle.kr_steps.specs.Around.{Around, left_of, with_world}
 use Rattle.kr_steps.specs.Commands.{tape_for}
 use Rattle.kr_commands.specs.FleetAsked.{AskAlone, AsksFleet}
-use Rattle.kr_outfits.specs.FleetFiles.{FleetPlan, planning}
-use Rattle.kr_outfits.specs.Fleets.{Begun, DidFleet, RanFleet, WritesFleet, budgeting, over_store, parts_of}
+use Rattle.kr_fleet_steps.specs.FleetFiles.{FleetPlan, planning}
+use Rattle.kr_fleet_steps.specs.Fleets.{Begun, DidFleet, RanFleet, WritesFleet, budgeting, over_store, parts_of}
 use Rattle.kr_steps.specs.Ran.{IsIdle, StopsAtOnce}
 use Rattle.kr_commands.specs.Receipts.{Receipt, Tells}
 use Rattle.kr_steps.specs.Steps.{Steps, and_then}

@@ -18,26 +18,26 @@ use Rattle.kr_workers.specs.declared.worker.Worker as fleet_worker
 use Rattle.rand_chacha.specs.ChaCha.{ChaCha}
 use Rattle.kr_steps.specs.Around.{Around, IsHome, with_world}
 use Rattle.kr_steps.specs.Commands.{tape_for}
-use Rattle.kr_outfits.specs.FleetFiles.{FleetPlan}
-use Rattle.kr_outfits.specs.Fleets.{Begun, Replicas, starting}
-use Rattle.kr_outfits.specs.GeneratedLoads.{LeavesOthers, no_faults, with_streams, seeded_dice, seeded_world, nothing_told}
+use Rattle.kr_fleet_steps.specs.FleetFiles.{FleetPlan}
+use Rattle.kr_fleet_steps.specs.Fleets.{Begun, Replicas, starting}
+use Rattle.kr_fleet_steps.specs.GeneratedLoads.{LeavesOthers, no_faults, with_streams, seeded_dice, seeded_world, nothing_told}
 use Rattle.kr_steps.specs.Steps.{Steps, and_then}
 use Rattle.kr_steps.specs.StoreFiles.{Stored}
 use Rattle.kr_fleet_runs.specs.declared.fleet.Record.{Record}
-use Rattle.kr_outfits.specs.declared.outfit.Outfit.{Outfit}
+use Rattle.kr_fleet_steps.specs.declared.outfit.Outfit.{Outfit}
 use Rattle.kr_commands.specs.declared.refusal.Stop.{Stop}
 use Rattle.kr_commands.specs.declared.refusal.Stop.TheVariants.{Words, Refused, Fault, NoMemory}
-use Rattle.kr_outfits.specs.inner.Crews.{outfit_of, outfits_of}
+use Rattle.kr_fleet_steps.specs.inner.Crews.{outfit_of, outfits_of}
 use Rattle.kr_fleet_runs.specs.inner.GeneratedLoads.{AreGenerated, AreSeeded, RunsLoad}
 use Rattle.kr_steps.specs.inner.Lent.{with_lent_dice, with_lent_links, with_lent_tape}
-use Rattle.kr_outfits.specs.inner.Outfits.{AreLater, AreNamed, with_outfits}
+use Rattle.kr_fleet_steps.specs.inner.Outfits.{AreLater, AreNamed, with_outfits}
 use Rattle.kr_steps.specs.inner.Phases.{AskedUnless, Does}
 use Rattle.kr_steps.specs.inner.Tapes.{LentTape, NoTape, ReturnedTape}
 use Rattle.kr_fleet_runs.specs.inner.Workings.{Outfits, RunsWith, with_crew}
 use Rattle.kr_fleet_runs.proofs.FleetRuns.{before, ends_before}
 use Rattle.kr_steps.proofs.Goes.{home_refl, reach}
 use Rattle.kr_steps.proofs.Lending.{home_same}
-use Rattle.kr_outfits.proofs.Outfits.{later_named}
+use Rattle.kr_fleet_steps.proofs.Outfits.{later_named}
 use Rattle.kr_steps.proofs.Tapes.{came_back, lent, not_lent, nothing}
 
 -- ---- outfits

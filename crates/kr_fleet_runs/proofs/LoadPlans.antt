@@ -9,11 +9,11 @@ use Rattle.std.proofs.lemmas.List.Folds.{flat_map-map}
 use Rattle.kr_load.specs.Loads.{configurations, get_of, lines_of, load_fleet, load_worker, put_of, reloads_of}
 use Rattle.kr_load.proofs.Ruling.{keeps_rules}
 use Rattle.kr_script.specs.Fleets.{Fleet, Worker, fleet_of, worker_of}
-use Rattle.kr_outfits.specs.FleetFiles.{file_in, file_of_replica, all_files, named_rows, rows_at}
-use Rattle.kr_outfits.specs.GeneratedLoads.{load_plan}
-use Rattle.kr_outfits.specs.declared.fleet_file.Plan.{Plan}
+use Rattle.kr_fleet_steps.specs.FleetFiles.{file_in, file_of_replica, all_files, named_rows, rows_at}
+use Rattle.kr_fleet_steps.specs.GeneratedLoads.{load_plan}
+use Rattle.kr_fleet_steps.specs.declared.fleet_file.Plan.{Plan}
 use Rattle.kr_commands.specs.declared.load_words.LoadWords.{LoadWords}
-use Rattle.kr_outfits.specs.inner.FleetFiles.{IsWholePlan, plan_of}
+use Rattle.kr_fleet_steps.specs.inner.FleetFiles.{IsWholePlan, plan_of}
 use Rattle.kr_fleet_runs.specs.inner.GeneratedLoads.{IsLoadPlan}
 
 abbrev IsRead : (seed : ℕ) → List ℕ → Type 0

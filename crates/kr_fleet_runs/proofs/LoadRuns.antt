@@ -9,8 +9,8 @@ use Rattle.kr_workers.specs.declared.worker.Worker as fleet_worker
 use Rattle.rand_chacha.specs.ChaCha.{ChaCha}
 use Rattle.kr_steps.specs.Around.{Around, left_of}
 use Rattle.kr_commands.specs.FleetAsked.{AskAlone, AskNoFleet}
-use Rattle.kr_outfits.specs.FleetFiles.{FleetPlan}
-use Rattle.kr_outfits.specs.GeneratedLoads.{DidLoad, LeavesOthers, RanLoad, WritesLoad, load_over, load_plan, with_streams}
+use Rattle.kr_fleet_steps.specs.FleetFiles.{FleetPlan}
+use Rattle.kr_fleet_steps.specs.GeneratedLoads.{DidLoad, LeavesOthers, RanLoad, WritesLoad, load_over, load_plan, with_streams}
 use Rattle.kr_commands.specs.LoadAsked.{AsksLoad}
 use Rattle.kr_commands.specs.Message.{line_of, status_of as stop_status}
 use Rattle.kr_steps.specs.Ran.{IsIdle, StopsAtOnce}

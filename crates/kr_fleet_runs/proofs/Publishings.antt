@@ -21,25 +21,25 @@ use Rattle.kr_workers.specs.Files as workers
 use Rattle.kr_workers.specs.declared.files.SettingsFile.{SettingsFile}
 use Rattle.kr_steps.specs.Around.{Around}
 use Rattle.kr_steps.specs.Commands.{with_memory}
-use Rattle.kr_outfits.specs.FleetFiles.{NamedRows, no_file, rows_at}
-use Rattle.kr_outfits.specs.Fleets.{Replicas, publishes, publishing, rows_of_replica}
+use Rattle.kr_fleet_steps.specs.FleetFiles.{NamedRows, no_file, rows_at}
+use Rattle.kr_fleet_steps.specs.Fleets.{Replicas, publishes, publishing, rows_of_replica}
 use Rattle.kr_steps.specs.Plugins.{make_seeds}
 use Rattle.kr_steps.specs.Steps.{Steps, give}
-use Rattle.kr_outfits.specs.declared.fleet_file.Plan.{Plan}
-use Rattle.kr_outfits.specs.declared.outfit.Outfit.{Outfit}
+use Rattle.kr_fleet_steps.specs.declared.fleet_file.Plan.{Plan}
+use Rattle.kr_fleet_steps.specs.declared.outfit.Outfit.{Outfit}
 use Rattle.kr_commands.specs.declared.refusal.Stop.{Stop}
 use Rattle.kr_commands.specs.declared.refusal.Stop.TheVariants.{NoMemory}
 use Rattle.kr_fleet_runs.specs.inner.Beginnings.{MayPublish, PublishesNext, with_first}
-use Rattle.kr_outfits.specs.inner.FleetFiles.{IsWholePlan, named, plan_of}
+use Rattle.kr_fleet_steps.specs.inner.FleetFiles.{IsWholePlan, named, plan_of}
 use Rattle.kr_fleet_runs.specs.inner.Fleets.{ArePublished, IsPublishedBy}
-use Rattle.kr_outfits.specs.inner.Outfits.{AreLater, AreNamed, IsLater, with_outfits}
+use Rattle.kr_fleet_steps.specs.inner.Outfits.{AreLater, AreNamed, IsLater, with_outfits}
 use Rattle.kr_steps.specs.inner.ProgramNames.{names_in}
 use Rattle.kr_steps.specs.inner.Phases.{Does}
-use Rattle.kr_outfits.proofs.FleetLoads.{same_rows}
+use Rattle.kr_fleet_steps.proofs.FleetLoads.{same_rows}
 use Rattle.kr_steps.proofs.Goes.{given, goes_on, home_refl, reach, stops}
 use Rattle.kr_steps.proofs.Made.{remembers}
-use Rattle.kr_outfits.proofs.Outfits.{later_refl, outfits_truth}
-use Rattle.kr_outfits.proofs.Plans.{plan_links, plan_read}
+use Rattle.kr_fleet_steps.proofs.Outfits.{later_refl, outfits_truth}
+use Rattle.kr_fleet_steps.proofs.Plans.{plan_links, plan_read}
 use Rattle.kr_steps.proofs.Works.{lacks}
 
 -- ---- one replica

@@ -1,7 +1,7 @@
 //! `fleet`: the fleet file and the configurations that it names, the store, each worker's random
 //! source and links, what each replica publishes, and the workers at one core.
 ghost use Rattle.std.specs.Prelude.{◌≡◌, ◌≤◌, All, IfErr, IfOk, [], false, length, sum};
-ghost use Rattle.kr_base.specs.Limits.{store_limit};
+ghost use Rattle.kr_base.specs.Limits.{store_limit, journal_limit};
 ghost use Rattle.kr_provider.specs.AskedLinks.{AskedOnly};
 ghost use Rattle.kr_provider.specs.Names.{names_of as plugin_names};
 ghost use Rattle.kr_rollout.specs.Openings.{AreAmong, IsFirstIn};
@@ -9,31 +9,31 @@ ghost use Rattle.kr_script.specs.Fleets.{fleet_of};
 ghost use Rattle.kr_script.specs.Output.{fleet_output};
 ghost use Rattle.kr_steps.specs.Around.{Around, with_world};
 ghost use Rattle.kr_steps.specs.Commands.{stored_on};
-ghost use Rattle.kr_outfits.specs.Fleets.{DidFleet, WritesFleet, beginning, equipping_all, launching};
-ghost use Rattle.kr_outfits.specs.Fleets.{over_store, publishing, starting};
+ghost use Rattle.kr_fleet_steps.specs.Fleets.{DidFleet, WritesFleet, beginning, equipping_all, launching};
+ghost use Rattle.kr_fleet_steps.specs.Fleets.{over_store, publishing, starting};
 ghost use Rattle.kr_commands.specs.Receipts.{receipt};
 ghost use Rattle.kr_steps.specs.Steps.{and_then};
 ghost use Rattle.kr_fleet_runs.specs.inner.Beginnings.{MayPublish, PublishesNext, begun_in, begun_with};
 ghost use Rattle.kr_fleet_runs.specs.inner.Beginnings.{first_core, with_first};
 ghost use Rattle.kr_steps.specs.inner.Starts.{start_stop};
-ghost use Rattle.kr_outfits.specs.inner.Crews.{IsCrew, IsReadyCore, outfits_of};
+ghost use Rattle.kr_fleet_steps.specs.inner.Crews.{IsCrew, IsReadyCore, outfits_of};
 ghost use Rattle.kr_fleet_runs.specs.inner.CrewRuns.{RunsCrew};
-ghost use Rattle.kr_outfits.specs.inner.FleetFiles.{IsWholePlan, named, plan_of};
+ghost use Rattle.kr_fleet_steps.specs.inner.FleetFiles.{IsWholePlan, named, plan_of};
 ghost use Rattle.kr_fleet_runs.specs.inner.Fleets.{ArePublished, IsPublishedBy, RunsBy, budget_stop};
 ghost use Rattle.kr_fleet_runs.specs.inner.Fleets.{published_in};
 ghost use Rattle.kr_steps.specs.inner.Lent.{Name, with_lent_tape};
-ghost use Rattle.kr_outfits.specs.inner.Outfits.{AreLater, AreNamed, with_outfits};
+ghost use Rattle.kr_fleet_steps.specs.inner.Outfits.{AreLater, AreNamed, with_outfits};
 ghost use Rattle.kr_steps.specs.inner.ProgramNames.{names_in};
 ghost use Rattle.kr_steps.specs.inner.Phases.{Does};
 ghost use Rattle.kr_steps.specs.inner.Tapes.{stored_of};
 ghost use Rattle.kr_fleet_runs.specs.inner.Workings.{IsPublished, Outfits, RunsWith, with_crew};
-ghost use Rattle.kr_workers.specs.Budgets.{AreBudgets, all_reloads, journal_limit};
+ghost use Rattle.kr_workers.specs.Budgets.{AreBudgets, all_reloads};
 ghost use Rattle.kr_workers.specs.Endings.{ending_of};
 
 use kr_base::{Dice, List, NoMemory, Shared, Sink, Tape, Text};
 use kr_commands::{FleetWords, Limit, Object, Refusal, Stop};
+use kr_fleet_steps::{Crew, NO_FILE, Outfit, Plan, close_outfits, hire, load_plan, open_outfits};
 use kr_kms::{Kms, World};
-use kr_outfits::{Crew, NO_FILE, Outfit, Plan, close_outfits, hire, load_plan, open_outfits};
 use kr_provider::{Links, Published};
 use kr_rollout::{Core, Line};
 use kr_script::{Script, Told, WriteNo, write_fleet};
@@ -277,7 +277,8 @@ fn run_crew<R: Threads + Wait + Sync, T: Tape + Send, L: Kms + Send, D: Dice + S
     requires entries { AreBudgets core.opening.rows plan.now.script.workers.0
         budgets.now.entries.items }
     requires few { sum budgets.now.entries.items ≤ journal_limit }
-    requires crew { IsCrew plan.now.script.workers.0 (outfits_of crew.workers.items) crew }
+    requires crew { IsCrew plan.now.script.workers.0 (outfits_of crew.workers.items)
+        crew.workers.items }
     requires named { AreNamed L.link (names_in plan.now.programs)
         (outfits_of crew.workers.items) }
     ensures ran { RunsCrew L.truth L.link D.left D.count plan.now budgets.now.entries.items

@@ -2,4 +2,4 @@
 #![tactic(auto)]
 
 pub mod fleet;
-pub mod generated;
+pub mod loads;

@@ -3,5 +3,4 @@ pub mod Earliest
 pub mod Indexes
 pub mod Lives
 pub mod Losses
-pub mod Pieces
 pub mod Views

@@ -5,11 +5,10 @@ ghost use Rattle.kr_base.specs.Faults.{IsCounted};
 ghost use Rattle.kr_base.specs.Streams.{AppendsFront};
 ghost use Rattle.kr_judge.specs.declared.verdict.Verdict.TheVariants.{DropsStored};
 ghost use Rattle.kr_judge.specs.Texts.{who_text, class_text, place_text, verdict_text};
-ghost use Rattle.kr_judge.specs.inner.Pieces.{whole_text};
 
 use crate::verdict::Verdict;
 use itoa::Buffer;
-use kr_base::{Failed, Sink, Text, write_all};
+use kr_base::{Failed, Sink, Text, write_all, write_each};
 use kr_config::{Class, Who};
 
 impl Verdict {
@@ -110,17 +109,4 @@ fn who_words(who: &Who) -> (&str, &str)
         Who::Aesgcm(name, _) => ("aesgcm:", name.as_str()),
         Who::Kms(name) => ("kms:", name.as_str()),
     }
-}
-
-/// Writes the pieces, one behind another.
-fn write_each<S: Sink>(sink: &mut S, pieces: &[&str]) -> Result<(), Failed>
-    ensures ok { OnOk result (Appends (S.held sink.old) (S.held sink.new) (whole_text pieces.now)) }
-    ensures err { OnErr result
-        (AppendsFront (S.held sink.old) (S.held sink.new) (whole_text pieces.now)) }
-    ensures cause { IsCounted (S.count sink.old) (S.count sink.new) result }
-{
-    for piece in pieces {
-        write_all(sink, piece.as_bytes())?;
-    }
-    Ok(())
 }

@@ -24,7 +24,7 @@ use std::marker::Model;
 /// under the ring's key of the key id that it is given. Its calls fail by their numbers, the first
 /// being 1; a wrap also where the plain bytes can't be wrapped, and an unwrap where the source
 /// isn't wrapped under a key of the ring.
-#[derive(Debug, Drop)]
+#[derive(Drop)]
 pub struct KeyLink<R: Ring> {
     ring: R,
     name: Text,

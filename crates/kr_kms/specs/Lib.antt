@@ -5,10 +5,7 @@ pub mod Health
 pub mod Laws
 pub mod Limits
 pub mod MemWorld
-pub mod Members
 pub mod Outside
-pub mod Replies
-pub mod Requests
 pub mod Seeds
 pub mod Table
 pub mod Truth

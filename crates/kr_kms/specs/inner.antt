@@ -1,6 +1,4 @@
 -- Definitions that only contracts of the crate's own functions name.
 pub mod Keeping
-pub mod Shapes
 pub mod Statuses
 pub mod Wrapping
-pub mod Written

@@ -6,7 +6,7 @@ ghost use Rattle.kr_kms.specs.inner.Keeping.{IsCopyAt, AreAmong, AreAmongWith};
 
 use crate::plugin::{Kms, KmsNo};
 use crate::seeds::SeedKey;
-use kr_base::{Annotations, Bytes, NoMemory, Text};
+use kr_base::{Annotations, Bytes, NoMemory};
 use lru::LruCache;
 use std::alloc::Global;
 use std::marker::Model;
@@ -58,15 +58,23 @@ impl SeedCache {
         // Its length tells that no more are kept than may be.
         let _fits = self.inner.len();
         let alloc = *self.inner.allocator();
-        let Ok(key) = key_of(alloc, link.name(), key_id, annotations, source) else {
+        let Ok(key) = SeedKey::new(alloc, link.name(), key_id, annotations, source) else {
             return Err(KmsNo::NoMemory);
         };
         if let Some(kept) = self.copy_of(alloc, &key) {
+            drop(key);
             return kept;
         }
-        let seed = link.unwrap_source(alloc, key_id, annotations, source)?;
-        self.keep(alloc, key, &seed);
-        Ok(seed)
+        match link.unwrap_source(alloc, key_id, annotations, source) {
+            Ok(seed) => {
+                self.keep(alloc, key, &seed);
+                Ok(seed)
+            }
+            Err(why) => {
+                drop(key);
+                Err(why)
+            }
+        }
     }
 
     /// A copy of the seed that is kept under the key.
@@ -98,31 +106,10 @@ impl SeedCache {
     {
         let _fits = self.inner.len();
         let Ok(copy) = Bytes::copy(alloc, seed.as_slice()) else {
+            drop(key);
             return;
         };
-        match self.inner.put(key, copy) {
-            Ok(_) => {}
-            Err(_) => {}
-        }
+        drop(self.inner.put(key, copy));
         let _still_fits = self.inner.len();
     }
-}
-
-/// What names the seed of a wrapped source.
-fn key_of(
-    alloc: Global,
-    name: &str,
-    key_id: &str,
-    annotations: &Annotations,
-    source: &[u8],
-) -> Result<SeedKey, NoMemory>
-    ensures { IfOk result (λ key. key
-        ≡ asked_key name.now key_id.now annotations.now source.now) }
-{
-    Ok(SeedKey {
-        name: Text::copy(alloc, name)?,
-        key_id: Text::copy(alloc, key_id)?,
-        annotations: annotations.copy(alloc)?,
-        source: Bytes::copy(alloc, source)?,
-    })
 }

@@ -5,7 +5,7 @@ use kr_base::FaultCount;
 
 /// How often the files of a world failed, a count for each kind of call, each up to the greatest
 /// number.
-#[derive(Debug, Drop)]
+#[derive(Drop)]
 pub struct FileFaults {
     pub loads: FaultCount,
     pub tapes: FaultCount,

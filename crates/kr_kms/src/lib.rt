@@ -1,18 +1,15 @@
 //! Plugins that wrap and unwrap seeds, as the crates above see them: a link to a plugin, what it
-//! answers, and what its type tells of the truth; the lines by which a link over pipes and its
-//! plugin ask and answer; seeds, which links make and a cache keeps; and the world that a command
-//! runs in, which gives files, and lends tapes, random sources and links.
+//! answers, and what its type tells of the truth; seeds, which links make and a cache keeps; and
+//! the world that a command runs in, which gives files, and lends tapes, random sources and links.
 #![tactic(auto)]
 
+mod both;
 mod cache;
 mod file_faults;
 mod health;
 mod laws;
 mod mem_world;
-mod members;
 mod plugin;
-mod replies;
-mod requests;
 mod seeds;
 mod shelf;
 mod table_plugin;
@@ -24,8 +21,6 @@ pub use health::{Field, SeedNo, key_id_of};
 pub use laws::keys_are_told_apart;
 pub use mem_world::MemWorld;
 pub use plugin::{Kms, KmsNo, Status, Wrapped, is_within_limits};
-pub use replies::{Answered, Asked, Reply, ReplyNo, read_reply, reply_line};
-pub use requests::{Request, RequestNo, read_request, request_line};
 pub use seeds::{SeedKey, SeedRow, make_seed};
 pub use shelf::{Shelf, name_place, plugin_place};
 pub use table_plugin::TablePlugin;

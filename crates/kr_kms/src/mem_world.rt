@@ -12,17 +12,18 @@ ghost use Rattle.kr_kms.specs.MemWorld.{file_of, seat_of, name_of, link_key, wit
 ghost use Rattle.kr_kms.specs.MemWorld.{first_dice, first_tape, first_link, new_tape, told_by};
 ghost use Rattle.kr_kms.specs.MemWorld.{GivesFile, GivesFirst, GivesTape};
 
+use crate::both::both;
 use crate::file_faults::FileFaults;
 use crate::plugin::Kms;
 use crate::shelf::{Shelf, name_place, plugin_place};
 use crate::world::{FileNo, World, WorldCall};
-use kr_base::{Bytes, List, MemDice, MemTape, Text};
+use kr_base::{Bytes, List, MemDice, MemTape, NoMemory, Text};
 use std::alloc::Global;
 
 /// A world in memory. Files and tapes stand with their names, random sources and links with their
 /// seats; of two with one name or one seat the first counts. A link's plugin is its own name, and
 /// its program is ignored.
-#[derive(Debug, Drop)]
+#[derive(Drop)]
 pub struct MemWorld<L: Kms + Send> {
     files: Vec<(Text, Bytes)>,
     tapes: Shelf<Text, (Text, MemTape)>,
@@ -401,15 +402,16 @@ fn make_tape(
     ensures refusals { IfErr result (λ why. why ≡ FileNo.NoMemory) }
     ensures err { OnErr result (tapes.new ≡ tapes.old) }
 {
-    let Ok(key) = Text::copy(alloc, name) else {
-        return Err(FileNo::NoMemory);
-    };
-    let Ok(tape) = MemTape::new(Bytes::new(alloc), room, List::new(alloc), List::new(alloc)) else {
+    let tape = MemTape::new(Bytes::new(alloc), room, List::new(alloc), List::new(alloc));
+    let Ok((key, tape)) = both(Text::copy(alloc, name), tape) else {
         return Err(FileNo::NoMemory);
     };
     match tapes.add(key) {
         Ok(()) => Ok(tape),
-        Err(_) => Err(FileNo::NoMemory),
+        Err(NoMemory) => {
+            drop(tape);
+            Err(FileNo::NoMemory)
+        }
     }
 }
 

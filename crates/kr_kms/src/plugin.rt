@@ -8,7 +8,7 @@ use kr_base::{Annotations, Bytes, Text, are_few, is_short};
 use std::alloc::Global;
 
 /// What a plugin says of itself: its version, its health and the id of the key that it wraps with.
-#[derive(Debug, Drop)]
+#[derive(Drop)]
 pub struct Status {
     pub version: Text,
     pub healthz: Text,
@@ -17,7 +17,7 @@ pub struct Status {
 
 /// What a plugin made of plain bytes: the wrapped source, the id of its key, and what it wants to
 /// see again when it unwraps.
-#[derive(Debug, Drop)]
+#[derive(Drop)]
 pub struct Wrapped {
     pub cipher: Bytes,
     pub key_id: Text,

@@ -1,10 +1,11 @@
 //! Seeds, what names them, and how they are made.
 ghost use Rattle.std.specs.Prelude.{◌≡◌, ◌≤◌, IfOk, IsUtf8, length, All};
-ghost use Rattle.kr_kms.specs.Calls.{IsSameLink, Asks};
+ghost use Rattle.kr_kms.specs.Calls.{IsSameLink, Asks, asked_key};
 ghost use Rattle.kr_kms.specs.Limits.{IsWithinLimits};
 ghost use Rattle.kr_kms.specs.Seeds.{IsSeedRow, MakesSeed};
-ghost use Rattle.kr_kms.specs.inner.Wrapping.{row_with, IsRowOf};
+ghost use Rattle.kr_kms.specs.inner.Wrapping.{IsDrawn, row_with, IsRowOf};
 
+use crate::both::both;
 use crate::health::{SeedNo, key_id_of};
 use crate::plugin::{Kms, KmsNo, Wrapped};
 use kr_base::{Annotations, Bytes, Dice, NoMemory, Text};
@@ -15,7 +16,7 @@ const SEED_SIZE: usize = 32;
 
 /// What a plugin is told of a wrapped source when it unwraps it, with the plugin's own name. It
 /// names one seed.
-#[derive(Debug, Drop, PartialEq, Eq, Hash)]
+#[derive(Drop, PartialEq, Eq, Hash)]
 pub struct SeedKey {
     pub name: Text,
     pub key_id: Text,
@@ -24,14 +25,21 @@ pub struct SeedKey {
 }
 
 impl SeedKey {
-    /// One more key like it.
-    pub fn copy(&self, alloc: Global) -> Result<SeedKey, NoMemory>
-        ensures { IfOk result (λ key. key ≡ self.now) }
+    /// The key of a source that a plugin of this name wrapped.
+    pub fn new(
+        alloc: Global,
+        name: &str,
+        key_id: &str,
+        annotations: &Annotations,
+        source: &[u8],
+    ) -> Result<SeedKey, NoMemory>
+        ensures { IfOk result (λ key. key
+            ≡ asked_key name.now key_id.now annotations.now source.now) }
     {
-        let name = Text::copy(alloc, self.name.as_str())?;
-        let key_id = Text::copy(alloc, self.key_id.as_str())?;
-        let annotations = self.annotations.copy(alloc)?;
-        let source = Bytes::copy(alloc, self.source.as_slice())?;
+        let ((name, key_id), (annotations, source)) = both(
+            both(Text::copy(alloc, name), Text::copy(alloc, key_id)),
+            both(annotations.copy(alloc), Bytes::copy(alloc, source)),
+        )?;
         Ok(SeedKey {
             name,
             key_id,
@@ -39,11 +47,24 @@ impl SeedKey {
             source,
         })
     }
+
+    /// One more key like it.
+    pub fn copy(&self, alloc: Global) -> Result<SeedKey, NoMemory>
+        ensures { IfOk result (λ key. key ≡ self.now) }
+    {
+        SeedKey::new(
+            alloc,
+            self.name.as_str(),
+            self.key_id.as_str(),
+            &self.annotations,
+            self.source.as_slice(),
+        )
+    }
 }
 
 /// A seed with its wrapped source: the plugin's name, the id of the key under which it wrapped, its
 /// annotations.
-#[derive(Debug, Drop)]
+#[derive(Drop)]
 pub struct SeedRow {
     pub name: Text,
     pub key_id: Text,
@@ -64,33 +85,50 @@ pub fn make_seed<L: Kms, D: Dice>(
         (L.link link.new) dice.new }
     ensures later { D.count dice.old ≤ D.count dice.new }
 {
-    let _key_id = key_id_of(alloc, link)?;
-    let Ok(name) = Text::copy(alloc, link.name()) else {
-        return Err(SeedNo::NoMemory);
-    };
-    let Ok(mut seed) = vec![in alloc; 0; SEED_SIZE] else {
-        return Err(SeedNo::NoMemory);
-    };
-    match dice.fill(seed.as_mut_slice()) {
-        Ok(()) => {}
-        Err(_) => return Err(SeedNo::DiceFailed),
-    }
-    match wrap_seed(alloc, link, name, Bytes::from_vec(seed)) {
+    drop(key_id_of(alloc, link)?);
+    let seed = draw_seed(alloc, dice)?;
+    match wrap_seed(alloc, link, seed) {
         Ok(row) => Ok(row),
         Err(KmsNo::Failed) => Err(SeedNo::Failed),
         Err(KmsNo::NoMemory) => Err(SeedNo::NoMemory),
     }
 }
 
-/// Wraps a seed by the link to the plugin of this name.
-fn wrap_seed<L: Kms>(alloc: Global, link: &mut L, name: Text, seed: Bytes) -> Result<SeedRow, KmsNo>
-    requires name { name ≡ (L.link link.old).name }
+/// Draws the bytes of a seed.
+fn draw_seed<D: Dice>(alloc: Global, dice: &mut D) -> Result<Bytes, SeedNo>
+    ensures drawn { IsDrawn D.left D.count dice.old result dice.new }
+    ensures later { D.count dice.old ≤ D.count dice.new }
+{
+    let Ok(mut seed) = vec![in alloc; 0; SEED_SIZE] else {
+        return Err(SeedNo::NoMemory);
+    };
+    match dice.fill(seed.as_mut_slice()) {
+        Ok(()) => Ok(Bytes::from_vec(seed)),
+        Err(_) => {
+            drop(seed);
+            Err(SeedNo::DiceFailed)
+        }
+    }
+}
+
+/// Wraps a seed by the link, and names the link's plugin beside it.
+fn wrap_seed<L: Kms>(alloc: Global, link: &mut L, seed: Bytes) -> Result<SeedRow, KmsNo>
     requires size { length seed ≡ 32 }
     ensures asks { Asks (L.link link.old) result (L.link link.new) }
-    ensures row { IfOk result (λ row. IsRowOf L.truth name seed row) }
+    ensures row { IfOk result (λ row. IsRowOf L.truth (L.link link.old).name seed row) }
 {
-    let wrapped = link.wrap(alloc, seed.as_slice())?;
-    Ok(row_of(name, wrapped, seed))
+    let Ok(name) = Text::copy(alloc, link.name()) else {
+        drop(seed);
+        return Err(KmsNo::NoMemory);
+    };
+    match link.wrap(alloc, seed.as_slice()) {
+        Ok(wrapped) => Ok(row_of(name, wrapped, seed)),
+        Err(why) => {
+            drop(name);
+            drop(seed);
+            Err(why)
+        }
+    }
 }
 
 /// Puts a seed beside what a plugin made of it.

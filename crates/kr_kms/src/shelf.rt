@@ -9,7 +9,7 @@ use std::alloc::Global;
 use std::marker::Model;
 
 /// The objects that are here, and the keys of those that are out. What is out finds its room again.
-#[derive(Debug, Drop)]
+#[derive(Drop)]
 pub struct Shelf<K, T> {
     items: Vec<T>,
     out: Vec<K>,

@@ -9,6 +9,7 @@ ghost use Rattle.kr_kms.specs.Limits.{IsWithinLimits};
 ghost use Rattle.kr_kms.specs.Table.{Answers, salt_in, mask_of, xor_of, salt_pair, wrapped_by};
 ghost use Rattle.kr_kms.specs.Table.{status_of, table_truth, link_of};
 
+use crate::both::both;
 use crate::plugin::{Kms, KmsNo, Status, Wrapped};
 use kr_base::{Annotations, Bytes, CallLog, List, NoMemory, Text, is_short};
 use std::alloc::Global;
@@ -19,7 +20,7 @@ const SALT_KEY: &str = "test.kmsrest/salt";
 
 /// A plugin in memory. It masks bytes by the sum of its key id and its salt of one byte. Its calls
 /// fail by their numbers, the first being 1, and a wrap also where its answer would pass a limit.
-#[derive(Debug, Drop)]
+#[derive(Drop)]
 pub struct TablePlugin {
     name: Text,
     key_id: Text,
@@ -116,20 +117,17 @@ impl Kms for TablePlugin {
         if self.fails(true) {
             return Err(KmsNo::Failed);
         }
-        let Ok(version) = Text::copy(alloc, self.version.as_str()) else {
-            return Err(KmsNo::NoMemory);
-        };
-        let Ok(healthz) = Text::copy(alloc, self.healthz.as_str()) else {
-            return Err(KmsNo::NoMemory);
-        };
-        let Ok(key_id) = Text::copy(alloc, self.key_id.as_str()) else {
-            return Err(KmsNo::NoMemory);
-        };
-        Ok(Status {
-            version,
-            healthz,
-            key_id,
-        })
+        let version = Text::copy(alloc, self.version.as_str());
+        let healthz = Text::copy(alloc, self.healthz.as_str());
+        let key_id = Text::copy(alloc, self.key_id.as_str());
+        match both(both(version, healthz), key_id) {
+            Ok(((version, healthz), key_id)) => Ok(Status {
+                version,
+                healthz,
+                key_id,
+            }),
+            Err(NoMemory) => Err(KmsNo::NoMemory),
+        }
     }
 
     fn wrap(&mut self, alloc: Global, plain: &[u8]) -> Result<Wrapped, KmsNo>
@@ -184,37 +182,37 @@ fn serves(plugin: &TablePlugin, plain: &[u8]) -> bool
 fn wrap_plain(alloc: Global, plugin: &TablePlugin, plain: &[u8]) -> Result<Wrapped, NoMemory>
     ensures { IfOk result (λ wrapped. wrapped ≡ wrapped_by plugin.now plain.now) }
 {
-    let Ok(annotations) = salt_pair(alloc, plugin.salt) else {
-        return Err(NoMemory);
-    };
-    let Ok(key_id) = Text::copy(alloc, plugin.key_id.as_str()) else {
-        return Err(NoMemory);
-    };
-    let mask = mask_of(key_id.as_str(), &annotations);
-    let Ok(cipher) = xor_all(alloc, plain, mask) else {
-        return Err(NoMemory);
-    };
-    Ok(Wrapped {
-        cipher,
-        key_id,
-        annotations,
-    })
+    let annotations = salt_pair(alloc, plugin.salt)?;
+    let mask = mask_of(plugin.key_id.as_str(), &annotations);
+    let made = both(
+        Text::copy(alloc, plugin.key_id.as_str()),
+        xor_all(alloc, plain, mask),
+    );
+    match made {
+        Ok((key_id, cipher)) => Ok(Wrapped {
+            cipher,
+            key_id,
+            annotations,
+        }),
+        Err(NoMemory) => {
+            drop(annotations);
+            Err(NoMemory)
+        }
+    }
 }
 
 /// The one annotation with the salt.
 fn salt_pair(alloc: Global, salt: u8) -> Result<Annotations, NoMemory>
     ensures { IfOk result (λ annotations. annotations ≡ salt_pair salt) }
 {
-    let Ok(key) = Text::copy(alloc, SALT_KEY) else {
-        return Err(NoMemory);
-    };
-    let Ok(value) = Bytes::copy(alloc, &[salt]) else {
-        return Err(NoMemory);
-    };
+    let (key, value) = both(Text::copy(alloc, SALT_KEY), Bytes::copy(alloc, &[salt]))?;
     let mut annotations = Annotations::new(alloc);
     match annotations.insert(key, value) {
         Ok(()) => Ok(annotations),
-        Err(_) => Err(NoMemory),
+        Err(NoMemory) => {
+            drop(annotations);
+            Err(NoMemory)
+        }
     }
 }
 

@@ -24,7 +24,7 @@ pub enum FileNo {
 }
 
 /// A call that asks a world for something.
-#[derive(Debug, Drop)]
+#[derive(Drop)]
 pub enum WorldCall {
     /// For the file of a name.
     File(Text),

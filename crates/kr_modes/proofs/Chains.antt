@@ -1,7 +1,7 @@
 -- CBC, block by block.
 use Rattle.std.proofs.Common.{◌≡◌, ℕ, ◌+◌, ◌*◌, ◌-◌, ◌<◌, ◌≤◌, List, ◌∷◌, ◌++◌, length, take, drop, refl, sym, ap, ◌∙◌, arith, rules}
-use Rattle.std.proofs.lemmas.List.{append_assoc, append-nil, length-drop, take_all, places}
-use Rattle.std.proofs.lemmas.Slice.{take-put_mid}
+use Rattle.std.proofs.lemmas.List.{append_assoc, append-nil, drop-drop, length-drop, take_all, places}
+use Rattle.std.proofs.lemmas.Slice.{drop-put_mid, take-put_mid}
 use Rattle.std.specs.Fork.{slice_chunk}
 use Rattle.std.specs.Int.{div_ceil}
 use borrow.Rule.Slice.PartMut.{put_mid}
@@ -75,9 +75,33 @@ unchained_none decipher out body count e =
     let same : count ≡ div_ceil (length (drop 16 body)) 16 = omega (arith, length-drop 16 body) in
     rw all (ap (uncbc_blocks decipher (take 16 body)) (ap (λ (n : ℕ). first_blocks n (drop 16 body)) same ∙ sym (blocks-first_blocks (drop 16 body))))
 
-pub unchained_all : (decipher : List ℕ → List ℕ) (out body : List ℕ) (count i : ℕ) → i ≡ count → length out ≡ 16 * count
-    → unchained_from decipher out body count i ≡ out
+pub unchained_all : (decipher : List ℕ → List ℕ) (out body : List ℕ) (count i n : ℕ) → i ≡ count → n ≡ 16 * count
+    → unchained_from decipher out body count i ≡ take n out
 unfolding uncbc_blocks first_blocks
-unchained_all decipher out body count i e long =
+unchained_all decipher out body count i n e long =
     let none : count - i ≡ 0 = omega arith in
-    rw none (append-nil (take (16 * i) out) ∙ take_all (16 * i) out (omega arith))
+    let all : 16 * i ≡ n = omega arith in
+    rw none (append-nil (take (16 * i) out) ∙ ap (λ (k : ℕ). take k out) all)
+
+-- ---- in one buffer
+
+-- what isn't written over from a on isn't from b on
+pub unread_on : (xs ys : List ℕ) (a b : ℕ) → a ≤ b → drop a xs ≡ drop a ys → drop b xs ≡ drop b ys
+unread_on xs ys a b le e =
+    let sum : a + (b - a) ≡ b = omega arith in
+    let on : (zs : List ℕ) → drop (b - a) (drop a zs) ≡ drop b zs = λ zs. drop-drop (b - a) a zs ∙ ap (λ (k : ℕ). drop k zs) sum in
+    sym (on xs) ∙ ap (drop (b - a)) e ∙ on ys
+
+-- a block that stands behind what is written over
+pub unread_block : (xs ys : List ℕ) (a from i : ℕ) → a ≤ from + i * 16 → drop a xs ≡ drop a ys
+    → slice_chunk (drop from xs) 16 i ≡ slice_chunk (drop from ys) 16 i
+unread_block xs ys a from i le e =
+    let at : (zs : List ℕ) → drop (i * 16) (drop from zs) ≡ drop (from + i * 16) zs = λ zs. drop-drop (i * 16) from zs in
+    ap (take 16) (at xs ∙ unread_on xs ys a (from + i * 16) le e ∙ sym (at ys))
+
+-- a block is written, and those behind it stay
+pub unread_more : (xs ys block : List ℕ) (i k : ℕ) → 16 * i + 16 ≤ length xs → k ≡ 16 → length block ≡ k
+    → drop (16 * i) xs ≡ drop (16 * i) ys → drop (16 * (i + 1)) (put_mid (16 * i) k xs block) ≡ drop (16 * (i + 1)) ys
+unread_more xs ys block i k fits size long e =
+    drop-put_mid (16 * i) k xs block (16 * (i + 1)) (omega arith) (omega arith) long
+    ∙ unread_on xs ys (16 * i) (16 * (i + 1)) (omega arith) e

@@ -1,7 +1,7 @@
 -- Which row of the definitions of opening applies.
-use Rattle.std.proofs.Common.{◌≡◌, ℕ, ◌-◌, ◌%◌, ◌<◌, ◌≤◌, List, ◌++◌, length, take, drop, Option, Some, None, IsSome, is_some, inl, inr, Ok, Err, ok_or, bytes_eq, sym, ap, ◌∙◌, arith}
+use Rattle.std.proofs.Common.{◌≡◌, ℕ, ◌-◌, ◌%◌, ◌<◌, ◌≤◌, List, length, take, drop, Option, Some, None, IsSome, is_some, inl, inr, Ok, Err, ok_or, bytes_eq, sym, ap, ◌∙◌}
 use Rattle.std.proofs.lemmas.Bool.{both_ways, cases_Bool, cond-false, cond-true, eq-eqb, false_from_ne_true, le-leb, le-ltb, lt-leb, lt-ltb, ne_eqb}
-use Rattle.std.proofs.lemmas.List.{take-append-le, take_at}
+use Rattle.std.proofs.lemmas.List.{take-take}
 use Rattle.std.proofs.lemmas.Slice.Eq.{bytes_eq-Decides}
 use Rattle.kr_modes.specs.declared.ModeNo.TheVariants.{BadBlock, BadPadding, BadTag, Short}
 use Rattle.kr_modes.specs.Cbc.{cbc_opened, uncbc}
@@ -23,27 +23,21 @@ pub cbc_unpadded : (decipher : List ℕ → List ℕ) (body : List ℕ) → 16 <
 unfolding cbc_opened
 cbc_unpadded decipher body h e = cond-false _ _ _ (lt-leb (length body) 16 h) ∙ cond-true _ _ _ (eq-eqb (length body % 16) 0 e)
 
--- after the blocks xs stand ys
-pub cbc_none : (decipher : List ℕ → List ℕ) (body xs ys : List ℕ) → 16 < length body → length body % 16 ≡ 0
-    → xs ≡ uncbc decipher (take 16 body) (drop 16 body) → length xs ≡ length body - 16
-    → unpad (take (length body - 16) (xs ++ ys)) ≡ None → cbc_opened decipher body ≡ Err BadPadding
-cbc_none decipher body xs ys h whole is long none =
-    let front : take (length body - 16) (xs ++ ys) ≡ xs = take_at xs ys (length body - 16) long in
+-- the blocks stand at the front of xs
+pub cbc_none : (decipher : List ℕ → List ℕ) (body xs : List ℕ) (size : ℕ) → 16 < length body → length body % 16 ≡ 0
+    → take size xs ≡ uncbc decipher (take 16 body) (drop 16 body)
+    → unpad (take size xs) ≡ None → cbc_opened decipher body ≡ Err BadPadding
+cbc_none decipher body xs size h whole is none =
     cbc_unpadded decipher body h whole
-    ∙ ap (λ (o : Option (List ℕ)). ok_or o BadPadding) (ap unpad (sym is ∙ sym front) ∙ none)
+    ∙ ap (λ (o : Option (List ℕ)). ok_or o BadPadding) (ap unpad (sym is) ∙ none)
 
-pub cbc_some : (decipher : List ℕ → List ℕ) (body xs ys : List ℕ) (m : ℕ) → 16 < length body → length body % 16 ≡ 0
-    → xs ≡ uncbc decipher (take 16 body) (drop 16 body) → length xs ≡ length body - 16
-    → m < length (take (length body - 16) (xs ++ ys))
-    → unpad (take (length body - 16) (xs ++ ys)) ≡ Some (take m (take (length body - 16) (xs ++ ys)))
-    → cbc_opened decipher body ≡ Ok (take m (xs ++ ys))
-cbc_some decipher body xs ys m h whole is long within some =
-    let front : take (length body - 16) (xs ++ ys) ≡ xs = take_at xs ys (length body - 16) long in
-    let size : m ≤ length xs = omega (arith, ap length front) in
+pub cbc_some : (decipher : List ℕ → List ℕ) (body xs : List ℕ) (size m : ℕ) → 16 < length body → length body % 16 ≡ 0
+    → take size xs ≡ uncbc decipher (take 16 body) (drop 16 body) → m ≤ size
+    → unpad (take size xs) ≡ Some (take m (take size xs)) → cbc_opened decipher body ≡ Ok (take m xs)
+cbc_some decipher body xs size m h whole is within some =
     cbc_unpadded decipher body h whole
-    ∙ ap (λ (o : Option (List ℕ)). ok_or o BadPadding) (ap unpad (sym is ∙ sym front) ∙ some)
-    ∙ ap (λ (zs : List ℕ). Ok (take m zs)) front
-    ∙ ap Ok (sym (take-append-le m xs ys size))
+    ∙ ap (λ (o : Option (List ℕ)). ok_or o BadPadding) (ap unpad (sym is) ∙ some)
+    ∙ ap Ok (take-take m size xs within)
 
 -- ---- GCM
 

@@ -1,10 +1,11 @@
 -- Strings with bytes behind them, as blocks.
-use Rattle.std.proofs.Common.{◌≡◌, ℕ, ◌+◌, ◌*◌, ◌-◌, ◌/◌, ◌%◌, ◌<◌, ◌≤◌, List, ◌++◌, length, take, drop, replicate, min, sym, ap, ◌∙◌, arith, inl, inr}
+use Rattle.std.proofs.Common.{◌≡◌, ℕ, ◌+◌, ◌*◌, ◌-◌, ◌/◌, ◌%◌, ◌<◌, ◌≤◌, List, [], ◌++◌, length, take, drop, replicate, min, sym, ap, ◌∙◌, arith, inl, inr}
 use Rattle.std.proofs.lemmas.Bool.{cases_lt}
-use Rattle.std.proofs.lemmas.List.{append-nil, drop-append-le, length-append, length-drop, length-replicate, length-take, take-append-le, take-replicate, take_all}
+use Rattle.std.proofs.lemmas.List.{append-nil, drop-append-le, drop_all, length-append, length-drop, length-replicate, length-take, length-take-le, take-append-le, take-replicate, take_all}
 use Rattle.std.proofs.Math.Seq.{take-append-add}
 use Rattle.std.specs.Fork.{slice_chunk}
 use Rattle.std.specs.Int.{div_ceil, next_multiple_of}
+use borrow.Rule.Slice.PartMut.{put_mid}
 use Rattle.kr_modes.specs.Gcm.{zero_padded}
 use Rattle.kr_modes.specs.Padding.{pad, padding}
 
@@ -56,6 +57,17 @@ count_of_pad bytes = omega (arith, length-pad bytes)
 pub chunk_of_pad : (bytes : List ℕ) (i : ℕ) → i ≤ length bytes / 16 → slice_chunk (pad bytes) 16 i ≡ filled bytes i (16 - length bytes % 16)
 unfolding pad
 chunk_of_pad bytes i le = chunk_of_filled bytes i (padding bytes) (padding bytes) (omega arith) (omega arith)
+
+-- a padding that is written behind n bytes, to the end of what holds them
+pub padded_by : (bytes ys : List ℕ) (n : ℕ) → n ≤ length bytes → length bytes - n ≡ 16 - n % 16
+    → ys ≡ replicate (length bytes - n) (16 - n % 16) → put_mid n (length bytes - n) bytes ys ≡ pad (take n bytes)
+unfolding pad
+padded_by bytes ys n within size is =
+    let front : length (take n bytes) ≡ n = length-take-le n bytes within in
+    let none : drop (length bytes - n) (drop n bytes) ≡ [] = drop_all (length bytes - n) (drop n bytes) (omega (arith, length-drop n bytes)) in
+    let filled_by : ys ≡ replicate (padding (take n bytes)) (padding (take n bytes)) =
+    is ∙ (λ i. replicate (size i) (16 - n % 16)) ∙ ap (λ (k : ℕ). replicate (16 - k % 16) (16 - k % 16)) (sym front) in
+    (λ i. take n bytes ++ (ys ++ none i)) ∙ ap (λ (s : List ℕ). take n bytes ++ s) (append-nil ys ∙ filled_by)
 
 -- ---- zeros
 

@@ -1,10 +1,10 @@
 -- The product in the field of GHASH: it is linear, and the code's sum of doubles.
-use Rattle.std.proofs.Common.{◌≡◌, ℕ, zero, suc, ◌+◌, ◌-◌, ◌*◌, ◌/◌, ◌%◌, ◌^◌, ◌<◌, bit_xor, refl, sym, ap, ◌∙◌, arith, inl, inr, add-one, pow_pos}
+use Rattle.std.proofs.Common.{◌≡◌, ℕ, zero, suc, ◌+◌, ◌-◌, ◌*◌, ◌/◌, ◌%◌, ◌^◌, ◌<◌, bit_xor, refl, sym, ap, ◌∙◌, arith, inl, inr, add-one}
 use Rattle.std.proofs.Math.Nat.{pow-suc}
 use Rattle.std.specs.Int.{bit_at}
-use Rattle.std.specs.Int.Bits.{xor_self, xor_zero_l, xor_zero_r}
+use Rattle.std.specs.Int.Bits.{xor_self, xor_zero_r}
 use Rattle.std.proofs.lemmas.Nat.{xor_block, shl_below}
-use Rattle.std.proofs.lemmas.Nat.Bits.{bit_at_xor, bit_at-lt, bit_at_above, bit_at-suc}
+use Rattle.std.proofs.lemmas.Nat.Bits.{bit_at_above, bit_at-suc}
 use Rattle.kr_aes.specs.Field.{polynomial_product, remainder}
 use Rattle.kr_aes.proofs.Linear.{below_two, one_times, polynomial_product-xor, polynomial_product_of_xor, remainder-xor, xor_shl, zero_times}
 use Rattle.kr_modes.specs.Ghash.{modulus, product}

@@ -1,6 +1,6 @@
 -- The key stream, block by block.
 use Rattle.std.proofs.Common.{◌≡◌, ℕ, zero, suc, ◌+◌, ◌*◌, ◌-◌, ◌/◌, ◌%◌, ◌<◌, ◌≤◌, List, [], ◌∷◌, ◌++◌, length, take, drop, replicate, min, refl, sym, ap, ◌∙◌, arith, add-one, rules}
-use Rattle.std.proofs.lemmas.List.{append-nil, drop_all, drop_at, length-append, length-drop, length-take, map-id, places, take_all, take_at, take_min}
+use Rattle.std.proofs.lemmas.List.{append-nil, drop_all, drop_at, length-append, length-drop, length-take, map-id, places, take_at}
 use Rattle.std.proofs.lemmas.List.Concat.{flat_map-append}
 use Rattle.std.proofs.lemmas.List.FromFn.{map-range_with_len_more}
 use Rattle.std.proofs.lemmas.Slice.{take-put_mid}
@@ -53,12 +53,6 @@ stream_none encipher nonce bytes = sym (xor_nothing bytes)
 length-put_mid : (xs ys : List ℕ) (a end : ℕ) → a ≤ end → end ≤ length xs → length ys ≡ end - a → length (put_mid a (end - a) xs ys) ≡ length xs
 length-put_mid xs ys a end ordered within long = search (rules, places)
 
-written_at : (xs ys : List ℕ) (a end m : ℕ) → a ≤ end → end ≡ min m (length xs) → length ys ≡ end - a → take m (put_mid a (end - a) xs ys) ≡ take a xs ++ ys
-written_at xs ys a end m ordered ends long =
-    let zs : List ℕ = put_mid a (end - a) xs ys in
-    let same : length zs ≡ length xs = length-put_mid xs ys a end ordered (omega arith) long in
-    sym (take_min m zs) ∙ ap (λ (k : ℕ). take k zs) (ap (min m) same ∙ sym ends) ∙ take-put_mid a (end - a) xs ys end (omega arith) (omega arith)
-
 -- a chunk xor a block, without what was filled up
 cut_block : (bytes key : List ℕ) (i : ℕ) → length key ≡ 16
     → take (min (length bytes - i * 16) 16) (xor (filled bytes i 0) key) ≡ xor (drop (i * 16) bytes) key
@@ -72,11 +66,11 @@ cut_block bytes key i long =
 
 -- one more block is written
 pub gctr_more : (encipher : List ℕ → List ℕ) (nonce bytes out block ys : List ℕ) (i end : ℕ) → GivesBlocks encipher
-    → 16 * i ≤ length bytes → length out ≡ length bytes → end ≡ min (length bytes) (16 * i + 16)
+    → 16 * i ≤ length bytes → length bytes ≤ length out → end ≡ min (length bytes) (16 * i + 16)
     → block ≡ xor (filled bytes i 0) (encipher (counter_block nonce (i + 1))) → ys ≡ take (end - 16 * i) block
     → take (16 * i) out ≡ xor bytes (key_stream encipher nonce i)
-    → (length (put_mid (16 * i) (end - 16 * i) out ys) ≡ length out) × (take (16 * (i + 1)) (put_mid (16 * i) (end - 16 * i) out ys) ≡ xor bytes (key_stream encipher nonce (i + 1)))
-gctr_more encipher nonce bytes out block ys i end gives within same ends is cut before =
+    → (length (put_mid (16 * i) (end - 16 * i) out ys) ≡ length out) × (take end (put_mid (16 * i) (end - 16 * i) out ys) ≡ xor bytes (key_stream encipher nonce (i + 1)))
+gctr_more encipher nonce bytes out block ys i end gives within room ends is cut before =
     let key : List ℕ = encipher (counter_block nonce (i + 1)) in
     let at : 16 * i ≡ i * 16 = omega arith in
     let size : end - 16 * i ≡ min (length bytes - i * 16) 16 = omega arith in
@@ -90,28 +84,28 @@ gctr_more encipher nonce bytes out block ys i end gives within same ends is cut 
     ∙ xor-append bytes (key_stream encipher nonce i) key (omega arith)
     ∙ ap (λ (k : ℕ). xor bytes (key_stream encipher nonce i) ++ xor (drop k bytes) key) stream in (
       length-put_mid out ys (16 * i) end (omega arith) (omega arith) long,
-      written_at out ys (16 * i) end (16 * (i + 1)) (omega arith) (omega arith) long ∙ (λ j. before j ++ part j) ∙ sym longer,
+      take-put_mid (16 * i) (end - 16 * i) out ys end (omega arith) (omega arith) ∙ (λ j. before j ++ part j) ∙ sym longer,
     )
 
 -- all is written
-pub gctr_all : (encipher : List ℕ → List ℕ) (nonce bytes out : List ℕ) (i : ℕ) → i ≡ div_ceil (length bytes) 16 → length out ≡ length bytes
-    → take (16 * i) out ≡ xor bytes (key_stream encipher nonce i) → out ≡ gctr encipher nonce bytes
+pub gctr_all : (encipher : List ℕ → List ℕ) (nonce bytes out : List ℕ) (i end : ℕ) → i ≡ div_ceil (length bytes) 16 → end ≡ length bytes
+    → take end out ≡ xor bytes (key_stream encipher nonce i) → take (length bytes) out ≡ gctr encipher nonce bytes
 unfolding gctr
-gctr_all encipher nonce bytes out i e same before =
-    sym (take_all (16 * i) out (omega arith)) ∙ before ∙ ap (λ (n : ℕ). xor bytes (key_stream encipher nonce n)) e
+gctr_all encipher nonce bytes out i end e ends before =
+    ap (λ (n : ℕ). take n out) (sym ends) ∙ before ∙ ap (λ (n : ℕ). xor bytes (key_stream encipher nonce n)) e
 
 -- the last block is written, which is no whole one
 pub gctr_end : (encipher : List ℕ → List ℕ) (nonce bytes out block ys : List ℕ) (i k : ℕ) → GivesBlocks encipher
-    → i ≡ length bytes / 16 → (length bytes % 16 ≡ 0 → ⊥) → length out ≡ length bytes → k ≡ length out - 16 * i
+    → i ≡ length bytes / 16 → (length bytes % 16 ≡ 0 → ⊥) → length bytes ≤ length out → k ≡ length bytes - 16 * i
     → block ≡ xor (filled bytes i 0) (encipher (counter_block nonce (i + 1))) → ys ≡ take (length bytes % 16) block
-    → take (16 * i) out ≡ xor bytes (key_stream encipher nonce i) → put_mid (16 * i) k out ys ≡ gctr encipher nonce bytes
-gctr_end encipher nonce bytes out block ys i k gives at some same size is cut before =
+    → take (16 * i) out ≡ xor bytes (key_stream encipher nonce i) → take (length bytes) (put_mid (16 * i) k out ys) ≡ gctr encipher nonce bytes
+gctr_end encipher nonce bytes out block ys i k gives at some room size is cut before =
     let most : length bytes % 16 < 16 = omega arith in
-    let left : length bytes % 16 ≡ length out - 16 * i = omega arith in
-    let step = gctr_more encipher nonce bytes out block ys i (length out) gives (omega arith) same (omega arith) is
+    let left : length bytes % 16 ≡ length bytes - 16 * i = omega arith in
+    let step = gctr_more encipher nonce bytes out block ys i (length bytes) gives (omega arith) room (omega arith) is
     (cut ∙ ap (λ (n : ℕ). take n block) left) before in
-    ap (λ (n : ℕ). put_mid (16 * i) n out ys) size
-    ∙ gctr_all encipher nonce bytes (put_mid (16 * i) (length out - 16 * i) out ys) (i + 1) (omega arith) (step.0 ∙ same) step.1
+    ap (λ (n : ℕ). take (length bytes) (put_mid (16 * i) n out ys)) size
+    ∙ gctr_all encipher nonce bytes (put_mid (16 * i) (length bytes - 16 * i) out ys) (i + 1) (length bytes) (omega arith) refl step.1
 
 -- a write over all that follows xs
 pub put_end : (xs zs ys : List ℕ) (a k : ℕ) → length xs ≡ a → length zs ≤ k → put_mid a k (xs ++ zs) ys ≡ xs ++ ys

@@ -1,7 +1,7 @@
 -- GHASH (SP 800-38D, sections 6.3 and 6.4). Its blocks stand for polynomials over two elements,
 -- which are numbers here: bit i of the number is the coefficient of x^i. Their sum is the exclusive
 -- or.
-use Rattle.std.specs.Prelude.{◌≡◌, ℕ, zero, suc, ◌+◌, ◌-◌, ◌*◌, ◌/◌, ◌%◌, ◌^◌, ◌<◌, List, [], ◌∷◌, bit_xor, slice_index}
+use Rattle.std.specs.Prelude.{◌≡◌, ℕ, ◌+◌, ◌-◌, ◌/◌, ◌%◌, ◌^◌, ◌<◌, List, [], ◌∷◌, bit_xor, slice_index}
 use Rattle.std.specs.Int.{w128, bit_at, from_be_bytes, reverse_bits, to_be_bytes}
 use Rattle.kr_aes.specs.Cipher.{IsBlock}
 use Rattle.kr_aes.specs.Field.{polynomial_product, remainder}

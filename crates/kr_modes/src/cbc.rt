@@ -29,18 +29,32 @@ pub fn cbc_seal(words: &[u32; 60], rounds: Rounds, iv: &[u8; 16], plain: &[u8], 
     requires size { length out.old ≡ length plain.now + 16 - length plain.now % 16 }
     ensures { out.new ≡ cbc (cipher words.now rounds) iv.now (pad plain.now) }
 {
-    let padding = (BLOCK - plain.len() % BLOCK) as u8;
-    let whole = plain.len() / BLOCK;
+    out[..plain.len()].copy_from_slice(plain);
+    cbc_seal_in_place(words, rounds, iv, out, plain.len());
+}
+
+/// The same in one buffer: the data are its first `size` bytes, and any bytes stand behind them.
+pub fn cbc_seal_in_place(
+    words: &[u32; 60],
+    rounds: Rounds,
+    iv: &[u8; 16],
+    buffer: &mut [u8],
+    size: usize,
+)
+    requires schedule { IsSchedule words.now rounds }
+    requires fits { size ≤ 4194304 }
+    requires size { length buffer.old ≡ size + 16 - size % 16 }
+    ensures { buffer.new ≡ cbc (cipher words.now rounds) iv.now (pad (take size buffer.old)) }
+{
+    let padding = (BLOCK - size % BLOCK) as u8;
+    buffer[size..].fill(padding);
     let mut block = *iv;
-    for index in 0..whole {
+    for index in 0..size / BLOCK + 1 {
         let start = BLOCK * index;
-        blocks::add(&mut block, &blocks::whole_block(plain, index));
+        blocks::add(&mut block, &blocks::whole_block(buffer, index));
         kr_aes::encrypt_block(words, rounds, &mut block);
-        out[start..start + BLOCK].copy_from_slice(&block);
+        buffer[start..start + BLOCK].copy_from_slice(&block);
     }
-    blocks::add(&mut block, &blocks::filled_block(plain, whole, padding));
-    kr_aes::encrypt_block(words, rounds, &mut block);
-    out[BLOCK * whole..].copy_from_slice(&block);
 }
 
 /// Opens what `cbc_seal` sealed: the body is the IV and the blocks behind it. The length of the
@@ -62,36 +76,93 @@ pub fn cbc_unseal(
     ensures within { IfOk result (λ n. n < length out.new) }
     ensures kept { IfErr result (λ why. why ≢ ModeNo.BadPadding → out.new ≡ out.old) }
 {
-    if body.len() <= BLOCK {
-        return Err(ModeNo::Short);
+    if let Some(why) = refused_size(body.len()) {
+        return Err(why);
     }
-    if body.len() % BLOCK != 0 {
-        return Err(ModeNo::BadBlock);
+    out.copy_from_slice(body);
+    open(words, rounds, out, 0)
+}
+
+/// The same in one buffer: the body stands behind its first `from` bytes, and the data stands at
+/// its front afterwards.
+pub fn cbc_unseal_in_place(
+    words: &[u32; 60],
+    rounds: Rounds,
+    buffer: &mut [u8],
+    from: usize,
+) -> Result<usize, ModeNo>
+    requires schedule { IsSchedule words.now rounds }
+    requires fits { length buffer.old ≤ 4194304 }
+    requires from { from ≤ length buffer.old }
+    ensures opened { let body = drop from buffer.old in MatchResult result
+        (λ n. cbc_opened (inverse_cipher words.now rounds) body ≡ Ok (take n buffer.new))
+        (λ why. cbc_opened (inverse_cipher words.now rounds) body ≡ Err why) }
+    ensures within { IfOk result (λ n. n < length buffer.new) }
+    ensures kept { IfErr result (λ why. why ≢ ModeNo.BadPadding → buffer.new ≡ buffer.old) }
+{
+    if let Some(why) = refused_size(buffer.len() - from) {
+        return Err(why);
     }
-    let size = body.len() - BLOCK;
+    open(words, rounds, buffer, from)
+}
+
+/// Why bytes of such a length are no IV and whole blocks behind it.
+fn refused_size(size: usize) -> Option<ModeNo>
+    ensures { MatchOption result ((16 < size) × (size % 16 ≡ 0)) (λ why.
+        (decipher : List ℕ → List ℕ) (body : List ℕ) → length body ≡ size
+        → (cbc_opened decipher body ≡ Err why) × (why ≢ ModeNo.BadPadding)) }
+{
+    if size <= BLOCK {
+        Some(ModeNo::Short)
+    } else if size % BLOCK != 0 {
+        Some(ModeNo::BadBlock)
+    } else {
+        None
+    }
+}
+
+/// Writes the decryption of the blocks to the front of the buffer. The IV and the blocks stand
+/// behind its first `from` bytes. The length of the data whose padding they are is answered.
+fn open(words: &[u32; 60], rounds: Rounds, buffer: &mut [u8], from: usize) -> Result<usize, ModeNo>
+    requires schedule { IsSchedule words.now rounds }
+    requires fits { length buffer.old ≤ 4194304 }
+    requires from { from + 16 < length buffer.old }
+    requires whole { (length buffer.old - from) % 16 ≡ 0 }
+    ensures within { IfOk result (λ n. n < length buffer.new) }
+    ensures opened { let body = drop from buffer.old in MatchResult result
+        (λ n. cbc_opened (inverse_cipher words.now rounds) body ≡ Ok (take n buffer.new))
+        (λ why. cbc_opened (inverse_cipher words.now rounds) body ≡ Err why) }
+    ensures why { IfErr result (λ why. why ≡ ModeNo.BadPadding) }
+{
     let mut inverse = [0; 60];
     kr_aes::invert(words, rounds, &mut inverse);
-    decrypt(&inverse, rounds, body, &mut out[..size]);
-    match unpadded_length(&out[..size]) {
+    decrypt(&inverse, rounds, buffer, from);
+    match unpadded_length(&buffer[..buffer.len() - from - BLOCK]) {
         Some(length) => Ok(length),
         None => Err(ModeNo::BadPadding),
     }
 }
 
-/// Writes the decryption of the blocks behind the IV, by the words that `kr_aes::invert` made.
-fn decrypt(inverse: &[u32; 60], rounds: Rounds, body: &[u8], out: &mut [u8])
-    requires fits { length body.now ≤ 4194304 }
-    requires size { length out.old + 16 ≡ length body.now }
-    requires whole { length out.old % 16 ≡ 0 }
+/// Writes the decryption of the blocks behind the IV to the front of the buffer, by the words that
+/// `kr_aes::invert` made. The IV stands behind the first `from` bytes, so that no block is written
+/// over before it is read.
+fn decrypt(inverse: &[u32; 60], rounds: Rounds, buffer: &mut [u8], from: usize)
+    requires fits { length buffer.old ≤ 4194304 }
+    requires from { from + 16 ≤ length buffer.old }
+    requires whole { (length buffer.old - from) % 16 ≡ 0 }
     ensures { (words : List ℕ) → inverse.now ≡ inverse_schedule words rounds
-        → out.new ≡ uncbc (inverse_cipher words rounds) (take 16 body.now) (drop 16 body.now) }
+        → let body = drop from buffer.old in take (length body - 16) buffer.new
+        ≡ uncbc (inverse_cipher words rounds) (take 16 body) (drop 16 body) }
 {
-    for index in 0..out.len() / BLOCK {
+    let mut previous = blocks::whole_block(&buffer[from..], 0);
+    for index in 0..(buffer.len() - from) / BLOCK - 1 {
         let start = BLOCK * index;
-        let mut block = blocks::whole_block(body, index + 1);
+        let sealed = blocks::whole_block(&buffer[from..], index + 1);
+        let mut block = sealed;
         kr_aes::decrypt_block_by_inverse(inverse, rounds, &mut block);
-        blocks::add(&mut block, &blocks::whole_block(body, index));
-        out[start..start + BLOCK].copy_from_slice(&block);
+        blocks::add(&mut block, &previous);
+        buffer[start..start + BLOCK].copy_from_slice(&block);
+        previous = sealed;
     }
 }
 

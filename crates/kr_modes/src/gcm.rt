@@ -1,10 +1,10 @@
 //! GCM (SP 800-38D sections 6.5 and 7) for nonces of 12 bytes.
 
-ghost use Rattle.std.specs.Prelude.{◌≡◌, ◌≢◌, ◌↔◌, ℕ, ◌≤◌, ◌<◌, ◌+◌, ◌*◌, ◌^◌, ◌++◌, List, length, take, drop, slice_index, IfOk, OnErr, IsTrue, MatchResult};
+ghost use Rattle.std.specs.Prelude.{◌≡◌, ◌↔◌, ◌≤◌, ◌<◌, ◌+◌, ◌-◌, ◌*◌, ◌^◌, ◌++◌, length, take, drop, IfOk, OnErr, IsTrue, MatchResult};
 ghost use Rattle.std.specs.Int.{w64, to_be_bytes};
 ghost use Rattle.kr_aes.specs.Cipher.{cipher};
 ghost use Rattle.kr_aes.specs.KeyExpansion.{IsSchedule};
-ghost use Rattle.kr_aes.specs.Begun.{IsBegun};
+ghost use Rattle.kr_aes.specs.Begun.{BegunState};
 ghost use Rattle.kr_modes.specs.Gcm.{gctr, counter_block, gcm, gcm_opened, gcm_tag};
 
 use crate::blocks::{self, BLOCK};
@@ -33,10 +33,29 @@ pub fn gcm_seal(
     requires size { length out.old ≡ length plain.now + 16 }
     ensures { out.new ≡ gcm (cipher words.now rounds) nonce.now aad.now plain.now }
 {
-    let size = plain.len();
-    gctr(words, rounds, nonce, plain, &mut out[..size]);
-    let tag = tag_of(words, rounds, nonce, aad, &out[..size]);
-    out[size..].copy_from_slice(&tag);
+    out[..plain.len()].copy_from_slice(plain);
+    gcm_seal_in_place(words, rounds, nonce, aad, out);
+}
+
+/// The same in one buffer: the data are all but its last 16 bytes, in whose place the tag comes.
+pub fn gcm_seal_in_place(
+    words: &[u32; 60],
+    rounds: Rounds,
+    nonce: &[u8; 12],
+    aad: &[u8],
+    buffer: &mut [u8],
+)
+    requires schedule { IsSchedule words.now rounds }
+    requires aad_fits { length aad.now ≤ 4194304 }
+    requires fits { length buffer.old ≤ 4194320 }
+    requires tag { 16 ≤ length buffer.old }
+    ensures { buffer.new ≡ gcm (cipher words.now rounds) nonce.now aad.now
+        (take (length buffer.old - 16) buffer.old) }
+{
+    let size = buffer.len() - TAG;
+    gctr(words, rounds, nonce, &mut buffer[..size], 0);
+    let tag = tag_of(words, rounds, nonce, aad, &buffer[..size]);
+    buffer[size..].copy_from_slice(&tag);
 }
 
 /// Opens what `gcm_seal` sealed: the body is ciphertext and tag. The length of the data is
@@ -61,6 +80,54 @@ pub fn gcm_unseal(
     ensures rest { IfOk result (λ n. drop n out.new ≡ drop n out.old) }
     ensures kept { OnErr result (out.new ≡ out.old) }
 {
+    let size = checked_length(words, rounds, nonce, aad, body)?;
+    out[..size].copy_from_slice(&body[..size]);
+    gctr(words, rounds, nonce, &mut out[..size], 0);
+    Ok(size)
+}
+
+/// The same in one buffer: the body stands behind its first `from` bytes, and the data stands at
+/// its front afterwards.
+pub fn gcm_unseal_in_place(
+    words: &[u32; 60],
+    rounds: Rounds,
+    nonce: &[u8; 12],
+    aad: &[u8],
+    buffer: &mut [u8],
+    from: usize,
+) -> Result<usize, ModeNo>
+    requires schedule { IsSchedule words.now rounds }
+    requires aad_fits { length aad.now ≤ 4194304 }
+    requires fits { length buffer.old ≤ 4194304 }
+    requires from { from ≤ length buffer.old }
+    ensures opened { let body = drop from buffer.old in MatchResult result
+        (λ n. gcm_opened (cipher words.now rounds) nonce.now aad.now body ≡ Ok (take n buffer.new))
+        (λ why. gcm_opened (cipher words.now rounds) nonce.now aad.now body ≡ Err why) }
+    ensures within { IfOk result (λ n. from + n + 16 ≡ length buffer.new) }
+    ensures kept { OnErr result (buffer.new ≡ buffer.old) }
+{
+    let size = checked_length(words, rounds, nonce, aad, &buffer[from..])?;
+    gctr(words, rounds, nonce, &mut buffer[..from + size], from);
+    Ok(size)
+}
+
+/// The length of the data of a body, whose tag is looked at.
+fn checked_length(
+    words: &[u32; 60],
+    rounds: Rounds,
+    nonce: &[u8; NONCE],
+    aad: &[u8],
+    body: &[u8],
+) -> Result<usize, ModeNo>
+    requires schedule { IsSchedule words.now rounds }
+    requires aad_fits { length aad.now ≤ 4194304 }
+    requires fits { length body.now ≤ 4194304 }
+    ensures opened { let encipher = cipher words.now rounds in MatchResult result
+        (λ n. gcm_opened encipher nonce.now aad.now body.now
+        ≡ Ok (gctr encipher nonce.now (take n body.now)))
+        (λ why. gcm_opened encipher nonce.now aad.now body.now ≡ Err why) }
+    ensures within { IfOk result (λ n. n + 16 ≡ length body.now) }
+{
     if body.len() < TAG {
         return Err(ModeNo::Short);
     }
@@ -69,7 +136,6 @@ pub fn gcm_unseal(
     if !is_same(&tag, &body[size..]) {
         return Err(ModeNo::BadTag);
     }
-    gctr(words, rounds, nonce, &body[..size], &mut out[..size]);
     Ok(size)
 }
 
@@ -109,46 +175,52 @@ fn counter_block(nonce: &[u8; NONCE], n: u32) -> [u8; BLOCK]
     block
 }
 
-/// What begins the counter block: it is begun anew where its last byte is 0, since the block before
-/// it differs elsewhere too.
+/// What is begun for the counter block after `n` counts. It is begun anew where the last byte is 0,
+/// since the block before it differs elsewhere too.
 #[inline(always)]
-fn begun_for(words: &[u32; 60], begun: Begun, block: &[u8; BLOCK]) -> Begun
-    ensures { (before : List ℕ) → IsBegun words.now before begun
-        → (slice_index block.now 15 ≢ 0 → take 15 block.now ≡ take 15 before)
-        → IsBegun words.now block.now result }
+fn begun_for<'a>(begun: Begun<'a>, words: &'a [u32; 60], nonce: &[u8; NONCE], n: u32) -> Begun<'a>
+    requires some { 0 < n }
+    requires fits { n + 1 < 2 ^ 32 }
+    requires before { begun ≡ record {
+      words = words.now;
+      front = take 15 (counter_block nonce.now (n - 1));
+    } }
+    ensures { result ≡ record { words = words.now; front = take 15 (counter_block nonce.now n) } }
 {
-    if block[BLOCK - 1] == 0 {
-        Begun::new(words, block)
+    if (n + 1) % 256 == 0 {
+        Begun::new(words, &counter_block(nonce, n))
     } else {
         begun
     }
 }
 
-/// Writes the exclusive or of the bytes and the key stream.
-fn gctr(words: &[u32; 60], rounds: Rounds, nonce: &[u8; NONCE], bytes: &[u8], out: &mut [u8])
+/// Writes the exclusive or of the bytes that stand behind the first `from` ones and the key stream
+/// to the front of the buffer, so that no block is written over before it is read.
+fn gctr(words: &[u32; 60], rounds: Rounds, nonce: &[u8; NONCE], buffer: &mut [u8], from: usize)
     requires schedule { IsSchedule words.now rounds }
-    requires fits { length bytes.now ≤ 4194304 }
-    requires size { length out.old ≡ length bytes.now }
-    ensures { out.new ≡ gctr (cipher words.now rounds) nonce.now bytes.now }
+    requires from { from ≤ length buffer.old }
+    requires fits { length buffer.old ≤ 4194304 }
+    ensures { let bytes = drop from buffer.old in
+        take (length bytes) buffer.new ≡ gctr (cipher words.now rounds) nonce.now bytes }
 {
-    let whole = bytes.len() / BLOCK;
+    let size = buffer.len() - from;
+    let whole = size / BLOCK;
     let mut begun = Begun::new(words, &counter_block(nonce, 0));
     for index in 0..whole {
         let start = BLOCK * index;
-        let mut block = counter_block(nonce, (index + 1) as u32);
-        begun = begun_for(words, begun, &block);
-        begun.encrypt_block(words, rounds, &mut block);
-        blocks::add(&mut block, &blocks::whole_block(bytes, index));
-        out[start..start + BLOCK].copy_from_slice(&block);
+        let n = (index + 1) as u32;
+        begun = begun_for(begun, words, nonce, n);
+        let mut block = begun.encrypt_block(rounds, ((n + 1) % 256) as u8);
+        blocks::add(&mut block, &blocks::whole_block(&buffer[from..], index));
+        buffer[start..start + BLOCK].copy_from_slice(&block);
     }
-    if bytes.len() % BLOCK != 0 {
-        let size = bytes.len() % BLOCK;
-        let mut block = blocks::filled_block(bytes, whole, 0);
+    if size % BLOCK != 0 {
+        let mut block = blocks::filled_block(&buffer[from..], whole, 0);
         blocks::add(
             &mut block,
             &stream_block(words, rounds, nonce, (whole + 1) as u32),
         );
-        out[BLOCK * whole..].copy_from_slice(&block[..size]);
+        buffer[BLOCK * whole..size].copy_from_slice(&block[..size % BLOCK]);
     }
 }
 

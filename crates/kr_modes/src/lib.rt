@@ -8,8 +8,8 @@ mod gcm;
 mod ghash;
 pub mod laws;
 
-pub use cbc::{cbc_length, cbc_seal, cbc_unseal};
-pub use gcm::{gcm_seal, gcm_unseal};
+pub use cbc::{cbc_length, cbc_seal, cbc_seal_in_place, cbc_unseal, cbc_unseal_in_place};
+pub use gcm::{gcm_seal, gcm_seal_in_place, gcm_unseal, gcm_unseal_in_place};
 
 /// Why a sealed value isn't opened.
 #[derive(Clone, Copy, PartialEq, Eq, Debug)]

@@ -10,7 +10,7 @@ ghost use Rattle.kr_steps.specs.inner.Lent.{with_lent_tape};
 ghost use Rattle.kr_steps.specs.inner.Phases.{Does};
 ghost use Rattle.kr_steps.specs.inner.Tapes.{IsLookedUp};
 
-use kr_base::{Shared, Tape, Text};
+use kr_base::{Bytes, Shared, Tape, Text};
 use kr_commands::{Direction, Lookup, Object, Outcome, Refusal, Stop};
 use kr_kms::World;
 use kr_steps::{Task, close_tape, configure, load_store, make, open_tape, programs_of};
@@ -36,13 +36,15 @@ pub fn get<W: World>(alloc: Global, words: &Lookup, world: &mut W) -> Result<Out
         Err(stop) => return Err(stop),
     };
     let found = row.get();
+    let Ok(value) = Bytes::copy(alloc, found.stored.as_slice()) else {
+        return Err(Stop::NoMemory);
+    };
     let task = Task {
         direction: Direction::Decrypt,
         resource: found.resource.as_str(),
         path: words.path.as_str(),
-        bytes: found.stored.as_slice(),
     };
-    make(alloc, &task, settings, programs.as_slice(), world)
+    make(alloc, &task, value, settings, programs.as_slice(), world)
 }
 
 /// The live row of the path in the store of a file.

@@ -64,7 +64,7 @@ pub fn put<W: World, I: Source>(
         settings,
         programs.as_slice(),
         world,
-        &bytes,
+        bytes,
     )
 }
 
@@ -76,15 +76,15 @@ fn put_into<W: World>(
     settings: Settings,
     programs: &[Program],
     world: &mut W,
-    bytes: &Bytes,
+    bytes: Bytes,
 ) -> Result<Outcome, Stop>
     requires programs { map (λ program. program.plugin) programs.now
         ≡ plugin_order (rows_of settings.entries.0) }
     requires path { IsPath words.now.path }
     requires resource { IsResource words.now.resource }
-    requires fits { length bytes.now ≤ data_limit }
+    requires fits { length bytes ≤ data_limit }
     ensures { (a : Around) → a.truth ≡ W.Link.truth → Does (stored_into words.now store.now
-        (rows_of settings.entries.0) programs.now bytes.now)
+        (rows_of settings.entries.0) programs.now bytes)
         (with_world (W.told world.old) a) (with_world (W.told world.new) a) result }
 {
     let name = store.as_str();
@@ -105,16 +105,16 @@ fn put_on<W: World>(
     programs: &[Program],
     world: &mut W,
     tape: W::Tap,
-    bytes: &Bytes,
+    bytes: Bytes,
 ) -> (Result<Outcome, Stop>, W::Tap)
     requires programs { map (λ program. program.plugin) programs.now
         ≡ plugin_order (rows_of settings.entries.0) }
     requires path { IsPath words.now.path }
     requires resource { IsResource words.now.resource }
-    requires fits { length bytes.now ≤ data_limit }
+    requires fits { length bytes ≤ data_limit }
     ensures made { (name : List ℕ) (a : Around) → a.truth ≡ W.Link.truth → Does
         (and_then (stored_on objects.Object.Store name) (sealed_into words.now name
-        (rows_of settings.entries.0) programs.now bytes.now))
+        (rows_of settings.entries.0) programs.now bytes))
         (with_lent_tape name (W.Tap.told tape) (W.Tap.count tape) (with_world (W.told world.old) a))
         (with_lent_tape name (W.Tap.told result.1) (W.Tap.count result.1)
         (with_world (W.told world.new) a)) result.0 }
@@ -129,9 +129,8 @@ fn put_on<W: World>(
         direction: Direction::Encrypt,
         resource: words.resource.as_str(),
         path: words.path.as_str(),
-        bytes: bytes.as_slice(),
     };
-    let sealed = match make(alloc, &task, settings, programs, world) {
+    let sealed = match make(alloc, &task, bytes, settings, programs, world) {
         Ok(sealed) => sealed,
         Err(stop) => return (Err(stop), store.close()),
     };

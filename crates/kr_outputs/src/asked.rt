@@ -3,7 +3,7 @@
 //!     adopt REPLICA, leave REPLICA, reload REPLICA, join REPLICA, letgo
 //!     fetch PATH, after PATH, delete PATH, put PATH RESOURCE HEX, replace PATH REVISION
 use crate::configuration::published;
-use crate::words::{Wrong, bytes_of, number_of, revision_of, text_of, two_words};
+use crate::words::{Wrong, both, bytes_of, number_of, revision_of, text_of, two_words};
 use kr_base::{Bytes, Text};
 use kr_rollout::Did;
 use std::alloc::Global;
@@ -51,12 +51,19 @@ fn about_replica(alloc: Global, kind: &str, replica: u32) -> Result<Did, Wrong> 
 fn put_of(alloc: Global, rest: &str) -> Result<Did, Wrong> {
     let (path, rest) = two_words(rest)?;
     let (resource, plain) = two_words(rest)?;
-    let plain = Bytes::from_vec(bytes_of(alloc, plain)?);
-    Ok(Did::Put {
-        path: text_of(alloc, path)?,
-        resource: text_of(alloc, resource)?,
-        plain,
-    })
+    let names = both(text_of(alloc, path), text_of(alloc, resource));
+    match both(names, bytes_of(alloc, plain)) {
+        Ok((names, plain)) => {
+            let (path, resource) = names;
+            let plain = Bytes::from_vec(plain);
+            Ok(Did::Put {
+                path,
+                resource,
+                plain,
+            })
+        }
+        Err(why) => Err(why),
+    }
 }
 
 /// `PATH REVISION`.

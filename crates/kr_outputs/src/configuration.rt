@@ -11,13 +11,23 @@ const FILE: &str = r#"{"apiVersion":"apiserver.config.k8s.io/v1","kind":"Encrypt
 
 /// Publishes one configuration, whose provider is identity: no plugin is asked, nothing is drawn.
 pub fn published(alloc: Global) -> Result<Shared<Published>, Wrong> {
-    let settings = match read(alloc, FILE.as_bytes()) {
-        Ok(settings) => settings,
-        Err(_) => return Err(Wrong::Form),
-    };
-    match Shared::new(alloc, settings) {
-        Ok(settings) => publish_bare(alloc, settings),
-        Err(_) => Err(Wrong::Memory),
+    match read(alloc, FILE.as_bytes()) {
+        Ok(settings) => publish_bare(alloc, shared(alloc, settings)?),
+        Err(why) => {
+            drop(why);
+            Err(Wrong::Form)
+        }
+    }
+}
+
+/// A value to be shared.
+fn shared<T: Drop>(alloc: Global, value: T) -> Result<Shared<T>, Wrong> {
+    match Shared::new(alloc, value) {
+        Ok(shared) => Ok(shared),
+        Err(refused) => {
+            drop(refused);
+            Err(Wrong::Memory)
+        }
     }
 }
 
@@ -25,14 +35,19 @@ pub fn published(alloc: Global) -> Result<Shared<Published>, Wrong> {
 fn publish_bare(alloc: Global, settings: Shared<Settings>) -> Result<Shared<Published>, Wrong> {
     let mut links = Links::<TablePlugin>::new(alloc);
     if !links.serve(settings.get()) {
+        drop(links);
+        drop(settings);
         return Err(Wrong::Form);
     }
     let mut dice = MemDice::new(Bytes::new(alloc), List::new(alloc));
-    match publish(alloc, settings, &mut links, &mut dice) {
-        Ok(published) => match Shared::new(alloc, published) {
-            Ok(shared) => Ok(shared),
-            Err(_) => Err(Wrong::Memory),
-        },
-        Err(_) => Err(Wrong::Memory),
+    let made = publish(alloc, settings, &mut links, &mut dice);
+    drop(links);
+    drop(dice);
+    match made {
+        Ok(published) => shared(alloc, published),
+        Err(why) => {
+            drop(why);
+            Err(Wrong::Memory)
+        }
     }
 }

@@ -12,15 +12,45 @@ mod verdict;
 mod words;
 
 use page::Page;
-use std::io::{self, BufRead, BufReader, BufWriter, Write};
+use std::alloc::Global;
+use std::io::{self, BufRead, BufReader, BufWriter, Lines, Write};
 
 fn main(rt: HostRuntime) -> io::Result<()> {
     let alloc = rt.alloc();
     let mut output = BufWriter::new(alloc, rt.stdout())?;
+    let lines = BufReader::new(alloc, rt.stdin())?.lines(alloc);
     let mut current: Option<Page> = None;
-    for line in BufReader::new(alloc, rt.stdin())?.lines(alloc) {
-        let text = reading::answer(alloc, &mut current, line?.as_str())?;
-        output.write_all(text.as_slice())?;
-    }
+    let answered = answer_all(alloc, &mut current, lines, &mut output);
+    drop(current);
+    answered?;
     output.flush()
+}
+
+/// Prints what the lines are answered by.
+fn answer_all<R: BufRead + Drop, W: Write>(
+    alloc: Global,
+    current: &mut Option<Page>,
+    lines: Lines<R>,
+    output: &mut W,
+) -> io::Result<()> {
+    for line in lines {
+        answer_line(alloc, current, line, output)?;
+    }
+    Ok(())
+}
+
+/// Prints what the line is answered by.
+fn answer_line<W: Write>(
+    alloc: Global,
+    current: &mut Option<Page>,
+    line: io::Result<String>,
+    output: &mut W,
+) -> io::Result<()> {
+    let line = line?;
+    let answer = reading::answer(alloc, current, line.as_str());
+    drop(line);
+    let answer = answer?;
+    let written = output.write_all(answer.as_slice());
+    drop(answer);
+    written
 }

@@ -19,6 +19,17 @@ pub struct Page {
     told: List<Told>,
 }
 
+/// One more item at the end.
+fn added<T: Drop>(all: &mut List<T>, item: T) -> Result<(), Wrong> {
+    match all.push(item) {
+        Ok(()) => Ok(()),
+        Err(refused) => {
+            drop(refused);
+            Err(Wrong::Memory)
+        }
+    }
+}
+
 impl Page {
     /// The script's output with no journal lines and no replies yet.
     pub fn new(alloc: Global, script: Script) -> Page {
@@ -32,37 +43,37 @@ impl Page {
 
     /// One more line at the journal's end.
     pub fn add_line(&mut self, line: Line) -> Result<(), Wrong> {
-        match self.journal.push(line) {
-            Ok(()) => Ok(()),
-            Err(_) => Err(Wrong::Memory),
-        }
+        added(&mut self.journal, line)
     }
 
     /// One more reply of the worker at hand.
     pub fn add_reply(&mut self, told: Told) -> Result<(), Wrong> {
-        match self.told.push(told) {
-            Ok(()) => Ok(()),
-            Err(_) => Err(Wrong::Memory),
-        }
+        added(&mut self.told, told)
     }
 
     /// The worker at hand told all; what follows is the next one's, in the order of the file.
     pub fn end_worker(&mut self, alloc: Global) -> Result<(), Wrong> {
         let told = mem::replace(&mut self.told, List::new(alloc));
-        match self.replies.push(told) {
-            Ok(()) => Ok(()),
-            Err(_) => Err(Wrong::Memory),
-        }
+        added(&mut self.replies, told)
     }
 
     /// The output, with the replies of the workers before the one at hand.
     pub fn print(&self, alloc: Global) -> Result<Vec<u8>, Wrong> {
         let mut sink = MemSink::new(Bytes::new(alloc), ROOM, List::new(alloc))?;
+        let printed = self.write(alloc, &mut sink);
+        drop(sink);
+        printed
+    }
+
+    fn write(&self, alloc: Global, sink: &mut MemSink) -> Result<Vec<u8>, Wrong> {
         let journal = self.journal.as_slice();
         let replies = self.replies.as_slice();
-        match write_fleet(alloc, &mut sink, &self.script, journal, replies) {
+        match write_fleet(alloc, sink, &self.script, journal, replies) {
             Ok(()) => Ok(sink.bytes().to_vec(alloc)?),
-            Err(_) => Err(Wrong::Form),
+            Err(why) => {
+                drop(why);
+                Err(Wrong::Form)
+            }
         }
     }
 }

@@ -10,10 +10,11 @@ use crate::answered::gave_of;
 use crate::asked::did_of;
 use crate::page::Page;
 use crate::told::told_of;
-use crate::words::{Wrong, bytes_of, number_of, two_words};
+use crate::words::{Wrong, both, bytes_of, number_of, two_words};
 use kr_rollout::Line;
 use kr_script::read_script;
 use std::alloc::{AllocError, Global};
+use std::mem;
 
 /// Takes the line up, and tells what is printed for it.
 pub fn answer(
@@ -36,7 +37,8 @@ fn act(alloc: Global, current: &mut Option<Page>, line: &str) -> Result<Vec<u8>,
     match key {
         "#" => Ok(Vec::new(alloc)),
         "fleet" => {
-            *current = Some(begin(alloc, rest)?);
+            let page = begin(alloc, rest)?;
+            drop(mem::replace(current, Some(page)));
             Ok(Vec::new(alloc))
         }
         _ => match current {
@@ -62,9 +64,14 @@ fn act_on(alloc: Global, page: &mut Page, key: &str, rest: &str) -> Result<Vec<u
 /// `HEX`.
 fn begin(alloc: Global, rest: &str) -> Result<Page, Wrong> {
     let file = bytes_of(alloc, rest)?;
-    match read_script(alloc, file.as_slice()) {
+    let script = read_script(alloc, file.as_slice());
+    drop(file);
+    match script {
         Ok(script) => Ok(Page::new(alloc, script)),
-        Err(_) => Err(Wrong::Form),
+        Err(why) => {
+            drop(why);
+            Err(Wrong::Form)
+        }
     }
 }
 
@@ -75,9 +82,8 @@ fn line_of(alloc: Global, rest: &str) -> Result<Line, Wrong> {
     let Some((did, gave)) = rest.split_once(" | ") else {
         return Err(Wrong::Form);
     };
-    let gave = gave_of(alloc, gave)?;
-    match did_of(alloc, did) {
-        Ok(did) => Ok(Line {
+    match both(gave_of(alloc, gave), did_of(alloc, did)) {
+        Ok((gave, did)) => Ok(Line {
             seat,
             did,
             held: None,

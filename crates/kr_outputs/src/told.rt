@@ -6,7 +6,7 @@
 //!     refreshed GENERATION, unchanged, moved GENERATION, refused VERDICT, value NUMBER
 //!     unhealthy NAME FIELD TEXT, plugin NAME, dice SEAT, store, full, memory
 use crate::verdict::verdict_of;
-use crate::words::{Wrong, bytes_of, number_of, revision_of, text_of, two_words};
+use crate::words::{Wrong, both, bytes_of, number_of, revision_of, text_of, two_words};
 use kr_base::Bytes;
 use kr_kms::Field;
 use kr_provider::ValueNo;
@@ -128,9 +128,8 @@ fn unhealthy(alloc: Global, rest: &str) -> Result<Told, Wrong> {
     let (name, rest) = two_words(rest)?;
     let (field, text) = two_words(rest)?;
     let field = field_of(field)?;
-    let name = text_of(alloc, name)?;
-    match text_of(alloc, text) {
-        Ok(text) => Ok(Told::Unhealthy { name, field, text }),
+    match both(text_of(alloc, name), text_of(alloc, text)) {
+        Ok((name, text)) => Ok(Told::Unhealthy { name, field, text }),
         Err(why) => Err(why),
     }
 }

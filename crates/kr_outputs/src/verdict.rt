@@ -1,5 +1,5 @@
 //! Verdicts, in the words in which they are printed.
-use crate::words::{Wrong, number_of, two_words};
+use crate::words::{Wrong, both, number_of, two_words};
 use kr_base::{Bytes, Text};
 use kr_config::{Class, Who};
 use kr_judge::Verdict;
@@ -20,12 +20,15 @@ pub fn verdict_of(alloc: Global, text: &str) -> Result<Verdict, Wrong> {
     }
 }
 
+fn kept(alloc: Global, word: &str) -> Result<Text, Wrong> {
+    Ok(Text::copy(alloc, word)?)
+}
+
 /// `PATH WHO`.
 fn stored(alloc: Global, rest: &str) -> Result<Verdict, Wrong> {
     let (path, who) = two_words(rest)?;
-    let path = Text::copy(alloc, path)?;
-    match who_of(alloc, who) {
-        Ok(who) => Ok(Verdict::DropsStored { path, who }),
+    match both(kept(alloc, path), who_of(alloc, who)) {
+        Ok((path, who)) => Ok(Verdict::DropsStored { path, who }),
         Err(why) => Err(why),
     }
 }
@@ -35,9 +38,8 @@ fn numbered(alloc: Global, is_writer: bool, rest: &str) -> Result<Verdict, Wrong
     let (generation, rest) = two_words(rest)?;
     let generation = number_of(generation)?;
     let (class, who) = two_words(rest)?;
-    let class = class_of(alloc, class)?;
-    match who_of(alloc, who) {
-        Ok(who) => Ok(placed(is_writer, generation, class, who)),
+    match both(class_of(alloc, class), who_of(alloc, who)) {
+        Ok((class, who)) => Ok(placed(is_writer, generation, class, who)),
         Err(why) => Err(why),
     }
 }
@@ -62,8 +64,8 @@ fn class_of(alloc: Global, text: &str) -> Result<Class, Wrong> {
         return Ok(Class::Rest);
     }
     match text.strip_prefix("*.") {
-        Some(group) => Ok(Class::Group(Text::copy(alloc, group)?)),
-        None => Ok(Class::Exact(Text::copy(alloc, text)?)),
+        Some(group) => Ok(Class::Group(kept(alloc, group)?)),
+        None => Ok(Class::Exact(kept(alloc, text)?)),
     }
 }
 
@@ -75,11 +77,14 @@ fn who_of(alloc: Global, text: &str) -> Result<Who, Wrong> {
     let Some((kind, name)) = text.split_once(':') else {
         return Err(Wrong::Form);
     };
-    let name = Text::copy(alloc, name)?;
+    let name = kept(alloc, name)?;
     match kind {
         "aescbc" => Ok(Who::Aescbc(name, Bytes::new(alloc))),
         "aesgcm" => Ok(Who::Aesgcm(name, Bytes::new(alloc))),
         "kms" => Ok(Who::Kms(name)),
-        _ => Err(Wrong::Form),
+        _ => {
+            drop(name);
+            Err(Wrong::Form)
+        }
     }
 }

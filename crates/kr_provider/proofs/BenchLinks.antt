@@ -1,5 +1,5 @@
 -- The links of a bench, which serve its configuration after each call.
-use Rattle.std.proofs.Common.{ℕ, List, Option, Some, None, Result, Ok, Err, sym, subst}
+use Rattle.std.proofs.Common.{ℕ, List, Option, Some, None, Result, Ok, Err, inl, refl, sym, subst}
 use Rattle.std.specs.Prelude.{IfSome}
 use Rattle.kr_config.specs.declared.who.Who.{Who}
 use Rattle.kr_kms.specs.Calls.{Link}
@@ -13,7 +13,7 @@ use Rattle.kr_provider.specs.Unsealing.{UnsealsBy, plugin_reading}
 use Rattle.kr_provider.specs.declared.refusal.Opened.{Opened}
 use Rattle.kr_provider.specs.declared.refusal.UnsealNo.{UnsealNo}
 use Rattle.kr_provider.specs.declared.refusal.UnsealNo.TheVariants.{Refused, PluginFailed, NoMemory}
-use Rattle.kr_provider.proofs.AskedLists.{names_stay}
+use Rattle.kr_provider.proofs.AskedLists.{asked_none, names_stay}
 
 module _ {L : Type 0} (link : L → Link) where
   pub adopted_stay : (names : List (List ℕ)) (olds news : List L) (o : Option Publication)
@@ -40,3 +40,13 @@ module _ {L : Type 0} (link : L → Link) where
   unsealed_stay truth resource path bytes olds news (Some p) result u h =
       adopted_stay (plugin_reading (reader_in (list_at p resource) bytes)) olds news (Some p)
       (unsealed_asks truth p.seeds (list_at p resource) path bytes olds news result u) h
+
+  -- there was no memory for a copy of the value, and no link was asked
+  pub uncopied : (truth : Truth) (resource path bytes : List ℕ) (links : List L)
+      (o : Option Publication) → IfSome o (λ p. UnsealsBy truth link p.seeds (list_at p resource)
+      path bytes links (Err NoMemory) links)
+  uncopied truth resource path bytes links None = tt
+  uncopied truth resource path bytes links (Some p) = record {
+    asked = asked_none link (plugin_reading (reader_in (list_at p resource) bytes)) links;
+    unasked = inl refl;
+  }

@@ -1,9 +1,9 @@
 -- A sealed value: a prefix, and what was written behind it.
-use Rattle.std.proofs.Common.{◌≡◌, ℕ, ◌+◌, ◌-◌, ◌≤◌, List, ◌++◌, length, take, drop, replicate, Bool, false, sym, ◌∙◌, ap, arith}
+use Rattle.std.proofs.Common.{◌≡◌, ℕ, ◌≤◌, List, ◌++◌, length, take, drop, Bool, false, sym, ◌∙◌, ap, arith}
 use Rattle.std.specs.Prelude.{if◌then◌else◌, nat_lt, None}
 use Rattle.std.proofs.Math.Seq.{take-length}
 use Rattle.std.proofs.lemmas.Bool.Decides.{nat_tests}
-use Rattle.std.proofs.lemmas.List.{take-append-le, length-append, length-replicate}
+use Rattle.std.proofs.lemmas.List.{take-append-le}
 use Rattle.kr_config.specs.declared.who.Who.{Who}
 use Rattle.kr_kms.specs.declared.seeds.SeedRow.{SeedRow}
 use Rattle.kr_provider.specs.Sealing.{sealed_by, value_by}
@@ -12,19 +12,12 @@ front : (xs ys : List ℕ) (n : ℕ) → n ≡ length xs → take n (xs ++ ys) �
 front xs ys n e = ap (λ k. take k (xs ++ ys)) e ∙ take-append-le (length xs) xs ys (omega arith)
     ∙ take-length xs
 
-pub filled : (result new now items prefix sealed : List ℕ) (count len room : ℕ)
+-- what was written into a vector that kept its length is all of it
+pub all_new : (result new now items : List ℕ) (count : ℕ)
     → result ≡ take count (new ++ drop (length new) items) → length new ≡ length now → now ≡ items
-    → count ≡ length items → len ≡ count
-    → items ≡ prefix ++ replicate room 0 → new ≡ take (len - room) now ++ sealed
-    → result ≡ prefix ++ sealed
-filled result new now items prefix sealed count len room r long same counted all made n =
-    let sizes : length items ≡ length prefix + room = ap length made
-    ∙ length-append prefix (replicate room 0)
-    ∙ ap (λ k. length prefix + k) (length-replicate room 0) in
-    r ∙ front new (drop (length new) items) count (counted ∙ sym (long ∙ ap length same)) ∙ n
-    ∙ ap (λ l. take (len - room) l ++ sealed) (same ∙ made)
-    ∙ ap (λ l. l ++ sealed) (front prefix (replicate room 0) (len - room)
-    (omega (arith, sizes, counted, all)))
+    → count ≡ length items → result ≡ new
+all_new result new now items count r long same counted =
+    r ∙ front new (drop (length new) items) count (counted ∙ sym (long ∙ ap length same))
 
 not_above : (n m : ℕ) → n ≤ m → nat_lt m n ≡ false
 not_above n m h = grind (arith, nat_tests)

@@ -3,6 +3,7 @@ mod Behind
 mod Bodies
 mod Booleans
 mod Filled
+mod Framed
 mod LinkNames
 mod Serving
 pub mod Lists

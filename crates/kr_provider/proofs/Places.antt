@@ -1,7 +1,9 @@
 -- The reader of a value, by its place in the list.
-use Rattle.std.proofs.Common.{◌≡◌, ℕ, zero, suc, ◌<◌, ◌≤◌, Bool, true, false, List, [], ◌∷◌, length, get_or, Option, Some, None, Ok, refl, sym, ◌∙◌, ap, subst, arith}
+use Rattle.std.proofs.Common.{◌≡◌, ℕ, zero, suc, ◌<◌, ◌≤◌, ◌-◌, Bool, true, false, List, [], ◌∷◌, length, drop, get_or, Option, Some, None, Ok, inl, inr, refl, sym, ◌∙◌, ap, subst, arith}
 use Rattle.std.specs.Prelude.{◌&&◌, ◌||◌, not, nat_eq}
 use Rattle.std.proofs.lemmas.Bool.Decides.{nat_tests}
+use Rattle.std.proofs.lemmas.Bool.{cases_lt}
+use Rattle.std.proofs.lemmas.List.{drop_all, length-drop}
 use Rattle.std.proofs.lemmas.List.Quantifiers.{position-Some}
 use Rattle.kr_config.specs.declared.who.Who.{Who}
 use Rattle.kr_config.specs.declared.who.Who.TheVariants.{Identity, Aescbc, Aesgcm, Kms}
@@ -11,7 +13,7 @@ use Rattle.kr_kms.proofs.Lent.{found_at, no_place}
 use Rattle.kr_provider.specs.Envelopes.{Envelope}
 use Rattle.kr_envelope.specs.declared.object.EncryptedObject.{EncryptedObject}
 use Rattle.kr_provider.specs.Publication.{seed_of}
-use Rattle.kr_provider.specs.Readers.{body_by, is_reader, reader_in, reader_place, writer_of}
+use Rattle.kr_provider.specs.Readers.{body_by, is_reader, prefix_by, reader_in, reader_place, writer_of}
 use Rattle.kr_provider.specs.Reading.{is_current, is_rotated, is_stale}
 use Rattle.kr_provider.specs.inner.Sources.{IsReadBy}
 
@@ -106,3 +108,33 @@ stale_by_plugin object source seeds row list bytes body name true s r =
 stale_by_plugin object source seeds row list bytes body name false s r =
     ap (λ b. not b || is_rotated (record { object = Ok object; source = source }) seeds
     (writer_of list)) r.first_is
+
+-- ---- where the body begins
+
+behind : (k : ℕ) (bytes : List ℕ) → drop (length bytes - length (drop k bytes)) bytes ≡ drop k bytes
+behind k bytes = elim (cases_lt (length bytes) k) [
+  | inr within ↦
+      let at : length bytes - length (drop k bytes) ≡ k = omega (arith, length-drop k bytes) in
+      ap (λ n. drop n bytes) at
+  | inl past ↦
+      let at : length bytes - length (drop k bytes) ≡ length bytes = omega (arith, length-drop k bytes) in
+      ap (λ n. drop n bytes) at ∙ drop_all (length bytes) bytes (omega arith) ∙ sym (drop_all k bytes (omega arith))
+]
+
+-- the body of a value, by how much stands before it
+pub body_behind : (who : Who) (bytes body value : List ℕ) → bytes ≡ value → body ≡ body_by who bytes
+    → drop (length bytes - length body) value ≡ body_by who value
+body_behind who bytes body value same is =
+    (λ i. drop (length (same i) - length (there i)) value)
+    ∙ behind (length (prefix_by who)) value
+  where
+    there : body ≡ body_by who value
+    there = is ∙ ap (body_by who) same
+
+-- before what identity reads nothing stands
+pub bare_behind : (who : Who) (bytes body : List ℕ) → body ≡ body_by who bytes → who ≡ Identity
+    → length bytes - length body ≡ 0
+bare_behind who bytes body is e =
+    let whole : body ≡ bytes = is ∙ ap (λ w. body_by w bytes) e in
+    let long : length body ≡ length bytes = ap length whole in
+    omega (arith, long)

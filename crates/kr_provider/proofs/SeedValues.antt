@@ -1,8 +1,7 @@
 -- A plugin's value: its parts in front of the sealed bytes and behind them.
-use Rattle.std.proofs.Common.{◌≡◌, ℕ, ◌+◌, ◌≤◌, List, [], ◌∷◌, ◌++◌, length, take, drop, replicate, Some, sym, ◌∙◌, ap, arith, append_assoc, take_at, drop_at}
+use Rattle.std.proofs.Common.{◌≡◌, ℕ, ◌+◌, ◌≤◌, List, [], ◌∷◌, ◌++◌, length, take, drop, Some, sym, ◌∙◌, ap, arith, append_assoc, take_at}
 use Rattle.std.specs.Option.{option_map}
-use borrow.Rule.Slice.PartMut.{put_mid}
-use Rattle.std.proofs.lemmas.List.{length-replicate, length-take-le}
+use Rattle.std.proofs.lemmas.List.{length-take-le}
 use Rattle.kr_envelope.specs.declared.prefix.Kind.TheVariants as kind
 use Rattle.kr_envelope.specs.declared.object.SourceKind.TheVariants.{Seed}
 use Rattle.kr_envelope.specs.Canonical.{canonical, content_field, fields_behind, shortest}
@@ -19,30 +18,6 @@ field_is : (body : List ℕ) (size : ℕ) → length body ≡ size → 1 ≤ siz
     → content_field 1 body ≡ 10 ∷ (shortest size ++ body)
 field_is [] size e some = absurd (omega (arith, e, some))
 field_is (byte ∷ bytes) size e some = ap (λ n. 10 ∷ (shortest n ++ byte ∷ bytes)) e
-
--- what was written between zeros' neighbours is the value
-pub put_between : (front behind body : List ℕ) (start size : ℕ) → start ≡ length front
-    → put_mid start size (front ++ (replicate size 0 ++ behind)) body ≡ front ++ (body ++ behind)
-put_between front behind body start size e =
-    let zeros : List ℕ = replicate size 0 in
-    let first : take start (front ++ (zeros ++ behind)) ≡ front =
-    take_at front (zeros ++ behind) start (sym e) in
-    let rest : drop size (drop start (front ++ (zeros ++ behind))) ≡ behind =
-    ap (drop size) (drop_at front (zeros ++ behind) start (sym e))
-    ∙ drop_at zeros behind size (length-replicate size 0) in
-    (λ i. first i ++ (body ++ rest i))
-
--- what was written into a vector that kept its length
-pub filled_between : (result new now items front behind body : List ℕ) (count start size : ℕ)
-    → result ≡ take count (new ++ drop (length new) items) → length new ≡ length now
-    → now ≡ items → count ≡ length items → start ≡ length front
-    → items ≡ front ++ (replicate size 0 ++ behind) → new ≡ put_mid start size now body
-    → result ≡ front ++ (body ++ behind)
-filled_between result new now items front behind body count start size r long same counted at made n =
-    r ∙ take_at new (drop (length new) items) count
-    (long ∙ ap (λ (l : List ℕ). length l) same ∙ sym counted)
-    ∙ n ∙ ap (λ l. put_mid start size l body) (same ∙ made)
-    ∙ put_between front behind body start size at
 
 -- what stands behind the info is under the key that it makes
 pub body_written : (seed path plain drawn info first rest nonce key value : List ℕ)

@@ -15,7 +15,7 @@ use crate::links::Links;
 use crate::making::refusal_at;
 use crate::published::{Published, publish};
 use crate::refusal::{Opened, PagesFull, PublishNo, SealNo, UnsealNo};
-use crate::sealing::{seal_by, tell_bytes};
+use crate::sealing::{beside, seal_by};
 use crate::values::unseal_for;
 use kr_base::{Bytes, Dice, NoMemory, Shared, Text};
 use kr_config::Settings;
@@ -140,6 +140,31 @@ impl<L: Kms, D: Dice> Bench<L, D> {
         ensures later { D.count self.old.dice ≤ D.count self.new.dice }
         ensures kept { self.new ≡ record self.old { dice = self.new.dice } }
     {
+        let beside = beside(self.adoption.published().writer_for(resource));
+        match with_room(alloc, plain, beside) {
+            Ok(plain) => self.seal_in_place(alloc, resource, path, plain),
+            Err(_) => Err(SealNo::NoMemory),
+        }
+    }
+
+    /// The same, in the buffer of data that are given away, as far as that has the room.
+    pub fn seal_in_place(
+        &mut self,
+        alloc: Global,
+        resource: &str,
+        path: &str,
+        plain: Bytes,
+    ) -> Result<Bytes, SealNo>
+        requires adopted { IsSome self.old.published }
+        requires path { length path.now ≤ path_limit }
+        ensures sealed { IfSome self.old.published (λ p. Seals D.left D.count p.seeds
+            (writer_at p resource.now) path.now plain self.old.dice self.new.dice result) }
+        ensures sealing { IfSome self.old.published (λ p. IfOk result
+            (λ value. IsSealing p resource.now path.now plain value)) }
+        ensures size { IfOk result (λ value. length value ≤ value_limit) }
+        ensures later { D.count self.old.dice ≤ D.count self.new.dice }
+        ensures kept { self.new ≡ record self.old { dice = self.new.dice } }
+    {
         seal_for(alloc, &self.adoption, resource, path, plain, &mut self.dice)
     }
 
@@ -165,6 +190,31 @@ impl<L: Kms, D: Dice> Bench<L, D> {
         ensures kept { self.new
             ≡ record self.old { links = self.new.links; cache = self.new.cache } }
     {
+        match Bytes::copy(alloc, bytes) {
+            Ok(value) => self.unseal_in_place(alloc, resource, path, value),
+            Err(_) => Err(UnsealNo::NoMemory),
+        }
+    }
+
+    /// The same, in the buffer of a stored value that is given away.
+    pub fn unseal_in_place(
+        &mut self,
+        alloc: Global,
+        resource: &str,
+        path: &str,
+        value: Bytes,
+    ) -> Result<Opened, UnsealNo>
+        requires adopted { IsSome self.old.published }
+        requires path { length path.now ≤ path_limit }
+        requires fits { length value ≤ value_limit }
+        ensures opened { IfSome self.old.published (λ p. UnsealsBy L.truth L.link p.seeds
+            (list_at p resource.now) path.now value self.old.links result self.new.links) }
+        ensures cached { IfSome self.old.published (λ p. HeedsCache self.old.cache.rows
+            p.seeds (list_at p resource.now) path.now value self.old.links result
+            self.new.links) }
+        ensures kept { self.new
+            ≡ record self.old { links = self.new.links; cache = self.new.cache } }
+    {
         unseal_for(
             alloc,
             &self.adoption,
@@ -172,7 +222,7 @@ impl<L: Kms, D: Dice> Bench<L, D> {
             &mut self.cache,
             resource,
             path,
-            bytes,
+            value,
         )
     }
 
@@ -220,29 +270,38 @@ impl<L: Kms, D: Dice> Bench<L, D> {
     }
 }
 
-/// The value by the writer of the resource's list.
+/// The value by the writer of the resource's list, made in the data's buffer.
 fn seal_for<D: Dice>(
     alloc: Global,
     adoption: &Adoption,
     resource: &str,
     path: &str,
-    plain: &[u8],
+    plain: Bytes,
     dice: &mut D,
 ) -> Result<Bytes, SealNo>
     requires adopted { IsSome adoption.now.published }
     requires path { length path.now ≤ path_limit }
     ensures sealed { IfSome adoption.now.published (λ p. Seals D.left D.count p.seeds
-        (writer_at p resource.now) path.now plain.now dice.old dice.new result) }
+        (writer_at p resource.now) path.now plain dice.old dice.new result) }
     ensures sealing { IfSome adoption.now.published (λ p. IfOk result
-        (λ value. IsSealing p resource.now path.now plain.now value)) }
+        (λ value. IsSealing p resource.now path.now plain value)) }
     ensures size { IfOk result (λ value. length value ≤ value_limit) }
     ensures later { D.count dice.old ≤ D.count dice.new }
 {
     let published = adoption.published();
     let writer = published.writer_for(resource);
     let words = adoption.words(writer);
-    tell_bytes(plain);
+    plain.known();
     seal_by(alloc, writer, published.seeds(), words, path, plain, dice)
+}
+
+/// A copy of the data, with room for so many bytes beside them.
+fn with_room(alloc: Global, plain: &[u8], beside: usize) -> Result<Bytes, NoMemory>
+    ensures { IfOk result (λ copy. copy ≡ plain.now) }
+{
+    let mut copy = Vec::with_capacity(alloc, plain.len().saturating_add(beside))?;
+    copy.extend_from_slice(plain)?;
+    Ok(Bytes::from_vec(copy))
 }
 
 /// The id of the key that the plugin of this name wraps with now.

@@ -1,5 +1,5 @@
 //! Seals: what a provider makes of an object's data.
-ghost use Rattle.std.specs.Prelude.{◌≡◌, ℕ, ◌<◌, ◌≤◌, ◌+◌, ◌-◌, ◌%◌, ◌++◌, List, true, length, take, replicate, All, IfSome, MatchResult};
+ghost use Rattle.std.specs.Prelude.{◌≡◌, ℕ, ◌<◌, ◌≤◌, ◌+◌, ◌-◌, ◌%◌, ◌++◌, List, true, length, take, drop, replicate, All, IfSome, MatchResult};
 ghost use Rattle.std.specs.Io.KnownBytes.{Consumes, Keeps};
 ghost use Rattle.kr_aes.specs.KeyExpansion.{IsKeyLength, padded_schedule};
 ghost use Rattle.kr_base.specs.Faults.{IsCounted};
@@ -24,7 +24,7 @@ use kr_base::{Bytes, DATA_LIMIT, Dice, Failed, Text};
 use kr_config::Who;
 use kr_envelope::{Kind, MARK, push_prefix};
 use kr_kms::SeedRow;
-use kr_modes::{cbc_length, cbc_seal, gcm_seal};
+use kr_modes::{cbc_length, cbc_seal_in_place, gcm_seal_in_place};
 use std::alloc::Global;
 
 /// The bytes of an IV.
@@ -36,15 +36,15 @@ pub(crate) const NONCE: usize = 12;
 /// The bytes of a tag.
 pub(crate) const TAG: usize = 16;
 
-/// The value of the data by a provider, whose key's words are given, a plugin's under its seed. The
-/// memory for it is taken before the dice is asked.
+/// The value of the data by a provider, whose key's words are given, a plugin's under its seed. It
+/// is made in the data's buffer. The memory for it is taken before the dice is asked.
 pub(crate) fn seal_by<D: Dice>(
     alloc: Global,
     who: &Who,
     seeds: &[SeedRow],
     words: &[u32; 60],
     path: &str,
-    plain: &[u8],
+    plain: Bytes,
     dice: &mut D,
 ) -> Result<Bytes, SealNo>
     requires provider { is_provider who.now ≡ true }
@@ -52,17 +52,16 @@ pub(crate) fn seal_by<D: Dice>(
     requires rows { All IsSeedRow seeds.now }
     requires words { HasWords who.now words.now }
     requires path { length path.now ≤ path_limit }
-    ensures sealed { Seals D.left D.count seeds.now who.now path.now plain.now dice.old dice.new
+    ensures sealed { Seals D.left D.count seeds.now who.now path.now plain dice.old dice.new
         result }
     ensures later { D.count dice.old ≤ D.count dice.new }
 {
-    if plain.len() as u64 > DATA_LIMIT {
-        return Err(SealNo::TooLarge {
-            length: plain.len() as u64,
-        });
+    let length = plain.as_slice().len() as u64;
+    if length > DATA_LIMIT {
+        return Err(SealNo::TooLarge { length });
     }
     match who {
-        Who::Identity => bare(alloc, plain),
+        Who::Identity => bare(plain),
         Who::Aescbc(name, secret) => by_aescbc(alloc, name, secret, words, plain, dice),
         Who::Aesgcm(name, secret) => by_aesgcm(alloc, name, secret, words, path, plain, dice),
         Who::Kms(name) => {
@@ -74,22 +73,14 @@ pub(crate) fn seal_by<D: Dice>(
     }
 }
 
-/// Tells that each byte is below 256.
-pub(crate) fn tell_bytes(bytes: &[u8])
-    ensures { All (λ byte. byte < 256) bytes.now }
-{}
-
 /// The data as they stand, unless they begin as a value of another provider does.
-fn bare(alloc: Global, plain: &[u8]) -> Result<Bytes, SealNo>
-    ensures { IsBare plain.now result }
+fn bare(plain: Bytes) -> Result<Bytes, SealNo>
+    ensures { IsBare plain result }
 {
-    if plain.starts_with(MARK) {
+    if plain.as_slice().starts_with(MARK) {
         return Err(SealNo::LooksEncrypted);
     }
-    match Bytes::copy(alloc, plain) {
-        Ok(value) => Ok(value),
-        Err(_) => Err(SealNo::NoMemory),
-    }
+    Ok(plain)
 }
 
 /// The value by aescbc, under an IV that is drawn.
@@ -98,19 +89,23 @@ fn by_aescbc<D: Dice>(
     name: &Text,
     secret: &Bytes,
     words: &[u32; 60],
-    plain: &[u8],
+    plain: Bytes,
     dice: &mut D,
 ) -> Result<Bytes, SealNo>
     requires key { IsKeyLength (length secret.now) }
     requires words { words.now ≡ padded_schedule secret.now }
-    requires fits { length plain.now ≤ data_limit }
+    requires fits { length plain ≤ data_limit }
     ensures sealed { (seeds : List SeedRow) (path : List ℕ)
-        → Seals D.left D.count seeds (Who.Aescbc name.now secret.now) path plain.now dice.old
+        → Seals D.left D.count seeds (Who.Aescbc name.now secret.now) path plain dice.old
         dice.new result }
     ensures later { D.count dice.old ≤ D.count dice.new }
 {
-    let room = IV + cbc_length(plain.len());
-    let Some(mut value) = prefixed(alloc, Kind::Aescbc, name, room) else {
+    let size = plain.as_slice().len();
+    let Some(front) = prefixed(alloc, Kind::Aescbc, name, IV) else {
+        return Err(SealNo::NoMemory);
+    };
+    let start = front.len() - IV;
+    let Some(mut value) = framed(front.as_slice(), plain, cbc_length(size) - size) else {
         return Err(SealNo::NoMemory);
     };
     let mut iv = [0u8; IV];
@@ -118,8 +113,7 @@ fn by_aescbc<D: Dice>(
         Ok(()) => {}
         Err(Failed) => return Err(SealNo::DiceFailed),
     }
-    let start = value.len() - room;
-    write_cbc(secret, words, &iv, plain, &mut value, start);
+    write_cbc(secret, words, &iv, &mut value, start, size);
     Ok(Bytes::from_vec(value))
 }
 
@@ -130,19 +124,23 @@ fn by_aesgcm<D: Dice>(
     secret: &Bytes,
     words: &[u32; 60],
     path: &str,
-    plain: &[u8],
+    plain: Bytes,
     dice: &mut D,
 ) -> Result<Bytes, SealNo>
     requires key { IsKeyLength (length secret.now) }
     requires words { words.now ≡ padded_schedule secret.now }
-    requires fits { length plain.now ≤ data_limit }
+    requires fits { length plain ≤ data_limit }
     requires path { length path.now ≤ path_limit }
     ensures sealed { (seeds : List SeedRow) → Seals D.left D.count seeds
-        (Who.Aesgcm name.now secret.now) path.now plain.now dice.old dice.new result }
+        (Who.Aesgcm name.now secret.now) path.now plain dice.old dice.new result }
     ensures later { D.count dice.old ≤ D.count dice.new }
 {
-    let room = NONCE + plain.len() + TAG;
-    let Some(mut value) = prefixed(alloc, Kind::Aesgcm, name, room) else {
+    let size = plain.as_slice().len();
+    let Some(front) = prefixed(alloc, Kind::Aesgcm, name, NONCE) else {
+        return Err(SealNo::NoMemory);
+    };
+    let start = front.len() - NONCE;
+    let Some(mut value) = framed(front.as_slice(), plain, TAG) else {
         return Err(SealNo::NoMemory);
     };
     let mut nonce = [0u8; NONCE];
@@ -150,15 +148,14 @@ fn by_aesgcm<D: Dice>(
         Ok(()) => {}
         Err(Failed) => return Err(SealNo::DiceFailed),
     }
-    let start = value.len() - room;
     write_gcm(
         secret.as_slice(),
         words,
         &nonce,
         path,
-        plain,
         &mut value,
         start,
+        size,
     );
     Ok(Bytes::from_vec(value))
 }
@@ -174,62 +171,109 @@ pub(crate) fn draw<D: Dice>(dice: &mut D, into: &mut [u8]) -> Result<(), Failed>
 }
 
 /// The prefix of a provider's values and so many zeros behind it; none for want of memory.
-fn prefixed(alloc: Global, kind: Kind, name: &Text, room: usize) -> Option<Vec<u8>>
-    requires { room ≤ 2097184 }
-    ensures { IfSome result (λ value. value.items ≡ prefix kind name.now ++ replicate room 0) }
+fn prefixed(alloc: Global, kind: Kind, name: &Text, zeros: usize) -> Option<Vec<u8>>
+    requires { zeros ≤ 64 }
+    ensures { IfSome result (λ front. front.items ≡ prefix kind name.now ++ replicate zeros 0) }
 {
-    let size = kind.head().len() + name.as_str().as_bytes().len() + 1;
-    let mut value = Vec::with_capacity(alloc, size + room).ok()?;
-    push_prefix(&mut value, kind, name.as_str()).ok()?;
-    let start = value.len();
-    value.resize(start + room, 0).ok()?;
+    let mut front = Vec::with_capacity(alloc, prefix_and(kind, name, zeros)).ok()?;
+    push_prefix(&mut front, kind, name.as_str()).ok()?;
+    let start = front.len();
+    front.resize(start + zeros, 0).ok()?;
+    Some(front)
+}
+
+/// The length of the prefix of a provider's values and of so many bytes more.
+fn prefix_and(kind: Kind, name: &Text, more: usize) -> usize
+    requires { more ≤ 64 }
+    ensures { result ≡ length (prefix kind name.now) + more }
+{
+    kind.head().len() + name.as_str().as_bytes().len() + 1 + more
+}
+
+/// How many bytes a provider's values have beside the data, those of a plugin at most times.
+pub(crate) fn beside(who: &Who) -> usize {
+    match who {
+        Who::Identity => 0,
+        Who::Aescbc(name, _) => prefix_and(Kind::Aescbc, name, IV + IV),
+        Who::Aesgcm(name, _) => prefix_and(Kind::Aesgcm, name, NONCE + TAG),
+        Who::Kms(_) => 4096,
+    }
+}
+
+/// The data with a front, and so many zeros behind them, in their own buffer as far as that has the
+/// room; none for want of memory.
+pub(crate) fn framed(front: &[u8], plain: Bytes, zeros: usize) -> Option<Vec<u8>>
+    requires fits { length plain ≤ data_limit }
+    requires zeros { zeros ≤ 64 }
+    ensures { IfSome result
+        (λ value. value.items ≡ front.now ++ (plain ++ replicate zeros 0)) }
+{
+    let mut value = plain.into_vec();
+    let size = value.len();
+    match value.resize(front.len() + size + zeros, 0) {
+        Ok(()) => {}
+        Err(_) => return None,
+    }
+    value.copy_within(0..size, front.len());
+    write_front(&mut value, front);
     Some(value)
 }
 
-/// Writes the IV and the CBC of the padded data from `start` on.
+/// Writes these bytes over the first ones.
+fn write_front(value: &mut [u8], front: &[u8])
+    requires { length front.now ≤ length value.old }
+    ensures { value.new ≡ front.now ++ drop (length front.now) value.old }
+{
+    value[..front.len()].copy_from_slice(front);
+}
+
+/// Writes the IV and the CBC of the padded data from `start` on, where the data stand behind the
+/// place of the IV.
 fn write_cbc(
     secret: &Bytes,
     words: &[u32; 60],
     iv: &[u8; 16],
-    plain: &[u8],
     value: &mut [u8],
     start: usize,
+    size: usize,
 )
     requires key { IsKeyLength (length secret.now) }
     requires words { words.now ≡ padded_schedule secret.now }
-    requires fits { length plain.now ≤ data_limit }
-    requires size { length value.old ≡ start + (16
-        + (length plain.now + 16 - length plain.now % 16)) }
-    ensures { value.new ≡ take start value.old
-        ++ (iv.now ++ cbc (cipher_under secret.now) iv.now (pad plain.now)) }
+    requires fits { size ≤ data_limit }
+    requires size { length value.old ≡ start + (16 + (size + 16 - size % 16)) }
+    ensures { let plain = take size (drop 16 (drop start value.old)) in value.new
+        ≡ take start value.old
+        ++ (iv.now ++ cbc (cipher_under secret.now) iv.now (pad plain)) }
 {
     let rounds = rounds_of(secret.as_slice());
     let (_, room) = value.split_at_mut(start);
     let (first, body) = room.split_at_mut(IV);
     first.copy_from_slice(iv);
-    cbc_seal(words, rounds, iv, plain, body);
+    cbc_seal_in_place(words, rounds, iv, body, size);
 }
 
-/// Writes the nonce and the GCM of the data, with the path as associated data, from `start` on.
+/// Writes the nonce and the GCM of the data, with the path as associated data, from `start` on,
+/// where the data stand behind the place of the nonce.
 pub(crate) fn write_gcm(
     secret: &[u8],
     words: &[u32; 60],
     nonce: &[u8; 12],
     path: &str,
-    plain: &[u8],
     value: &mut [u8],
     start: usize,
+    size: usize,
 )
     requires key { IsKeyLength (length secret.now) }
     requires words { words.now ≡ padded_schedule secret.now }
-    requires fits { length plain.now ≤ data_limit }
+    requires fits { size ≤ data_limit }
     requires path { length path.now ≤ path_limit }
-    requires size { length value.old ≡ start + (12 + length plain.now + 16) }
-    ensures { value.new ≡ take start value.old ++ gcm_body secret.now path.now plain.now nonce.now }
+    requires size { length value.old ≡ start + (12 + size + 16) }
+    ensures { let plain = take size (drop 12 (drop start value.old)) in
+        value.new ≡ take start value.old ++ gcm_body secret.now path.now plain nonce.now }
 {
     let rounds = rounds_of(secret);
     let (_, room) = value.split_at_mut(start);
     let (first, body) = room.split_at_mut(NONCE);
     first.copy_from_slice(nonce);
-    gcm_seal(words, rounds, nonce, path.as_bytes(), plain, body);
+    gcm_seal_in_place(words, rounds, nonce, path.as_bytes(), body);
 }

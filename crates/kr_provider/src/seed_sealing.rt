@@ -1,6 +1,6 @@
 //! Seals of a plugin: the data under a key of their own, which its seed makes, in an encrypted
 //! object.
-ghost use Rattle.std.specs.Prelude.{◌≡◌, ℕ, ◌≤◌, ◌+◌, ◌++◌, ◌∷◌, [], List, Some, length, take, drop, replicate, IfSome};
+ghost use Rattle.std.specs.Prelude.{◌≡◌, ℕ, ◌≤◌, ◌+◌, ◌-◌, ◌++◌, ◌∷◌, [], List, Some, length, take, drop, replicate, IfSome};
 ghost use Rattle.kr_base.specs.Limits.{data_limit, path_limit};
 ghost use Rattle.kr_config.specs.declared.who.Who.{Who};
 ghost use Rattle.kr_envelope.specs.Canonical.{fields_behind, shortest};
@@ -12,7 +12,7 @@ ghost use Rattle.kr_provider.specs.Publication.{seed_of};
 ghost use Rattle.kr_provider.specs.Sealing.{Seals};
 
 use crate::refusal::SealNo;
-use crate::sealing::{NONCE, TAG, draw, write_gcm};
+use crate::sealing::{NONCE, TAG, draw, framed, write_gcm};
 use crate::value_keys::{SEED, value_key};
 use kr_aes::expand;
 use kr_base::{Bytes, Dice, Failed, Text};
@@ -20,8 +20,8 @@ use kr_envelope::{Kind, SourceKind, push_behind, push_data_size, push_prefix};
 use kr_kms::SeedRow;
 use std::alloc::Global;
 
-/// About as many bytes as a value has beside its sealed ones. More annotations make it grow.
-const BESIDE: usize = 4096;
+/// About as many bytes as a value has before its sealed data.
+const FRONT: usize = 128;
 
 /// The value by a plugin's seed, under an info and a nonce that are drawn.
 pub(crate) fn by_seed<D: Dice>(
@@ -29,19 +29,19 @@ pub(crate) fn by_seed<D: Dice>(
     name: &Text,
     row: &SeedRow,
     path: &str,
-    plain: &[u8],
+    plain: Bytes,
     dice: &mut D,
 ) -> Result<Bytes, SealNo>
     requires row { IsSeedRow row.now }
-    requires fits { length plain.now ≤ data_limit }
+    requires fits { length plain ≤ data_limit }
     requires path { length path.now ≤ path_limit }
     ensures sealed { (seeds : List SeedRow) → seed_of name.now seeds ≡ Some row.now
-        → Seals D.left D.count seeds (Who.Kms name.now) path.now plain.now dice.old dice.new
+        → Seals D.left D.count seeds (Who.Kms name.now) path.now plain dice.old dice.new
         result }
     ensures later { D.count dice.old ≤ D.count dice.new }
 {
-    let size = SEED + NONCE + plain.len() + TAG;
-    let Some((mut value, start)) = framed(alloc, name, row, size) else {
+    let size = plain.as_slice().len();
+    let Some((mut value, start)) = object_around(alloc, name, row, plain) else {
         return Err(SealNo::NoMemory);
     };
     let mut drawn = [0u8; SEED + NONCE];
@@ -49,24 +49,32 @@ pub(crate) fn by_seed<D: Dice>(
         Ok(()) => {}
         Err(Failed) => return Err(SealNo::DiceFailed),
     }
-    fill(row.seed.as_slice(), &drawn, path, plain, &mut value, start);
+    fill(row.seed.as_slice(), &drawn, path, &mut value, start, size);
     Ok(Bytes::from_vec(value))
 }
 
-/// The value with zeros in place of its so many sealed bytes, and where these begin; none for want
-/// of memory.
-fn framed(alloc: Global, name: &Text, row: &SeedRow, size: usize) -> Option<(Vec<u8>, usize)>
+/// The value with the data in place of their ciphertext and zeros in place of the other sealed
+/// bytes, and where these begin; none for want of memory.
+fn object_around(
+    alloc: Global,
+    name: &Text,
+    row: &SeedRow,
+    plain: Bytes,
+) -> Option<(Vec<u8>, usize)>
     requires row { IsSeedRow row.now }
-    requires size { size ≤ 2097212 }
-    ensures { IfSome result (λ framed. let front = prefix Kind.Kms name.now ++ 10 ∷ shortest size in
-        (framed.1 ≡ length front) × (framed.0.items ≡ front ++ (replicate size 0
+    requires fits { length plain ≤ data_limit }
+    ensures { IfSome result (λ framed. let size = 32 + 12 + length plain + 16 in
+        let front = prefix Kind.Kms name.now ++ 10 ∷ shortest size in
+        (framed.1 ≡ length front)
+        × (framed.0.items ≡ front ++ (replicate 44 0 ++ (plain ++ replicate 16 0)
         ++ fields_behind row.now.key_id row.now.source row.now.annotations SourceKind.Seed))) }
 {
-    let mut value = Vec::with_capacity(alloc, size + BESIDE).ok()?;
-    push_prefix(&mut value, Kind::Kms, name.as_str()).ok()?;
-    push_data_size(&mut value, size).ok()?;
-    let start = value.len();
-    value.resize(start + size, 0).ok()?;
+    let mut front = Vec::with_capacity(alloc, FRONT).ok()?;
+    push_prefix(&mut front, Kind::Kms, name.as_str()).ok()?;
+    push_data_size(&mut front, SEED + NONCE + plain.as_slice().len() + TAG).ok()?;
+    let start = front.len();
+    front.resize(start + SEED + NONCE, 0).ok()?;
+    let mut value = framed(front.as_slice(), plain, TAG)?;
     push_behind(
         &mut value,
         row.key_id.as_str(),
@@ -78,24 +86,26 @@ fn framed(alloc: Global, name: &Text, row: &SeedRow, size: usize) -> Option<(Vec
     Some((value, start))
 }
 
-/// Writes the sealed bytes from `start` on; what stands behind them stays.
-fn fill(seed: &[u8], drawn: &[u8; 44], path: &str, plain: &[u8], value: &mut [u8], start: usize)
-    requires fits { length plain.now ≤ data_limit }
+/// Writes the sealed bytes from `start` on, where the data stand behind the places of the info and
+/// the nonce; what stands behind them stays.
+fn fill(seed: &[u8], drawn: &[u8; 44], path: &str, value: &mut [u8], start: usize, size: usize)
+    requires fits { size ≤ data_limit }
     requires path { length path.now ≤ path_limit }
-    requires size { start + (32 + 12 + length plain.now + 16) ≤ length value.old }
-    ensures { value.new ≡ take start value.old ++ (seed_body seed.now path.now plain.now drawn.now
-        ++ drop (32 + 12 + length plain.now + 16) (drop start value.old)) }
+    requires size { start + (32 + 12 + size + 16) ≤ length value.old }
+    ensures { let plain = take size (drop 44 (drop start value.old)) in
+        value.new ≡ take start value.old ++ (seed_body seed.now path.now plain drawn.now
+        ++ drop (32 + 12 + size + 16) (drop start value.old)) }
 {
-    let size = SEED + NONCE + plain.len() + TAG;
-    write_body(seed, drawn, path, plain, &mut value[start..start + size]);
+    let end = start + SEED + NONCE + size + TAG;
+    write_body(seed, drawn, path, &mut value[start..end], size);
 }
 
 /// Writes the info, and behind it the body under the key that the seed makes with it.
-fn write_body(seed: &[u8], drawn: &[u8; 44], path: &str, plain: &[u8], room: &mut [u8])
-    requires fits { length plain.now ≤ data_limit }
+fn write_body(seed: &[u8], drawn: &[u8; 44], path: &str, room: &mut [u8], size: usize)
+    requires fits { size ≤ data_limit }
     requires path { length path.now ≤ path_limit }
-    requires size { length room.old ≡ 32 + (12 + length plain.now + 16) }
-    ensures { room.new ≡ seed_body seed.now path.now plain.now drawn.now }
+    requires size { length room.old ≡ 32 + (12 + size + 16) }
+    ensures { room.new ≡ seed_body seed.now path.now (take size (drop 44 room.old)) drawn.now }
 {
     let (info, rest) = drawn.split_at(SEED);
     let mut nonce = [0u8; NONCE];
@@ -107,5 +117,5 @@ fn write_body(seed: &[u8], drawn: &[u8; 44], path: &str, plain: &[u8], room: &mu
     };
     let (first, _) = room.split_at_mut(SEED);
     first.copy_from_slice(info);
-    write_gcm(&key, &words, &nonce, path, plain, room, SEED);
+    write_gcm(&key, &words, &nonce, path, room, SEED, size);
 }

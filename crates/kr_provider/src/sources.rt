@@ -1,5 +1,5 @@
 //! The data of a plugin's value, by its object and what the object's source was unwrapped to.
-ghost use Rattle.std.specs.Prelude.{◌≡◌, ◌≤◌, length, IfOk};
+ghost use Rattle.std.specs.Prelude.{◌≡◌, ◌≤◌, length, drop, IfOk};
 ghost use Rattle.kr_base.specs.Limits.{path_limit, value_limit};
 ghost use Rattle.kr_envelope.specs.declared.object.SourceKind.TheVariants.{Seed};
 ghost use Rattle.kr_provider.specs.Reading.{body_under, gcm_reading, source_reading};
@@ -40,51 +40,51 @@ fn refusal_of(why: ObjectNo) -> UnsealNo
     }
 }
 
-/// The data under an unwrapped source.
+/// The data under an unwrapped source, made in the sealed data's buffer.
 pub(crate) fn by_source(
-    alloc: Global,
     kind: SourceKind,
     source: &[u8],
     path: &str,
-    encrypted: &[u8],
+    encrypted: Bytes,
 ) -> Result<Bytes, UnsealNo>
     requires path { length path.now ≤ path_limit }
-    requires fits { length encrypted.now ≤ value_limit }
-    ensures { Gives (source_reading kind source.now path.now encrypted.now) result }
+    requires fits { length encrypted ≤ value_limit }
+    ensures { Gives (source_reading kind source.now path.now encrypted) result }
 {
     if source.len() != SEED {
         return Err(UnsealNo::Refused(ValueNo::SeedLength));
     }
     match kind {
-        SourceKind::Key => by_key(alloc, source, path, encrypted),
-        SourceKind::Seed => by_seed(alloc, source, path, encrypted),
+        SourceKind::Key => by_key(source, path, encrypted, 0),
+        SourceKind::Seed => by_seed(source, path, encrypted),
     }
 }
 
-/// The data under a key that no page has: nonce, ciphertext and tag.
-fn by_key(alloc: Global, key: &[u8], path: &str, body: &[u8]) -> Result<Bytes, UnsealNo>
+/// The data under a key that no page has: nonce, ciphertext and tag, behind the first `from` bytes.
+fn by_key(key: &[u8], path: &str, sealed: Bytes, from: usize) -> Result<Bytes, UnsealNo>
     requires key { length key.now ≡ 32 }
     requires path { length path.now ≤ path_limit }
-    requires fits { length body.now ≤ value_limit }
-    ensures { Gives (gcm_reading key.now path.now body.now) result }
+    requires from { from ≤ length sealed }
+    requires fits { length sealed ≤ value_limit }
+    ensures { Gives (gcm_reading key.now path.now (drop from sealed)) result }
 {
     let mut words = [0u32; 60];
     let Ok(_) = expand(key, &mut words) else {
         unreachable!();
     };
-    by_aesgcm(alloc, key, &words, path.as_bytes(), body)
+    by_aesgcm(key, &words, path.as_bytes(), sealed, from)
 }
 
 /// The data under a seed: the info, and the body under the key that the seed makes with it.
-fn by_seed(alloc: Global, seed: &[u8], path: &str, encrypted: &[u8]) -> Result<Bytes, UnsealNo>
+fn by_seed(seed: &[u8], path: &str, encrypted: Bytes) -> Result<Bytes, UnsealNo>
     requires path { length path.now ≤ path_limit }
-    requires fits { length encrypted.now ≤ value_limit }
-    ensures { Gives (body_under Seed seed.now path.now encrypted.now) result }
+    requires fits { length encrypted ≤ value_limit }
+    ensures { Gives (body_under Seed seed.now path.now encrypted) result }
 {
-    if encrypted.len() < SEED {
+    let bytes = encrypted.as_slice();
+    if bytes.len() < SEED {
         return Err(UnsealNo::Refused(ValueNo::Short));
     }
-    let (info, body) = encrypted.split_at(SEED);
-    let key = value_key(seed, info);
-    by_key(alloc, &key, path, body)
+    let key = value_key(seed, &bytes[..SEED]);
+    by_key(&key, path, encrypted, SEED)
 }

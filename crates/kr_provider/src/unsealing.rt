@@ -1,12 +1,13 @@
 //! What stored values read as.
-ghost use Rattle.std.specs.Prelude.{◌≡◌, ◌≤◌, true, false, length};
+ghost use Rattle.std.specs.Prelude.{◌≡◌, ◌≤◌, true, false, length, drop};
 ghost use Rattle.kr_aes.specs.KeyExpansion.{IsKeyLength, padded_schedule};
 ghost use Rattle.kr_base.specs.Limits.{path_limit, value_limit};
 ghost use Rattle.kr_config.specs.Providers.{is_provider, is_kms};
 ghost use Rattle.kr_modes.specs.Cbc.{cbc_opened};
-ghost use Rattle.kr_provider.specs.Ciphers.{inverse_under};
+ghost use Rattle.kr_modes.specs.Gcm.{gcm_opened};
+ghost use Rattle.kr_provider.specs.Ciphers.{cipher_under, inverse_under};
 ghost use Rattle.kr_provider.specs.Envelopes.{Envelope};
-ghost use Rattle.kr_provider.specs.Reading.{body_refusal, data_of, gcm_reading, provider_reading, body_reading, refused};
+ghost use Rattle.kr_provider.specs.Reading.{body_refusal, gcm_reading, provider_reading, body_reading, refused};
 ghost use Rattle.kr_provider.specs.inner.Scan.{HasWords};
 ghost use Rattle.kr_provider.specs.inner.Sources.{Gives};
 
@@ -15,98 +16,105 @@ use crate::rounds::rounds_of;
 use crate::sealing::NONCE;
 use kr_base::Bytes;
 use kr_config::Who;
-use kr_modes::{ModeNo, cbc_unseal, gcm_unseal};
-use std::alloc::Global;
+use kr_modes::{ModeNo, cbc_unseal_in_place, gcm_unseal_in_place};
 
-/// The data of the body by a provider that is no plugin, whose key's words are given.
+/// The data of the body by a provider that is no plugin, whose key's words are given. The body
+/// stands behind the first `from` bytes of the value, and the data are made in the value's buffer.
 pub(crate) fn unseal_by(
-    alloc: Global,
     who: &Who,
     words: &[u32; 60],
     path: &str,
-    body: &[u8],
+    value: Bytes,
+    from: usize,
 ) -> Result<Bytes, UnsealNo>
     requires provider { is_provider who.now ≡ true }
     requires no_plugin { is_kms who.now ≡ false }
     requires words { HasWords who.now words.now }
     requires path { length path.now ≤ path_limit }
-    requires fits { length body.now ≤ value_limit }
-    ensures { (envelope : Envelope) → Gives (provider_reading envelope who.now path.now body.now)
-        result }
+    requires from { from ≤ length value }
+    requires bare { who.now ≡ Who.Identity → from ≡ 0 }
+    requires fits { length value ≤ value_limit }
+    ensures { (envelope : Envelope) → Gives
+        (provider_reading envelope who.now path.now (drop from value)) result }
 {
     match who {
-        Who::Identity => bare(alloc, body),
-        Who::Aescbc(_, secret) => by_aescbc(alloc, secret.as_slice(), words, body),
+        Who::Identity => Ok(value),
+        Who::Aescbc(_, secret) => by_aescbc(secret.as_slice(), words, value, from),
         Who::Aesgcm(_, secret) => {
-            by_aesgcm(alloc, secret.as_slice(), words, path.as_bytes(), body)
+            by_aesgcm(secret.as_slice(), words, path.as_bytes(), value, from)
         }
         Who::Kms(_) => unreachable!(),
     }
 }
 
-/// The data as they stand.
-fn bare(alloc: Global, body: &[u8]) -> Result<Bytes, UnsealNo>
-    ensures { Gives (data_of body.now) result }
-{
-    match Bytes::copy(alloc, body) {
-        Ok(plain) => Ok(plain),
-        Err(_) => Err(UnsealNo::NoMemory),
-    }
-}
-
-/// The data of a body of aescbc.
-fn by_aescbc(
-    alloc: Global,
-    secret: &[u8],
-    words: &[u32; 60],
-    body: &[u8],
-) -> Result<Bytes, UnsealNo>
+/// The data of a body of aescbc, which stands behind the first `from` bytes.
+fn by_aescbc(secret: &[u8], words: &[u32; 60], value: Bytes, from: usize) -> Result<Bytes, UnsealNo>
     requires key { IsKeyLength (length secret.now) }
     requires words { words.now ≡ padded_schedule secret.now }
-    requires fits { length body.now ≤ value_limit }
-    ensures { Gives (body_reading (cbc_opened (inverse_under secret.now) body.now)) result }
+    requires from { from ≤ length value }
+    requires fits { length value ≤ value_limit }
+    ensures { Gives (body_reading (cbc_opened (inverse_under secret.now) (drop from value)))
+        result }
 {
     let rounds = rounds_of(secret);
-    let Ok(mut out) = vec![in alloc; 0; body.len()] else {
-        return Err(UnsealNo::NoMemory);
-    };
-    match cbc_unseal(words, rounds, body, out.as_mut_slice()) {
+    let mut buffer = value.into_vec();
+    match cbc_unseal_in_place(words, rounds, buffer.as_mut_slice(), from) {
         Ok(length) => {
-            out.truncate(length);
-            Ok(Bytes::from_vec(out))
+            buffer.truncate(length);
+            Ok(Bytes::from_vec(buffer))
         }
         Err(why) => Err(UnsealNo::Refused(refusal_of(why))),
     }
 }
 
-/// The data of a body of aesgcm.
+/// The data of a body of aesgcm, which stands behind the first `from` bytes.
 pub(crate) fn by_aesgcm(
-    alloc: Global,
     secret: &[u8],
     words: &[u32; 60],
     path: &[u8],
-    body: &[u8],
+    value: Bytes,
+    from: usize,
 ) -> Result<Bytes, UnsealNo>
     requires key { IsKeyLength (length secret.now) }
     requires words { words.now ≡ padded_schedule secret.now }
     requires path { length path.now ≤ path_limit }
-    requires fits { length body.now ≤ value_limit }
-    ensures { Gives (gcm_reading secret.now path.now body.now) result }
+    requires from { from ≤ length value }
+    requires fits { length value ≤ value_limit }
+    ensures { Gives (gcm_reading secret.now path.now (drop from value)) result }
 {
-    if body.len() < NONCE {
+    let bytes = value.as_slice();
+    if bytes.len() - from < NONCE {
         return Err(UnsealNo::Refused(refusal_of(ModeNo::Short)));
     }
-    let rounds = rounds_of(secret);
-    let (first, sealed) = body.split_at(NONCE);
+    let start = from + NONCE;
     let mut nonce = [0u8; NONCE];
-    nonce.copy_from_slice(first);
-    let Ok(mut out) = vec![in alloc; 0; sealed.len()] else {
-        return Err(UnsealNo::NoMemory);
-    };
-    match gcm_unseal(words, rounds, &nonce, path, sealed, out.as_mut_slice()) {
+    nonce.copy_from_slice(&bytes[from..start]);
+    by_gcm(secret, words, &nonce, path, value, start)
+}
+
+/// The data of ciphertext and tag, which stand behind the first `from` bytes.
+fn by_gcm(
+    secret: &[u8],
+    words: &[u32; 60],
+    nonce: &[u8; NONCE],
+    path: &[u8],
+    value: Bytes,
+    from: usize,
+) -> Result<Bytes, UnsealNo>
+    requires key { IsKeyLength (length secret.now) }
+    requires words { words.now ≡ padded_schedule secret.now }
+    requires path { length path.now ≤ path_limit }
+    requires from { from ≤ length value }
+    requires fits { length value ≤ value_limit }
+    ensures { Gives (body_reading
+        (gcm_opened (cipher_under secret.now) nonce.now path.now (drop from value))) result }
+{
+    let rounds = rounds_of(secret);
+    let mut buffer = value.into_vec();
+    match gcm_unseal_in_place(words, rounds, nonce, path, buffer.as_mut_slice(), from) {
         Ok(length) => {
-            out.truncate(length);
-            Ok(Bytes::from_vec(out))
+            buffer.truncate(length);
+            Ok(Bytes::from_vec(buffer))
         }
         Err(why) => Err(UnsealNo::Refused(refusal_of(why))),
     }

@@ -27,7 +27,7 @@ use kr_envelope::EncryptedObject;
 use kr_kms::{Kms, KmsNo, SeedCache, SeedRow};
 use std::alloc::Global;
 
-/// What the value holds by the list of the resource.
+/// What the value holds by the list of the resource, made in the value's buffer.
 pub(crate) fn unseal_for<L: Kms>(
     alloc: Global,
     adoption: &Adoption,
@@ -35,23 +35,23 @@ pub(crate) fn unseal_for<L: Kms>(
     cache: &mut SeedCache,
     resource: &str,
     path: &str,
-    bytes: &[u8],
+    value: Bytes,
 ) -> Result<Opened, UnsealNo>
     requires adopted { IsSome adoption.now.published }
     requires links { HasAdoptedLinks (names_of L.link links.old) adoption.now.published }
     requires kept { AreOpen L.truth cache.old.rows }
     requires path { length path.now ≤ path_limit }
-    requires fits { length bytes.now ≤ value_limit }
+    requires fits { length value ≤ value_limit }
     ensures opened { IfSome adoption.now.published (λ p. UnsealsBy L.truth L.link p.seeds
-        (list_at p resource.now) path.now bytes.now links.old result links.new) }
+        (list_at p resource.now) path.now value links.old result links.new) }
     ensures cached { IfSome adoption.now.published (λ p. HeedsCache cache.old.rows
-        p.seeds (list_at p resource.now) path.now bytes.now links.old result links.new) }
+        p.seeds (list_at p resource.now) path.now value links.old result links.new) }
     ensures kept { AreOpen L.truth cache.new.rows }
 {
     let published = adoption.published();
     let list = published.listed(resource);
     let seeds = published.seeds();
-    unseal_in(alloc, adoption, seeds, list, links, cache, path, bytes)
+    unseal_in(alloc, adoption, seeds, list, links, cache, path, value)
 }
 
 /// What the value holds by a list of providers.
@@ -63,7 +63,7 @@ fn unseal_in<L: Kms>(
     links: &mut Links<L>,
     cache: &mut SeedCache,
     path: &str,
-    bytes: &[u8],
+    value: Bytes,
 ) -> Result<Opened, UnsealNo>
     requires adopted { IsSome adoption.now.published }
     requires among { IfSome adoption.now.published (λ p. AreAmong (secrets_in p.rows) list.now) }
@@ -72,13 +72,14 @@ fn unseal_in<L: Kms>(
     requires links { AreNamedIn (names_of L.link links.old) list.now }
     requires kept { AreOpen L.truth cache.old.rows }
     requires path { length path.now ≤ path_limit }
-    requires fits { length bytes.now ≤ value_limit }
-    ensures opened { UnsealsBy L.truth L.link seeds.now list.now path.now bytes.now links.old result
+    requires fits { length value ≤ value_limit }
+    ensures opened { UnsealsBy L.truth L.link seeds.now list.now path.now value links.old result
         links.new }
-    ensures cached { HeedsCache cache.old.rows seeds.now list.now path.now bytes.now links.old
+    ensures cached { HeedsCache cache.old.rows seeds.now list.now path.now value links.old
         result links.new }
     ensures kept { AreOpen L.truth cache.new.rows }
 {
+    let bytes = value.as_slice();
     let Some(place) = reader_of(list, bytes) else {
         return Err(UnsealNo::Refused(ValueNo::NoProvider));
     };
@@ -95,7 +96,8 @@ fn unseal_in<L: Kms>(
             by_plugin(alloc, name.as_str(), row, links, cache, first, path, body)
         }
         _ => {
-            match unseal_by(alloc, reader, adoption.words(reader), path, body) {
+            let from = bytes.len() - body.len();
+            match unseal_by(reader, adoption.words(reader), path, value, from) {
                 Ok(plain) => Ok(Opened {
                     plain,
                     stale: !first,
@@ -132,8 +134,8 @@ fn by_plugin<L: Kms>(
     ensures kept { AreOpen L.truth cache.new.rows }
 {
     let object = read_object(alloc, body)?;
-    let plain = unseal_object(alloc, name, row, &object, links, cache, path)?;
     let stale = is_stale(first, row, &object);
+    let plain = unseal_object(alloc, name, row, object, links, cache, path)?;
     Ok(Opened { plain, stale })
 }
 
@@ -143,7 +145,7 @@ fn unseal_object<L: Kms>(
     alloc: Global,
     name: &str,
     row: &SeedRow,
-    object: &EncryptedObject,
+    object: EncryptedObject,
     links: &mut Links<L>,
     cache: &mut SeedCache,
     path: &str,
@@ -151,21 +153,20 @@ fn unseal_object<L: Kms>(
     requires link { Contains (names_of L.link links.old) name.now }
     requires kept { AreOpen L.truth cache.old.rows }
     requires path { length path.now ≤ path_limit }
-    requires fits { length object.now.encrypted ≤ value_limit }
-    ensures opened { UnsealsObject L.truth L.link row.now name.now object.now path.now links.old
+    requires fits { length object.encrypted ≤ value_limit }
+    ensures opened { UnsealsObject L.truth L.link row.now name.now object path.now links.old
         result links.new }
     ensures cached { (source : List ℕ)
-        → seed_at cache.old.rows (seed_key name.now object.now) ≡ Some source
-        → (links.new ≡ links.old) × ((IsSeedOf row.now name.now object.now → ⊥)
-        → Gives (source_reading object.now.kind source path.now object.now.encrypted) result) }
+        → seed_at cache.old.rows (seed_key name.now object) ≡ Some source
+        → (links.new ≡ links.old) × ((IsSeedOf row.now name.now object → ⊥)
+        → Gives (source_reading object.kind source path.now object.encrypted) result) }
     ensures kept { AreOpen L.truth cache.new.rows }
 {
-    let encrypted = object.encrypted.as_slice();
-    if is_seed_of(row, name, object) {
-        return by_source(alloc, object.kind, row.seed.as_slice(), path, encrypted);
+    if is_seed_of(row, name, &object) {
+        return by_source(object.kind, row.seed.as_slice(), path, object.encrypted);
     }
-    let source = open_source(alloc, name, object, links, cache)?;
-    by_source(alloc, object.kind, source.as_slice(), path, encrypted)
+    let source = open_source(alloc, name, &object, links, cache)?;
+    by_source(object.kind, source.as_slice(), path, object.encrypted)
 }
 
 /// What the plugin of this name unwraps the source of an object to.

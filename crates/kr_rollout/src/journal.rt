@@ -70,7 +70,10 @@ impl<T: Tape> Core<T> {
         let mut journal = List::new(alloc);
         match journal.reserve(room as usize) {
             Ok(()) => {}
-            Err(NoMemory) => return Err((StartNo::NoMemory, store)),
+            Err(NoMemory) => {
+                drop((journal, replicas, names));
+                return Err((StartNo::NoMemory, store));
+            }
         }
         match Rollout::start(alloc, store, replicas, names, seats, reloads) {
             Ok(rollout) => Ok(Core {
@@ -78,7 +81,10 @@ impl<T: Tape> Core<T> {
                 journal,
                 room,
             }),
-            Err(refused) => Err(refused),
+            Err(refused) => {
+                drop(journal);
+                Err(refused)
+            }
         }
     }
 

@@ -48,10 +48,19 @@ pub fn board_of<T: Tape>(
         Err(NoMemory) => return Err(StartNo::NoMemory),
     };
     let replicas = replicas.as_slice();
-    note_all(alloc, store, first_of(replicas), &mut board)?;
+    match note_all(alloc, store, first_of(replicas), &mut board) {
+        Ok(()) => {}
+        Err(why) => {
+            drop(board);
+            return Err(why);
+        }
+    }
     match take_all_up(replicas, &mut board) {
         Ok(()) => Ok(board),
-        Err(why) => Err(why),
+        Err(why) => {
+            drop(board);
+            Err(why)
+        }
     }
 }
 
@@ -83,16 +92,28 @@ fn note_all<T: Tape>(
     loop {
         let row = match store.next_after(path_of(&last)) {
             Ok(Some(row)) => row,
-            Ok(None) => return no_other(other),
-            Err(NoMemory) => return Err(StartNo::NoMemory),
+            Ok(None) => {
+                drop(last);
+                return no_other(other);
+            }
+            Err(NoMemory) => {
+                drop((other, last));
+                return Err(StartNo::NoMemory);
+            }
         };
         let kept = match note(alloc, first, row.get(), board) {
             Ok(kept) => kept,
-            Err(why) => return Err(why),
+            Err(why) => {
+                drop((other, last, row));
+                return Err(why);
+            }
         };
         other = match first_other(alloc, other, kept, row.get().path.as_str()) {
             Ok(other) => other,
-            Err(NoMemory) => return Err(StartNo::NoMemory),
+            Err(NoMemory) => {
+                drop((last, row));
+                return Err(StartNo::NoMemory);
+            }
         };
         last = Some(row);
     }
@@ -198,6 +219,7 @@ fn take_up(
             if is_refusal(&verdict) {
                 return Err(StartNo::Unfit { replica, verdict });
             }
+            drop(verdict);
         }
         Err(NoMemory) => return Err(StartNo::NoMemory),
     }

@@ -35,25 +35,40 @@ impl<T: Tape> Rollout<T> {
         store.known();
         let made = match make(alloc, replicas.as_slice(), seats, reloads) {
             Ok(made) => made,
-            Err(NoMemory) => return Err((StartNo::NoMemory, store)),
+            Err(NoMemory) => {
+                drop((replicas, names));
+                return Err((StartNo::NoMemory, store));
+            }
         };
         let board = match board_of(alloc, &store, &made.settings, made.room) {
             Ok(board) => board,
-            Err(why) => return Err((why, store)),
+            Err(why) => {
+                drop((replicas, names, made));
+                return Err((why, store));
+            }
         };
+        let StartParts {
+            settings,
+            generations,
+            current,
+            held,
+            reloads,
+            room: _,
+        } = made;
+        drop(settings);
         let first_rows = store.revision();
         let first_faults = store.faults();
         let first_torn = store.torn();
         Ok(Rollout {
             store,
             board,
-            generations: made.generations,
-            current: made.current,
-            held: made.held,
+            generations,
+            current,
+            held,
             first_rows,
             replicas,
             names,
-            reloads: made.reloads,
+            reloads,
             first_faults,
             first_torn,
             alloc,

@@ -61,7 +61,10 @@ fn put_value<T: Tape>(
 {
     match board.propose(path, resource, who) {
         Ok(()) => {}
-        Err(NoMemory) => return Err(PutNo::NoMemory),
+        Err(NoMemory) => {
+            drop(stored);
+            return Err(PutNo::NoMemory);
+        }
     }
     let wrote = store.put(path, resource, stored, store_check(who));
     settle(board, &wrote);
@@ -91,7 +94,10 @@ fn replace_value<T: Tape>(
 {
     match board.propose(path, resource, who) {
         Ok(()) => {}
-        Err(NoMemory) => return Err(PutNo::NoMemory),
+        Err(NoMemory) => {
+            drop(stored);
+            return Err(PutNo::NoMemory);
+        }
     }
     let wrote = store.replace_if(path, revision, stored, store_check(who));
     settle(board, &wrote);
@@ -332,7 +338,10 @@ fn replace_live<T: Tape>(
     let row = match store.get(path) {
         Ok(Some(row)) => row,
         Ok(None) => return Err(refuse_replacing(published, store, path, revision, stored)),
-        Err(NoMemory) => return Err(PutNo::NoMemory),
+        Err(NoMemory) => {
+            drop(stored);
+            return Err(PutNo::NoMemory);
+        }
     };
     let resource = row.get().resource.as_str();
     if row.get().revision != revision {

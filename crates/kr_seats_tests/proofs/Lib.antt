@@ -1,4 +1,3 @@
 -- Lemmas of the tests.
 pub mod Bare
 pub mod Leaving
-pub mod Pairs

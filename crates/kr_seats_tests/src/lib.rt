@@ -1,5 +1,5 @@
-//! Tests of a core with several seats, in threads and by a list of events. They stand in a crate of
-//! their own, so that the core isn't proved a second time.
+//! A test of a core with several seats, by a list of their events. It stands in a crate of its own,
+//! so that the core isn't proved a second time.
 #![tactic(auto)]
 
 #[cfg(test)]

@@ -1,6 +1,6 @@
 -- The steps of each command, and the phases that they are made of.
 use Rattle.std.specs.Prelude.{◌≡◌, ◌+◌, ◌*◌, ℕ, zero, suc, Bool, false, List, [], ◌∷◌, ◌++◌, map, Option, Some, None, Result, Ok, Err, ⊤, if◌then◌else◌, true, length, codes, decimal, nat_lt}
-use Rattle.kr_base.specs.Limits.{data_limit, value_limit, store_limit}
+use Rattle.kr_base.specs.Limits.{data_limit, value_limit, store_limit, journal_limit}
 use Rattle.kr_config.specs.Kept.{Row}
 use Rattle.kr_config.specs.Lists.{list_of}
 use Rattle.kr_config.specs.declared.who.Who.{Who}
@@ -34,7 +34,6 @@ use Rattle.kr_store.specs.declared.rows.Change.TheVariants as change
 use Rattle.kr_store.specs.declared.rows.LogRow.{LogRow}
 use Rattle.kr_store.specs.declared.rows.Row as stored
 use Rattle.kr_judge.specs.declared.verdict.Verdict.{Verdict}
-use Rattle.kr_commands.specs.Message.{journal_limit}
 use Rattle.kr_steps.specs.Check.{listing}
 use Rattle.kr_commands.specs.Command.{replica_names, reload_in, reload_number, reload_file}
 use Rattle.kr_steps.specs.Configuration.{Entries, IsConfiguration}

@@ -49,24 +49,24 @@ pub fn adopted<L: Kms, D: Dice>(
     Ok(bench)
 }
 
-/// What a bench that adopted a configuration makes of the bytes. Its links and its random source
-/// come back.
+/// What a bench that adopted a configuration makes of the bytes, in their own buffer. Its links and
+/// its random source come back.
 pub fn work<L: Kms, D: Dice>(
     alloc: Global,
     direction: Direction,
     mut bench: Bench<L, D>,
     resource: &str,
     path: &str,
-    bytes: &[u8],
+    bytes: Bytes,
 ) -> (Result<Outcome, Stop>, Links<L>, D)
     requires adopted { IsSome bench.published }
     requires distinct { AreDistinct L.link bench.links }
     requires opens { IfSome bench.published
         (λ p. All (λ row. TellsOf L.truth (key_of row) row.seed) p.seeds) }
     requires path { length path.now ≤ path_limit }
-    requires fits { length bytes.now ≤ limit_of direction }
+    requires fits { length bytes ≤ limit_of direction }
     ensures made { (a : Around) → a.truth ≡ L.truth → IfSome bench.published (λ p. Does
-        (working_by direction resource.now path.now p.rows bytes.now p.seeds)
+        (working_by direction resource.now path.now p.rows bytes p.seeds)
         (with_lent_links L.link 0 bench.links
         (with_lent_dice 0 (D.left bench.dice) (D.count bench.dice) a))
         (with_lent_links L.link 0 result.1
@@ -78,13 +78,13 @@ pub fn work<L: Kms, D: Dice>(
 {
     match direction {
         Direction::Encrypt => {
-            let sealed = bench.seal(alloc, resource, path, bytes);
+            let sealed = bench.seal_in_place(alloc, resource, path, bytes);
             let (links, dice) = bench.close();
             let faults = dice.faults();
             (seal_outcome(sealed, faults), links, dice)
         }
         Direction::Decrypt => {
-            let opened = bench.unseal(alloc, resource, path, bytes);
+            let opened = bench.unseal_in_place(alloc, resource, path, bytes);
             let (links, dice) = bench.close();
             (unseal_outcome(opened, &links), links, dice)
         }

@@ -1,5 +1,5 @@
 //! The programs of the plugins that a configuration names.
-ghost use Rattle.std.specs.Prelude.{◌≡◌, ◌⊎◌, [], ◌∷◌, ◌++◌, map, IfOk, OnOk};
+ghost use Rattle.std.specs.Prelude.{◌≡◌, ◌⊎◌, [], ◌∷◌, ◌++◌, map, IfOk, OnOk, OnErr};
 ghost use Rattle.std.specs.Str.{IsUtf8};
 ghost use Rattle.kr_config.specs.Kept.{rows_of};
 ghost use Rattle.kr_provider.specs.PluginOrder.{plugin_order};
@@ -54,8 +54,9 @@ impl Programs {
 
     /// Puts a copy of the program of a plugin at the end.
     pub fn add(&mut self, alloc: Global, plugin: &str, file: &str) -> Result<(), NoMemory>
-        ensures { OnOk result
+        ensures added { OnOk result
             (self.new ≡ self.old ++ record { plugin = plugin.now; file = file.now } ∷ []) }
+        ensures kept { OnErr result (self.new ≡ self.old) }
     {
         let program = Program {
             plugin: Text::copy(alloc, plugin)?,

@@ -98,6 +98,7 @@ pub fn add_put<T: Tape>(
     ensures grown { IfOk result (λ done. HasOneMore
         (put_of path.now resource.now stored (check_in store.old.format check))
         store.old store.new) }
+    ensures kept { OnErr result (store.new.rows ≡ store.old.rows) }
 {
     let written = store.put(path, resource, stored, check);
     store.known();
@@ -126,6 +127,7 @@ pub fn add_delete<T: Tape>(store: &mut Store<T>, object: Object, path: &str) -> 
         (with_lent_tape name store.new.told store.new.count a)
         (grown_by row (stored_of store.old) result) }
     ensures grown { IfOk result (λ done. HasOneMore (delete_of path.now) store.old store.new) }
+    ensures kept { OnErr result (store.new.rows ≡ store.old.rows) }
 {
     let written = store.delete(path);
     store.known();

@@ -15,7 +15,7 @@ use crate::bench::{adopted, work};
 use crate::phases::{close_dice, close_link, open_dice, open_link};
 use crate::programs::Program;
 use crate::publication::publish_by;
-use kr_base::{Dice, Shared};
+use kr_base::{Bytes, Dice, Shared};
 use kr_commands::{Direction, Outcome, Stop};
 use kr_config::Settings;
 use kr_kms::{Kms, World};
@@ -31,15 +31,14 @@ pub struct Task<'a> {
     pub resource: &'a str,
     /// The path at which the value stands.
     pub path: &'a str,
-    /// The bytes.
-    pub bytes: &'a [u8],
 }
 
 /// Borrows the random source of seat 0, and a link of it to each plugin, for what is made of the
-/// bytes by these settings. A tape may be out meanwhile.
+/// bytes by these settings, in their own buffer. A tape may be out meanwhile.
 pub fn make<W: World>(
     alloc: Global,
     task: &Task<'_>,
+    bytes: Bytes,
     settings: Settings,
     programs: &[Program],
     world: &mut W,
@@ -47,10 +46,10 @@ pub fn make<W: World>(
     requires programs { map (λ program. program.plugin) programs.now
         ≡ plugin_order (rows_of settings.entries.0) }
     requires path { length task.now.path.now ≤ path_limit }
-    requires fits { length task.now.bytes.now ≤ limit_of task.now.direction }
+    requires fits { length bytes ≤ limit_of task.now.direction }
     ensures made { (tapes : Tapes) (a : Around) → a.truth ≡ W.Link.truth → Does
         (bench_steps programs.now task.now.direction task.now.resource.now task.now.path.now
-        (rows_of settings.entries.0) task.now.bytes.now)
+        (rows_of settings.entries.0) bytes)
         (with_world (with_tapes tapes (W.told world.old)) a)
         (with_world (with_tapes tapes (W.told world.new)) a) result }
     ensures size { task.now.direction ≡ Direction.Encrypt
@@ -62,7 +61,9 @@ pub fn make<W: World>(
         Err(stop) => return Err(stop),
     };
     let links = Links::<W::Link>::new(alloc);
-    let (made, links, dice) = make_linked(alloc, task, settings, programs, world, links, dice);
+    let (made, links, dice) = make_linked(
+        alloc, task, bytes, settings, programs, world, links, dice,
+    );
     links.end();
     close_dice(world, 0, dice);
     made
@@ -72,6 +73,7 @@ pub fn make<W: World>(
 fn make_linked<W: World>(
     alloc: Global,
     task: &Task<'_>,
+    bytes: Bytes,
     settings: Settings,
     programs: &[Program],
     world: &mut W,
@@ -82,10 +84,10 @@ fn make_linked<W: World>(
         ++ map (λ program. program.plugin) programs.now
         ≡ plugin_order (rows_of settings.entries.0) }
     requires path { length task.now.path.now ≤ path_limit }
-    requires fits { length task.now.bytes.now ≤ limit_of task.now.direction }
+    requires fits { length bytes ≤ limit_of task.now.direction }
     ensures made { (tapes : Tapes) (a : Around) → a.truth ≡ W.Link.truth → Does
         (borrow_links programs.now (working task.now.direction task.now.resource.now
-        task.now.path.now (rows_of settings.entries.0) task.now.bytes.now))
+        task.now.path.now (rows_of settings.entries.0) bytes))
         (with_lent_links W.Link.link 0 links
         (with_lent_dice 0 (W.Rand.left dice) (W.Rand.count dice)
         (with_world (with_tapes tapes (W.told world.old)) a)))
@@ -102,7 +104,7 @@ fn make_linked<W: World>(
         → (W.told world.new).links.out key ≡ (W.told world.old).links.out key }
 {
     let Some((program, more)) = first_of(programs) else {
-        return make_by(alloc, task, settings, links, dice);
+        return make_by(alloc, task, bytes, settings, links, dice);
     };
     let link = match open_link(
         alloc,
@@ -121,7 +123,9 @@ fn make_linked<W: World>(
             return (Err(Stop::NoMemory), links, dice);
         }
     }
-    let (made, mut links, dice) = make_linked(alloc, task, settings, more, world, links, dice);
+    let (made, mut links, dice) = make_linked(
+        alloc, task, bytes, settings, more, world, links, dice,
+    );
     let link = take_last(&mut links);
     close_link(world, 0, link);
     (made, links, dice)
@@ -152,16 +156,17 @@ pub fn first_of(programs: &[Program]) -> Option<(&Program, &[Program])>
 fn make_by<L: Kms, D: Dice>(
     alloc: Global,
     task: &Task<'_>,
+    bytes: Bytes,
     settings: Settings,
     mut links: Links<L>,
     mut dice: D,
 ) -> (Result<Outcome, Stop>, Links<L>, D)
     requires links { names_of L.link links ≡ plugin_order (rows_of settings.entries.0) }
     requires path { length task.now.path.now ≤ path_limit }
-    requires fits { length task.now.bytes.now ≤ limit_of task.now.direction }
+    requires fits { length bytes ≤ limit_of task.now.direction }
     ensures made { (a : Around) → a.truth ≡ L.truth → Does
         (working task.now.direction task.now.resource.now task.now.path.now
-        (rows_of settings.entries.0) task.now.bytes.now)
+        (rows_of settings.entries.0) bytes)
         (with_lent_links L.link 0 links (with_lent_dice 0 (D.left dice) (D.count dice) a))
         (with_lent_links L.link 0 result.1
         (with_lent_dice 0 (D.left result.2) (D.count result.2) a))
@@ -189,6 +194,6 @@ fn make_by<L: Kms, D: Dice>(
         bench,
         task.resource,
         task.path,
-        task.bytes,
+        bytes,
     )
 }

@@ -213,7 +213,10 @@ impl<T: Tape> Store<T> {
                     check,
                 },
             ),
-            Err(NoMemory) => Err(PutNo::NoMemory),
+            Err(NoMemory) => {
+                drop(stored);
+                Err(PutNo::NoMemory)
+            }
         }
     }
 
@@ -245,10 +248,12 @@ impl<T: Tape> Store<T> {
         ensures { Replaces self.old self.new path.now revision stored check result }
     {
         let Some(last) = self.index.live(path) else {
+            drop(stored);
             let revision = self.index.gone(path).unwrap_or(0);
             return Err(PutNo::Changed { revision });
         };
         if last != revision {
+            drop(stored);
             return Err(PutNo::Changed { revision: last });
         }
         let check = self.format.keep(check);
@@ -261,7 +266,10 @@ impl<T: Tape> Store<T> {
                     check,
                 },
             ),
-            Err(NoMemory) => Err(PutNo::NoMemory),
+            Err(NoMemory) => {
+                drop(stored);
+                Err(PutNo::NoMemory)
+            }
         }
     }
 
@@ -275,11 +283,15 @@ impl<T: Tape> Store<T> {
         let empty = at == 0;
         let needed = at + row_length(self.format, empty, path, &change);
         if needed > self.limit {
+            drop(change);
             return Err(PutNo::Full { needed });
         }
         match self.rows.reserve(1) {
             Ok(()) => {}
-            Err(NoMemory) => return Err(PutNo::NoMemory),
+            Err(NoMemory) => {
+                drop(change);
+                return Err(PutNo::NoMemory);
+            }
         }
         let revision = self.rows.as_slice().len() as u64 + 1;
         let made = match make_row(self.alloc, self.format, empty, revision, path, change) {
@@ -298,9 +310,16 @@ impl<T: Tape> Store<T> {
             bytes.as_slice(),
         ) {
             Ok(()) => {}
-            Err(WriteNo::Failed) => return Err(PutNo::Failed),
-            Err(WriteNo::NoMemory) => return Err(PutNo::NoMemory),
+            Err(WriteNo::Failed) => {
+                drop((bytes, row));
+                return Err(PutNo::Failed);
+            }
+            Err(WriteNo::NoMemory) => {
+                drop((bytes, row));
+                return Err(PutNo::NoMemory);
+            }
         }
+        drop(bytes);
         self.rows.push_in_room(row);
         Ok(revision)
     }

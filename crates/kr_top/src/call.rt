@@ -5,11 +5,11 @@ ghost use Rattle.kr_steps.specs.Afterwards.{AreLeft};
 ghost use Rattle.kr_steps.specs.Around.{Around, around, with_world};
 ghost use Rattle.kr_steps.specs.Commands.{steps};
 ghost use Rattle.kr_commands.specs.FleetAsked.{AskAlone, AskNoFleet, AsksFleet};
-ghost use Rattle.kr_outfits.specs.FleetReadings.{FleetReadings};
-ghost use Rattle.kr_outfits.specs.Fleets.{RanAlone, RanFleet};
-ghost use Rattle.kr_outfits.specs.GeneratedLoads.{RanLoad};
+ghost use Rattle.kr_fleet_steps.specs.FleetReadings.{FleetReadings};
+ghost use Rattle.kr_fleet_steps.specs.Fleets.{RanAlone, RanFleet};
+ghost use Rattle.kr_fleet_steps.specs.GeneratedLoads.{RanLoad};
 ghost use Rattle.kr_commands.specs.LoadAsked.{AskNoLoad, AsksLoad};
-ghost use Rattle.kr_outfits.specs.LoadReadings.{LoadReadings};
+ghost use Rattle.kr_fleet_steps.specs.LoadReadings.{LoadReadings};
 ghost use Rattle.kr_steps.specs.Ran.{Answers, Ran, Readings};
 ghost use Rattle.kr_commands.specs.Message.{line_of, status_of};
 ghost use Rattle.kr_commands.specs.Receipts.{Tells, receipt};
@@ -25,11 +25,11 @@ use kr_commands::{
     read_load, tell,
 };
 use kr_fleet_runs::fleet::fleet;
-use kr_fleet_runs::generated::generated;
+use kr_fleet_runs::loads::load;
 use kr_kms::World;
 use kr_objects::judge::judge;
 use kr_objects::{get, migrate, put};
-use kr_rewriting::rewrite;
+use kr_rewrite_command::rewrite;
 use kr_steps::write_output;
 use kr_values::check::check;
 use kr_values::convert::convert;
@@ -204,7 +204,7 @@ fn run_load<R: Threads + Wait + Sync, W: World, O: Sink, E: Sink>(
         (receipt (E.held errors.old) (E.held errors.new) (E.count errors.old) (E.count errors.new))
         result }
 {
-    match generated(rt, alloc, asked, world, output) {
+    match load(rt, alloc, asked, world, output) {
         Ok(ending) => ending.status(),
         Err(stop) => tell_end(errors, Err(stop)),
     }

@@ -43,7 +43,6 @@ pub fn convert<W: World, I: Source>(
         direction: words.direction,
         resource: words.resource.as_str(),
         path: words.path.as_str(),
-        bytes: bytes.as_slice(),
     };
-    make(alloc, &task, settings, programs.as_slice(), world)
+    make(alloc, &task, bytes, settings, programs.as_slice(), world)
 }

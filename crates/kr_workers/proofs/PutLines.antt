@@ -9,7 +9,8 @@ use Rattle.kr_script.specs.declared.script.ScriptLine.TheVariants as line
 use Rattle.kr_workers.specs.declared.budget.BudgetNo.{BudgetNo}
 use Rattle.kr_workers.specs.declared.budget.BudgetNo.TheVariants as refusal
 use Rattle.kr_workers.specs.declared.budget.Budgets.{Budgets}
-use Rattle.kr_workers.specs.Budgets.{budget_of, budgets_of, entries_of, is_put, journal_limit, put_lines}
+use Rattle.kr_base.specs.Limits.{journal_limit}
+use Rattle.kr_workers.specs.Budgets.{budget_of, budgets_of, entries_of, is_put, put_lines}
 
 abbrev most : ℕ
 most = 2 ^ 64 - 1

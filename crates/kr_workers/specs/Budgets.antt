@@ -63,10 +63,6 @@ puts_of (line.Leave replica) = []
 
 -- ---- of all workers
 
--- the most lines that a journal may have
-abbrev pub journal_limit : ℕ
-journal_limit = 4000000
-
 abbrev pub budgets_of : (paths : ℕ) → List Part → List ℕ
 budgets_of paths parts = map (λ part. budget_of paths part.lines.0) parts
 

@@ -1,13 +1,12 @@
 //! How many lines the workers of a fleet may add to the journal, and how many configurations they
 //! bring.
 ghost use Rattle.std.specs.Prelude.{◌≡◌, ◌<◌, ◌≤◌, ◌+◌, ◌^◌, ◌-◌, count_by, sum, min, IfOk, IsErrOf, MatchOption};
-ghost use Rattle.kr_workers.specs.Budgets.{all_reloads, brought_by, budget_of, budgets_of, entries_of, is_put, journal_limit, put_lines, reloads_of};
+ghost use Rattle.kr_base.specs.Limits.{journal_limit};
+ghost use Rattle.kr_workers.specs.Budgets.{all_reloads, brought_by, budget_of, budgets_of, entries_of, is_put, put_lines, reloads_of};
 
+use kr_base::JOURNAL_LIMIT;
 use kr_script::{Part, ScriptLine};
 use std::alloc::{AllocFailed, Global};
-
-/// The most lines that a journal may have.
-pub const JOURNAL_LIMIT: u64 = 4_000_000;
 
 /// What the workers may do, by their numbers: how many lines each may add to the journal, and how
 /// many configurations it may bring.

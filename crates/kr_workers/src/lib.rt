@@ -13,7 +13,7 @@ mod told;
 mod worker;
 mod workers;
 
-pub use budget::{BudgetNo, Budgets, JOURNAL_LIMIT, budgets_of};
+pub use budget::{BudgetNo, Budgets, budgets_of};
 pub use ending::{Ending, ending_of};
 pub use files::{SettingsFile, settings_at};
 pub use laws::{

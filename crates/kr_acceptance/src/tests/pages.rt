@@ -1,5 +1,6 @@
 //! The pages of a bench: more keys than it has pages, and two configurations in turn.
-ghost use Rattle.std.specs.Prelude.{◌≡◌, false, IfSome, IsSome, IsTrue};
+ghost use Rattle.std.specs.Prelude.{◌≡◌, ◌≤◌, false, length, IfSome, IsSome, IsTrue};
+ghost use Rattle.kr_base.specs.Limits.{value_limit};
 ghost use Rattle.kr_config.specs.Kept.{rows_of};
 ghost use Rattle.kr_provider.specs.Publication.{names_plugin};
 
@@ -76,28 +77,74 @@ fn sealed(alloc: Global, bench: &mut Worker) -> Option<Bytes>
     requires { IsSome bench.old.published }
     ensures { IsSome bench.new.published }
 {
-    let value = bench.seal(alloc, "secrets", "/a", b"hello").ok()?;
-    let opened = bench.unseal(alloc, "secrets", "/a", value.as_slice()).ok()?;
-    if opened.plain.as_slice() == b"hello".as_slice() && !opened.stale {
+    let Ok(value) = bench.seal(alloc, "secrets", "/a", b"hello") else {
+        return None;
+    };
+    if opens(alloc, bench, value.as_slice()) {
         Some(value)
     } else {
+        drop(value);
         None
     }
 }
 
+/// Whether the bench reads a value back that it made of a secret.
+fn opens(alloc: Global, bench: &mut Worker, value: &[u8]) -> bool
+    requires adopted { IsSome bench.old.published }
+    requires fits { length value.now ≤ value_limit }
+    ensures { IsSome bench.new.published }
+{
+    match bench.unseal(alloc, "secrets", "/a", value) {
+        Ok(opened) => {
+            let is = opened.plain.as_slice() == b"hello".as_slice() && !opened.stale;
+            drop(opened);
+            is
+        }
+        Err(why) => {
+            drop(why);
+            false
+        }
+    }
+}
+
 /// Whether a bench of one page refuses two keys, and then seals by its one key the same bytes.
-fn refuses(alloc: Global, bench: &mut Worker) -> Option<bool> {
-    let one = published(alloc, AESCBC)?;
-    let two = published(alloc, TWO)?;
-    if !adopts(bench, &one) {
+fn refuses_second(
+    alloc: Global,
+    bench: &mut Worker,
+    one: &Shared<Published>,
+    two: &Shared<Published>,
+) -> Option<bool>
+    requires one { names_plugin one.now.rows ≡ false }
+    requires two { names_plugin two.now.rows ≡ false }
+{
+    if !adopts(bench, one) {
         return None;
     }
     let before = sealed(alloc, bench)?;
-    if adopts(bench, &two) || bench.keys() != 1 {
+    if adopts(bench, two) || bench.keys() != 1 {
+        drop(before);
         return Some(false);
     }
-    let after = sealed(alloc, bench)?;
-    Some(before.as_slice() == after.as_slice())
+    let Some(after) = sealed(alloc, bench) else {
+        drop(before);
+        return None;
+    };
+    let is = before.as_slice() == after.as_slice();
+    drop(before);
+    drop(after);
+    Some(is)
+}
+
+fn refuses(alloc: Global, bench: &mut Worker) -> Option<bool> {
+    let one = published(alloc, AESCBC)?;
+    let Some(two) = published(alloc, TWO) else {
+        drop(one);
+        return None;
+    };
+    let refuses = refuses_second(alloc, bench, &one, &two);
+    drop(one);
+    drop(two);
+    refuses
 }
 
 #[test]
@@ -110,19 +157,39 @@ fn more_keys_than_pages(rt: HostRuntime) -> Result<(), Fail> {
 }
 
 /// Whether a bench of two pages adopts both in turn, a thousand times, and seals by the last.
-fn takes_turns(alloc: Global, bench: &mut Worker) -> Option<bool> {
-    let one = published(alloc, AESCBC)?;
-    let two = published(alloc, TWO)?;
+fn turns_between(
+    alloc: Global,
+    bench: &mut Worker,
+    one: &Shared<Published>,
+    two: &Shared<Published>,
+) -> Option<bool>
+    requires one { names_plugin one.now.rows ≡ false }
+    requires two { names_plugin two.now.rows ≡ false }
+{
     for _ in 0..500 {
-        if !adopts(bench, &one) || bench.keys() != 1 || !adopts(bench, &two) || bench.keys() != 2 {
+        if !adopts(bench, one) || bench.keys() != 1 || !adopts(bench, two) || bench.keys() != 2 {
             return Some(false);
         }
     }
-    if !adopts(bench, &two) {
+    if !adopts(bench, two) {
         return Some(false);
     }
     let value = sealed(alloc, bench)?;
-    Some(value.as_slice().starts_with(b"k8s:enc:aescbc:v1:key2:"))
+    let is = value.as_slice().starts_with(b"k8s:enc:aescbc:v1:key2:");
+    drop(value);
+    Some(is)
+}
+
+fn takes_turns(alloc: Global, bench: &mut Worker) -> Option<bool> {
+    let one = published(alloc, AESCBC)?;
+    let Some(two) = published(alloc, TWO) else {
+        drop(one);
+        return None;
+    };
+    let takes = turns_between(alloc, bench, &one, &two);
+    drop(one);
+    drop(two);
+    takes
 }
 
 #[test]

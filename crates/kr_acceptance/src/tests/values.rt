@@ -1,5 +1,5 @@
 //! What commands on one value leave.
-use super::{BEGIN, Call, DECRYPT, ENCRYPT, Left, left_by, plain};
+use super::{BEGIN, Call, DECRYPT, ENCRYPT, Left, both, left_by};
 use kr_base::{Bytes, NoMemory};
 use std::alloc::Global;
 use std::test::Fail;
@@ -21,16 +21,18 @@ fn bytes(alloc: Global, text: &str) -> Result<Bytes, NoMemory> {
         Some(parts) => parts,
         None => (text, ""),
     };
-    let Ok(mut all) = Vec::from_slice(alloc, front.as_bytes()) else {
-        return Err(NoMemory);
-    };
     let Ok(rest) = hex::decode(alloc, digits) else {
         return Err(NoMemory);
     };
-    match all.extend_from_slice(rest.as_slice()) {
-        Ok(()) => Ok(Bytes::from_vec(all)),
-        Err(_) => Err(NoMemory),
-    }
+    let all = joined(alloc, front.as_bytes(), rest.as_slice());
+    drop(rest);
+    all
+}
+
+fn joined(alloc: Global, front: &[u8], rest: &[u8]) -> Result<Bytes, NoMemory> {
+    let mut all = Vec::from_slice(alloc, front)?;
+    all.extend_from_slice(rest)?;
+    Ok(Bytes::from_vec(all))
 }
 
 /// A value under `key1` whose IV makes the padded `hello` the plain text of FIPS 197's example for
@@ -72,14 +74,30 @@ fn leaving<'a>(output: &'a str, line: &'a str, status: u8) -> Wanted<'a> {
     }
 }
 
-fn is_wanted(alloc: Global, left: &Left, wanted: &Wanted<'_>) -> Result<bool, NoMemory> {
-    let output = bytes(alloc, wanted.output)?;
-    Ok(
-        left.output.as_slice() == output.as_slice()
-            && left.errors.as_slice() == wanted.line.as_bytes()
-            && left.status == wanted.status
-            && left.dice_is_back,
-    )
+fn is_wanted(
+    alloc: Global,
+    left: Result<Left, NoMemory>,
+    wanted: Wanted<'_>,
+) -> Result<bool, NoMemory> {
+    let (left, output) = both(left, bytes(alloc, wanted.output))?;
+    let is = left.output.as_slice() == output.as_slice()
+        && left.errors.as_slice() == wanted.line.as_bytes()
+        && left.status == wanted.status
+        && left.dice_is_back;
+    drop(left);
+    drop(output);
+    Ok(is)
+}
+
+/// A configuration with these two providers for secrets.
+fn config_of(alloc: Global, first: &str, second: &str) -> Result<String, NoMemory> {
+    match format!(in alloc;
+        "{}[\"secrets\"],\"providers\":[{},{}]}}]}}",
+        BEGIN, first, second
+    ) {
+        Ok(config) => Ok(config),
+        Err(_) => Err(NoMemory),
+    }
 }
 
 /// Whether a command on an object, with these two providers for secrets, leaves what is wanted.
@@ -91,33 +109,20 @@ fn converts(
     given: Given<'_>,
     wanted: Wanted<'_>,
 ) -> Result<bool, NoMemory> {
-    let Ok(config) = format!(in alloc;
-        "{}[\"secrets\"],\"providers\":[{},{}]}}]}}",
-        BEGIN, first, second
-    ) else {
-        return Err(NoMemory);
-    };
-    let input = bytes(alloc, given.input)?;
-    let drawn = bytes(alloc, given.drawn)?;
+    let given = both(bytes(alloc, given.input), bytes(alloc, given.drawn));
+    let (config, given) = both(config_of(alloc, first, second), given)?;
+    let (input, drawn) = given;
     let call = Call {
         words,
         config: config.as_str(),
-        dice: Some(drawn.as_slice()),
-        ..plain(input.as_slice())
+        input: input.as_slice(),
+        dice: drawn.as_slice(),
     };
-    let left = left_by(alloc, &call)?;
-    is_wanted(alloc, &left, &wanted)
-}
-
-/// Whether `inspect` of the value leaves what is wanted.
-fn shows(alloc: Global, value: &str, wanted: Wanted<'_>) -> Result<bool, NoMemory> {
-    let value = bytes(alloc, value)?;
-    let call = Call {
-        words: "inspect",
-        ..plain(value.as_slice())
-    };
-    let left = left_by(alloc, &call)?;
-    is_wanted(alloc, &left, &wanted)
+    let left = left_by(alloc, &call);
+    drop(config);
+    drop(input);
+    drop(drawn);
+    is_wanted(alloc, left, wanted)
 }
 
 #[test]
@@ -177,84 +182,6 @@ fn decrypts_by_each_provider(rt: HostRuntime) -> Result<(), Fail> {
             K16,
             on(HELLO, ""),
             leaving("hello", "stale\n", 0)
-        )?
-    );
-    Ok(())
-}
-
-#[test]
-fn refuses_values(rt: HostRuntime) -> Result<(), Fail> {
-    let alloc = rt.alloc();
-    assert!(rt;
-        converts(
-            alloc,
-            DECRYPT,
-            BARE,
-            Z16,
-            on(HELLO, ""),
-            leaving("", "kmsrest: refused 12 NoProvider\n", 1)
-        )?
-    );
-    assert!(rt;
-        converts(
-            alloc,
-            DECRYPT,
-            Z16,
-            BARE,
-            on(SEALED_ZEROS, ""),
-            leaving("", "kmsrest: refused 4 BadTag\n", 1)
-        )?
-    );
-    assert!(rt;
-        converts(
-            alloc,
-            DECRYPT,
-            K16,
-            BARE,
-            on(
-                "k8s:enc:aescbc:v1:key1:|00112233445566778899aabbccddedfd69c4e0d86a7b0430d8cdb78070b4c55a",
-                ""
-            ),
-            leaving("", "kmsrest: refused 3 BadPadding\n", 1)
-        )?
-    );
-    Ok(())
-}
-
-#[test]
-fn inspects_prefixes(rt: HostRuntime) -> Result<(), Fail> {
-    let alloc = rt.alloc();
-    assert!(rt; shows(alloc, "", leaving("plain 0\n", "", 0))?);
-    assert!(rt; shows(alloc, HELLO, leaving("aescbc key1 32\n", "", 0))?);
-    assert!(rt;
-        shows(
-            alloc,
-            "k8s:enc:",
-            leaving("", "kmsrest: refused 12 NoProvider\n", 1)
-        )?
-    );
-    Ok(())
-}
-
-#[test]
-fn inspects_objects(rt: HostRuntime) -> Result<(), Fail> {
-    let alloc = rt.alloc();
-    assert!(rt;
-        shows(
-            alloc,
-            "k8s:enc:kms:v2:p:|0a02aabb12026b311a01cc22090a04612e696f1201012801",
-            leaving(
-                "kms p 24\nkey-id k1\nsource 1\nannotation a.io 1\ntype 1\ndata 2\n",
-                "",
-                0
-            )
-        )?
-    );
-    assert!(rt;
-        shows(
-            alloc,
-            "k8s:enc:kms:v2:p:|28011201781a01cc30070a02aabb12026b",
-            leaving("", "kmsrest: refused 5 Wire 14\n", 1)
         )?
     );
     Ok(())

@@ -1,15 +1,9 @@
--- Pieces of a line, one behind another, and that a line was written.
-use Rattle.std.specs.Prelude.{ℕ, List, [], ◌∷◌, ◌++◌, Result, OnOk, OnErr}
-use Rattle.std.specs.Borrow.{Bor}
+-- That a line was written.
+use Rattle.std.specs.Prelude.{ℕ, List, Result, OnOk, OnErr}
 use Rattle.std.specs.Io.KnownBytes.{Appends}
 use Rattle.kr_base.specs.Faults.{IsCounted}
 use Rattle.kr_base.specs.Streams.{AppendsFront}
 use Rattle.kr_commands.specs.Receipts.{Receipt}
-
--- pieces of text, one behind another
-abbrev pub whole : List (Bor (List ℕ)) → List ℕ
-whole [] = []
-whole (piece ∷ pieces) = piece.now ++ whole pieces
 
 -- the line was written, or a prefix of it before a fault
 pub record Says {T E : Type 0} (sink : Receipt) (line : List ℕ) (result : Result T E)

@@ -9,11 +9,11 @@ use Rattle.kr_rollout.specs.Cores.{CoreState}
 use Rattle.kr_rollout.specs.Openings.{opening_by}
 use Rattle.kr_store.specs.Stores.{Kept}
 use Rattle.kr_steps.specs.Around.{Around}
-use Rattle.kr_outfits.specs.FleetFiles.{NamedRows, no_file, rows_at}
-use Rattle.kr_outfits.specs.Fleets.{Begun, Replicas, publishing}
-use Rattle.kr_outfits.specs.declared.fleet_file.Plan.{Plan}
+use Rattle.kr_fleet_steps.specs.FleetFiles.{NamedRows, no_file, rows_at}
+use Rattle.kr_fleet_steps.specs.Fleets.{Begun, Replicas, publishing}
+use Rattle.kr_fleet_steps.specs.declared.fleet_file.Plan.{Plan}
 use Rattle.kr_commands.specs.declared.refusal.Stop.{Stop}
-use Rattle.kr_outfits.specs.inner.FleetFiles.{plan_of}
+use Rattle.kr_fleet_steps.specs.inner.FleetFiles.{plan_of}
 use Rattle.kr_steps.specs.inner.Lent.{with_lent_dice, with_lent_links}
 use Rattle.kr_steps.specs.inner.ProgramNames.{names_in}
 use Rattle.kr_steps.specs.inner.Phases.{Does}

@@ -12,12 +12,12 @@ use Rattle.kr_workers.specs.Histories.{IsOneHistory}
 use Rattle.kr_workers.specs.Sentences.{RepliesAreTrue}
 use Rattle.kr_workers.specs.declared.worker.Worker.{Worker}
 use Rattle.kr_fleet_runs.specs.declared.fleet.Record.{Record}
-use Rattle.kr_outfits.specs.declared.fleet_file.Plan.{Plan}
-use Rattle.kr_outfits.specs.declared.outfit.Outfit.{Outfit}
+use Rattle.kr_fleet_steps.specs.declared.fleet_file.Plan.{Plan}
+use Rattle.kr_fleet_steps.specs.declared.outfit.Outfit.{Outfit}
 use Rattle.kr_commands.specs.declared.refusal.Stop.{Stop}
 use Rattle.kr_commands.specs.declared.refusal.Stop.TheVariants.{NoMemory}
-use Rattle.kr_outfits.specs.inner.Outfits.{AreLater}
-use Rattle.kr_outfits.specs.inner.Crews.{outfits_of}
+use Rattle.kr_fleet_steps.specs.inner.Outfits.{AreLater}
+use Rattle.kr_fleet_steps.specs.inner.Crews.{outfits_of}
 
 -- the store's file is one of these rows, in the opening's format; no count fell, and it is torn
 -- only where it was so or its count rose

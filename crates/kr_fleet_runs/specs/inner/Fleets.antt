@@ -9,8 +9,8 @@ use Rattle.kr_workers.specs.declared.budget.BudgetNo.{BudgetNo}
 use Rattle.kr_workers.specs.declared.budget.BudgetNo.TheVariants as budget
 use Rattle.kr_workers.specs.declared.worker.Worker as fleet_worker
 use Rattle.kr_steps.specs.Around.{Around, IsHome}
-use Rattle.kr_outfits.specs.FleetFiles.{FleetPlan, NamedRows}
-use Rattle.kr_outfits.specs.Fleets.{Begun, Replicas, RunsFleet, StartsNone, rows_of_replica}
+use Rattle.kr_fleet_steps.specs.FleetFiles.{FleetPlan, NamedRows}
+use Rattle.kr_fleet_steps.specs.Fleets.{Begun, Replicas, RunsFleet, StartsNone, rows_of_replica}
 use Rattle.kr_steps.specs.Steps.{Steps}
 use Rattle.kr_fleet_runs.specs.declared.fleet.Record.{Record}
 use Rattle.kr_commands.specs.declared.refusal.Limit.TheVariants as limit

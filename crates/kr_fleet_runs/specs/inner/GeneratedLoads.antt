@@ -7,15 +7,15 @@ use Rattle.kr_load.specs.Streams.{stream}
 use Rattle.kr_workers.specs.declared.worker.Worker as fleet_worker
 use Rattle.rand_chacha.specs.ChaCha.{ChaCha}
 use Rattle.kr_steps.specs.Around.{Around}
-use Rattle.kr_outfits.specs.FleetFiles.{FleetPlan}
-use Rattle.kr_outfits.specs.Fleets.{Begun}
-use Rattle.kr_outfits.specs.GeneratedLoads.{no_faults, nothing_told}
+use Rattle.kr_fleet_steps.specs.FleetFiles.{FleetPlan}
+use Rattle.kr_fleet_steps.specs.Fleets.{Begun}
+use Rattle.kr_fleet_steps.specs.GeneratedLoads.{no_faults, nothing_told}
 use Rattle.kr_steps.specs.Steps.{Steps}
 use Rattle.kr_fleet_runs.specs.declared.fleet.Record.{Record}
-use Rattle.kr_outfits.specs.declared.fleet_file.Plan.{Plan}
-use Rattle.kr_outfits.specs.declared.outfit.Outfit.{Outfit}
+use Rattle.kr_fleet_steps.specs.declared.fleet_file.Plan.{Plan}
+use Rattle.kr_fleet_steps.specs.declared.outfit.Outfit.{Outfit}
 use Rattle.kr_commands.specs.declared.refusal.Stop.{Stop}
-use Rattle.kr_outfits.specs.inner.FleetFiles.{IsWholePlan, plan_of}
+use Rattle.kr_fleet_steps.specs.inner.FleetFiles.{IsWholePlan, plan_of}
 use Rattle.kr_fleet_runs.specs.inner.Fleets.{LacksWorkers, LeavesRecord}
 use Rattle.kr_steps.specs.inner.Phases.{Does}
 use Rattle.kr_fleet_runs.specs.inner.Workings.{Outfits}

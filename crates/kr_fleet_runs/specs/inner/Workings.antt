@@ -4,18 +4,18 @@ use Rattle.kr_kms.specs.Calls.{Link}
 use Rattle.kr_kms.specs.Truth.{Truth}
 use Rattle.kr_store.specs.Stores.{Kept}
 use Rattle.kr_steps.specs.Around.{Around}
-use Rattle.kr_outfits.specs.FleetFiles.{FleetPlan}
-use Rattle.kr_outfits.specs.Fleets.{Begun, Replicas, publishing}
+use Rattle.kr_fleet_steps.specs.FleetFiles.{FleetPlan}
+use Rattle.kr_fleet_steps.specs.Fleets.{Begun, Replicas, publishing}
 use Rattle.kr_steps.specs.Steps.{Steps}
 use Rattle.kr_fleet_runs.specs.declared.fleet.Record.{Record}
-use Rattle.kr_outfits.specs.declared.fleet_file.Plan.{Plan}
-use Rattle.kr_outfits.specs.declared.outfit.Outfit.{Outfit}
+use Rattle.kr_fleet_steps.specs.declared.fleet_file.Plan.{Plan}
+use Rattle.kr_fleet_steps.specs.declared.outfit.Outfit.{Outfit}
 use Rattle.kr_commands.specs.declared.refusal.Stop.{Stop}
-use Rattle.kr_outfits.specs.inner.Crews.{outfits_of}
-use Rattle.kr_outfits.specs.inner.FleetFiles.{named}
+use Rattle.kr_fleet_steps.specs.inner.Crews.{outfits_of}
+use Rattle.kr_fleet_steps.specs.inner.FleetFiles.{named}
 use Rattle.kr_fleet_runs.specs.inner.Fleets.{LacksWorkers, LeavesRecord}
 use Rattle.kr_steps.specs.inner.Lent.{with_lent_tape}
-use Rattle.kr_outfits.specs.inner.Outfits.{AreLater, AreNamed, with_outfits}
+use Rattle.kr_fleet_steps.specs.inner.Outfits.{AreLater, AreNamed, with_outfits}
 use Rattle.kr_steps.specs.inner.ProgramNames.{names_in}
 use Rattle.kr_steps.specs.inner.Phases.{Does}
 

@@ -1,9 +1,10 @@
 //! Lines to and from a plugin.
 use crate::tests::making::{annotate, both, gives, text};
 use kr_base::{Annotations, Bytes};
-use kr_kms::{
-    Answered, Asked, Reply, ReplyNo, Request, RequestNo, Status, read_reply, read_request,
-    reply_line, request_line,
+use kr_kms::Status;
+use kr_plugin_lines::{
+    Answered, Asked, Reply, ReplyNo, Request, RequestNo, read_reply, read_request, reply_line,
+    request_line,
 };
 use std::alloc::Global;
 
@@ -130,28 +131,36 @@ fn reads_replies(rt: HostRuntime) {
     );
 }
 
+fn is_shapeless(alloc: Global, line: &[u8]) -> bool {
+    reads(alloc, Asked::Decrypt, line, "shape", b"")
+}
+
+fn is_no_json(alloc: Global, line: &[u8]) -> bool {
+    reads(alloc, Asked::Decrypt, line, "no JSON", b"")
+}
+
+// The padding is missing, and bits behind the end aren't zero.
+fn are_shapeless(alloc: Global) -> bool {
+    is_shapeless(alloc, b"[]")
+        && is_shapeless(alloc, b"{\"call\":\"status\"}")
+        && is_shapeless(alloc, b"{\"plaintext\":\"aGk\"}")
+        && is_shapeless(alloc, b"{\"plaintext\":\"aGl=\"}")
+}
+
+fn are_no_json(alloc: Global) -> bool {
+    is_no_json(alloc, b"{")
+        && is_no_json(alloc, b"{\"plaintext\":\"\xff\"}")
+        && is_no_json(alloc, b"")
+}
+
 #[test]
 fn refuses_replies(rt: HostRuntime) {
     let alloc = rt.alloc();
     let call = Asked::Decrypt;
     assert!(rt; reads(alloc, call, b"{\"error\":\"no\"}", "error", b"no"));
-    assert!(rt;
-        reads(
-            alloc,
-            call,
-            b"{\"plaintext\":\"aGk=\",\"error\":\"\"}",
-            "error",
-            b""
-        )
-    );
-    assert!(rt; reads(alloc, call, b"[]", "shape", b""));
-    assert!(rt; reads(alloc, call, b"{\"call\":\"status\"}", "shape", b""));
-    // The padding is missing, and bits behind the end aren't zero.
-    assert!(rt; reads(alloc, call, b"{\"plaintext\":\"aGk\"}", "shape", b""));
-    assert!(rt; reads(alloc, call, b"{\"plaintext\":\"aGl=\"}", "shape", b""));
-    assert!(rt; reads(alloc, call, b"{", "no JSON", b""));
-    assert!(rt; reads(alloc, call, b"{\"plaintext\":\"\xff\"}", "no JSON", b""));
-    assert!(rt; reads(alloc, call, b"", "no JSON", b""));
+    let line = b"{\"plaintext\":\"aGk=\",\"error\":\"\"}";
+    assert!(rt; reads(alloc, call, line, "error", b""));
+    assert!(rt; are_shapeless(alloc) && are_no_json(alloc));
 }
 
 #[test]
@@ -188,18 +197,22 @@ fn name_of(request: &Request) -> &'static str {
     }
 }
 
+// A uid with a leading zero, and a call that there isn't.
+fn are_no_requests(alloc: Global) -> bool {
+    let line = b"{\"call\":\"encrypt\",\"plaintext\":\"aGk=\",\"uid\":\"03\"}";
+    call_of(alloc, line) == "shape"
+        && call_of(alloc, b"{\"call\":\"rotate\"}") == "shape"
+        && call_of(alloc, b"[]") == "shape"
+        && call_of(alloc, b"{") == "no JSON"
+}
+
 #[test]
 fn reads_requests(rt: HostRuntime) {
     let alloc = rt.alloc();
     assert!(rt; call_of(alloc, b"{\"call\":\"status\",\"more\":1}\n") == "status");
     let line = b"{\"call\":\"encrypt\",\"plaintext\":\"aGk=\",\"uid\":\"3\"}";
     assert!(rt; call_of(alloc, line) == "encrypt");
-    // A uid with a leading zero, and a call that there isn't.
-    let line = b"{\"call\":\"encrypt\",\"plaintext\":\"aGk=\",\"uid\":\"03\"}";
-    assert!(rt; call_of(alloc, line) == "shape");
-    assert!(rt; call_of(alloc, b"{\"call\":\"rotate\"}") == "shape");
-    assert!(rt; call_of(alloc, b"[]") == "shape");
-    assert!(rt; call_of(alloc, b"{") == "no JSON");
+    assert!(rt; are_no_requests(alloc));
 }
 
 /// Whether the answer is made, and this is its line.

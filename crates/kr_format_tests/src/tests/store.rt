@@ -365,17 +365,21 @@ fn refusal(alloc: Global, at: usize, byte: u8) -> Option<StoreNo> {
     }
 }
 
+fn is_refused(alloc: Global, at: usize, byte: u8, why: StoreNo) -> bool {
+    refusal(alloc, at, byte) == Some(why)
+}
+
+// A delete has nothing behind its path, and here nothing to delete.
 #[test]
 fn refuses_other_bytes(rt: HostRuntime) {
     let alloc = rt.alloc();
-    assert_eq!(rt; refusal(alloc, 0, 0), Some(StoreNo::Magic));
-    assert_eq!(rt; refusal(alloc, 7, b'3'), Some(StoreNo::Magic));
-    // A delete has nothing behind its path, and here nothing to delete.
-    assert_eq!(rt; refusal(alloc, 8, 2), Some(StoreNo::BadRow { at: 8 }));
-    assert_eq!(rt; refusal(alloc, 8, 3), Some(StoreNo::BadRow { at: 8 }));
-    assert_eq!(rt; refusal(alloc, 16, 2), Some(StoreNo::Order { at: 8 }));
-    assert_eq!(rt; refusal(alloc, 17, 5), Some(StoreNo::BadRow { at: 8 }));
-    assert_eq!(rt; refusal(alloc, 23, b'S'), Some(StoreNo::BadRow { at: 8 }));
+    assert!(rt;
+        is_refused(alloc, 0, 0, StoreNo::Magic) && is_refused(alloc, 7, b'3', StoreNo::Magic)
+    );
+    let bad = StoreNo::BadRow { at: 8 };
+    assert!(rt; is_refused(alloc, 8, 2, bad) && is_refused(alloc, 8, 3, bad));
+    assert!(rt; is_refused(alloc, 17, 5, bad) && is_refused(alloc, 23, b'S', bad));
+    assert!(rt; is_refused(alloc, 16, 2, StoreNo::Order { at: 8 }));
 }
 
 /// Puts four rows, two of them longer than what is read ahead holds beside another.

@@ -1,9 +1,24 @@
--- What a seed is wrapped into.
-use Rattle.std.specs.Prelude.{◌≡◌, ℕ, List}
+-- What a seed is drawn as, and wrapped into.
+use Rattle.std.specs.Prelude.{◌≡◌, ℕ, List, Option, Result, Ok, Err, length}
+use Rattle.std.specs.Io.KnownBytes.{Consumes, Keeps}
+use Rattle.kr_base.specs.Faults.{Rose}
 use Rattle.kr_kms.specs.Seeds.{IsSeedRow}
 use Rattle.kr_kms.specs.Truth.{Truth, TellsOf, key_of}
 use Rattle.kr_kms.specs.declared.plugin.Wrapped.{Wrapped}
 use Rattle.kr_kms.specs.declared.seeds.SeedRow.{SeedRow}
+use Rattle.kr_kms.specs.declared.health.SeedNo.{SeedNo}
+use Rattle.kr_kms.specs.declared.health.SeedNo.TheVariants.{Failed, DiceFailed, Unhealthy, NoMemory}
+
+-- the bytes that were drawn, or why there are none
+abbrev pub IsDrawn : {D : Type 0} → (D → Option (List ℕ)) → (D → ℕ) → D → Result (List ℕ) SeedNo
+    → D → Type 0
+IsDrawn left count dice (Ok seed) after =
+    (length seed ≡ 32) × Consumes (left dice) (left after) seed
+IsDrawn left count dice (Err DiceFailed) after =
+    Rose (count dice) (count after) × Keeps (left dice) (left after)
+IsDrawn left count dice (Err NoMemory) after = after ≡ dice
+IsDrawn left count dice (Err Failed) after = ⊥
+IsDrawn left count dice (Err (Unhealthy field text)) after = ⊥
 
 -- a seed beside what a plugin of this name made of it
 abbrev pub row_with : (name seed : List ℕ) → Wrapped → SeedRow

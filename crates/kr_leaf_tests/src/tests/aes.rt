@@ -23,9 +23,8 @@ fn is_vector(key: &[u8], wanted_rounds: Rounds, ciphertext: u128) -> bool {
     let mut block = PLAINTEXT.to_be_bytes();
     encrypt_block(&words, rounds, &mut block);
     let by_tables = block == ciphertext.to_be_bytes();
-    let mut begun_block = PLAINTEXT.to_be_bytes();
-    Begun::new(&words, &begun_block).encrypt_block(&words, rounds, &mut begun_block);
-    let by_begun = begun_block == ciphertext.to_be_bytes();
+    let begun = Begun::new(&words, &PLAINTEXT.to_be_bytes());
+    let by_begun = begun.encrypt_block(rounds, 0xff) == ciphertext.to_be_bytes();
     plain::decrypt_block(&words, rounds, &mut block);
     let back = block == PLAINTEXT.to_be_bytes();
     plain::encrypt_block(&words, rounds, &mut block);

@@ -3,35 +3,58 @@
 use kr_pages::{Full, Pages};
 use std::test::Fail;
 
+/// Whether two pages of a pool of two are taken, written and given back, and one of them is zero
+/// where it is taken again.
+fn are_taken_and_given_back(pool: &mut Pages) -> bool {
+    let Ok(first) = pool.take() else {
+        return false;
+    };
+    let Ok(second) = pool.take() else {
+        pool.give(first);
+        return false;
+    };
+    let taken = pool.free() == 0 && pool.out() == 2;
+
+    pool.words_mut(&first)[59] = 7;
+    let written = pool.words(&first)[59] == 7 && *pool.words(&second) == [0; 60];
+
+    pool.give(first);
+    let given = pool.free() == 1 && pool.out() == 1;
+    let Ok(third) = pool.take() else {
+        pool.give(second);
+        return false;
+    };
+    let zeroed = *pool.words(&third) == [0; 60];
+    pool.give(second);
+    pool.give(third);
+    taken && written && given && zeroed && pool.out() == 0
+}
+
 #[test]
 fn pages_are_taken_and_given_back(rt: HostRuntime) -> Result<(), Fail> {
     let mut pool = Pages::new(rt.alloc(), 2)?;
-    let first = pool.take().expect(&rt, "a page is free");
-    let second = pool.take().expect(&rt, "a page is free");
-    assert_eq!(rt; (pool.free(), pool.out()), (0, 2));
-
-    pool.words_mut(&first)[59] = 7;
-    assert_eq!(rt; pool.words(&first)[59], 7);
-    assert_eq!(rt; *pool.words(&second), [0; 60]);
-
-    pool.give(first);
-    assert_eq!(rt; (pool.free(), pool.out()), (1, 1));
-    let third = pool.take().expect(&rt, "a page is free");
-    assert_eq!(rt; *pool.words(&third), [0; 60]);
-    pool.give(second);
-    pool.give(third);
+    let is = are_taken_and_given_back(&mut pool);
+    drop(pool);
+    assert!(rt; is);
     Ok(())
+}
+
+/// Whether a pool of no page refuses one.
+fn refuses(pool: &mut Pages) -> bool {
+    match pool.take() {
+        Ok(page) => {
+            pool.give(page);
+            false
+        }
+        Err(Full) => pool.out() == 0,
+    }
 }
 
 #[test]
 fn refuses_where_no_page_is_free(rt: HostRuntime) -> Result<(), Fail> {
     let mut pool = Pages::new(rt.alloc(), 0)?;
-    match pool.take() {
-        Ok(page) => {
-            pool.give(page);
-            assert!(rt; false);
-        }
-        Err(Full) => assert_eq!(rt; pool.out(), 0),
-    }
+    let is = refuses(&mut pool);
+    drop(pool);
+    assert!(rt; is);
     Ok(())
 }

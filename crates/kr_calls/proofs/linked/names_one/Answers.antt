@@ -6,4 +6,4 @@ use Rattle.kr_calls.proofs.linked.names_one.Goals as goal
 
 pub returns : goal.returns
 returns c = λ is. one_among (names_of link_of c.in_ok-links.links) c.get.result.now
-    c.args.settings.now c.in_ok-links.ensures c.get.ensures (c.serve.ensures.0 is)
+    c.args.settings.now c.in_ok-links.ensures c.get.ensures (c.serve-serves.ensures.0 is)

@@ -21,7 +21,7 @@ returns-in-Ok-clause-bench g c = bench_kept g.L.Kms.link
     (plugins_in (rows_of c.args.settings.entries.0)) c.args.bench.now c.publish.new.self
     c.requires c.publish.ensures.asked c.publish.ensures.kept
 
-pub returns-clause-bench : goal.returns-clause-bench
-returns-clause-bench g c = bench_kept g.L.Kms.link
+pub returns-in-Err-clause-bench : goal.returns-in-Err-clause-bench
+returns-in-Err-clause-bench g c = bench_kept g.L.Kms.link
     (plugins_in (rows_of c.args.settings.entries.0)) c.args.bench.now c.publish.new.self
     c.requires c.publish.ensures.asked c.publish.ensures.kept

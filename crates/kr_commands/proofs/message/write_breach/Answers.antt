@@ -21,4 +21,4 @@ returns g c = says_by (pieces c.format-code.result.now c.format-first.result.now
     c.format-second.result.now c.args.why
     (c.format-code.ensures.text ∙ ap decimal c.code.ensures)
     (c.format-first.ensures.text ∙ ap decimal c.first_number.ensures)
-    (c.format-second.ensures.text ∙ ap decimal c.second_number.ensures)) c.write_each.ensures
+    (c.format-second.ensures.text ∙ ap decimal c.second_number.ensures)) c.say.ensures

@@ -6,4 +6,4 @@ pub returns : goal.returns
 returns g c = says_by
     (ap (λ d. c.args.start.now ++ (c.args.word.now ++ (codes " " ++ (d ++ codes "\n"))))
     c.format-digits.ensures.text)
-    c.write_each.ensures
+    c.say.ensures

@@ -9,4 +9,4 @@ pub returns-in-NoPath : goal.returns-in-NoPath
 returns-in-NoPath g c = says_by
     (ap (λ path. refusal_line (NoPath path)) c.as_str-in-NoPath.ensures
     ∙ ap refusal_line (sym c.in-NoPath.is))
-    c.write_each-in-NoPath.ensures
+    c.say-in-NoPath.ensures

@@ -3,4 +3,4 @@ use Rattle.kr_commands.proofs.Pieces.{says_by}
 use Rattle.kr_commands.proofs.message.write_text.Goals as goal
 
 pub returns : goal.returns
-returns g c = says_by (append-nil c.args.text.now) c.write_each.ensures
+returns g c = says_by (append-nil c.args.text.now) c.say.ensures

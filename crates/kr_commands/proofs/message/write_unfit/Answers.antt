@@ -32,8 +32,8 @@ returns-in-Err-write g c =
     let verdict = c.args.verdict.now in
     let digits = c.format-digits.result.now in
     says_by (same_line digits c.args.replica verdict c.format-digits.ensures.text)
-    (says_behind {b = g.E.Sink.held c.write_each.new.errors}
-    {count = g.E.Sink.count c.write_each.new.errors} (begin digits) (rest verdict) _
+    (says_behind {b = g.E.Sink.held c.say.new.errors}
+    {count = g.E.Sink.count c.say.new.errors} (begin digits) (rest verdict) _
     c.in-Ok.ensures.ok c.in-Ok.ensures.cause.later (says_cut (verdict_text verdict) (codes "\n") (record {
       ok = tt;
       err = c.in-Err-write.ensures.err;

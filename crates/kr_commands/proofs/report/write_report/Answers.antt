@@ -43,4 +43,4 @@ report_is counts a b c d a_is b_is c_is d_is =
 
 pub returns : goal.returns
 returns g c = says_by (report_is c.args.counts _ _ _ _ c.format.ensures.text c.format-2.ensures.text
-    c.format-3.ensures.text c.format-4.ensures.text) c.write_each.ensures
+    c.format-3.ensures.text c.format-4.ensures.text) c.say.ensures

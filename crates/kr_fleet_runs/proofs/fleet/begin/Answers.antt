@@ -1,17 +1,17 @@
 -- `begin`: what the replicas publish, and the workers.
 use Rattle.std.proofs.Common.{[], inl, subst, ◌∙◌}
 use Rattle.std.specs.Prelude.{IfOk}
-use Rattle.kr_outfits.specs.Fleets.{launching, publishing, starting}
-use Rattle.kr_outfits.specs.inner.FleetFiles.{named, plan_of}
+use Rattle.kr_fleet_steps.specs.Fleets.{launching, publishing, starting}
+use Rattle.kr_fleet_steps.specs.inner.FleetFiles.{named, plan_of}
 use Rattle.kr_fleet_runs.specs.inner.Fleets.{ArePublished, published_in}
 use Rattle.kr_steps.specs.inner.Lent.{with_lent_tape}
-use Rattle.kr_outfits.specs.inner.Outfits.{with_outfits}
+use Rattle.kr_fleet_steps.specs.inner.Outfits.{with_outfits}
 use Rattle.kr_steps.specs.inner.ProgramNames.{names_in}
 use Rattle.kr_steps.specs.inner.Phases.{Does}
 use Rattle.kr_steps.specs.inner.Tapes.{stored_of}
 use Rattle.kr_fleet_runs.proofs.FleetRuns.{runs_with}
 use Rattle.kr_steps.proofs.Goes.{stops}
-use Rattle.kr_outfits.proofs.Outfits.{later_many, later_named, later_trans}
+use Rattle.kr_fleet_steps.proofs.Outfits.{later_many, later_named, later_trans}
 use Rattle.kr_fleet_runs.proofs.fleet.begin.Goals as goal
 
 pub returns-in-Err-clause-made : goal.returns-in-Err-clause-made

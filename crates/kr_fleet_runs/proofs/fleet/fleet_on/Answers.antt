@@ -1,12 +1,13 @@
 -- `fleet_on`: the store on the tape, the budgets, and the workers.
 use Rattle.std.proofs.Common.{◌≡◌, ◌+◌, ◌<◌, Err, sym, ap, subst}
 use Rattle.std.specs.Prelude.{sum}
-use Rattle.kr_workers.specs.Budgets.{all_reloads, budgets_of, journal_limit, put_lines}
+use Rattle.kr_base.specs.Limits.{journal_limit}
+use Rattle.kr_workers.specs.Budgets.{all_reloads, budgets_of, put_lines}
 use Rattle.kr_steps.specs.Around.{with_world}
 use Rattle.kr_steps.specs.Commands.{stored_on}
-use Rattle.kr_outfits.specs.Fleets.{beginning, budgeting, equipping_all, parts_of}
+use Rattle.kr_fleet_steps.specs.Fleets.{beginning, budgeting, equipping_all, parts_of}
 use Rattle.kr_steps.specs.Steps.{and_then}
-use Rattle.kr_outfits.specs.inner.FleetFiles.{plan_of}
+use Rattle.kr_fleet_steps.specs.inner.FleetFiles.{plan_of}
 use Rattle.kr_steps.specs.inner.Lent.{with_lent_tape}
 use Rattle.kr_steps.specs.inner.Phases.{Does}
 use Rattle.kr_steps.specs.inner.Tapes.{stored_of}

@@ -3,17 +3,17 @@ use Rattle.std.proofs.Common.{◌∙◌, Err, ap, arith, length, subst, sym}
 use Rattle.std.proofs.lemmas.List.{length-map}
 use Rattle.kr_script.specs.Fleets.{worker_of}
 use Rattle.kr_steps.specs.Around.{with_world}
-use Rattle.kr_outfits.specs.FleetFiles.{all_rows}
-use Rattle.kr_outfits.specs.Fleets.{equipping, launching}
-use Rattle.kr_outfits.specs.inner.FleetFiles.{plan_of}
+use Rattle.kr_fleet_steps.specs.FleetFiles.{all_rows}
+use Rattle.kr_fleet_steps.specs.Fleets.{equipping, launching}
+use Rattle.kr_fleet_steps.specs.inner.FleetFiles.{plan_of}
 use Rattle.kr_fleet_runs.specs.inner.Fleets.{RunsBy}
 use Rattle.kr_steps.specs.inner.Lent.{with_lent_tape}
-use Rattle.kr_outfits.specs.inner.Outfits.{AreNamed}
+use Rattle.kr_fleet_steps.specs.inner.Outfits.{AreNamed}
 use Rattle.kr_steps.specs.inner.ProgramNames.{names_in}
 use Rattle.kr_steps.specs.inner.Tapes.{stored_of}
 use Rattle.kr_fleet_runs.proofs.FleetOutfits.{runs_equipped, runs_unequipped}
-use Rattle.kr_outfits.proofs.Outfits.{later_many, later_named}
-use Rattle.kr_outfits.proofs.Plans.{plan_workers}
+use Rattle.kr_fleet_steps.proofs.Outfits.{later_many, later_named}
+use Rattle.kr_fleet_steps.proofs.Plans.{plan_workers}
 use Rattle.kr_fleet_runs.proofs.fleet.fleet_with.Goals as goal
 
 pub overflow_cast-seats : goal.overflow_cast-seats

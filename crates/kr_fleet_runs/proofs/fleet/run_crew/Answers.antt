@@ -1,18 +1,18 @@
 -- `run_crew`: what the workers begin with, and what they leave.
 use Rattle.std.specs.Prelude.{All}
-use Rattle.std.proofs.Common.{◌<◌, ◌∙◌, ◌++◌, ap, append-nil, arith, length, refl, reverse, subst, sum, sym}
+use Rattle.std.proofs.Common.{◌<◌, ◌∙◌, ap, arith, length, refl, subst, sum, sym}
 use Rattle.kr_rollout.specs.Histories.{state_of}
 use Rattle.kr_rollout.specs.declared.opening.Opening.{Opening}
 use Rattle.kr_script.specs.declared.script.Part.{Part}
 use Rattle.kr_workers.specs.Budgets.{AreBudgets, all_reloads}
 use Rattle.kr_workers.specs.ScriptLines.{MayDo}
 use Rattle.kr_workers.proofs.Sentencing.{histories_tell}
-use Rattle.kr_outfits.specs.inner.Crews.{outfits_of}
-use Rattle.kr_outfits.specs.inner.Outfits.{AreLater}
+use Rattle.kr_fleet_steps.specs.inner.Crews.{outfits_of}
+use Rattle.kr_fleet_steps.specs.inner.Outfits.{AreLater}
 use Rattle.kr_steps.specs.inner.ProgramNames.{names_in}
-use Rattle.kr_outfits.proofs.Crews.{may_begin, one_as_asked, still_many, workers_later}
+use Rattle.kr_fleet_steps.proofs.Crews.{may_begin, one_as_asked, still_many, workers_later}
 use Rattle.kr_fleet_runs.proofs.ClosedCores.{keeps_begin, keeps_end}
-use Rattle.kr_outfits.proofs.Plans.{plan_lines, plan_workers}
+use Rattle.kr_fleet_steps.proofs.Plans.{plan_lines, plan_workers}
 use Rattle.kr_fleet_runs.proofs.fleet.run_crew.Goals as goal
 
 pub run_fleet-ended-requires : goal.run_fleet-ended-requires
@@ -46,7 +46,8 @@ run_fleet-ended-requires g c =
                 (
                   may_begin g.L.Kms.link o.names (names_in c.args.plan.now.programs)
                       c.args.plan.now.script.workers.0 c.as_slice-3.result.now
-                      (outfits_of c.args.crew.workers.items) c.args.crew c.requires.crew
+                      (outfits_of c.args.crew.workers.items) c.args.crew.workers.items
+                      c.requires.crew
                       c.as_slice-3.ensures c.requires.core.names c.requires.named,
                   (
                     c.requires.core.reloads ∙ ap all_reloads (sym c.as_slice-3.ensures),
@@ -73,29 +74,28 @@ run_fleet-ended-requires g c =
       ),
     )
 
-pub part-outfits-requires : goal.part-outfits-requires
-part-outfits-requires g c =
+pub invariant_of-crew : goal.invariant_of-crew
+invariant_of-crew g c =
     let long = still_many g.L.Kms.truth g.L.Kms.link g.D.Dice.left g.D.Dice.count
     c.as_slice-2.result.now c.args.core.opening c.as_slice-3.result.now
     c.as_slice.result.now c.args.crew.workers.items
     c.run_fleet-ended.new.workers.items c.run_fleet-ended.result
     c.run_fleet-ended.ensures.one c.run_fleet-ended.ensures.nothing in record {
-      seats = c.run_fleet-ended.ensures.seats;
-      none_told = c.requires.crew.none_told;
-      room = omega (arith, long, c.requires.crew.many, c.requires.crew.room);
-      room_for_replies = omega
-          (arith, long, c.requires.crew.many, c.requires.crew.room_for_replies);
+      none_left = c.args.crew.none_left;
+      none_told = c.args.crew.none_told;
+      room = omega (arith, long, c.args.crew.room);
+      room_for_replies = omega (arith, long, c.args.crew.room_for_replies);
     }
+
+pub part-outfits-requires : goal.part-outfits-requires
+part-outfits-requires g c = c.run_fleet-ended.ensures.seats
 
 pub returns-in-Err : goal.returns-in-Err
 returns-in-Err g c =
-    let left = ap (λ l. outfits_of c.run_fleet-ended.new.workers.items ++ reverse l)
-    c.requires.crew.none_left in
     record {
       ran = record {
         stops = refl;
-        outfits_are = c.part-outfits.ensures.outfits ∙ left
-            ∙ append-nil (outfits_of c.run_fleet-ended.new.workers.items)
+        outfits_are = c.part-outfits.ensures.outfits
             ∙ ap (λ ws. outfits_of ws) c.in-Err.ensures.nothing;
         kept = keeps_begin c.args.core c.in-Err.core c.close-store-in-Err.result.0
             c.in-Err.ensures.back c.requires.core.begin c.close-store-in-Err.ensures.rows
@@ -107,10 +107,7 @@ returns-in-Err g c =
 
 pub returns-in-Ok : goal.returns-in-Ok
 returns-in-Ok g c =
-    let left = ap (λ l. outfits_of c.run_fleet-ended.new.workers.items ++ reverse l)
-    c.requires.crew.none_left in
-    let outfits = c.part-outfits.ensures.outfits ∙ left
-    ∙ append-nil (outfits_of c.run_fleet-ended.new.workers.items) in
+    let outfits = c.part-outfits.ensures.outfits in
     let one = one_as_asked g.L.Kms.truth g.L.Kms.link g.D.Dice.left g.D.Dice.count
     c.args.plan.now.files.0 c.as_slice-2.result.now c.in-Ok.core.history c.args.core.opening
     c.args.plan.now.script.workers.0 c.as_slice-3.result.now c.args.budgets.now.entries.items

@@ -3,17 +3,17 @@ use Rattle.std.proofs.Common.{[], Err, ap, inl, inr, length, sym, subst, ◌∙�
 use Rattle.kr_rollout.specs.Cores.{CoreState}
 use Rattle.kr_store.specs.Stores.{Kept}
 use Rattle.kr_workers.specs.Budgets.{AreBudgets}
-use Rattle.kr_outfits.specs.Fleets.{launching, publishing, starting}
-use Rattle.kr_outfits.specs.inner.FleetFiles.{named, plan_of}
-use Rattle.kr_outfits.specs.inner.Outfits.{AreLater, AreNamed}
+use Rattle.kr_fleet_steps.specs.Fleets.{launching, publishing, starting}
+use Rattle.kr_fleet_steps.specs.inner.FleetFiles.{named, plan_of}
+use Rattle.kr_fleet_steps.specs.inner.Outfits.{AreLater, AreNamed}
 use Rattle.kr_steps.specs.inner.ProgramNames.{names_in}
 use Rattle.kr_steps.specs.inner.Phases.{Does}
 use Rattle.kr_steps.specs.inner.Tapes.{stored_of}
 use Rattle.kr_fleet_runs.specs.inner.Workings.{with_crew}
 use Rattle.kr_fleet_runs.proofs.FleetCrews.{closed_at_once, ran_back, ran_with, ready, unhired}
 use Rattle.kr_steps.proofs.Goes.{goes_on}
-use Rattle.kr_outfits.proofs.Outfits.{later_refl}
-use Rattle.kr_outfits.proofs.Plans.{plan_first, plan_names, plan_replicas}
+use Rattle.kr_fleet_steps.proofs.Outfits.{later_refl}
+use Rattle.kr_fleet_steps.proofs.Plans.{plan_first, plan_names, plan_replicas}
 use Rattle.kr_fleet_runs.proofs.Publishings.{published_among, published_first, published_many}
 use Rattle.kr_fleet_runs.proofs.fleet.work_with.Goals as goal
 

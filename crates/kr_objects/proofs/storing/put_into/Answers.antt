@@ -9,7 +9,7 @@ use Rattle.kr_objects.proofs.storing.put_into.Goals as goal
 pub returns-in-Err : goal.returns-in-Err
 returns-in-Err g c a t =
     by_bytes (λ name. stored_into c.args.words.now name (rows_of c.args.settings.entries.0)
-    c.args.programs.now c.args.bytes.now) c.as_str-name.ensures
+    c.args.programs.now c.args.bytes) c.as_str-name.ensures
     (not_lent c.in-Err.ensures.files c.in-Err.ensures.objects a c.as_str-name.result.now true
     c.in-Err.stop c.in-Err.ensures.why c.in-Err.ensures.asked)
 
@@ -20,6 +20,6 @@ close_tape-requires-clause-out g c = λ κs lives. subst (λ t. 0 < t.out c.as_s
 pub returns : goal.returns
 returns g c a t =
     by_bytes (λ name. stored_into c.args.words.now name (rows_of c.args.settings.entries.0)
-    c.args.programs.now c.args.bytes.now) c.as_str-name.ensures
+    c.args.programs.now c.args.bytes) c.as_str-name.ensures
     (lends_tape c.as_str-name.result.now true a c.in-Ok.ensures.lent c.close_tape.ensures
     (c.put_on-put.ensures.made c.as_str-name.result.now a t))

@@ -38,16 +38,12 @@ added_then words name rows read sealed =
 pub returns-in-Err-clause-made : goal.returns-in-Err-clause-made
 returns-in-Err-clause-made g c name a t =
     stops (stored_on Store name) (sealed_into c.args.words.now name
-    (rows_of c.args.settings.entries.0) c.args.programs.now c.args.bytes.now) c.in-Err.stop
+    (rows_of c.args.settings.entries.0) c.args.programs.now c.args.bytes) c.in-Err.stop
     (c.in-Err.ensures.err name (with_world (g.W.World.told c.args.world.now) a))
 
 pub make-requires-clause-path : goal.make-requires-clause-path
 make-requires-clause-path g c κs within =
     subst (λ p. length p ≤ path_limit) (sym c.as_str-3.ensures) c.requires.path.1
-
-pub make-requires-clause-fits : goal.make-requires-clause-fits
-make-requires-clause-fits g c κs within =
-    subst (λ b. length b ≤ data_limit) (sym c.as_slice.ensures) c.requires.fits
 
 pub returns-in-Err-make-clause-made : goal.returns-in-Err-make-clause-made
 returns-in-Err-make-clause-made g c name a t =
@@ -57,14 +53,14 @@ returns-in-Err-make-clause-made g c name a t =
     let read = stored_of store in
     let now = with_world (g.W.World.told c.args.world.now) a in
     let later = with_world (g.W.World.told c.make.new.world) a in
-    let into = sealed_into words name rows c.args.programs.now c.args.bytes.now in
+    let into = sealed_into words name rows c.args.programs.now c.args.bytes in
     as_closed (and_then (stored_on Store name) into) name later _ c.close.ensures.told
     c.close.ensures.count
     (goes_on (stored_on Store name) into read (c.in-Ok.ensures.ok name now)
     (stops (bench_steps c.args.programs.now Encrypt words.resource words.path rows
-    c.args.bytes.now) (added_then words name rows read) c.in-Err-make.stop
+    c.args.bytes) (added_then words name rows read) c.in-Err-make.stop
     (behind_tape name store.told store.count a c.make.ensures.tapes
-    (bench_by Encrypt rows refl c.as_str-2.ensures c.as_str-3.ensures c.as_slice.ensures
+    (bench_by Encrypt rows refl c.as_str-2.ensures c.as_str-3.ensures refl
     (c.in-Err-make.ensures.made (with_lent same_name name (option_map Some store.told) store.count
     (g.W.World.told c.args.world.now).tapes) a t)))))
 
@@ -77,14 +73,14 @@ returns-in-Err-next_line-clause-made g c name a t =
     let sealed = c.in-Ok-make.sealed in
     let now = with_world (g.W.World.told c.args.world.now) a in
     let later = with_world (g.W.World.told c.make.new.world) a in
-    let into = sealed_into words name rows c.args.programs.now c.args.bytes.now in
+    let into = sealed_into words name rows c.args.programs.now c.args.bytes in
     as_closed (and_then (stored_on Store name) into) name later _ c.close-in-Err-next_line.ensures.told
     c.close-in-Err-next_line.ensures.count
     (goes_on (stored_on Store name) into read (c.in-Ok.ensures.ok name now)
     (goes_on (bench_steps c.args.programs.now Encrypt words.resource words.path rows
-    c.args.bytes.now) (added_then words name rows read) sealed
+    c.args.bytes) (added_then words name rows read) sealed
     (behind_tape name store.told store.count a c.make.ensures.tapes
-    (bench_by Encrypt rows refl c.as_str-2.ensures c.as_str-3.ensures c.as_slice.ensures
+    (bench_by Encrypt rows refl c.as_str-2.ensures c.as_str-3.ensures refl
     (c.in-Ok-make.ensures.made (with_lent same_name name (option_map Some store.told) store.count
     (g.W.World.told c.args.world.now).tapes) a t)))
     (stops (adding Store name read (new_row read.format words rows sealed.bytes))
@@ -114,7 +110,7 @@ returns-clause-made g c name a t =
     let sealed = c.in-Ok-make.sealed in
     let now = with_world (g.W.World.told c.args.world.now) a in
     let later = with_world (g.W.World.told c.make.new.world) a in
-    let into = sealed_into words name rows c.args.programs.now c.args.bytes.now in
+    let into = sealed_into words name rows c.args.programs.now c.args.bytes in
     let row = new_row read.format words rows sealed.bytes in
     let check_is = c.writer_check-check.ensures ∙ ap (λ list. store_check (writer_of list))
     (c.list_for.ensures ∙ ap (list_of rows) c.as_str.ensures) in
@@ -122,9 +118,9 @@ returns-clause-made g c name a t =
     c.close-2.ensures.count
     (goes_on (stored_on Store name) into read (c.in-Ok.ensures.ok name now)
     (goes_on (bench_steps c.args.programs.now Encrypt words.resource words.path rows
-    c.args.bytes.now) (added_then words name rows read) sealed
+    c.args.bytes) (added_then words name rows read) sealed
     (behind_tape name store.told store.count a c.make.ensures.tapes
-    (bench_by Encrypt rows refl c.as_str-2.ensures c.as_str-3.ensures c.as_slice.ensures
+    (bench_by Encrypt rows refl c.as_str-2.ensures c.as_str-3.ensures refl
     (c.in-Ok-make.ensures.made (with_lent same_name name (option_map Some store.told) store.count
     (g.W.World.told c.args.world.now).tapes) a t)))
     (subst (λ r. Does (added_then words name rows read sealed)

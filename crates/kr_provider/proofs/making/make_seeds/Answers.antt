@@ -1,5 +1,5 @@
 -- `make_seeds`: each turn makes the seed of the next name.
-use Rattle.std.proofs.Common.{◌++◌, ◌∷◌, [], ℕ, List, arith, refl, sym, subst, ap, length, rules}
+use Rattle.std.proofs.Common.{[], ℕ, List, arith, refl, sym, subst, ap, length, rules}
 use Rattle.std.specs.Prelude.{Ok}
 use Rattle.kr_config.specs.Kept.{plugins_in, rows_of}
 use Rattle.kr_provider.proofs.AskedLists.{links_stay}

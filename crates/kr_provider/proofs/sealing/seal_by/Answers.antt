@@ -11,13 +11,13 @@ use Rattle.kr_provider.proofs.sealing.seal_by.Goals as goal
 pub returns-in-Aescbc-clause-sealed : goal.returns-in-Aescbc-clause-sealed
 returns-in-Aescbc-clause-sealed g c =
     let P : Who → Type 0 = λ who. Seals g.D.Dice.left g.D.Dice.count c.args.seeds.now who
-    c.args.path.now c.args.plain.now c.args.dice.now c.by_aescbc.new.dice c.by_aescbc.result in
+    c.args.path.now c.args.plain c.args.dice.now c.by_aescbc.new.dice c.by_aescbc.result in
     subst P (sym c.in-Aescbc.is) (c.by_aescbc.ensures.sealed c.args.seeds.now c.args.path.now)
 
 pub returns-in-Aesgcm-clause-sealed : goal.returns-in-Aesgcm-clause-sealed
 returns-in-Aesgcm-clause-sealed g c =
     let P : Who → Type 0 = λ who. Seals g.D.Dice.left g.D.Dice.count c.args.seeds.now who
-    c.args.path.now c.args.plain.now c.args.dice.now c.by_aesgcm.new.dice c.by_aesgcm.result in
+    c.args.path.now c.args.plain c.args.dice.now c.by_aesgcm.new.dice c.by_aesgcm.result in
     subst P (sym c.in-Aesgcm.is) (c.by_aesgcm.ensures.sealed c.args.seeds.now)
 
 pub by_seed-requires-clause-row : goal.by_seed-requires-clause-row

@@ -16,11 +16,11 @@ unseal_in-requires-clause-links g c = all_named_by (plugins_in c.published-publi
 
 pub returns-clause-cached : goal.returns-clause-cached
 returns-clause-cached g c = subst (λ o. IfSome o (λ p. HeedsCache c.args.cache.now.rows
-    p.seeds (list_at p c.args.resource.now) c.args.path.now c.args.bytes.now c.args.links.now
+    p.seeds (list_at p c.args.resource.now) c.args.path.now c.args.value c.args.links.now
     c.unseal_in.result c.unseal_in.new.links)) (sym c.published-published.ensures)
     (subst (λ l. HeedsCache c.args.cache.now.rows c.published-published.result.now.seeds l
-    c.args.path.now c.args.bytes.now c.args.links.now c.unseal_in.result c.unseal_in.new.links)
+    c.args.path.now c.args.value c.args.links.now c.unseal_in.result c.unseal_in.new.links)
     c.listed-list.ensures.list
     (subst (λ rows. HeedsCache c.args.cache.now.rows rows c.listed-list.result.now
-    c.args.path.now c.args.bytes.now c.args.links.now c.unseal_in.result c.unseal_in.new.links)
+    c.args.path.now c.args.value c.args.links.now c.unseal_in.result c.unseal_in.new.links)
     c.seeds-seeds.ensures c.unseal_in.ensures.cached))

@@ -11,34 +11,34 @@ use Rattle.kr_provider.proofs.values.unseal_object.Goals as goal
 
 pub returns-then-is_seed_of-clause-opened : goal.returns-then-is_seed_of-clause-opened
 returns-then-is_seed_of-clause-opened g c = seed_taken g.L.Kms.truth g.L.Kms.link c.args.row.now
-    c.args.name.now c.args.object.now c.args.path.now c.args.links.now c.by_source.result
-    ((same_key (key_of c.args.row.now) (seed_key c.args.name.now c.args.object.now)).0
+    c.args.name.now c.args.object c.args.path.now c.args.links.now c.by_source.result
+    ((same_key (key_of c.args.row.now) (seed_key c.args.name.now c.args.object)).0
     (sym c.is_seed_of.ensures ∙ c.if-is_seed_of.true))
-    (subst (λ r. Gives r c.by_source.result) (λ i. source_reading c.args.object.now.kind
-    (c.as_slice.ensures i) c.args.path.now (c.as_slice-encrypted.ensures i)) c.by_source.ensures)
+    (subst (λ r. Gives r c.by_source.result) (λ i. source_reading c.args.object.kind
+    (c.as_slice.ensures i) c.args.path.now c.args.object.encrypted) c.by_source.ensures)
 
 pub returns-in_err-source-clause-opened : goal.returns-in_err-source-clause-opened
 returns-in_err-source-clause-opened g c = let stop = source_fails g.L.Kms.truth g.L.Kms.link c.args.row.now
-    c.args.name.now c.args.object.now c.args.path.now c.args.links.now c.open_source.new.links
+    c.args.name.now c.args.object c.args.path.now c.args.links.now c.open_source.new.links
     c.in_err-source.field-0.0
-    (another_seed c.args.row.now c.args.name.now c.args.object.now c.is_seed_of.result
+    (another_seed c.args.row.now c.args.name.now c.args.object c.is_seed_of.result
     c.is_seed_of.ensures c.if-is_seed_of.false) c.in_err-source.ensures.opened in search (rules, stop)
 
 pub returns-clause-opened : goal.returns-clause-opened
 returns-clause-opened g c = source_opened g.L.Kms.truth g.L.Kms.link c.args.row.now
-    c.args.name.now c.args.object.now c.args.path.now c.args.links.now c.open_source.new.links
+    c.args.name.now c.args.object c.args.path.now c.args.links.now c.open_source.new.links
     c.in_ok-source.source c.by_source-2.result
-    (another_seed c.args.row.now c.args.name.now c.args.object.now c.is_seed_of.result
+    (another_seed c.args.row.now c.args.name.now c.args.object c.is_seed_of.result
     c.is_seed_of.ensures c.if-is_seed_of.false) c.in_ok-source.ensures.opened
-    (subst (λ r. Gives r c.by_source-2.result) (λ i. source_reading c.args.object.now.kind
-    (c.as_slice-2.ensures i) c.args.path.now (c.as_slice-encrypted.ensures i))
+    (subst (λ r. Gives r c.by_source-2.result) (λ i. source_reading c.args.object.kind
+    (c.as_slice-2.ensures i) c.args.path.now c.args.object.encrypted)
     c.by_source-2.ensures)
 
 pub returns-then-is_seed_of-clause-cached : goal.returns-then-is_seed_of-clause-cached
 returns-then-is_seed_of-clause-cached g c = λ source is. (
   refl,
   λ other. absurd (other ((same_key (key_of c.args.row.now)
-      (seed_key c.args.name.now c.args.object.now)).0
+      (seed_key c.args.name.now c.args.object)).0
       (sym c.is_seed_of.ensures ∙ c.if-is_seed_of.true))),
 )
 
@@ -46,16 +46,16 @@ pub returns-in_err-source-clause-cached : goal.returns-in_err-source-clause-cach
 returns-in_err-source-clause-cached g c = λ source is.
     let kept = c.in_err-source.ensures.cached source is in (
       kept.0,
-      λ other. let stop = source_lacks c.args.object.now c.args.path.now source c.in_err-source.field-0.0 kept.1 in search (rules, stop),
+      λ other. let stop = source_lacks c.args.object c.args.path.now source c.in_err-source.field-0.0 kept.1 in search (rules, stop),
     )
 
 pub returns-clause-cached : goal.returns-clause-cached
 returns-clause-cached g c = λ source is.
     let kept = c.in_ok-source.ensures.cached source is in (
       kept.0,
-      λ other. source_serves c.args.object.now c.args.path.now source c.in_ok-source.source
+      λ other. source_serves c.args.object c.args.path.now source c.in_ok-source.source
           c.by_source-2.result kept.1
-          (subst (λ r. Gives r c.by_source-2.result) (λ i. source_reading c.args.object.now.kind
-          (c.as_slice-2.ensures i) c.args.path.now (c.as_slice-encrypted.ensures i))
+          (subst (λ r. Gives r c.by_source-2.result) (λ i. source_reading c.args.object.kind
+          (c.as_slice-2.ensures i) c.args.path.now c.args.object.encrypted)
           c.by_source-2.ensures),
     )

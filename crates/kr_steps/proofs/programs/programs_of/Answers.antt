@@ -40,7 +40,7 @@ loop-plugin-preserved c =
     let both = one_linked c.args.options.now (rows_of c.args.settings.now.entries.0)
     c.loop-plugin.programs c.add.new.self c.in-Some-program.file.now c.loop-plugin.invariant.0
     c.in-Some.ensures c.loop-plugin.invariant.1 (sym c.in-Some-program.ensures)
-    c.in-Ok.ensures in (both.0, both.1, c.tell_text.ensures)
+    c.in-Ok.ensures.added in (both.0, both.1, c.tell_text.ensures)
 
 pub returns-clause-does : goal.returns-clause-does
 returns-clause-does c a = linked c.args.options.now (rows_of c.args.settings.now.entries.0) a

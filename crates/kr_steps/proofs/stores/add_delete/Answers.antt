@@ -1,5 +1,5 @@
 -- `add_delete`: each answer of the store ends the steps of one more row.
-use Rattle.std.proofs.Common.{arith}
+use Rattle.std.proofs.Common.{ap, arith}
 use Rattle.kr_store.specs.Rows.{delete_of}
 use Rattle.kr_store.specs.declared.answers.PutNo.TheVariants as refused
 use Rattle.kr_steps.proofs.Adding.{deleted_so, gone, one_more, row_added, row_torn, row_above, row_lacking, undeleted_so}
@@ -52,3 +52,21 @@ returns-in-Err-NoMemory-clause-does g c name a =
     c.requires.within a
     (undeleted_so c.args.store.now new c.args.path.now refused.NoMemory c.delete-written.ensures
     c.in-Err-NoMemory.is why)
+
+pub returns-in-Err-Failed-clause-kept : goal.returns-in-Err-Failed-clause-kept
+returns-in-Err-Failed-clause-kept g c =
+    let why = rw c.in-Err-Failed.is at c.in-Err-Failed.field-0-is in
+    let is = undeleted_so c.args.store.now c.delete-written.new.self c.args.path.now
+    refused.Failed c.delete-written.ensures c.in-Err-Failed.is why in is.rows
+
+pub returns-in-Err-Full-clause-kept : goal.returns-in-Err-Full-clause-kept
+returns-in-Err-Full-clause-kept g c =
+    let why = rw c.in-Err-Full.is at c.in-Err-Full.field-0-is in
+    let is = undeleted_so c.args.store.now c.delete-written.new.self c.args.path.now
+    (refused.Full c.in-Err-Full._length) c.delete-written.ensures c.in-Err-Full.is why in ap (λ s. s.rows) is.0
+
+pub returns-in-Err-NoMemory-clause-kept : goal.returns-in-Err-NoMemory-clause-kept
+returns-in-Err-NoMemory-clause-kept g c =
+    let why = rw c.in-Err-NoMemory.is at c.in-Err-NoMemory.field-0-is in
+    let is = undeleted_so c.args.store.now c.delete-written.new.self c.args.path.now
+    refused.NoMemory c.delete-written.ensures c.in-Err-NoMemory.is why in ap (λ s. s.rows) is

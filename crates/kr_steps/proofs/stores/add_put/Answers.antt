@@ -1,5 +1,5 @@
 -- `add_put`: each answer of the store ends the steps of one more row.
-use Rattle.std.proofs.Common.{arith}
+use Rattle.std.proofs.Common.{ap, arith}
 use Rattle.kr_store.specs.Rows.{check_in, put_of}
 use Rattle.kr_store.specs.declared.answers.PutNo.TheVariants as refused
 use Rattle.kr_steps.proofs.Adding.{one_more, refused_so, row_added, row_torn, row_above, row_lacking}
@@ -44,3 +44,27 @@ returns-in-Err-NoMemory-clause-does g c name a =
     row_lacking c.args.object name row c.args.store.now new c.requires.within a
     (refused_so c.args.store.now new row refused.NoMemory c.put-written.ensures
     c.in-Err-NoMemory.is why)
+
+pub returns-in-Err-Failed-clause-kept : goal.returns-in-Err-Failed-clause-kept
+returns-in-Err-Failed-clause-kept g c =
+    let row = put_of c.args.path.now c.args.resource.now c.args.stored
+    (check_in c.args.store.now.format c.args.check) in
+    let why = rw c.in-Err-Failed.is at c.in-Err-Failed.field-0-is in
+    let is = refused_so c.args.store.now c.put-written.new.self row refused.Failed
+    c.put-written.ensures c.in-Err-Failed.is why in is.rows
+
+pub returns-in-Err-Full-clause-kept : goal.returns-in-Err-Full-clause-kept
+returns-in-Err-Full-clause-kept g c =
+    let row = put_of c.args.path.now c.args.resource.now c.args.stored
+    (check_in c.args.store.now.format c.args.check) in
+    let why = rw c.in-Err-Full.is at c.in-Err-Full.field-0-is in
+    let is = refused_so c.args.store.now c.put-written.new.self row (refused.Full c.in-Err-Full._needed)
+    c.put-written.ensures c.in-Err-Full.is why in ap (λ s. s.rows) is.0
+
+pub returns-in-Err-NoMemory-clause-kept : goal.returns-in-Err-NoMemory-clause-kept
+returns-in-Err-NoMemory-clause-kept g c =
+    let row = put_of c.args.path.now c.args.resource.now c.args.stored
+    (check_in c.args.store.now.format c.args.check) in
+    let why = rw c.in-Err-NoMemory.is at c.in-Err-NoMemory.field-0-is in
+    let is = refused_so c.args.store.now c.put-written.new.self row refused.NoMemory
+    c.put-written.ensures c.in-Err-NoMemory.is why in ap (λ s. s.rows) is

@@ -16,13 +16,13 @@ use Rattle.kr_steps.proofs.work.+make_linked.Goals as goal
 pub returns-in_default-clause-made : goal.returns-in_default-clause-made
 returns-in_default-clause-made g t c = λ tapes a truth. let task = c.args.task.now in
     at_end (working task.direction task.resource.now task.path.now (rows_of c.args.settings.entries.0)
-    task.bytes.now) c.args.programs.now c.in_default.ensures
+    c.args.bytes) c.args.programs.now c.in_default.ensures
     (c.make_by.ensures.made (with_world (with_tapes tapes (g.W.World.told c.args.world.now)) a) truth)
 
 pub returns-in-Err-clause-made : goal.returns-in-Err-clause-made
 returns-in-Err-clause-made g t c = λ tapes a truth. let task = c.args.task.now in
     at_first (working task.direction task.resource.now task.path.now (rows_of c.args.settings.entries.0)
-    task.bytes.now) c.args.programs.now
+    c.args.bytes) c.args.programs.now
     c.in-Some.program.now c.in-Some.more.now c.as_str.result.now c.as_str-2.result.now
     c.in-Some.ensures c.as_str.ensures c.as_str-2.ensures
     (none_borrowed g.W.Link.Kms.link a c.args.links (g.W.Rand.Dice.left c.args.dice)
@@ -40,12 +40,12 @@ add-requires g t c = is_new g.W.Link.Kms.link (rows_of c.args.settings.entries.0
 pub returns-in-Err-add-clause-made : goal.returns-in-Err-add-clause-made
 returns-in-Err-add-clause-made g t c = λ tapes a truth. let task = c.args.task.now in
     let rows = rows_of c.args.settings.entries.0 in
-    at_first (working task.direction task.resource.now task.path.now rows task.bytes.now)
+    at_first (working task.direction task.resource.now task.path.now rows c.args.bytes)
     c.args.programs.now
     c.in-Some.program.now c.in-Some.more.now c.as_str.result.now c.as_str-2.result.now
     c.in-Some.ensures c.as_str.ensures c.as_str-2.ensures
     (none_added g.W.Link.Kms.link a (and_then (make_seeds (plugin_order rows))
-    (working_by task.direction task.resource.now task.path.now rows task.bytes.now))
+    (working_by task.direction task.resource.now task.path.now rows c.args.bytes))
     c.in-Some.more.now c.args.links c.add.new.self c.in-Ok.link
     c.in-Err-add.link (g.W.Rand.Dice.left c.args.dice) (g.W.Rand.Dice.count c.args.dice)
     (link_apart tapes c.in-Ok.ensures.lent) (link_back_apart tapes c.close_link.ensures) c.in-Err-add.ensures.err
@@ -69,7 +69,7 @@ close_link-requires-2-clause-out g t c κs within =
 pub returns-clause-made : goal.returns-clause-made
 returns-clause-made g t c = λ tapes a truth. let task = c.args.task.now in
     at_first (working task.direction task.resource.now task.path.now (rows_of c.args.settings.entries.0)
-    task.bytes.now) c.args.programs.now
+    c.args.bytes) c.args.programs.now
     c.in-Some.program.now c.in-Some.more.now c.as_str.result.now c.as_str-2.result.now
     c.in-Some.ensures c.as_str.ensures c.as_str-2.ensures
     (borrows g.W.Link.Kms.link a c.args.links c.add.new.self c.take_last-link.new.links

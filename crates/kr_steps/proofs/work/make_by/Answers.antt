@@ -46,12 +46,12 @@ work-requires-clause-opens g c = subst (λ o. IfSome o
 pub returns-in-Err-clause-made : goal.returns-in-Err-clause-made
 returns-in-Err-clause-made g c a t = let task = c.args.task.now in
     unmade task.direction task.resource.now task.path.now (rows_of c.args.settings.entries.0)
-    task.bytes.now _
+    c.args.bytes _
 
 pub returns-in-Err-publish_by-clause-made : goal.returns-in-Err-publish_by-clause-made
 returns-in-Err-publish_by-clause-made g c a t = let task = c.args.task.now in
     unpublished task.direction task.resource.now task.path.now (rows_of c.args.settings.entries.0)
-    task.bytes.now (ap (λ (s : Settings). rows_of s.entries.0) c.in-Ok.ensures.ok)
+    c.args.bytes (ap (λ (s : Settings). rows_of s.entries.0) c.in-Ok.ensures.ok)
     c.in-Err-publish_by.stop (c.in-Err-publish_by.ensures.does a t)
 
 pub returns-in-Err-publish_by-clause-names : goal.returns-in-Err-publish_by-clause-names
@@ -62,7 +62,7 @@ returns-in-Err-publish_by-clause-names g c = names_stay g.L.Kms.link
 pub returns-in-Err-adopted-clause-made : goal.returns-in-Err-adopted-clause-made
 returns-in-Err-adopted-clause-made g c a t = let task = c.args.task.now in
     unadopted g.L.Kms.link g.D.Dice.left g.D.Dice.count task.direction task.resource.now task.path.now
-    (rows_of c.args.settings.entries.0) (rows_of c.in-Ok.settings.entries.0) task.bytes.now
+    (rows_of c.args.settings.entries.0) (rows_of c.in-Ok.settings.entries.0) c.args.bytes
     (ap (λ (s : Settings). rows_of s.entries.0) c.in-Ok.ensures.ok) c.args.links
     c.publish_by.new.links c.args.dice c.publish_by.new.dice a
     c.in-Ok-publish_by.published.seeds c.in-Err-adopted.links c.in-Err-adopted.dice
@@ -79,7 +79,7 @@ pub returns-clause-made : goal.returns-clause-made
 returns-clause-made g c a t = let task = c.args.task.now in
     made_by g.L.Kms.link g.D.Dice.left g.D.Dice.count task.direction task.resource.now
     task.path.now (rows_of c.args.settings.entries.0) (rows_of c.in-Ok.settings.entries.0)
-    task.bytes.now (ap (λ (s : Settings). rows_of s.entries.0) c.in-Ok.ensures.ok) c.args.links
+    c.args.bytes (ap (λ (s : Settings). rows_of s.entries.0) c.in-Ok.ensures.ok) c.args.links
     c.publish_by.new.links c.args.dice c.publish_by.new.dice a c.in-Ok-publish_by.published
     c.in-Ok-adopted.bench.published c.in-Ok-adopted.bench.links c.work.result.1
     c.in-Ok-adopted.bench.dice c.work.result.2 c.work.result.0

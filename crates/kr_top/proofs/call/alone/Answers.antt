@@ -1,5 +1,5 @@
-use Rattle.kr_readings.proofs.Readings.{readings}
-use Rattle.kr_readings.proofs.Leaving.{tapes_left}
+use Rattle.kr_call_laws.proofs.Readings.{readings}
+use Rattle.kr_call_laws.proofs.Leaving.{tapes_left}
 use Rattle.kr_top.proofs.call.alone.Goals as goal
 
 pub returns-clause-readings : goal.returns-clause-readings

@@ -5,8 +5,8 @@ use Rattle.kr_steps.specs.Around.{around}
 use Rattle.kr_commands.specs.Receipts.{receipt}
 use Rattle.kr_commands.specs.inner.FleetAsked.{IsFleetAsked}
 use Rattle.kr_fleet_runs.proofs.FleetRuns.{alone_or_memory, at_once}
-use Rattle.kr_readings.proofs.Leaving.{tapes_left}
-use Rattle.kr_readings.proofs.Readings.{readings}
+use Rattle.kr_call_laws.proofs.Leaving.{tapes_left}
+use Rattle.kr_call_laws.proofs.Readings.{readings}
 use Rattle.kr_top.proofs.call.run_alone.Goals as goal
 
 pub returns-in-Ok-Some : goal.returns-in-Ok-Some

@@ -4,11 +4,11 @@ use Rattle.kr_words.specs.Grammar.{texts}
 use Rattle.kr_steps.specs.Around.{around}
 use Rattle.kr_commands.specs.Receipts.{receipt}
 use Rattle.kr_commands.specs.inner.LoadAsked.{IsLoadAsked}
-use Rattle.kr_readings.proofs.Leaving.{tapes_left}
+use Rattle.kr_call_laws.proofs.Leaving.{tapes_left}
 use Rattle.kr_commands.proofs.LoadAsked.{asked_small, one_load}
-use Rattle.kr_fleet_readings.proofs.LoadReadings.{load_readings}
+use Rattle.kr_fleet_laws.proofs.LoadReadings.{load_readings}
 use Rattle.kr_fleet_runs.proofs.LoadRuns.{for_load, load_at_once, load_unread}
-use Rattle.kr_readings.proofs.Readings.{readings}
+use Rattle.kr_call_laws.proofs.Readings.{readings}
 use Rattle.kr_top.proofs.call.run_other.Goals as goal
 
 pub returns-in-Ok-Some-clause-ran : goal.returns-in-Ok-Some-clause-ran

@@ -61,7 +61,7 @@ returns-in-Err-take_input g c =
 
 pub make-requires-clause-programs : goal.make-requires-clause-programs
 make-requires-clause-programs g c κs within = subst (λ p. names_in p
-    ≡ plugin_order (rows_of c.in-Ok.settings.entries.0)) (sym c.as_slice-2.ensures)
+    ≡ plugin_order (rows_of c.in-Ok.settings.entries.0)) (sym c.as_slice.ensures)
     c.in-Ok-programs_of.ensures.names
 
 pub returns : goal.returns
@@ -82,6 +82,6 @@ returns g c =
     (goes_on (input_of words.direction) (taken_up words rows programs) c.in-Ok-take_input.bytes
     (c.in-Ok-take_input.ensures.does now)
     (unlent taken c.make.ensures.tapes
-    (bench_by words.direction rows c.as_slice-2.ensures c.as_str-2.ensures c.as_str-3.ensures
-    c.as_slice.ensures
+    (bench_by words.direction rows c.as_slice.ensures c.as_str-2.ensures c.as_str-3.ensures
+    refl
     (c.make.ensures.made (g.W.World.told c.configure.new.world).tapes taken refl)))))

@@ -1,6 +1,7 @@
 -- The budgets of the parts so far, and what room is left.
 use Rattle.std.proofs.Common.{◌≡◌, ◌+◌, sum, take}
-use Rattle.kr_workers.specs.Budgets.{all_reloads, budgets_of, journal_limit}
+use Rattle.kr_base.specs.Limits.{journal_limit}
+use Rattle.kr_workers.specs.Budgets.{all_reloads, budgets_of}
 use Rattle.kr_workers.proofs.budget.budgets_for.Given as goal
 
 abbrev pub invariant-loop-part : goal.invariant-loop-part

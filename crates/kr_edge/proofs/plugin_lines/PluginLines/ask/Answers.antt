@@ -3,6 +3,7 @@ use Rattle.std.proofs.Common.{◌∙◌, inl}
 use Rattle.kr_edge.proofs.Asking.{cut_off_as}
 use Rattle.kr_edge.proofs.plugin_lines.PluginLines.ask.Goals as goal
 
-pub returns-clause-answers : goal.returns-clause-answers
-returns-clause-answers g c = inl (cut_off_as _ _ _ _ (c.as_slice.ensures ∙ c.in-Ok.ensures.text)
-    c.in-Err-ask.ensures.err)
+pub returns-in-Err-exchanged-clause-answers : goal.returns-in-Err-exchanged-clause-answers
+returns-in-Err-exchanged-clause-answers g c =
+    inl (cut_off_as _ _ _ _ (c.as_slice.ensures ∙ c.in-Ok.ensures.text)
+    (rw c.in-Err-exchanged.is at c.ask-exchanged.ensures.err))

@@ -25,7 +25,7 @@ returns-in-Ok-lend-clause-ok g c =
     (objects_by same_link key_of (λ first. None) count_of c.lend.new.self) key n)
     (sym c.new-in-Ok-lend.ensures.faults)
     (lent same_link key_of (λ first. None) count_of links_decide old c.lend.new.self at key
-    (c.in-Ok-lend._key, c.in-Ok-lend.count) place c.in-Ok-lend.ensures.lent gone)
+    (c.in-Ok-lend.key, c.in-Ok-lend.count) place c.in-Ok-lend.ensures.lent gone)
 
 pub returns-in-Ok-lend-clause-link : goal.returns-in-Ok-lend-clause-link
 returns-in-Ok-lend-clause-link g c =
@@ -36,7 +36,7 @@ returns-in-Ok-lend-clause-link g c =
     sym (c.in-Some-link_place.ensures.first
     ∙ ap (λ l. place_of same_link key_of l key) c.items.ensures) in
     let found = found_at (λ entry. same_link (key_of entry) key) items at
-    (c.in-Ok-lend._key, c.in-Ok-lend.count) place c.in-Ok-lend.ensures.lent in
+    (c.in-Ok-lend.key, c.in-Ok-lend.count) place c.in-Ok-lend.ensures.lent in
     let name = c.new-in-Ok-lend.ensures.name ∙ c.in-Ok-Ok-Ok.ensures in
     let count = c.new-in-Ok-lend.ensures.faults
     ∙ ap (λ f. option_map_or count_of f 0) (sym found) in

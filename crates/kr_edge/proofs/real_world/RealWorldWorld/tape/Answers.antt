@@ -24,7 +24,7 @@ returns-in-Ok-lend-clause-ok g c =
     (objects_by same_name key_of (λ first. None) count_of c.lend.new.self) name n)
     (sym c.new.ensures)
     (lent same_name key_of (λ first. None) count_of names_decide old c.lend.new.self at name
-    (c.in-Ok-lend._name, c.in-Ok-lend.count) place c.in-Ok-lend.ensures.lent gone)
+    (c.in-Ok-lend.key, c.in-Ok-lend.count) place c.in-Ok-lend.ensures.lent gone)
 
 pub returns-in-Ok-lend-clause-alone : goal.returns-in-Ok-lend-clause-alone
 returns-in-Ok-lend-clause-alone g c =

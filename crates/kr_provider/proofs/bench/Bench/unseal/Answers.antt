@@ -1,21 +1,17 @@
--- `Bench::unseal`: the links serve the configuration still, and what is kept is true.
+-- `Bench::unseal`: the copy is the value.
 use Rattle.std.proofs.Common.{subst}
 use Rattle.std.specs.Prelude.{IfSome}
 use Rattle.kr_provider.specs.Publication.{list_at}
 use Rattle.kr_provider.specs.Unsealing.{HeedsCache}
-use Rattle.kr_provider.proofs.BenchLinks.{unsealed_stay}
+use Rattle.kr_provider.proofs.BenchLinks.{uncopied}
 use Rattle.kr_provider.proofs.bench.Bench.unseal.Goals as goal
 
-pub invariant_of-self : goal.invariant_of-self
-invariant_of-self g c = (
-  unsealed_stay g.L.Kms.link g.L.Kms.truth c.args.resource.now c.args.path.now c.args.bytes.now
-      c.self.inside.links c.unseal_for.new.links c.self.inside.adoption.published
-      c.unseal_for.result c.unseal_for.ensures.opened c.self.invariant.0,
-  c.unseal_for.ensures.kept,
-)
+pub returns-in-Ok-clause-cached : goal.returns-in-Ok-clause-cached
+returns-in-Ok-clause-cached g c = subst (λ bytes. IfSome c.args.self.now.published
+    (λ p. HeedsCache c.args.self.now.cache.rows p.seeds (list_at p c.args.resource.now)
+    c.args.path.now bytes c.args.self.now.links c.unseal_in_place.result
+    c.unseal_in_place.new.self.links)) c.in-Ok.ensures c.unseal_in_place.ensures.cached
 
-pub returns-clause-cached : goal.returns-clause-cached
-returns-clause-cached g c = subst (λ b. IfSome b.published (λ p. HeedsCache b.cache.rows
-    p.seeds (list_at p c.args.resource.now) c.args.path.now c.args.bytes.now b.links
-    c.unseal_for.result c.unseal_for.new.links))
-    c.self.view_is c.unseal_for.ensures.cached
+pub returns-in-Err-clause-opened : goal.returns-in-Err-clause-opened
+returns-in-Err-clause-opened g c = uncopied g.L.Kms.link g.L.Kms.truth c.args.resource.now
+    c.args.path.now c.args.bytes.now c.args.self.now.links c.args.self.now.published

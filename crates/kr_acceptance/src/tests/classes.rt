@@ -1,0 +1,61 @@
+//! The table of the classes that settings tell apart.
+use kr_base::NoMemory;
+use kr_config::{Class, ClassTable, read};
+use std::alloc::Global;
+use std::test::Fail;
+
+/// Secrets, the others of the core group, and all others.
+const THREE: &str =
+    r#"{"apiVersion":"apiserver.config.k8s.io/v1","kind":"EncryptionConfiguration","resources":[{"resources":["secrets"],"providers":[{"identity":{}}]},{"resources":["*."],"providers":[{"identity":{}}]},{"resources":["*.*"],"providers":[{"identity":{}}]}]}"#;
+
+fn table_of(alloc: Global) -> Option<ClassTable> {
+    let settings = read(alloc, THREE.as_bytes()).ok()?;
+    let mut table = ClassTable::new(alloc);
+    let added = table.add(&settings);
+    drop(settings);
+    match added {
+        Ok(()) => Some(table),
+        Err(NoMemory) => {
+            drop(table);
+            None
+        }
+    }
+}
+
+fn is_table(table: &ClassTable) -> bool {
+    match table.classes() {
+        [Class::Exact(name), Class::Group(group), Class::Rest] => {
+            name.as_str() == "secrets" && group.as_str() == ""
+        }
+        _ => false,
+    }
+}
+
+fn are_copied(alloc: Global, classes: &[Class]) -> bool {
+    for class in classes {
+        let Ok(copy) = class.copy(alloc) else {
+            return false;
+        };
+        let is = copy == *class;
+        drop(copy);
+        if !is {
+            return false;
+        }
+    }
+    true
+}
+
+#[test]
+fn a_table_has_each_class_once(rt: HostRuntime) -> Result<(), Fail> {
+    let table = table_of(rt.alloc()).ok_or("no table")?;
+    let is = is_table(&table) && are_copied(rt.alloc(), table.classes());
+    let places = [
+        table.class_of("secrets"),
+        table.class_of("configmaps"),
+        table.class_of("deployments.apps"),
+    ];
+    drop(table);
+    assert!(rt; is);
+    assert_eq!(rt; places, [0, 1, 2]);
+    Ok(())
+}
