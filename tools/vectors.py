@@ -28,6 +28,8 @@ AAD_SIZES = tuple(range(34)) + (47, 48, 49, 64, 65)
 HMAC_KEY_SIZES = (0, 1, 20, 31, 32, 33, 63, 64, 65, 66, 127, 128, 129, 200)
 MESSAGE_SIZES = (0, 1, 28, 54, 55, 56, 63, 64, 65, 119, 120, 128)
 OUTPUT_SIZES = (0, 1, 16, 31, 32, 33, 42, 63, 64, 65, 80, 95, 96, 97, 255, 256, 257, 1000, 2048, 8159, 8160)
+# from 256 bytes on GCM's counter mode goes by eight blocks, 128 bytes
+COUNTED_SIZES = (255, 256, 257, 271, 272, 384, 399, 401, 495, 511, 512, 513, 639, 640, 641)
 INFO_SIZES = (0, 1, 10, 22, 23, 31, 32, 54, 55, 64, 80, 200, 1000)
 TABLE_SIZES = tuple(range(50)) + (63, 64, 65, 79, 80, 81)
 
@@ -205,6 +207,19 @@ def chained():
         ask("uncbc", key, iv + ask("cbc", key, iv, bytes([turn % BLOCK + 1]) * size))
 
 
+def eights():
+    """Bodies round eight blocks and twice eight, since so many are opened at once."""
+    for size in KEY_SIZES:
+        for blocks in (7, 8, 9, 15, 16, 17, 24, 25):
+            # fifteen blocks have sixteen bytes of padding, and sixteen have one
+            key, iv, plain = drawn(size), drawn(BLOCK), drawn(BLOCK * blocks - blocks % BLOCK - 1)
+            body = iv + cbc(key, iv, plain)
+            assert len(body) == BLOCK * (blocks + 1)
+            ask("uncbc", key, body)
+            # a bit of the last block but one, and so one of the padding, is another
+            ask("uncbc", key, altered(body, len(body) - BLOCK - 1, blocks % 8))
+
+
 def body_of(key, plain):
     """An IV and the blocks of whole plain blocks, without any padding added."""
     iv = drawn(BLOCK)
@@ -283,6 +298,18 @@ def long_ones():
         ask("uncbc", key, iv + ask("cbc", key, iv, plain))
         aad = drawn((size * 3) % 700)
         ask("ungcm", key, nonce, aad, ask("gcm", key, nonce, aad, plain))
+
+
+def counted_by_eights():
+    own = random.Random(20261128)
+    for size in COUNTED_SIZES:
+        for key_size in KEY_SIZES:
+            key, nonce, aad, plain = map(own.randbytes, (key_size, 12, size % 20, size))
+            ask("ungcm", key, nonce, aad, ask("gcm", key, nonce, aad, plain))
+    for key_size in KEY_SIZES:
+        # past 256 blocks the count has a second byte
+        key, nonce, plain = map(own.randbytes, (key_size, 12, 4096 + 128 + 21))
+        ask("ungcm", key, nonce, b"", ask("gcm", key, nonce, b"", plain))
 
 
 def standards():
@@ -492,12 +519,14 @@ def main():
         altered_seals,
         wrong_keys,
         long_ones,
+        counted_by_eights,
         standards,
         codes,
         expansions,
         no_cases,
         wraps,
         printed_wraps,
+        eights,
     ):
         part()
     folder = Path(__file__).resolve().parent.parent / "crates" / "kr_vectors"

@@ -42,7 +42,8 @@ impl Rounds {
         }
     }
 
-    fn count(self) -> usize
+    /// Nr (FIPS 197 section 5).
+    pub fn count(self) -> usize
         ensures { result ≡ round_count self }
     {
         match self {

@@ -6,6 +6,7 @@ ghost use Rattle.std.specs.Cmp.Lexicographic.{pointwise, slice_cmp, nat_list_eq_
 ghost use Rattle.std.specs.Cmp.Rules.{hashing};
 ghost use Rattle.std.specs.Hash as fed;
 ghost use Rattle.std.proofs.Common.{refl, rules};
+ghost use Rattle.std.specs.Str.{IsUtf8};
 ghost use Rattle.std.specs.String.{string_bytes};
 
 use crate::errors::NoMemory;
@@ -114,3 +115,8 @@ impl Hash for Text {
         self.as_str().hash(state);
     }
 }
+
+/// Tells that a text is UTF-8. It does nothing.
+pub fn tell_text(text: &str)
+    ensures { IsUtf8 text.now }
+{}

@@ -20,6 +20,7 @@ use crate::named::NamedSettings;
 use crate::play::{Play, Then};
 use crate::wrong::{Wrong, number_of, two_words};
 use std::alloc::{AllocError, Global};
+use std::mem;
 
 /// Makes the line's call, and tells what is printed for it.
 pub fn answer(
@@ -89,7 +90,8 @@ fn act_on(
 
 /// `ROOM`.
 fn begin(alloc: Global, current: &mut Option<Play>, rest: &str) -> Result<(), Wrong> {
-    *current = Some(Play::new(alloc, number_of(rest)?)?);
+    let play = Play::new(alloc, number_of(rest)?)?;
+    drop(mem::replace(current, Some(play)));
     Ok(())
 }
 

@@ -32,7 +32,9 @@ fn judge(
 ) -> Result<Vec<u8>, Wrong> {
     let (replica, name) = two_words(rest)?;
     let verdict = play.judge(times, number_of(replica)?, named.at(name)?.get())?;
-    verdict_line(alloc, &verdict)
+    let line = verdict_line(alloc, &verdict);
+    drop(verdict);
+    line
 }
 
 /// `TIMES REPLICA NAME`.

@@ -1,8 +1,8 @@
 //! Settings by their names.
-use crate::wrong::{Wrong, two_words};
+use crate::wrong::{Wrong, both, two_words};
 use kr_base::Shared;
 use kr_config::{ConfigErr, Settings, Who, read};
-use std::alloc::{AllocError, Global};
+use std::alloc::Global;
 
 /// Settings that a line named.
 #[derive(Drop)]
@@ -21,9 +21,20 @@ impl NamedSettings {
     /// Reads a name and a configuration, and keeps that by the name.
     pub fn add(&mut self, alloc: Global, rest: &str) -> Result<(), Wrong> {
         let (name, text) = two_words(rest)?;
-        let own = (name.to_string(alloc)?, settings_of(alloc, text)?);
-        self.all.push(own).map_err(AllocError::from)?;
-        Ok(())
+        match both(string_of(alloc, name), settings_of(alloc, text)) {
+            Ok(own) => self.keep(own),
+            Err(why) => Err(why),
+        }
+    }
+
+    fn keep(&mut self, own: (String, Shared<Settings>)) -> Result<(), Wrong> {
+        match self.all.push(own) {
+            Ok(()) => Ok(()),
+            Err(refused) => {
+                drop(refused);
+                Err(Wrong::Memory)
+            }
+        }
     }
 
     /// The settings of the name.
@@ -46,11 +57,18 @@ impl NamedSettings {
     }
 }
 
+fn string_of(alloc: Global, name: &str) -> Result<String, Wrong> {
+    Ok(name.to_string(alloc)?)
+}
+
 fn settings_of(alloc: Global, text: &str) -> Result<Shared<Settings>, Wrong> {
     match read(alloc, text.as_bytes()) {
         Ok(settings) => match Shared::new(alloc, settings) {
             Ok(shared) => Ok(shared),
-            Err(_) => Err(Wrong::Memory),
+            Err(refused) => {
+                drop(refused);
+                Err(Wrong::Memory)
+            }
         },
         Err(ConfigErr::No(_)) => Err(Wrong::Form),
         Err(ConfigErr::NoMemory) => Err(Wrong::Memory),

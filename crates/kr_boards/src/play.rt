@@ -106,11 +106,10 @@ impl Play {
 
     /// The verdict, after as many judgements.
     pub fn judge(&self, times: u32, replica: u32, settings: &Settings) -> Result<Verdict, Wrong> {
-        let mut last = self.board.judge(replica, settings)?;
         for _ in 1..times {
-            last = self.board.judge(replica, settings)?;
+            drop(self.board.judge(replica, settings)?);
         }
-        Ok(last)
+        Ok(self.board.judge(replica, settings)?)
     }
 
     /// The numbers of what is live.

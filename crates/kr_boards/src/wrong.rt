@@ -3,6 +3,7 @@ use kr_base::NoMemory;
 use std::alloc::AllocError;
 
 /// Why a line has no answer.
+#[derive(Drop)]
 pub enum Wrong {
     Form,
     Memory,
@@ -17,6 +18,27 @@ impl From<AllocError> for Wrong {
 impl From<NoMemory> for Wrong {
     fn from(_error: NoMemory) -> Wrong {
         Wrong::Memory
+    }
+}
+
+/// Both values, or why one isn't there. What isn't used is dropped as a value of some type, which
+/// costs a proof less than by its fields.
+pub fn both<A: Drop, B: Drop>(
+    first: Result<A, Wrong>,
+    second: Result<B, Wrong>,
+) -> Result<(A, B), Wrong> {
+    match first {
+        Ok(first) => match second {
+            Ok(second) => Ok((first, second)),
+            Err(why) => {
+                drop(first);
+                Err(why)
+            }
+        },
+        Err(why) => {
+            drop(second);
+            Err(why)
+        }
     }
 }
 

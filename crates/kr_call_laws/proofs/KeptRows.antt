@@ -15,7 +15,7 @@ use Rattle.kr_provider.specs.Publication.{Publication}
 use Rattle.kr_provider.specs.Readers.{writer_of}
 use Rattle.kr_provider.specs.declared.refusal.Opened.{Opened}
 use Rattle.kr_provider.specs.declared.refusal.ValueNo.{ValueNo}
-use Rattle.kr_rollout.specs.Checks.{written_check}
+use Rattle.kr_starts.specs.Checks.{written_check}
 use Rattle.kr_store.specs.File.{file_bytes}
 use Rattle.kr_store.specs.Stores.{IsListing}
 use Rattle.kr_store.specs.declared.rows.LogRow.{LogRow}

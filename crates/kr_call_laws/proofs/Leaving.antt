@@ -10,7 +10,7 @@ use Rattle.kr_config.specs.Lists.{list_of}
 use Rattle.kr_kms.specs.Outside.{same_name}
 use Rattle.kr_provider.specs.PluginOrder.{plugin_order}
 use Rattle.kr_provider.specs.Readers.{writer_of}
-use Rattle.kr_rollout.specs.Checks.{store_check}
+use Rattle.kr_starts.specs.Checks.{store_check}
 use Rattle.kr_store.specs.File.{file_bytes}
 use Rattle.kr_store.specs.Rows.{check_in}
 use Rattle.kr_store.specs.declared.rows.LogRow.{LogRow}

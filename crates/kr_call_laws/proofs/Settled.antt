@@ -37,7 +37,7 @@ use Rattle.kr_provider.proofs.WithoutPlugins.{none_listed}
 use Rattle.kr_provider.specs.Sealing.{draw_size, sealed_by}
 use Rattle.kr_provider.specs.declared.refusal.Opened.{Opened}
 use Rattle.kr_provider.specs.declared.refusal.ValueNo.{ValueNo}
-use Rattle.kr_rollout.specs.Checks.{store_check}
+use Rattle.kr_starts.specs.Checks.{store_check}
 use Rattle.kr_steps.specs.Commands.{by_result, value_steps, draw_some, input_of, linking_programs, opening, reading_given, data_steps, value_with, unsealing, working, working_by, converting, bench_steps, configuration, getting, row_found, row_on, stored_on, tape_for, with_memory, configurations, judging_at, judging_by, telling, adding, new_row, putting, revision_line, sealed_into, silently, stored_into}
 use Rattle.kr_store.specs.Rows.{live, check_in}
 use Rattle.kr_store.specs.File.{file_bytes}

@@ -15,9 +15,9 @@ use Rattle.kr_provider.specs.declared.refusal.Opened.{Opened}
 use Rattle.kr_provider.specs.declared.refusal.ValueNo.{ValueNo}
 use Rattle.kr_provider.proofs.Lists.{no_names}
 use Rattle.kr_provider.proofs.WithoutPlugins.{none_listed}
-use Rattle.kr_rollout.specs.Checks.{written_check}
-use Rattle.kr_rollout.proofs.Causes.{one_cause}
-use Rattle.kr_rollout.proofs.Judging.{refusal_is_exact}
+use Rattle.kr_starts.specs.Checks.{written_check}
+use Rattle.kr_callers.proofs.Causes.{one_cause}
+use Rattle.kr_callers.proofs.Judging.{refusal_is_exact}
 use Rattle.kr_store.specs.File.{file_bytes, magic, row_bytes, rows_bytes}
 use Rattle.kr_store.specs.Stores.{IsListing}
 use Rattle.kr_store.specs.declared.format.Format.{Format}

@@ -9,7 +9,7 @@ use Rattle.kr_turn.specs.declared.seat.Place.{Place}
 use Rattle.kr_provider.specs.Publication.{Publication}
 use Rattle.kr_rollout.specs.declared.opening.Entry.{Entry}
 use Rattle.kr_rollout.specs.declared.opening.Opening.{Opening}
-use Rattle.kr_rollout.specs.Acting.{Caller, only_caller}
+use Rattle.kr_callers.specs.Acting.{Caller, only_caller}
 use Rattle.kr_rollout.specs.Callers.{holding, reloads_in}
 use Rattle.kr_rollout.specs.Cores.{CoreState}
 use Rattle.kr_rollout.specs.Entries.{seat_of}

@@ -12,15 +12,15 @@ use Rattle.kr_provider.specs.BenchState.{BenchState}
 use Rattle.kr_provider.specs.KeyPages.{size_of}
 use Rattle.kr_provider.specs.Names.{HasLinks, names_of}
 use Rattle.kr_provider.specs.Publication.{Publication}
-use Rattle.kr_rollout.specs.declared.call.CallNo.{CallNo}
-use Rattle.kr_rollout.specs.declared.call.CallNo.TheVariants.{Refused, PluginFailed, DiceFailed, StoreFailed, StoreFull, Unhealthy, Gone, Spent, NoMemory}
+use Rattle.kr_callers.specs.declared.call.CallNo.{CallNo}
+use Rattle.kr_callers.specs.declared.call.CallNo.TheVariants.{Refused, PluginFailed, DiceFailed, StoreFailed, StoreFull, Unhealthy, Gone, Spent, NoMemory}
 use Rattle.kr_rollout.specs.declared.line.Did.{Did}
-use Rattle.kr_rollout.specs.Acting.{Caller}
+use Rattle.kr_callers.specs.Acting.{Caller}
 use Rattle.kr_rollout.specs.Callers.{holding, reloads_in}
-use Rattle.kr_rollout.specs.Calls.{AreServed, IsIdle}
+use Rattle.kr_callers.specs.Calls.{AreServed, IsIdle}
 use Rattle.kr_rollout.specs.Openings.{NamesAmong}
-use Rattle.kr_rollout.specs.Parts.{AddsWithin}
-use Rattle.kr_rollout.proofs.PartsAdd.{parts_add_up, same_within}
+use Rattle.kr_callers.specs.Parts.{AddsWithin}
+use Rattle.kr_callers.proofs.PartsAdd.{parts_add_up, same_within}
 use Rattle.kr_rewrite.specs.Drives.{IsDrive, IsIdleAtEnd}
 use Rattle.kr_rewrite.specs.declared.outcome.Report.{Report}
 use Rattle.kr_calls.specs.Desks.{IsBench, IsCallerOf, is_spent, one_name, parts_of}

@@ -1,10 +1,10 @@
 -- What the program keeps of a caller and of its bench, so that each call may be made.
 use Rattle.std.specs.Prelude.{◌≡◌, ℕ, ◌+◌, ◌≤◌, Bool, true, false, List, [], ◌∷◌, codes, length, get_or, None, Result, Ok, Err}
 use Rattle.kr_provider.specs.KeyPages.{KeyPages, size_of}
-use Rattle.kr_rollout.specs.declared.call.CallNo.{CallNo}
-use Rattle.kr_rollout.specs.declared.call.CallNo.TheVariants.{Spent}
+use Rattle.kr_callers.specs.declared.call.CallNo.{CallNo}
+use Rattle.kr_callers.specs.declared.call.CallNo.TheVariants.{Spent}
 use Rattle.kr_rewrite.specs.declared.outcome.Report.{Report}
-use Rattle.kr_rollout.specs.Acting.{Caller}
+use Rattle.kr_callers.specs.Acting.{Caller}
 use Rattle.kr_rollout.specs.Callers.{holding, reloads_in}
 use Rattle.kr_rollout.specs.Cores.{CoreState}
 use Rattle.kr_calls.specs.declared.opening.Budget.{Budget}

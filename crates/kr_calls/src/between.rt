@@ -1,24 +1,16 @@
 //! A caller in the midst of whose calls another one makes a call.
 ghost use Rattle.std.specs.Prelude.{◌≡◌};
 
-use crate::call::{Call, serve_or_tell};
+use crate::call::{Call, serve};
 use crate::desk::Desk;
 use crate::linked::Spelled;
 use crate::page::Page;
 use kr_base::{MemDice, Spent};
+use kr_callers::Acts;
 use kr_provider::Bench;
-use kr_rollout::{Acts, Answer, Event};
+use kr_rollout::{Answer, Event};
 use std::alloc::Global;
 use std::mem;
-
-/// A call that is made before the event of this number of another caller, the first being 1.
-#[derive(Drop)]
-pub struct Planned {
-    /// Before which of the other caller's next events it is made, from 1 on.
-    pub number: u32,
-    /// What the rival asks.
-    pub call: Call,
-}
 
 /// A caller with a rival at the same core, which makes a planned call in the midst of its own.
 /// Contracts of calls see the caller alone: to it the rival's events are others'.
@@ -26,7 +18,9 @@ pub struct Between<A: Acts, B: Acts, L: Spelled> {
     alloc: Global,
     own: A,
     rival: Desk<B, L>,
-    next: Option<Planned>,
+    next: Option<Call>,
+    /// Before which of the caller's next events that call is made, from 1 on; 0 for none.
+    number: u32,
     said: Page,
 }
 
@@ -40,15 +34,17 @@ impl<A: Acts, B: Acts, L: Spelled> Between<A, B, L> {
             own,
             rival,
             next: None,
+            number: 0,
             said: Page::new(alloc),
         }
     }
 
-    /// Plans the rival's next call.
-    pub fn plan(&mut self, planned: Planned)
+    /// Plans the rival's next call, before the event of this number from here, 1 being the next.
+    pub fn plan(&mut self, number: u32, call: Call)
         ensures { self.new.own ≡ self.old.own }
     {
-        drop(mem::replace(&mut self.next, Some(planned)));
+        self.number = number;
+        drop(mem::replace(&mut self.next, Some(call)));
     }
 
     /// Adds what the rival's call answered, if it was made.
@@ -66,6 +62,7 @@ impl<A: Acts, B: Acts, L: Spelled> Between<A, B, L> {
             own,
             rival,
             next,
+            number: _,
             said,
         } = self;
         drop(next);
@@ -78,15 +75,13 @@ impl<A: Acts, B: Acts, L: Spelled> Between<A, B, L> {
     fn let_rival(&mut self)
         ensures { self.new.own ≡ self.old.own }
     {
-        match self.next.take() {
-            Some(Planned { number: 1, call }) => {
-                serve_or_tell(self.alloc, &mut self.rival, call, &mut self.said);
-            }
-            Some(Planned { number, call }) => {
-                let number = number.saturating_sub(1);
-                drop(mem::replace(&mut self.next, Some(Planned { number, call })));
-            }
-            None => {}
+        let is_time = self.number == 1;
+        self.number = self.number.saturating_sub(1);
+        if !is_time {
+            return;
+        }
+        if let Some(call) = &self.next {
+            serve(self.alloc, &mut self.rival, call, &mut self.said);
         }
     }
 }

@@ -6,22 +6,14 @@ use crate::page::Page;
 use crate::words::{Wrong, both, kept, number_before, number_of, text_of, two_words};
 use hex::FromHexError;
 use kr_base::{Bytes, Shared, Text};
+use kr_callers::Acts;
 use kr_config::Settings;
 use kr_kms::Kms;
-use kr_rollout::Acts;
 use std::alloc::Global;
 
 /// A call with its arguments.
 #[derive(Drop)]
 pub enum Call {
-    Object(ObjectCall),
-    Load(LoadCall),
-    Rewrite(RewriteCall),
-}
-
-/// A call for the data at a path.
-#[derive(Drop)]
-pub enum ObjectCall {
     Read {
         replica: u32,
         path: Text,
@@ -35,11 +27,6 @@ pub enum ObjectCall {
     Delete {
         path: Text,
     },
-}
-
-/// A call for a replica's configuration.
-#[derive(Drop)]
-pub enum LoadCall {
     Leave {
         replica: u32,
     },
@@ -54,14 +41,16 @@ pub enum LoadCall {
     Refresh {
         replica: u32,
     },
-}
-
-/// The rewrite above a path: one step, or all.
-#[derive(Drop)]
-pub struct RewriteCall {
-    replica: u32,
-    after: Text,
-    all: bool,
+    /// One step of the rewrite above a path.
+    Step {
+        replica: u32,
+        after: Text,
+    },
+    /// All of them.
+    Drive {
+        replica: u32,
+        after: Text,
+    },
 }
 
 impl Call {
@@ -81,11 +70,20 @@ impl Call {
         match key_of(word)? {
             Key::Read => read_of(alloc, rest),
             Key::Write => write_of(alloc, rest),
-            Key::Delete => delete_of(alloc, rest),
-            Key::Leave => leave_of(rest),
+            Key::Delete => {
+                let path = kept(alloc, rest)?;
+                Ok(Call::Delete { path })
+            }
+            Key::Leave => {
+                let replica = number_of(rest)?;
+                Ok(Call::Leave { replica })
+            }
             Key::Reload => load_of(named, rest, true),
             Key::Join => load_of(named, rest, false),
-            Key::Refresh => refresh_of(rest),
+            Key::Refresh => {
+                let replica = number_of(rest)?;
+                Ok(Call::Refresh { replica })
+            }
             Key::Step => rewrite_of(alloc, rest, false),
             Key::Drive => rewrite_of(alloc, rest, true),
         }
@@ -125,25 +123,7 @@ fn key_of(word: &str) -> Result<Key, Wrong> {
 fn read_of(alloc: Global, words: &str) -> Result<Call, Wrong> {
     let (replica, path) = number_before(words)?;
     let path = kept(alloc, path)?;
-    Ok(Call::Object(ObjectCall::Read { replica, path }))
-}
-
-/// `PATH`.
-fn delete_of(alloc: Global, path: &str) -> Result<Call, Wrong> {
-    let path = kept(alloc, path)?;
-    Ok(Call::Object(ObjectCall::Delete { path }))
-}
-
-/// `REPLICA`.
-fn leave_of(replica: &str) -> Result<Call, Wrong> {
-    let replica = number_of(replica)?;
-    Ok(Call::Load(LoadCall::Leave { replica }))
-}
-
-/// `REPLICA`.
-fn refresh_of(replica: &str) -> Result<Call, Wrong> {
-    let replica = number_of(replica)?;
-    Ok(Call::Load(LoadCall::Refresh { replica }))
+    Ok(Call::Read { replica, path })
 }
 
 /// `REPLICA PATH RESOURCE HEX`.
@@ -156,12 +136,12 @@ fn write_of(alloc: Global, words: &str) -> Result<Call, Wrong> {
         Ok((names, plain)) => {
             let (path, resource) = names;
             let plain = Bytes::from_vec(plain);
-            Ok(Call::Object(ObjectCall::Write {
+            Ok(Call::Write {
                 replica,
                 path,
                 resource,
                 plain,
-            }))
+            })
         }
         Err(why) => Err(why),
     }
@@ -172,20 +152,19 @@ fn load_of(named: &Named, words: &str, again: bool) -> Result<Call, Wrong> {
     let (replica, name) = number_before(words)?;
     let settings = named.share(name)?;
     if again {
-        return Ok(Call::Load(LoadCall::Reload { replica, settings }));
+        return Ok(Call::Reload { replica, settings });
     }
-    Ok(Call::Load(LoadCall::Join { replica, settings }))
+    Ok(Call::Join { replica, settings })
 }
 
 /// `REPLICA AFTER`.
 fn rewrite_of(alloc: Global, words: &str, all: bool) -> Result<Call, Wrong> {
     let (replica, after) = number_before(words)?;
     let after = kept(alloc, text_of(after))?;
-    Ok(Call::Rewrite(RewriteCall {
-        replica,
-        after,
-        all,
-    }))
+    if all {
+        return Ok(Call::Drive { replica, after });
+    }
+    Ok(Call::Step { replica, after })
 }
 
 /// The bytes of digits in hex; `-` stands for none.
@@ -197,130 +176,39 @@ pub fn bytes_of(alloc: Global, word: &str) -> Result<Vec<u8>, Wrong> {
     }
 }
 
-/// Makes a call for data, and prints what it answered.
-fn serve_object<A: Acts, L: Kms>(
-    alloc: Global,
-    desk: &mut Desk<A, L>,
-    call: ObjectCall,
-    page: &mut Page,
-) -> Result<(), Wrong> {
+/// Makes the call, and prints what it answered, or `line` where it can't be made.
+pub fn serve<A: Acts, L: Kms>(alloc: Global, desk: &mut Desk<A, L>, call: &Call, page: &mut Page) {
     match call {
-        ObjectCall::Read { replica, path } => {
-            let done = desk.read(alloc, replica, path.as_str());
-            drop(path);
-            page.told_read(alloc, done?);
+        Call::Read { replica, path } => {
+            page.told(alloc, desk.read(alloc, *replica, path.as_str()));
         }
-        ObjectCall::Write {
+        Call::Write {
             replica,
             path,
             resource,
             plain,
         } => {
-            let done = desk.write(alloc, replica, resource.as_str(), path.as_str(), plain);
-            drop(path);
-            drop(resource);
-            page.told_write(done?);
+            let (path, resource) = (path.as_str(), resource.as_str());
+            page.told(
+                alloc,
+                desk.write(alloc, *replica, resource, path, plain.as_slice()),
+            );
         }
-        ObjectCall::Delete { path } => {
-            let done = desk.delete(alloc, path.as_str());
-            drop(path);
-            page.told_delete(done?);
+        Call::Delete { path } => page.told(alloc, desk.delete(alloc, path.as_str())),
+        Call::Leave { replica } => page.told(alloc, desk.leave(*replica)),
+        Call::Reload { replica, settings } => {
+            page.told(alloc, desk.reload(alloc, *replica, settings));
         }
-    }
-    Ok(())
-}
-
-/// Makes a call for a configuration, and prints what it answered.
-fn serve_load<A: Acts, L: Kms>(
-    alloc: Global,
-    desk: &mut Desk<A, L>,
-    call: LoadCall,
-    page: &mut Page,
-) -> Result<(), Wrong> {
-    match call {
-        LoadCall::Leave { replica } => {
-            let done = desk.leave(replica)?;
-            page.told_leave(done);
+        Call::Join { replica, settings } => {
+            page.told(alloc, desk.join(alloc, *replica, settings));
         }
-        LoadCall::Reload { replica, settings } => {
-            let done = desk.reload(alloc, replica, settings)?;
-            page.told_load(alloc, done);
+        Call::Refresh { replica } => page.told(alloc, desk.refresh(alloc, *replica)),
+        Call::Step { replica, after } => {
+            page.told(alloc, desk.step(alloc, *replica, after.as_str()));
         }
-        LoadCall::Join { replica, settings } => {
-            let done = desk.join(alloc, replica, settings)?;
-            page.told_join(alloc, done);
+        Call::Drive { replica, after } => {
+            page.told(alloc, desk.drive(alloc, *replica, after.as_str()));
         }
-        LoadCall::Refresh { replica } => {
-            let done = desk.refresh(alloc, replica)?;
-            page.told_load(alloc, done);
-        }
-    }
-    Ok(())
-}
-
-/// Takes steps of the rewrite, and prints what they did.
-fn serve_rewrite<A: Acts, L: Kms>(
-    alloc: Global,
-    desk: &mut Desk<A, L>,
-    call: RewriteCall,
-    page: &mut Page,
-) -> Result<(), Wrong> {
-    let RewriteCall {
-        replica,
-        after,
-        all,
-    } = call;
-    if all {
-        let driven = desk.drive(alloc, replica, after.as_str());
-        drop(after);
-        let (report, done) = driven?;
-        page.told_drive(report, done);
-        return Ok(());
-    }
-    let done = desk.step(alloc, replica, after.as_str());
-    drop(after);
-    page.told_step(done?);
-    Ok(())
-}
-
-/// Makes the call, and prints what it answered.
-fn serve<A: Acts, L: Kms>(
-    alloc: Global,
-    desk: &mut Desk<A, L>,
-    call: Call,
-    page: &mut Page,
-) -> Result<(), Wrong> {
-    match call {
-        Call::Object(call) => serve_object(alloc, desk, call, page),
-        Call::Load(call) => serve_load(alloc, desk, call, page),
-        Call::Rewrite(call) => serve_rewrite(alloc, desk, call, page),
-    }
-}
-
-/// Makes the call, and prints what it answered, or `line` where it can't be made.
-pub fn serve_or_tell<A: Acts, L: Kms>(
-    alloc: Global,
-    desk: &mut Desk<A, L>,
-    call: Call,
-    page: &mut Page,
-) {
-    match serve(alloc, desk, call, page) {
-        Ok(()) => page.end_line(),
-        Err(why) => page.told_wrong(why),
-    }
-}
-
-/// Makes the call of a line, and prints what it answered, or `line`.
-fn serve_spelled<A: Acts, L: Kms>(
-    alloc: Global,
-    named: &Named,
-    desk: &mut Desk<A, L>,
-    line: &str,
-    page: &mut Page,
-) {
-    match Call::spelled(alloc, named, line) {
-        Ok(call) => serve_or_tell(alloc, desk, call, page),
-        Err(why) => page.told_wrong(why),
     }
 }
 
@@ -351,6 +239,12 @@ pub fn serve_line<A: Acts, L: Spelled>(
     if let Some(words) = line.strip_prefix("bench ") {
         return change_bench(alloc, desk, words, page);
     }
-    serve_spelled(alloc, named, desk, line, page);
+    match Call::spelled(alloc, named, line) {
+        Ok(call) => {
+            serve(alloc, desk, &call, page);
+            drop(call);
+        }
+        Err(why) => page.told_wrong("line", why),
+    }
     Ok(())
 }

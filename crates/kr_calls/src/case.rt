@@ -22,12 +22,13 @@ use crate::opening::{Budget, Terms, core_of, terms_of};
 use crate::page::Page;
 use crate::stored::{add_rows, load};
 use crate::two::{play_two, seated};
-use crate::words::{Wrong, behind, two_lines, two_words};
+use crate::words::{Wrong, behind, both, two_lines, two_words};
 use kr_base::{MemDice, MemTape};
+use kr_callers::{Acts, Solo};
 use kr_keywrap::{ExampleRing, KeyLink};
 use kr_kms::TablePlugin;
 use kr_provider::Bench;
-use kr_rollout::{Acts, Core, Solo};
+use kr_rollout::Core;
 use kr_store::Store;
 use std::alloc::Global;
 use std::sync::Wait;
@@ -40,7 +41,7 @@ pub fn run<R: Wait>(
     case: &str,
     page: &mut Page,
 ) -> Result<(), Wrong> {
-    let (first, rest) = two_lines(case)?;
+    let (first, rest) = two_lines(case);
     let (key, words) = two_words(first)?;
     match key {
         "settings" => name_all(alloc, named, case),
@@ -57,14 +58,6 @@ fn name_all(alloc: Global, named: &mut Named, case: &str) -> Result<(), Wrong> {
     Ok(())
 }
 
-/// What a case begins with.
-#[derive(Drop)]
-struct Beginning {
-    store: Store<MemTape>,
-    terms: Terms,
-    with_rival: bool,
-}
-
 /// Starts the core, and lets its callers make their calls.
 fn begin<L: Spelled, R: Wait>(
     rt: &R,
@@ -74,36 +67,14 @@ fn begin<L: Spelled, R: Wait>(
     rest: &str,
     page: &mut Page,
 ) -> Result<(), Wrong> {
-    let (second, rest) = two_lines(rest)?;
-    let (third, calls) = two_lines(rest)?;
-    let beginning = beginning_of(alloc, named, second, third)?;
-    match bench_of::<L>(alloc, words) {
-        Ok(bench) => play(rt, alloc, named, beginning, bench, words, calls, page),
-        Err(why) => {
-            drop(beginning);
-            Err(why)
-        }
-    }
-}
-
-/// A store, and the terms of a core over it, by a case's second and third line.
-fn beginning_of(
-    alloc: Global,
-    named: &Named,
-    second: &str,
-    third: &str,
-) -> Result<Beginning, Wrong> {
+    let (second, rest) = two_lines(rest);
+    let (third, calls) = two_lines(rest);
     let stored = behind("store", second)?;
-    let (kind, words) = two_words(third)?;
-    let with_rival = kind == "two";
-    let terms = terms_of(named, words)?;
-    match load(alloc, stored) {
-        Ok(store) => Ok(Beginning {
-            store,
-            terms,
-            with_rival,
-        }),
+    let (store, terms) = both(load(alloc, stored), terms_of(named, third))?;
+    match bench_of::<L>(alloc, words) {
+        Ok(bench) => play(rt, alloc, named, store, terms, bench, words, calls, page),
         Err(why) => {
+            drop(store);
             drop(terms);
             Err(why)
         }
@@ -115,7 +86,8 @@ fn play<L: Spelled, R: Wait>(
     rt: &R,
     alloc: Global,
     named: &Named,
-    beginning: Beginning,
+    store: Store<MemTape>,
+    terms: Terms,
     mut bench: Bench<L, MemDice>,
     words: &str,
     calls: &str,
@@ -123,13 +95,10 @@ fn play<L: Spelled, R: Wait>(
 ) -> Result<(), Wrong>
     requires { IsBench (names_of L.link bench.links) bench.pages }
 {
-    let Beginning {
-        store,
-        terms,
-        with_rival,
-    } = beginning;
-    let budget = terms.budget;
-    match core_of(alloc, &mut bench, store, terms) {
+    let (budget, with_rival) = (terms.budget, terms.with_rival);
+    let made = core_of(alloc, &mut bench, store, &terms);
+    drop(terms);
+    match made {
         Ok(core) => {
             if with_rival {
                 play_with_rival(rt, alloc, named, core, budget, bench, words, calls, page)
@@ -159,32 +128,14 @@ fn play_with_rival<L: Spelled, R: Wait>(
     requires core { IsCore budget core }
     requires bench { IsBench (names_of L.link bench.links) bench.pages }
 {
-    match bench_of(alloc, words) {
-        Ok(other) => play_seated(rt, alloc, named, core, budget, bench, other, calls, page),
+    let other = match bench_of(alloc, words) {
+        Ok(other) => other,
         Err(why) => {
             drop(core);
             end_bench(bench, page);
-            Err(why)
+            return Err(why);
         }
-    }
-}
-
-/// The calls of two callers with these benches.
-fn play_seated<L: Spelled, R: Wait>(
-    rt: &R,
-    alloc: Global,
-    named: &Named,
-    core: Core<MemTape>,
-    budget: Budget,
-    bench: Bench<L, MemDice>,
-    other: Bench<L, MemDice>,
-    calls: &str,
-    page: &mut Page,
-) -> Result<(), Wrong>
-    requires core { IsCore budget core }
-    requires bench { IsBench (names_of L.link bench.links) bench.pages }
-    requires other { IsBench (names_of L.link other.links) other.pages }
-{
+    };
     match seated(alloc, core, budget) {
         Some(seats) => play_two(rt, alloc, named, seats, budget, bench, other, calls, page),
         None => {

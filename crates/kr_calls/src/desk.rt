@@ -4,17 +4,18 @@ ghost use Rattle.kr_base.specs.Rules.{IsPath};
 ghost use Rattle.kr_provider.specs.Names.{names_of};
 ghost use Rattle.kr_calls.specs.Desks.{IsBench, IsCallerOf, is_spent, parts_of};
 
-use crate::between::{Between, Planned};
-use crate::linked::{Spelled, names_one};
+use crate::between::Between;
+use crate::call::Call;
+use crate::linked::{Spelled, allowed};
 use crate::page::Page;
 use crate::words::Wrong;
 use kr_base::{Bytes, MemDice, Shared, path_ok, resource_ok};
+use kr_callers::{Acts, CallNo};
 use kr_config::Settings;
 use kr_fleet::{Joining, Loaded, Read, delete, join, leave, read, refresh, reload, write};
 use kr_kms::Kms;
 use kr_provider::Bench;
 use kr_rewrite::{Report, Step, drive, rewrite_next};
-use kr_rollout::{Acts, CallNo};
 use std::alloc::Global;
 use std::marker::Model;
 use std::mem;
@@ -53,18 +54,26 @@ fn may(ended: bool, replicas: u32, replica: u32) -> bool
     !ended && replica < replicas
 }
 
-/// Whether a configuration may still be brought.
-fn may_bring(left: u32) -> bool
-    ensures { IsTrue result → 0 < left }
+/// Whether it may make one for the object at this path.
+fn may_at(ended: bool, replicas: u32, replica: u32, path: &str) -> bool
+    ensures { IsTrue result → (ended ≡ false) × (replica < replicas) × IsPath path.now }
 {
-    left > 0
+    may(ended, replicas, replica) && path_ok(path)
 }
 
-/// Whether a step may begin above this.
-fn is_above(path: &str) -> bool
-    ensures { IsTrue result → (path.now ≡ []) ⊎ IsPath path.now }
+/// Whether it may make one for what stands above this.
+fn may_above(ended: bool, replicas: u32, replica: u32, path: &str) -> bool
+    ensures { IsTrue result → (ended ≡ false) × (replica < replicas)
+        × ((path.now ≡ []) ⊎ IsPath path.now) }
 {
-    path.is_empty() || path_ok(path)
+    may(ended, replicas, replica) && (path.is_empty() || path_ok(path))
+}
+
+/// Whether it may bring the replica a configuration, of so many.
+fn may_bring(ended: bool, replicas: u32, replica: u32, left: u32) -> bool
+    ensures { IsTrue result → (ended ≡ false) × (replica < replicas) × (0 < left) }
+{
+    may(ended, replicas, replica) && left > 0
 }
 
 /// Whether the seat may add no more lines.
@@ -114,10 +123,7 @@ impl<A: Acts, L: Kms> Desk<A, L> {
     /// The object at the path. Where the seat is spent, or there is no such replica or path, no
     /// call is made, as with those below.
     pub fn read(&mut self, alloc: Global, replica: u32, path: &str) -> Result<Done<Read>, Wrong> {
-        if !may(self.ended, self.replicas, replica) {
-            return Err(Wrong::Form);
-        }
-        if !path_ok(path) {
+        if !may_at(self.ended, self.replicas, replica, path) {
             return Err(Wrong::Form);
         }
         let done = read(alloc, &mut self.acts, replica, &mut self.bench, path);
@@ -132,16 +138,15 @@ impl<A: Acts, L: Kms> Desk<A, L> {
         replica: u32,
         resource: &str,
         path: &str,
-        plain: Bytes,
+        plain: &[u8],
     ) -> Result<Done<u64>, Wrong> {
-        if !may(self.ended, self.replicas, replica) {
-            drop(plain);
+        if !may_at(self.ended, self.replicas, replica, path) {
             return Err(Wrong::Form);
         }
-        if !path_ok(path) || !resource_ok(resource) {
-            drop(plain);
+        if !resource_ok(resource) {
             return Err(Wrong::Form);
         }
+        let plain = Bytes::copy(alloc, plain)?;
         let done = write(
             alloc,
             &mut self.acts,
@@ -181,21 +186,12 @@ impl<A: Acts, L: Kms> Desk<A, L> {
         &mut self,
         alloc: Global,
         replica: u32,
-        settings: Shared<Settings>,
+        settings: &Shared<Settings>,
     ) -> Result<Done<Loaded>, Wrong> {
-        if !may(self.ended, self.replicas, replica) {
-            drop(settings);
+        if !may_bring(self.ended, self.replicas, replica, self.left) {
             return Err(Wrong::Form);
         }
-        if !may_bring(self.left) {
-            drop(settings);
-            return Err(Wrong::Form);
-        }
-        let known = names_one(alloc, &settings)?;
-        if !known {
-            drop(settings);
-            return Err(Wrong::Form);
-        }
+        let settings = allowed(alloc, settings)?;
         self.left -= 1;
         let done = reload(alloc, &mut self.acts, &mut self.bench, replica, settings);
         Ok(done)
@@ -206,21 +202,12 @@ impl<A: Acts, L: Kms> Desk<A, L> {
         &mut self,
         alloc: Global,
         replica: u32,
-        settings: Shared<Settings>,
+        settings: &Shared<Settings>,
     ) -> Result<Done<Joining>, Wrong> {
-        if !may(self.ended, self.replicas, replica) {
-            drop(settings);
+        if !may_bring(self.ended, self.replicas, replica, self.left) {
             return Err(Wrong::Form);
         }
-        if !may_bring(self.left) {
-            drop(settings);
-            return Err(Wrong::Form);
-        }
-        let known = names_one(alloc, &settings)?;
-        if !known {
-            drop(settings);
-            return Err(Wrong::Form);
-        }
+        let settings = allowed(alloc, settings)?;
         self.left -= 1;
         let done = join(alloc, &mut self.acts, &mut self.bench, replica, settings);
         Ok(done)
@@ -228,10 +215,7 @@ impl<A: Acts, L: Kms> Desk<A, L> {
 
     /// Whether a key of a plugin changed, and what became of the configuration then.
     pub fn refresh(&mut self, alloc: Global, replica: u32) -> Result<Done<Loaded>, Wrong> {
-        if !may(self.ended, self.replicas, replica) {
-            return Err(Wrong::Form);
-        }
-        if !may_bring(self.left) {
+        if !may_bring(self.ended, self.replicas, replica, self.left) {
             return Err(Wrong::Form);
         }
         self.left -= 1;
@@ -242,10 +226,7 @@ impl<A: Acts, L: Kms> Desk<A, L> {
 
     /// What became of the first object behind this path.
     pub fn step(&mut self, alloc: Global, replica: u32, after: &str) -> Result<Done<Step>, Wrong> {
-        if !may(self.ended, self.replicas, replica) {
-            return Err(Wrong::Form);
-        }
-        if !is_above(after) {
+        if !may_above(self.ended, self.replicas, replica, after) {
             return Err(Wrong::Form);
         }
         let done = rewrite_next(alloc, &mut self.acts, replica, &mut self.bench, after);
@@ -260,10 +241,7 @@ impl<A: Acts, L: Kms> Desk<A, L> {
         replica: u32,
         after: &str,
     ) -> Result<(Report, Done<()>), Wrong> {
-        if !may(self.ended, self.replicas, replica) {
-            return Err(Wrong::Form);
-        }
-        if !is_above(after) {
+        if !may_above(self.ended, self.replicas, replica, after) {
             return Err(Wrong::Form);
         }
         let driven = drive(alloc, &mut self.acts, replica, &mut self.bench, after);
@@ -274,9 +252,9 @@ impl<A: Acts, L: Kms> Desk<A, L> {
 }
 
 impl<A: Acts, B: Acts, L: Spelled> Desk<Between<A, B, L>, L> {
-    /// Plans a call of the rival.
-    pub fn plan(&mut self, planned: Planned) {
-        self.acts.plan(planned);
+    /// Plans a call of the rival, before the event of this number.
+    pub fn plan(&mut self, number: u32, call: Call) {
+        self.acts.plan(number, call);
     }
 
     /// Prints what the rival's call answered, if it was made.

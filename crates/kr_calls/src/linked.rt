@@ -1,12 +1,12 @@
 //! Benches with one link, to the plugin `p`.
-ghost use Rattle.std.specs.Prelude.{◌≡◌, IfOk, IsTrue, codes, [], ◌∷◌};
+ghost use Rattle.std.specs.Prelude.{◌≡◌, IfOk, codes, [], ◌∷◌};
 ghost use Rattle.kr_config.specs.Kept.{rows_of};
 ghost use Rattle.kr_provider.specs.Names.{names_of};
 ghost use Rattle.kr_rollout.specs.Openings.{NamesAmong};
 ghost use Rattle.kr_calls.specs.Desks.{IsBench};
 
 use crate::page::Page;
-use crate::words::{Wrong, both, kept, longs_of, number_of, two_words};
+use crate::words::{Wrong, both, kept, longs_of, number_before, two_words};
 use kr_base::{Bytes, List, MemDice, Shared, Text};
 use kr_config::Settings;
 use kr_keywrap::{ExampleRing, KeyLink};
@@ -83,16 +83,18 @@ fn one_link<L: Kms + Drop>(alloc: Global, link: L) -> Result<Links<L>, Wrong>
     }
 }
 
-/// Whether the settings name no other plugin.
-pub fn names_one(alloc: Global, settings: &Shared<Settings>) -> Result<bool, Wrong>
-    ensures { IfOk result (λ one. IsTrue one
-        → NamesAmong (codes "p" ∷ []) (rows_of settings.now.entries.0)) }
+/// One more owner of settings that name no other plugin.
+pub fn allowed(alloc: Global, settings: &Shared<Settings>) -> Result<Shared<Settings>, Wrong>
+    ensures { IfOk result (λ own. NamesAmong (codes "p" ∷ []) (rows_of own.entries.0)) }
 {
     let link = TablePlugin::spelled(alloc, "k1", List::new(alloc))?;
     let links = one_link(alloc, link)?;
     let serves = links.serve(settings.get());
     drop(links);
-    Ok(serves)
+    if !serves {
+        return Err(Wrong::Form);
+    }
+    Ok(settings.share()?)
 }
 
 /// So many bytes, which count up from 00 and begin again behind ff.
@@ -122,25 +124,10 @@ pub fn bench_of<L: Spelled>(alloc: Global, words: &str) -> Result<Bench<L, MemDi
 {
     let (key_id, rest) = two_words(words)?;
     let (fails, rest) = two_words(rest)?;
-    let link: L = Spelled::spelled(alloc, key_id, longs_of(alloc, fails)?)?;
-    bench_around(alloc, link, rest)
-}
-
-/// `DRAWN DICEFAILS`: a bench with this link, and so many random bytes, whose draws of these
-/// numbers fail.
-pub fn bench_around<L: Kms + Drop>(
-    alloc: Global,
-    link: L,
-    words: &str,
-) -> Result<Bench<L, MemDice>, Wrong>
-    ensures { IfOk result (λ bench. IsBench (names_of L.link bench.links) bench.pages) }
-{
-    match dice_of(alloc, words) {
-        Ok(dice) => bench_with(alloc, link, dice),
-        Err(why) => {
-            drop(link);
-            Err(why)
-        }
+    let fails = longs_of(alloc, fails)?;
+    match both(L::spelled(alloc, key_id, fails), dice_of(alloc, rest)) {
+        Ok((link, dice)) => bench_with(alloc, link, dice),
+        Err(why) => Err(why),
     }
 }
 
@@ -170,8 +157,7 @@ fn bench_with<L: Kms + Drop>(
 
 /// `DRAWN DICEFAILS`: a random source.
 fn dice_of(alloc: Global, words: &str) -> Result<MemDice, Wrong> {
-    let (drawn, fails) = two_words(words)?;
-    let size = number_of(drawn)?;
+    let (size, fails) = number_before(words)?;
     let (bytes, fails) = both(counted_bytes(alloc, size), longs_of(alloc, fails))?;
     Ok(MemDice::new(bytes, fails))
 }

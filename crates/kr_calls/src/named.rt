@@ -1,13 +1,13 @@
 //! Settings by their names.
-use crate::words::{Wrong, both, two_words};
-use kr_base::Shared;
+use crate::words::{Wrong, both, kept, two_words};
+use kr_base::{Shared, Text};
 use kr_config::{ConfigErr, Settings, read};
 use std::alloc::Global;
 
 /// Settings that a line named.
 #[derive(Drop)]
 pub struct Named {
-    all: Vec<(String, Shared<Settings>)>,
+    all: Vec<(Text, Shared<Settings>)>,
 }
 
 impl Named {
@@ -21,7 +21,7 @@ impl Named {
     /// `NAME JSON`.
     pub fn add(&mut self, alloc: Global, rest: &str) -> Result<(), Wrong> {
         let (name, text) = two_words(rest)?;
-        let own = both(string_of(alloc, name), settings_of(alloc, text))?;
+        let own = both(kept(alloc, name), settings_of(alloc, text))?;
         self.all.push(own)?;
         Ok(())
     }
@@ -35,10 +35,6 @@ impl Named {
         }
         Err(Wrong::Form)
     }
-}
-
-fn string_of(alloc: Global, name: &str) -> Result<String, Wrong> {
-    Ok(name.to_string(alloc)?)
 }
 
 fn settings_of(alloc: Global, text: &str) -> Result<Shared<Settings>, Wrong> {

@@ -4,7 +4,7 @@ ghost use Rattle.kr_provider.specs.Names.{names_of};
 ghost use Rattle.kr_rollout.specs.Openings.{NamesAmong};
 ghost use Rattle.kr_calls.specs.Desks.{IsBench, IsCore};
 
-use crate::linked::names_one;
+use crate::linked::allowed;
 use crate::named::Named;
 use crate::words::{Wrong, both, number_before, two_words};
 use kr_base::{List, MemDice, MemTape, Shared, Text};
@@ -28,23 +28,24 @@ pub struct Terms {
     pub first: Shared<Settings>,
     pub second: Option<Shared<Settings>>,
     pub budget: Budget,
+    /// Whether there is a second caller.
+    pub with_rival: bool,
 }
 
-/// `ROOM RELOADS NAME NAME`: the journal's room, how many configurations each seat may bring, and
-/// each replica's settings, `-` for one that is out.
+/// `KIND ROOM RELOADS NAME NAME`: `two` for two callers, the journal's room, how many
+/// configurations each seat may bring, and each replica's settings, `-` for one that is out.
 pub fn terms_of(named: &Named, words: &str) -> Result<Terms, Wrong> {
-    let (room, rest) = number_before(words)?;
+    let (kind, rest) = two_words(words)?;
+    let (room, rest) = number_before(rest)?;
     let (reloads, names) = number_before(rest)?;
     let (first, second) = two_words(names)?;
-    let budget = Budget { reloads, room };
-    match both(named.share(first), share_some(named, second)) {
-        Ok((first, second)) => Ok(Terms {
-            first,
-            second,
-            budget,
-        }),
-        Err(why) => Err(why),
-    }
+    let (first, second) = both(named.share(first), share_some(named, second))?;
+    Ok(Terms {
+        first,
+        second,
+        budget: Budget { reloads, room },
+        with_rival: kind == "two",
+    })
 }
 
 /// The settings of the name; `-` stands for none.
@@ -72,17 +73,13 @@ fn shared(alloc: Global, published: Published) -> Result<Shared<Published>, Wron
 fn published<L: Kms>(
     alloc: Global,
     bench: &mut Bench<L, MemDice>,
-    settings: Shared<Settings>,
+    settings: &Shared<Settings>,
 ) -> Result<Shared<Published>, Wrong>
     requires { IsBench (names_of L.link bench.old.links) bench.old.pages }
     ensures named { IfOk result (λ p. NamesAmong (codes "p" ∷ []) p.rows) }
     ensures bench { IsBench (names_of L.link bench.new.links) bench.new.pages }
 {
-    let known = names_one(alloc, &settings)?;
-    if !known {
-        drop(settings);
-        return Err(Wrong::Form);
-    }
+    let settings = allowed(alloc, settings)?;
     match bench.publish(alloc, settings) {
         Ok(published) => shared(alloc, published),
         Err(refused) => {
@@ -96,7 +93,7 @@ fn published<L: Kms>(
 fn published_some<L: Kms>(
     alloc: Global,
     bench: &mut Bench<L, MemDice>,
-    settings: Option<Shared<Settings>>,
+    settings: &Option<Shared<Settings>>,
 ) -> Result<Option<Shared<Published>>, Wrong>
     requires { IsBench (names_of L.link bench.old.links) bench.old.pages }
     ensures named { IfOk result (λ some. IfSome some (λ p. NamesAmong (codes "p" ∷ []) p.rows)) }
@@ -113,27 +110,21 @@ pub fn core_of<L: Kms>(
     alloc: Global,
     bench: &mut Bench<L, MemDice>,
     store: Store<MemTape>,
-    terms: Terms,
+    terms: &Terms,
 ) -> Result<Core<MemTape>, Wrong>
     requires { IsBench (names_of L.link bench.old.links) bench.old.pages }
-    ensures core { IfOk result (λ core. IsCore terms.budget core) }
+    ensures core { IfOk result (λ core. IsCore terms.now.budget core) }
     ensures bench { IsBench (names_of L.link bench.new.links) bench.new.pages }
 {
-    let Terms {
-        first,
-        second,
-        budget,
-    } = terms;
-    let first = match published(alloc, bench, first) {
+    let first = match published(alloc, bench, &terms.first) {
         Ok(first) => first,
         Err(why) => {
             drop(store);
-            drop(second);
             return Err(why);
         }
     };
-    match published_some(alloc, bench, second) {
-        Ok(second) => started(alloc, store, first, second, budget),
+    match published_some(alloc, bench, &terms.second) {
+        Ok(second) => started(alloc, store, first, second, terms.budget),
         Err(why) => {
             drop(store);
             drop(first);
@@ -149,15 +140,26 @@ fn one_name(alloc: Global) -> Result<List<Text>, Wrong>
     Ok(List::from_vec(vec![in alloc; Text::copy(alloc, "p")?]?))
 }
 
-/// The configurations of both replicas, in a list.
-fn replicas_of(
+/// The configurations of the replicas, and the names of the plugins.
+type Lists = (List<Option<Shared<Published>>>, List<Text>);
+
+/// The configurations of both replicas in a list, and the name of the plugin in another.
+fn lists_of(
     alloc: Global,
     first: Shared<Published>,
     second: Option<Shared<Published>>,
-) -> Result<List<Option<Shared<Published>>>, Wrong>
-    ensures { IfOk result (λ replicas. replicas.0 ≡ Some first ∷ second ∷ []) }
+) -> Result<Lists, Wrong>
+    ensures { IfOk result (λ made. (made.0.0 ≡ Some first ∷ second ∷ [])
+        × (made.1.0 ≡ codes "p" ∷ [])) }
 {
-    Ok(List::from_vec(vec![in alloc; Some(first), second]?))
+    let replicas = List::from_vec(vec![in alloc; Some(first), second]?);
+    match one_name(alloc) {
+        Ok(names) => Ok((replicas, names)),
+        Err(why) => {
+            drop(replicas);
+            Err(why)
+        }
+    }
 }
 
 /// A core over the store.
@@ -179,8 +181,13 @@ fn started(
         drop(second);
         return Err(Wrong::Form);
     }
-    let replicas = replicas_of(alloc, first, second)?;
-    let names = one_name(alloc)?;
+    let (replicas, names) = match lists_of(alloc, first, second) {
+        Ok(lists) => lists,
+        Err(why) => {
+            drop(store);
+            return Err(why);
+        }
+    };
     let each = [reloads, reloads];
     match Core::start(alloc, store, replicas, names, 2, room as u64, &each) {
         Ok(core) => Ok(core),

@@ -1,5 +1,4 @@
 //! What is printed: lines of words.
-use crate::words::Wrong;
 use itoa::Buffer;
 use std::alloc::Global;
 
@@ -50,16 +49,10 @@ impl Page {
         self.put(bytes);
     }
 
-    /// Adds a number as a word of its own.
-    pub fn number(&mut self, number: u64) {
-        let mut digits = Buffer::new();
-        self.word(digits.format(number));
-    }
-
     /// Adds a word with a number.
     pub fn counted(&mut self, word: &str, number: u64) {
-        self.word(word);
-        self.number(number);
+        let mut digits = Buffer::new();
+        self.named(word, digits.format(number));
     }
 
     /// Adds a word with a text.
@@ -83,11 +76,11 @@ impl Page {
     }
 
     /// All that was added, if there was memory for it.
-    pub fn bytes(&self) -> Result<&[u8], Wrong> {
+    pub fn bytes(&self) -> Option<&[u8]> {
         if self.whole {
-            Ok(self.bytes.as_slice())
+            Some(self.bytes.as_slice())
         } else {
-            Err(Wrong::Memory)
+            None
         }
     }
 }

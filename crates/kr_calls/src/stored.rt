@@ -1,7 +1,7 @@
 //! Stores: how they come to be, and what is printed of them.
 use crate::call::bytes_of;
 use crate::page::Page;
-use crate::words::{Wrong, both, longs_of, number_of, two_words};
+use crate::words::{Wrong, both, longs_of, number_before, two_words};
 use kr_base::{Bytes, List, MemTape};
 use kr_store::{Row, RowRef, Store};
 use std::alloc::Global;
@@ -12,8 +12,7 @@ const ROOM: usize = 262_144;
 /// `HEX LIMIT FAILS`: a store of the tape's bytes; the writes of these numbers fail.
 pub fn load(alloc: Global, words: &str) -> Result<Store<MemTape>, Wrong> {
     let (content, rest) = two_words(words)?;
-    let (limit, fails) = two_words(rest)?;
-    let limit = number_of(limit)?;
+    let (limit, fails) = number_before(rest)?;
     let (content, fails) = both(bytes_of(alloc, content), longs_of(alloc, fails))?;
     let tape = tape_of(alloc, content, fails)?;
     match Store::load(alloc, tape, limit as u64) {

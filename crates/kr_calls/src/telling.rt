@@ -1,22 +1,145 @@
 //! What calls answered, as words of a line.
-use crate::desk::Done;
 use crate::page::Page;
 use crate::words::Wrong;
 use kr_base::{Bytes, List, MemSink};
+use kr_callers::CallNo;
 use kr_fleet::{Joining, Loaded, Read};
 use kr_judge::Verdict;
 use kr_rewrite::{Report, Step};
-use kr_rollout::CallNo;
 use std::alloc::Global;
 
 /// How many bytes a verdict has at most.
 const ROOM: usize = 4096;
 
+/// What a call may answer.
+pub trait Answer: Drop {
+    /// Adds it to the line.
+    fn add(&self, alloc: Global, page: &mut Page);
+}
+
+/// Why a call was cut short stands in the answer's place.
+impl<T: Answer> Answer for Result<T, CallNo> {
+    fn add(&self, alloc: Global, page: &mut Page) {
+        match self {
+            Ok(answer) => answer.add(alloc, page),
+            Err(why) => page.refusal(why),
+        }
+    }
+}
+
+/// A read's revision, the data and whether the value is stale.
+impl Answer for Read {
+    fn add(&self, alloc: Global, page: &mut Page) {
+        match self {
+            Read::Absent => page.word("absent"),
+            Read::Value {
+                revision,
+                plain,
+                stale,
+            } => {
+                page.counted("value", *revision);
+                page.digits(alloc, plain.as_slice());
+                page.word(if *stale { "stale" } else { "fresh" });
+            }
+        }
+    }
+}
+
+/// A write's revision.
+impl Answer for u64 {
+    fn add(&self, _alloc: Global, page: &mut Page) {
+        page.counted("written", *self);
+    }
+}
+
+/// A delete's revision, or that there was nothing.
+impl Answer for Option<u64> {
+    fn add(&self, _alloc: Global, page: &mut Page) {
+        match self {
+            Some(revision) => page.counted("deleted", *revision),
+            None => page.word("absent"),
+        }
+    }
+}
+
+/// The generation that a replica had which left, or that it was out.
+impl Answer for Option<u32> {
+    fn add(&self, _alloc: Global, page: &mut Page) {
+        match self {
+            Some(generation) => page.counted("departed", *generation as u64),
+            None => page.word("absent"),
+        }
+    }
+}
+
+/// The generation, or why there is no new one.
+impl Answer for Loaded {
+    fn add(&self, alloc: Global, page: &mut Page) {
+        match self {
+            Loaded::Generation(number) => page.counted("generation", *number as u64),
+            Loaded::Refused(verdict) => page.verdict(alloc, verdict),
+            Loaded::Moved(number) => page.counted("moved", *number as u64),
+            Loaded::Unchanged(number) => page.counted("unchanged", *number as u64),
+        }
+    }
+}
+
+/// The generation, or why the replica didn't join.
+impl Answer for Joining {
+    fn add(&self, alloc: Global, page: &mut Page) {
+        match self {
+            Joining::Generation(number) => page.counted("generation", *number as u64),
+            Joining::Refused(verdict) => page.verdict(alloc, verdict),
+            Joining::Present(number) => page.counted("present", *number as u64),
+        }
+    }
+}
+
+/// What became of the object, and its path.
+impl Answer for Step {
+    fn add(&self, _alloc: Global, page: &mut Page) {
+        match self {
+            Step::End => page.word("end"),
+            Step::Rewritten(path) => page.named("rewritten", path.as_str()),
+            Step::Fresh(path) => page.named("fresh", path.as_str()),
+            Step::Changed(path) => page.named("changed", path.as_str()),
+            Step::Left(path) => page.named("left", path.as_str()),
+        }
+    }
+}
+
+/// The counts and the last path, and why the drive was cut short, if it was.
+impl Answer for (Report, Result<(), CallNo>) {
+    fn add(&self, _alloc: Global, page: &mut Page) {
+        let report = &self.0;
+        page.counted("rewritten", report.rewritten);
+        page.counted("fresh", report.fresh);
+        page.counted("changed", report.changed);
+        page.counted("left", report.left);
+        page.named("last", report.last.as_str());
+        if let Err(why) = &self.1 {
+            page.refusal(why);
+        }
+    }
+}
+
 impl Page {
-    /// Ends the line of a call that wasn't made.
-    pub fn told_wrong(&mut self, why: Wrong) {
+    /// Ends the line with what a call answered, or with `line` where it can't be made.
+    pub fn told<T: Answer>(&mut self, alloc: Global, made: Result<T, Wrong>) {
+        match made {
+            Ok(answer) => {
+                answer.add(alloc, self);
+                drop(answer);
+                self.end_line();
+            }
+            Err(why) => self.told_wrong("line", why),
+        }
+    }
+
+    /// Ends the line of what has no answer: with this word, where it isn't of the form.
+    pub fn told_wrong(&mut self, word: &str, why: Wrong) {
         match why {
-            Wrong::Form => self.word("line"),
+            Wrong::Form => self.word(word),
             Wrong::Memory => self.lack(),
         }
         self.end_line();
@@ -51,7 +174,10 @@ impl Page {
                 self.piece(sink.bytes());
                 drop(sink);
             }
-            Err(_) => self.lack(),
+            Err(refused) => {
+                drop(refused);
+                self.lack();
+            }
         }
     }
 
@@ -63,142 +189,6 @@ impl Page {
                 drop(digits);
             }
             Err(_) => self.lack(),
-        }
-    }
-
-    /// Adds the revision, the data and whether the value is stale.
-    pub fn told_read(&mut self, alloc: Global, done: Done<Read>) {
-        self.add_read(alloc, &done);
-        drop(done);
-    }
-
-    fn add_read(&mut self, alloc: Global, done: &Done<Read>) {
-        match done {
-            Ok(Read::Absent) => self.word("absent"),
-            Ok(
-                Read::Value {
-                    revision,
-                    plain,
-                    stale,
-                },
-            ) => {
-                self.counted("value", *revision);
-                self.digits(alloc, plain.as_slice());
-                self.word(if *stale { "stale" } else { "fresh" });
-            }
-            Err(why) => self.refusal(why),
-        }
-    }
-
-    /// Adds the revision.
-    pub fn told_write(&mut self, done: Done<u64>) {
-        self.add_write(&done);
-        drop(done);
-    }
-
-    fn add_write(&mut self, done: &Done<u64>) {
-        match done {
-            Ok(revision) => self.counted("written", *revision),
-            Err(why) => self.refusal(why),
-        }
-    }
-
-    /// Adds the revision, or that there was nothing.
-    pub fn told_delete(&mut self, done: Done<Option<u64>>) {
-        self.add_delete(&done);
-        drop(done);
-    }
-
-    fn add_delete(&mut self, done: &Done<Option<u64>>) {
-        match done {
-            Ok(Some(revision)) => self.counted("deleted", *revision),
-            Ok(None) => self.word("absent"),
-            Err(why) => self.refusal(why),
-        }
-    }
-
-    /// Adds the generation that the replica had.
-    pub fn told_leave(&mut self, done: Done<Option<u32>>) {
-        self.add_leave(&done);
-        drop(done);
-    }
-
-    fn add_leave(&mut self, done: &Done<Option<u32>>) {
-        match done {
-            Ok(Some(generation)) => self.counted("departed", *generation as u64),
-            Ok(None) => self.word("absent"),
-            Err(why) => self.refusal(why),
-        }
-    }
-
-    /// Adds the generation, or why there is no new one.
-    pub fn told_load(&mut self, alloc: Global, done: Done<Loaded>) {
-        self.add_load(alloc, &done);
-        drop(done);
-    }
-
-    fn add_load(&mut self, alloc: Global, done: &Done<Loaded>) {
-        match done {
-            Ok(Loaded::Generation(number)) => self.counted("generation", *number as u64),
-            Ok(Loaded::Refused(verdict)) => self.verdict(alloc, verdict),
-            Ok(Loaded::Moved(number)) => self.counted("moved", *number as u64),
-            Ok(Loaded::Unchanged(number)) => self.counted("unchanged", *number as u64),
-            Err(why) => self.refusal(why),
-        }
-    }
-
-    /// Adds the generation, or why the replica didn't join.
-    pub fn told_join(&mut self, alloc: Global, done: Done<Joining>) {
-        self.add_join(alloc, &done);
-        drop(done);
-    }
-
-    fn add_join(&mut self, alloc: Global, done: &Done<Joining>) {
-        match done {
-            Ok(Joining::Generation(number)) => self.counted("generation", *number as u64),
-            Ok(Joining::Refused(verdict)) => self.verdict(alloc, verdict),
-            Ok(Joining::Present(number)) => self.counted("present", *number as u64),
-            Err(why) => self.refusal(why),
-        }
-    }
-
-    /// Adds what became of the object, and its path.
-    pub fn told_step(&mut self, done: Done<Step>) {
-        self.add_step(&done);
-        drop(done);
-    }
-
-    fn add_step(&mut self, done: &Done<Step>) {
-        match done {
-            Ok(Step::End) => self.word("end"),
-            Ok(Step::Rewritten(path)) => self.named("rewritten", path.as_str()),
-            Ok(Step::Fresh(path)) => self.named("fresh", path.as_str()),
-            Ok(Step::Changed(path)) => self.named("changed", path.as_str()),
-            Ok(Step::Left(path)) => self.named("left", path.as_str()),
-            Err(why) => self.refusal(why),
-        }
-    }
-
-    /// Adds the counts and the last path, and why the drive was cut short, if it was.
-    pub fn told_drive(&mut self, report: Report, done: Done<()>) {
-        self.add_report(&report);
-        drop(report);
-        self.add_drive(&done);
-        drop(done);
-    }
-
-    fn add_report(&mut self, report: &Report) {
-        self.counted("rewritten", report.rewritten);
-        self.counted("fresh", report.fresh);
-        self.counted("changed", report.changed);
-        self.counted("left", report.left);
-        self.named("last", report.last.as_str());
-    }
-
-    fn add_drive(&mut self, done: &Done<()>) {
-        match done {
-            Ok(()) => {}
-            Err(why) => self.refusal(why),
         }
     }
 }

@@ -4,7 +4,7 @@ ghost use Rattle.kr_provider.specs.Names.{names_of};
 ghost use Rattle.kr_seats.specs.Fleets.{IsFleetSeat, caller_of};
 ghost use Rattle.kr_calls.specs.Desks.{IsBench, IsCallerOf, IsCore};
 
-use crate::between::{Between, Planned};
+use crate::between::Between;
 use crate::call::{Call, serve_line};
 use crate::desk::Desk;
 use crate::linked::{Spelled, end_benches};
@@ -13,8 +13,9 @@ use crate::opening::Budget;
 use crate::page::Page;
 use crate::words::{Wrong, number_before};
 use kr_base::{List, MemDice, MemTape};
+use kr_callers::Acts;
 use kr_provider::Bench;
-use kr_rollout::{Acts, Core};
+use kr_rollout::Core;
 use kr_seats::{Fleet, Seat};
 use std::alloc::Global;
 use std::sync::Wait;
@@ -132,17 +133,11 @@ fn serve_either<A: Acts, B: Acts, L: Spelled>(
     page: &mut Page,
 ) -> Result<(), Wrong> {
     if let Some(words) = line.strip_prefix("between ") {
-        desk.plan(planned(alloc, named, words)?);
+        let (number, line) = number_before(words)?;
+        desk.plan(number, Call::spelled(alloc, named, line)?);
         return Ok(());
     }
     let done = serve_line(alloc, named, desk, line, page);
     desk.tell(page);
     done
-}
-
-/// `NUMBER CALL`.
-fn planned(alloc: Global, named: &Named, words: &str) -> Result<Planned, Wrong> {
-    let (number, line) = number_before(words)?;
-    let call = Call::spelled(alloc, named, line)?;
-    Ok(Planned { number, call })
 }

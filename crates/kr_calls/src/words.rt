@@ -3,7 +3,7 @@ use kr_base::{List, NoMemory, Text};
 use std::alloc::{AllocError, AllocFailed, Global};
 
 /// Why a line has no answer.
-#[derive(Drop)]
+#[derive(Clone, Copy)]
 pub enum Wrong {
     /// It isn't of the form, or it asks for what a call doesn't allow.
     Form,
@@ -69,11 +69,11 @@ pub fn two_words(text: &str) -> Result<(&str, &str), Wrong> {
     }
 }
 
-/// The first line, and those behind it.
-pub fn two_lines(text: &str) -> Result<(&str, &str), Wrong> {
+/// The first line, and those behind it, of which there may be none.
+pub fn two_lines(text: &str) -> (&str, &str) {
     match text.split_once('\n') {
-        Some(lines) => Ok(lines),
-        None => Err(Wrong::Form),
+        Some(lines) => lines,
+        None => (text, ""),
     }
 }
 

@@ -12,7 +12,7 @@ use Rattle.kr_commands.specs.Command.{AskNothing, AskReplicas, AskSize}
 use Rattle.kr_commands.specs.FleetAsked.{AskNoFleet}
 use Rattle.kr_commands.specs.LoadAsked.{AskNoLoad}
 use Rattle.kr_commands.specs.declared.fleet_words.FleetWords.{FleetWords}
-use Rattle.kr_commands.specs.inner.FleetAsked.{IsFleetAsked, IsFleetOf}
+use Rattle.kr_commands.specs.inner.FleetAnswers.{IsFleetAsked, IsFleetOf}
 use Rattle.kr_commands.proofs.OneCommand.{one_size}
 use Rattle.kr_commands.proofs.LoadAsked.{replicas_no_load, size_no_load}
 

@@ -16,7 +16,7 @@ use Rattle.kr_commands.specs.FleetAsked.{AsksFleet}
 use Rattle.kr_commands.specs.LoadAsked.{AskNoLoad, AsksLoad}
 use Rattle.kr_commands.specs.declared.fleet_words.FleetWords.{FleetWords}
 use Rattle.kr_commands.specs.declared.load_words.LoadWords.{LoadWords}
-use Rattle.kr_commands.specs.inner.LoadAsked.{IsLoadAsked, IsLoadOf}
+use Rattle.kr_commands.specs.inner.LoadAnswers.{IsLoadAsked, IsLoadOf}
 use Rattle.kr_commands.proofs.OneCommand.{one_size}
 
 module _ {words : List (List ℕ)} {verb : Verb} {options : List (List ℕ × List ℕ)}

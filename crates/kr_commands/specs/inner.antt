@@ -1,5 +1,5 @@
 -- The definitions of inner contracts.
 pub mod Asking
-pub mod FleetAsked
-pub mod LoadAsked
+pub mod FleetAnswers
+pub mod LoadAnswers
 pub mod Sayings

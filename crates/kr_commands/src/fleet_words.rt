@@ -1,7 +1,7 @@
 //! The words of `fleet`.
 ghost use Rattle.std.specs.Prelude.{IfOk};
 ghost use Rattle.kr_words.specs.Grammar.{texts};
-ghost use Rattle.kr_commands.specs.inner.FleetAsked.{IsFleetAsked, IsFleetOf};
+ghost use Rattle.kr_commands.specs.inner.FleetAnswers.{IsFleetAsked, IsFleetOf};
 
 use crate::options::Options;
 use crate::refusal::{BadWords, Stop};

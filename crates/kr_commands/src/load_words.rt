@@ -4,7 +4,7 @@ ghost use Rattle.kr_words.specs.Arguments.{IsNumberAt};
 ghost use Rattle.kr_words.specs.Grammar.{IsWithinSize, texts};
 ghost use Rattle.kr_words.specs.Rules.{IsCommand};
 ghost use Rattle.kr_words.specs.declared.command.Verb.{Verb};
-ghost use Rattle.kr_commands.specs.inner.LoadAsked.{IsLoadAsked, IsLoadOf};
+ghost use Rattle.kr_commands.specs.inner.LoadAnswers.{IsLoadAsked, IsLoadOf};
 
 use crate::refusal::{BadWords, Stop};
 use kr_base::{NoMemory, Text};

@@ -20,7 +20,7 @@ use Rattle.kr_rollout.specs.declared.event.Event.{Event}
 use Rattle.kr_rollout.specs.declared.event.Event.TheVariants as event
 use Rattle.kr_rollout.specs.declared.opening.Entry.{Entry}
 use Rattle.kr_rollout.specs.declared.opening.Opening.{Opening}
-use Rattle.kr_rollout.specs.Acting.{Caller, AddsEntry}
+use Rattle.kr_callers.specs.Acting.{Caller, AddsEntry}
 use Rattle.kr_rollout.specs.Entries.{seat_of}
 use Rattle.kr_rollout.specs.Openings.{NamesAmong}
 use Rattle.kr_rollout.specs.Callers.{Allows, IsResealing, MayAsk, Records, Shows, brings_settings, did_of, gave_of, found_by, found_from, found_in, found_then, holding, holding_from, holding_then, reloads_in}

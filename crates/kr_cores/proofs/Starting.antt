@@ -9,12 +9,12 @@ use Rattle.std.proofs.lemmas.Option.{none-some, same_Some}
 use Rattle.kr_base.specs.Lines.{of_seat}
 use Rattle.kr_provider.specs.Publication.{Publication, names_plugin}
 use Rattle.kr_rollout.specs.declared.opening.Opening.{Opening}
-use Rattle.kr_rollout.specs.declared.opening_board.StartNo.{StartNo}
+use Rattle.kr_starts.specs.declared.opening_board.StartNo.{StartNo}
 use Rattle.kr_rollout.specs.Entries.{seat_of}
 use Rattle.kr_rollout.specs.Openings.{NamesAmong, AreAmong}
-use Rattle.kr_rollout.specs.Acting.{Caller, only_caller}
+use Rattle.kr_callers.specs.Acting.{Caller, only_caller}
 use Rattle.kr_rollout.specs.Cores.{CoreState}
-use Rattle.kr_rollout.specs.Starts.{Starts}
+use Rattle.kr_rollout.specs.CoreStarts.{Starts}
 use Rattle.kr_cores.specs.declared.hand.Hand.{Hand}
 use Rattle.kr_cores.specs.Hands.{AreHands, IsHand, IsNew, fresh, is_bare}
 use Rattle.kr_cores.proofs.Hands.{plain_names}

@@ -17,7 +17,7 @@ use Rattle.kr_rollout.specs.declared.opening.Opening.{Opening}
 use Rattle.kr_rollout.specs.Entries.{seat_of}
 use Rattle.kr_rollout.specs.Callers.{IsResealing, holding, found_in, reloads_in}
 use Rattle.kr_rollout.specs.Cores.{CoreState}
-use Rattle.kr_rollout.specs.Openings.{IsFirstIn}
+use Rattle.kr_starts.specs.Replicas.{IsFirstIn}
 use Rattle.kr_cores.specs.declared.hand.Hand.{Hand}
 use Rattle.kr_cores.specs.declared.hand.Kind.{Kind}
 use Rattle.kr_cores.specs.declared.hand.Kind.TheVariants.{Forgets, Looks, Brings, Leaves}

@@ -8,7 +8,9 @@ use crate::request::Request;
 use crate::terms::Terms;
 use crate::words::Wrong;
 use kr_base::{List, MemTape};
-use kr_rollout::{Acts, Event, Line, Solo, StartNo};
+use kr_callers::{Acts, Solo};
+use kr_rollout::{Event, Line};
+use kr_starts::StartNo;
 use kr_store::Store;
 use std::alloc::Global;
 use std::marker::Model;
@@ -21,7 +23,7 @@ pub struct Alone {
 }
 
 impl Model for Alone {
-    ghost use Rattle.kr_rollout.specs.Acting.{Caller};
+    ghost use Rattle.kr_callers.specs.Acting.{Caller};
     ghost use Rattle.kr_cores.specs.Hands.{IsHand};
 
     ghost Value = { Caller };

@@ -1,13 +1,13 @@
 //! The board of a store's rows and of replicas' settings, without a core.
 ghost use Rattle.std.specs.Prelude.{IsTrue};
-ghost use Rattle.kr_rollout.specs.Openings.{IsFirstIn};
+ghost use Rattle.kr_starts.specs.Replicas.{IsFirstIn};
 
 use crate::line_text::add_refusal;
 use crate::page::Page;
 use crate::words::Wrong;
 use kr_base::{List, MemTape, Shared};
 use kr_config::Settings;
-use kr_rollout::board_of;
+use kr_starts::board_of;
 use kr_store::Store;
 use std::alloc::Global;
 

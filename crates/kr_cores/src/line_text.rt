@@ -3,7 +3,8 @@
 use crate::page::Page;
 use kr_base::{Bytes, List, MemSink};
 use kr_judge::Verdict;
-use kr_rollout::{Did, Gave, Line, StartNo};
+use kr_rollout::{Did, Gave, Line};
+use kr_starts::StartNo;
 use std::alloc::Global;
 
 /// How many bytes a verdict's text may have.

@@ -1,13 +1,14 @@
 //! What a core may be started with.
 ghost use Rattle.std.specs.Prelude.{◌≡◌, ◌≤◌, IsTrue, IfOk, get_or, length, sum, true};
 ghost use Rattle.std.specs.List.{list_all};
-ghost use Rattle.kr_rollout.specs.Openings.{IsFirstIn};
+ghost use Rattle.kr_starts.specs.Replicas.{IsFirstIn};
 ghost use Rattle.kr_cores.specs.Hands.{AreTerms, IsNew, is_bare};
 
 use crate::words::Wrong;
 use kr_base::{List, MemTape, Shared};
 use kr_provider::{Published, names_plugin};
-use kr_rollout::{Core, StartNo};
+use kr_rollout::Core;
+use kr_starts::StartNo;
 use kr_store::Store;
 use std::alloc::Global;
 

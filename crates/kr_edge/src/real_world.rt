@@ -244,18 +244,13 @@ impl<'a, F: NamedFiles> World for RealWorld<'a, F> {
         };
         let child = match self.files.start(alloc, program) {
             Ok(child) => child,
-            Err(StartNo::NoMemory) => {
-                drop((name, key, room));
-                return Err(FileNo::NoMemory);
-            }
+            Err(StartNo::NoMemory) => return Err(FileNo::NoMemory),
             Err(StartNo::Failed) => {
-                drop((name, key, room));
                 self.faults.links.rise();
                 return Err(FileNo::Failed);
             }
         };
         let Some(ends) = take_ends(child) else {
-            drop((name, key, room));
             self.faults.links.rise();
             return Err(FileNo::Failed);
         };

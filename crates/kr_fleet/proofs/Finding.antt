@@ -18,29 +18,29 @@ use Rattle.kr_rollout.specs.declared.answer.Answer.{Answer}
 use Rattle.kr_rollout.specs.declared.answer.Answer.TheVariants as answer
 use Rattle.kr_rollout.specs.declared.event.Event.TheVariants as event
 use Rattle.kr_rollout.specs.declared.opening.Entry.{Entry}
-use Rattle.kr_rollout.specs.Acting.{Caller, AddsEntry, IsCaller}
+use Rattle.kr_callers.specs.Acting.{Caller, AddsEntry, IsCaller}
 use Rattle.kr_rollout.specs.Callers.{holding}
-use Rattle.kr_rollout.specs.Contents.{IsContent}
+use Rattle.kr_callers.specs.Contents.{IsContent}
 use Rattle.kr_rollout.specs.Entries.{seat_of}
 use Rattle.kr_rollout.specs.Histories.{state_of}
-use Rattle.kr_rollout.specs.Honesty.{IsHonest, SeedsOpen}
+use Rattle.kr_callers.specs.Honesty.{IsHonest, SeedsOpen}
 use Rattle.kr_rollout.specs.States.{IsLive}
-use Rattle.kr_rollout.proofs.FoundRows.{absent_is_nothing, found_reads}
-use Rattle.kr_rollout.proofs.HeldFacts.{held_is_named, held_opens}
-use Rattle.kr_rollout.proofs.Judging.{holding_is_live}
-use Rattle.kr_rollout.proofs.NeedsLive.{live_is_readable}
-use Rattle.kr_rollout.proofs.WithoutPlugin.{honest_without_plugin}
-use Rattle.kr_rollout.specs.declared.call.CallNo.{CallNo}
-use Rattle.kr_rollout.specs.declared.call.CallNo.TheVariants as refusal
+use Rattle.kr_callers.proofs.FoundRows.{absent_is_nothing, found_reads}
+use Rattle.kr_callers.proofs.HeldFacts.{held_is_named, held_opens}
+use Rattle.kr_callers.proofs.Judging.{holding_is_live}
+use Rattle.kr_callers.proofs.NeedsLive.{live_is_readable}
+use Rattle.kr_callers.proofs.WithoutPlugin.{honest_without_plugin}
+use Rattle.kr_callers.specs.declared.call.CallNo.{CallNo}
+use Rattle.kr_callers.specs.declared.call.CallNo.TheVariants as refusal
 use Rattle.kr_fleet.specs.declared.outcome.Read.{Read}
 use Rattle.kr_fleet.specs.declared.outcome.Read.TheVariants.{Absent}
-use Rattle.kr_rollout.specs.Calls.{LetsGo}
+use Rattle.kr_callers.specs.Calls.{LetsGo}
 use Rattle.kr_fleet.specs.ReadCalls.{FindsRow, Finds, IsContentOf, IsKnownContent, IsOfValue, IsRead, IsReadByAny}
 use Rattle.kr_fleet.specs.inner.Answering.{FetchesBy}
 use Rattle.kr_fleet.specs.inner.Stages.{Fetches, HoldsAdopted, value_of}
 use Rattle.kr_fleet.proofs.Allowed.{refused_allowed}
 use Rattle.kr_fleet.proofs.Bare.{reads_bare}
-use Rattle.kr_rollout.proofs.Nexts.{front_own, found_row, legal_now}
+use Rattle.kr_callers.proofs.Nexts.{front_own, found_row, legal_now}
 
 -- ---- what the bench answers is the answer
 

@@ -18,15 +18,15 @@ use Rattle.kr_rollout.specs.declared.answer.Answer.TheVariants as answer
 use Rattle.kr_rollout.specs.declared.event.Event.TheVariants as event
 use Rattle.kr_rollout.specs.declared.opening.Entry.{Entry}
 use Rattle.kr_rollout.specs.declared.opening.Opening.{Opening}
-use Rattle.kr_rollout.specs.Acting.{Caller, AddsEntry}
-use Rattle.kr_rollout.specs.Contents.{IsContent}
-use Rattle.kr_rollout.specs.ContentLaws.{NamesNoPlugin}
-use Rattle.kr_rollout.specs.Honesty.{IsHonest}
-use Rattle.kr_rollout.specs.declared.call.CallNo.{CallNo}
-use Rattle.kr_rollout.specs.declared.call.CallNo.TheVariants as refusal
+use Rattle.kr_callers.specs.Acting.{Caller, AddsEntry}
+use Rattle.kr_callers.specs.Contents.{IsContent}
+use Rattle.kr_callers.specs.ContentLaws.{NamesNoPlugin}
+use Rattle.kr_callers.specs.Honesty.{IsHonest}
+use Rattle.kr_callers.specs.declared.call.CallNo.{CallNo}
+use Rattle.kr_callers.specs.declared.call.CallNo.TheVariants as refusal
 use Rattle.kr_fleet.specs.declared.outcome.Read.{Read}
 use Rattle.kr_fleet.specs.declared.outcome.Read.TheVariants.{Absent, Value}
-use Rattle.kr_rollout.specs.Calls.{AddsNothing, EndsEarly, HoldsMeanwhile}
+use Rattle.kr_callers.specs.Calls.{AddsNothing, EndsEarly, HoldsMeanwhile}
 
 -- ---- the content at the path
 

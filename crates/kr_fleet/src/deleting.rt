@@ -2,13 +2,14 @@
 ghost use Rattle.std.specs.Prelude.{◌≡◌, [], None};
 ghost use Rattle.kr_base.specs.Rules.{IsPath};
 ghost use Rattle.kr_rollout.specs.Callers.{holding};
-ghost use Rattle.kr_rollout.specs.Calls.{KeepsHonesty};
-ghost use Rattle.kr_rollout.specs.Parts.{AddsWithin};
+ghost use Rattle.kr_callers.specs.Calls.{KeepsHonesty};
+ghost use Rattle.kr_callers.specs.Parts.{AddsWithin};
 ghost use Rattle.kr_fleet.specs.SingleCalls.{IsDelete};
 ghost use Rattle.kr_fleet.specs.inner.Answering.{AnswersDelete, DeletesBy};
 
 use kr_base::{Spent, Text};
-use kr_rollout::{Acts, Answer, CallNo, Event};
+use kr_callers::{Acts, CallNo};
+use kr_rollout::{Answer, Event};
 use std::alloc::Global;
 
 /// Deletes the path's live row. It answers the revision of the row that was written, or `None`

@@ -5,18 +5,19 @@ ghost use Rattle.kr_provider.specs.AskedLinks.{AskedOnly};
 ghost use Rattle.kr_provider.specs.Names.{HasLinks, names_of};
 ghost use Rattle.kr_rollout.specs.Callers.{holding, reloads_in};
 ghost use Rattle.kr_rollout.specs.Openings.{NamesAmong};
-ghost use Rattle.kr_rollout.specs.Calls.{AreServed, KeepsToldHonesty};
-ghost use Rattle.kr_rollout.specs.Parts.{AddsWithin};
+ghost use Rattle.kr_callers.specs.Calls.{AreServed, KeepsToldHonesty};
+ghost use Rattle.kr_callers.specs.Parts.{AddsWithin};
 ghost use Rattle.kr_fleet.specs.LoadCalls.{IsJoin, IsReload};
 ghost use Rattle.kr_fleet.specs.inner.Answering.{AnswersJoin, AnswersReload, JoinsBy, ReloadsBy};
 ghost use Rattle.kr_fleet.specs.inner.Stages.{SharesPublished, publish_refusal};
 
 use crate::outcome::{Joining, Loaded};
 use kr_base::{Dice, Shared, Spent};
+use kr_callers::{Acts, CallNo};
 use kr_config::Settings;
 use kr_kms::Kms;
 use kr_provider::{Bench, PublishNo, Published};
-use kr_rollout::{Acts, Answer, CallNo, Event};
+use kr_rollout::{Answer, Event};
 use std::alloc::Global;
 
 /// Publishes the settings, and gives them to the replica, which is in, in place of its current

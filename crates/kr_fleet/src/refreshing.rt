@@ -5,18 +5,19 @@ ghost use Rattle.kr_provider.specs.AskedLinks.{AskedOnly};
 ghost use Rattle.kr_provider.specs.Names.{HasLinks, names_of};
 ghost use Rattle.kr_rollout.specs.Callers.{holding, reloads_in};
 ghost use Rattle.kr_rollout.specs.Openings.{NamesAmong};
-ghost use Rattle.kr_rollout.specs.Calls.{AreServed, IsIdle, KeepsToldHonesty};
-ghost use Rattle.kr_rollout.specs.Parts.{AddsWithin};
+ghost use Rattle.kr_callers.specs.Calls.{AreServed, IsIdle, KeepsToldHonesty};
+ghost use Rattle.kr_callers.specs.Parts.{AddsWithin};
 ghost use Rattle.kr_fleet.specs.LoadCalls.{IsRefresh, Refreshes, plugin_names};
 ghost use Rattle.kr_fleet.specs.inner.Stages.{ComparesKeys};
 
 use crate::loading::{publish, publish_refusal, reloaded};
 use crate::outcome::Loaded;
 use kr_base::{Dice, NoMemory, Shared, Spent};
+use kr_callers::{Acts, CallNo, adopt, let_go};
 use kr_config::Settings;
 use kr_kms::{Kms, SeedRow};
 use kr_provider::{Bench, Published};
-use kr_rollout::{Acts, CallNo, Event, adopt, let_go};
+use kr_rollout::Event;
 use std::alloc::Global;
 
 /// Publishes the replica's current settings anew, where the key id of one of their plugins isn't

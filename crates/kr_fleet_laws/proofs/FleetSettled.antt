@@ -10,12 +10,12 @@ use Rattle.kr_kms.specs.declared.world.WorldCall.TheVariants.{File, RandomSource
 use Rattle.kr_provider.specs.PluginOrder.{plugin_order}
 use Rattle.kr_provider.specs.Publication.{Publication}
 use Rattle.kr_provider.proofs.PluginOrder.{order_has}
-use Rattle.kr_rollout.specs.Openings.{settings_of}
-use Rattle.kr_rollout.specs.Starts.{IsNoStart, MayStart}
-use Rattle.kr_rollout.specs.declared.opening_board.StartNo.{StartNo}
-use Rattle.kr_rollout.specs.declared.opening_board.StartNo.TheVariants as no
-use Rattle.kr_rollout.proofs.Causes.{one_cause}
-use Rattle.kr_rollout.proofs.Judging.{refusal_is_exact}
+use Rattle.kr_starts.specs.Replicas.{settings_of}
+use Rattle.kr_starts.specs.Starts.{IsNoStart, MayStart}
+use Rattle.kr_starts.specs.declared.opening_board.StartNo.{StartNo}
+use Rattle.kr_starts.specs.declared.opening_board.StartNo.TheVariants as no
+use Rattle.kr_callers.proofs.Causes.{one_cause}
+use Rattle.kr_callers.proofs.Judging.{refusal_is_exact}
 use Rattle.kr_script.specs.Fleets.{Fleet}
 use Rattle.kr_script.specs.declared.script.Part.{Part}
 use Rattle.kr_script.specs.declared.script.ScriptNo.{ScriptNo}

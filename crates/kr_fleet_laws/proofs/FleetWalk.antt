@@ -15,10 +15,10 @@ use Rattle.kr_kms.specs.Health.{breach_in}
 use Rattle.kr_provider.specs.PluginOrder.{plugin_order}
 use Rattle.kr_provider.specs.Publication.{Publication}
 use Rattle.kr_provider.proofs.PluginOrder.{order_has}
-use Rattle.kr_rollout.specs.Openings.{settings_of}
-use Rattle.kr_rollout.specs.Starts.{MayStart}
-use Rattle.kr_rollout.specs.declared.opening_board.StartNo.TheVariants as no
-use Rattle.kr_rollout.proofs.Judging.{refusal_is_exact}
+use Rattle.kr_starts.specs.Replicas.{settings_of}
+use Rattle.kr_starts.specs.Starts.{MayStart}
+use Rattle.kr_starts.specs.declared.opening_board.StartNo.TheVariants as no
+use Rattle.kr_callers.proofs.Judging.{refusal_is_exact}
 use Rattle.kr_script.specs.Fleets.{Fleet, Worker}
 use Rattle.kr_script.proofs.OneAnswer.{one_meaning}
 use Rattle.kr_store.specs.declared.rows.LogRow.{LogRow}

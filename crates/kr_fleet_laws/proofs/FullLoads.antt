@@ -27,10 +27,10 @@ use Rattle.kr_load.proofs.KeptPuts.{puts_are_kept}
 use Rattle.kr_load.proofs.LoadLines.{budget_few}
 use Rattle.kr_provider.specs.Names.{names_of}
 use Rattle.kr_provider.specs.Readers.{writer_of}
-use Rattle.kr_rollout.specs.Openings.{settings_of}
-use Rattle.kr_rollout.specs.Starts.{MayStart}
-use Rattle.kr_rollout.specs.declared.opening_board.StartNo.TheVariants as no
-use Rattle.kr_rollout.proofs.Judging.{refusal_is_exact}
+use Rattle.kr_starts.specs.Replicas.{settings_of}
+use Rattle.kr_starts.specs.Starts.{MayStart}
+use Rattle.kr_starts.specs.declared.opening_board.StartNo.TheVariants as no
+use Rattle.kr_callers.proofs.Judging.{refusal_is_exact}
 use Rattle.kr_store.specs.Rows.{live}
 use Rattle.kr_workers.specs.Budgets.{budget_of, budgets_of, put_lines}
 use Rattle.kr_workers.specs.Endings.{status_of}

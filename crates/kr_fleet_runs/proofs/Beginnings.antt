@@ -1,9 +1,9 @@
 -- How the core of a fleet starts, and what it comes to.
 use Rattle.std.proofs.Common.{ℕ, List, Ok, Err, refl, inl, inr}
-use Rattle.kr_rollout.specs.Openings.{settings_of}
-use Rattle.kr_rollout.specs.Starts.{IsNoStart, MayStart}
-use Rattle.kr_rollout.specs.declared.opening_board.StartNo.{StartNo}
-use Rattle.kr_rollout.specs.declared.opening_board.StartNo.TheVariants as no
+use Rattle.kr_starts.specs.Replicas.{settings_of}
+use Rattle.kr_starts.specs.Starts.{IsNoStart, MayStart}
+use Rattle.kr_starts.specs.declared.opening_board.StartNo.{StartNo}
+use Rattle.kr_starts.specs.declared.opening_board.StartNo.TheVariants as no
 use Rattle.kr_store.specs.Stores.{Kept}
 use Rattle.kr_steps.specs.Around.{Around}
 use Rattle.kr_fleet_steps.specs.Fleets.{Replicas, starting}
@@ -11,7 +11,7 @@ use Rattle.kr_fleet_steps.specs.declared.fleet_file.Plan.{Plan}
 use Rattle.kr_commands.specs.declared.refusal.Refusal.TheVariants.{Stray, OtherSecret, Unfit}
 use Rattle.kr_fleet_runs.specs.inner.Beginnings.{begun_with}
 use Rattle.kr_steps.specs.inner.Starts.{start_stop}
-use Rattle.kr_fleet_steps.specs.inner.FleetFiles.{plan_of}
+use Rattle.kr_fleet_steps.specs.inner.Plans.{plan_of}
 use Rattle.kr_steps.specs.inner.Phases.{Does}
 use Rattle.kr_steps.specs.inner.Tapes.{stored_of}
 use Rattle.kr_steps.proofs.Goes.{home_refl, reach}

@@ -15,9 +15,9 @@ use Rattle.kr_kms.specs.Truth.{Truth}
 use Rattle.kr_kms.proofs.Lent.{names_decide, seats_decide}
 use Rattle.kr_rollout.specs.Cores.{CoreState}
 use Rattle.kr_rollout.specs.Histories.{IsLegal, state_of}
-use Rattle.kr_rollout.proofs.NoNames.{no_names_no_plugin}
-use Rattle.kr_rollout.proofs.WithoutPlugin.{honest_without_plugin}
-use Rattle.kr_rollout.specs.Honesty.{IsHonestEntry}
+use Rattle.kr_callers.proofs.NoNames.{no_names_no_plugin}
+use Rattle.kr_callers.proofs.WithoutPlugin.{honest_without_plugin}
+use Rattle.kr_callers.specs.Honesty.{IsHonestEntry}
 use Rattle.kr_rollout.specs.Openings.{opening_by}
 use Rattle.kr_rollout.specs.declared.opening.Opening.{Opening}
 use Rattle.kr_script.specs.Fleets.{worker_of}
@@ -43,8 +43,8 @@ use Rattle.kr_commands.specs.declared.refusal.Stop.TheVariants.{NoMemory}
 use Rattle.kr_fleet_runs.specs.inner.Beginnings.{begun_with, first_core}
 use Rattle.kr_fleet_steps.specs.inner.Crews.{IsReadyCore, outfit_of, outfits_of}
 use Rattle.kr_fleet_runs.specs.inner.CrewRuns.{KeepsStore, RunsCrew, WorkersRan}
-use Rattle.kr_fleet_steps.specs.inner.FleetFiles.{IsWholePlan, named, plan_of}
-use Rattle.kr_fleet_runs.specs.inner.Fleets.{ArePublished, LacksWorkers}
+use Rattle.kr_fleet_steps.specs.inner.Plans.{IsWholePlan, named, plan_of}
+use Rattle.kr_fleet_runs.specs.inner.FleetOutcomes.{ArePublished, LacksWorkers}
 use Rattle.kr_steps.specs.inner.Lent.{Tapes, lent_links, with_lent_tape}
 use Rattle.kr_fleet_steps.specs.inner.Outfits.{AreLater, AreNamed, with_outfits}
 use Rattle.kr_steps.specs.inner.ProgramNames.{names_in}

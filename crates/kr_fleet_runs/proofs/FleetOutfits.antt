@@ -12,7 +12,7 @@ use Rattle.kr_fleet_runs.specs.declared.fleet.Record.{Record}
 use Rattle.kr_fleet_steps.specs.declared.outfit.Outfit.{Outfit}
 use Rattle.kr_steps.specs.declared.programs.Program.{Program}
 use Rattle.kr_commands.specs.declared.refusal.Stop.{Stop}
-use Rattle.kr_fleet_runs.specs.inner.Fleets.{RunsBy}
+use Rattle.kr_fleet_runs.specs.inner.FleetOutcomes.{RunsBy}
 use Rattle.kr_steps.specs.inner.Lent.{Tapes, with_lent_tape, with_tapes}
 use Rattle.kr_fleet_steps.specs.inner.Outfits.{with_outfits}
 use Rattle.kr_steps.specs.inner.Phases.{Does}

@@ -37,8 +37,8 @@ use Rattle.kr_commands.specs.declared.refusal.Limit.TheVariants as limit
 use Rattle.kr_commands.specs.declared.refusal.Refusal.TheVariants.{Limit}
 use Rattle.kr_commands.specs.declared.refusal.Stop.{Stop}
 use Rattle.kr_commands.specs.declared.refusal.Stop.TheVariants.{Words, Refused, Fault, NoMemory}
-use Rattle.kr_commands.specs.inner.FleetAsked.{IsFleetAsked}
-use Rattle.kr_fleet_runs.specs.inner.Fleets.{LacksWorkers, LeavesRecord, RunsBy, budget_stop}
+use Rattle.kr_commands.specs.inner.FleetAnswers.{IsFleetAsked}
+use Rattle.kr_fleet_runs.specs.inner.FleetOutcomes.{LacksWorkers, LeavesRecord, RunsBy, budget_stop}
 use Rattle.kr_steps.specs.inner.Lent.{with_lent_tape}
 use Rattle.kr_steps.specs.inner.Phases.{Does}
 use Rattle.kr_steps.specs.inner.Tapes.{LentTape, ReturnedTape}

@@ -28,7 +28,7 @@ use Rattle.kr_fleet_steps.specs.declared.outfit.Outfit.{Outfit}
 use Rattle.kr_commands.specs.declared.refusal.Stop.{Stop}
 use Rattle.kr_commands.specs.declared.refusal.Stop.TheVariants.{Words, Refused, Fault, NoMemory}
 use Rattle.kr_fleet_steps.specs.inner.Crews.{outfit_of, outfits_of}
-use Rattle.kr_fleet_runs.specs.inner.GeneratedLoads.{AreGenerated, AreSeeded, RunsLoad}
+use Rattle.kr_fleet_runs.specs.inner.LoadOutcomes.{AreGenerated, AreSeeded, RunsLoad}
 use Rattle.kr_steps.specs.inner.Lent.{with_lent_dice, with_lent_links, with_lent_tape}
 use Rattle.kr_fleet_steps.specs.inner.Outfits.{AreLater, AreNamed, with_outfits}
 use Rattle.kr_steps.specs.inner.Phases.{AskedUnless, Does}

@@ -13,8 +13,8 @@ use Rattle.kr_fleet_steps.specs.FleetFiles.{file_in, file_of_replica, all_files,
 use Rattle.kr_fleet_steps.specs.GeneratedLoads.{load_plan}
 use Rattle.kr_fleet_steps.specs.declared.fleet_file.Plan.{Plan}
 use Rattle.kr_commands.specs.declared.load_words.LoadWords.{LoadWords}
-use Rattle.kr_fleet_steps.specs.inner.FleetFiles.{IsWholePlan, plan_of}
-use Rattle.kr_fleet_runs.specs.inner.GeneratedLoads.{IsLoadPlan}
+use Rattle.kr_fleet_steps.specs.inner.Plans.{IsWholePlan, plan_of}
+use Rattle.kr_fleet_runs.specs.inner.LoadOutcomes.{IsLoadPlan}
 
 abbrev IsRead : (seed : ℕ) → List ℕ → Type 0
 IsRead seed name = IsSome (rows_at (configurations seed) name)

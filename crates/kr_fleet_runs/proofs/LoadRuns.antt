@@ -19,9 +19,9 @@ use Rattle.kr_fleet_runs.specs.declared.fleet.Record.{Record}
 use Rattle.kr_commands.specs.declared.load_words.LoadWords.{LoadWords}
 use Rattle.kr_commands.specs.declared.refusal.Stop.{Stop}
 use Rattle.kr_commands.specs.declared.refusal.Stop.TheVariants.{Words, Refused, Fault, NoMemory}
-use Rattle.kr_commands.specs.inner.FleetAsked.{IsFleetAsked}
-use Rattle.kr_fleet_runs.specs.inner.GeneratedLoads.{RunsLoad}
-use Rattle.kr_commands.specs.inner.LoadAsked.{IsLoadAsked}
+use Rattle.kr_commands.specs.inner.FleetAnswers.{IsFleetAsked}
+use Rattle.kr_fleet_runs.specs.inner.LoadOutcomes.{RunsLoad}
+use Rattle.kr_commands.specs.inner.LoadAnswers.{IsLoadAsked}
 use Rattle.kr_steps.specs.inner.Phases.{Does}
 use Rattle.kr_fleet_runs.proofs.Generating.{home_unseeded}
 use Rattle.kr_steps.proofs.Goes.{home_refl, reach, stays_refl}

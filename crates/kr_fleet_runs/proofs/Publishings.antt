@@ -15,8 +15,9 @@ use Rattle.kr_provider.specs.Names.{HasLinks, names_of}
 use Rattle.kr_provider.specs.PluginOrder.{plugin_order}
 use Rattle.kr_provider.specs.Publication.{Publication}
 use Rattle.kr_provider.proofs.AskedLists.{asked_none, asked_then, names_stay}
-use Rattle.kr_rollout.specs.Honesty.{SeedsOpen}
-use Rattle.kr_rollout.specs.Openings.{AreAmong, IsFirstIn, NamesAmong, settings_of}
+use Rattle.kr_callers.specs.Honesty.{SeedsOpen}
+use Rattle.kr_rollout.specs.Openings.{AreAmong, NamesAmong}
+use Rattle.kr_starts.specs.Replicas.{IsFirstIn, settings_of}
 use Rattle.kr_workers.specs.Files as workers
 use Rattle.kr_workers.specs.declared.files.SettingsFile.{SettingsFile}
 use Rattle.kr_steps.specs.Around.{Around}
@@ -30,8 +31,8 @@ use Rattle.kr_fleet_steps.specs.declared.outfit.Outfit.{Outfit}
 use Rattle.kr_commands.specs.declared.refusal.Stop.{Stop}
 use Rattle.kr_commands.specs.declared.refusal.Stop.TheVariants.{NoMemory}
 use Rattle.kr_fleet_runs.specs.inner.Beginnings.{MayPublish, PublishesNext, with_first}
-use Rattle.kr_fleet_steps.specs.inner.FleetFiles.{IsWholePlan, named, plan_of}
-use Rattle.kr_fleet_runs.specs.inner.Fleets.{ArePublished, IsPublishedBy}
+use Rattle.kr_fleet_steps.specs.inner.Plans.{IsWholePlan, named, plan_of}
+use Rattle.kr_fleet_runs.specs.inner.FleetOutcomes.{ArePublished, IsPublishedBy}
 use Rattle.kr_fleet_steps.specs.inner.Outfits.{AreLater, AreNamed, IsLater, with_outfits}
 use Rattle.kr_steps.specs.inner.ProgramNames.{names_in}
 use Rattle.kr_steps.specs.inner.Phases.{Does}

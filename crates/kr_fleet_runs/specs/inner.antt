@@ -1,6 +1,6 @@
 -- The definitions of inner contracts.
 pub mod Beginnings
 pub mod CrewRuns
-pub mod Fleets
-pub mod GeneratedLoads
+pub mod FleetOutcomes
+pub mod LoadOutcomes
 pub mod Workings

@@ -9,9 +9,9 @@ ghost use Rattle.kr_fleet_steps.specs.GeneratedLoads.{DidLoad, LeavesOthers, Wri
 ghost use Rattle.kr_fleet_steps.specs.GeneratedLoads.{load_over, load_plan, with_streams};
 ghost use Rattle.kr_commands.specs.Receipts.{receipt};
 ghost use Rattle.kr_steps.specs.Steps.{and_then};
-ghost use Rattle.kr_fleet_steps.specs.inner.FleetFiles.{named, plan_of};
-ghost use Rattle.kr_fleet_runs.specs.inner.Fleets.{ArePublished, published_in};
-ghost use Rattle.kr_fleet_runs.specs.inner.GeneratedLoads.{AreGenerated, IsLoadPlan, RunsLoad};
+ghost use Rattle.kr_fleet_steps.specs.inner.Plans.{named, plan_of};
+ghost use Rattle.kr_fleet_runs.specs.inner.FleetOutcomes.{ArePublished, published_in};
+ghost use Rattle.kr_fleet_runs.specs.inner.LoadOutcomes.{AreGenerated, IsLoadPlan, RunsLoad};
 ghost use Rattle.kr_steps.specs.inner.Lent.{Name, with_lent_dice, with_lent_tape};
 ghost use Rattle.kr_steps.specs.inner.Phases.{Does};
 ghost use Rattle.kr_steps.specs.inner.Tapes.{stored_of};

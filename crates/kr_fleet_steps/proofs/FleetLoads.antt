@@ -28,7 +28,7 @@ use Rattle.kr_steps.specs.Steps.{Steps, Left, and_then, awaits, loading, with_as
 use Rattle.kr_commands.specs.declared.refusal.Refusal.{Refusal}
 use Rattle.kr_commands.specs.declared.refusal.Stop.{Stop}
 use Rattle.kr_commands.specs.declared.refusal.Stop.TheVariants.{Words, Refused, Fault, NoMemory}
-use Rattle.kr_fleet_steps.specs.inner.FleetFiles.{Covers, GoesThrough, IsFleetRead, IsRuled, ReadsBytes, ReadsFleet, fleet_in_result, named, script_stop}
+use Rattle.kr_fleet_steps.specs.inner.Plans.{Covers, GoesThrough, IsFleetRead, IsRuled, ReadsBytes, ReadsFleet, fleet_in_result, named, script_stop}
 use Rattle.kr_steps.specs.inner.Phases.{AskedFor, Configures, Does}
 use Rattle.kr_steps.proofs.Goes.{asked_home, by_goes, by_point, configures, given, goes_on, reach, stays_noted, stops, unasked}
 use Rattle.kr_steps.proofs.Made.{remembers}

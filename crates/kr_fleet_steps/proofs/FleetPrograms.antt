@@ -11,7 +11,7 @@ use Rattle.kr_provider.proofs.NameOrder.{IsStrictlySortedBy-none, is_before}
 use Rattle.kr_provider.proofs.PluginNames.{names_some}
 use Rattle.kr_workers.specs.declared.files.SettingsFile.{SettingsFile}
 use Rattle.kr_fleet_steps.specs.FleetFiles.{all_rows}
-use Rattle.kr_fleet_steps.specs.inner.FleetFiles.{named}
+use Rattle.kr_fleet_steps.specs.inner.Plans.{named}
 use Rattle.kr_fleet_steps.proofs.FleetLoads.{all_parts, more_parts}
 use Rattle.kr_steps.proofs.NamedPrograms.{ArePassed}
 

@@ -26,7 +26,7 @@ use Rattle.kr_workers.specs.declared.files.SettingsFile.{SettingsFile}
 use Rattle.kr_fleet_steps.specs.FleetFiles.{NamedRows, all_rows, file_in, file_of_replica, no_file, rows_at}
 use Rattle.kr_fleet_steps.specs.Fleets.{rows_of_replica}
 use Rattle.kr_fleet_steps.specs.declared.fleet_file.Plan.{Plan}
-use Rattle.kr_fleet_steps.specs.inner.FleetFiles.{IsWholePlan, named, plan_of}
+use Rattle.kr_fleet_steps.specs.inner.Plans.{IsWholePlan, named, plan_of}
 use Rattle.kr_steps.specs.inner.ProgramNames.{names_in}
 use Rattle.kr_fleet_steps.proofs.FleetLoads.{IsRead, same_rows}
 

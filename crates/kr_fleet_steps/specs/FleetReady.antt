@@ -5,7 +5,7 @@ use Rattle.kr_base.specs.Told.{Agrees}
 use Rattle.kr_config.specs.Kept.{Row, plugins_in}
 use Rattle.kr_kms.specs.Health.{breach_in}
 use Rattle.kr_kms.specs.declared.plugin.Status.{Status}
-use Rattle.kr_rollout.specs.Starts.{MayStart}
+use Rattle.kr_starts.specs.Starts.{MayStart}
 use Rattle.kr_script.specs.Fleets.{Fleet}
 use Rattle.kr_words.specs.Arguments.{program_of}
 use Rattle.kr_steps.specs.Around.{Around}

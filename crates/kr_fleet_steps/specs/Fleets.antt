@@ -13,12 +13,12 @@ use Rattle.kr_provider.specs.Names.{names_of}
 use Rattle.kr_provider.specs.PluginOrder.{plugin_order}
 use Rattle.kr_provider.specs.Publication.{Publication}
 use Rattle.kr_rollout.specs.Histories.{state_of}
-use Rattle.kr_rollout.specs.Honesty.{IsHonest}
-use Rattle.kr_rollout.specs.Openings.{settings_of}
-use Rattle.kr_rollout.specs.Starts.{IsNoStart, MayStart}
+use Rattle.kr_callers.specs.Honesty.{IsHonest}
+use Rattle.kr_starts.specs.Replicas.{settings_of}
+use Rattle.kr_starts.specs.Starts.{IsNoStart, MayStart}
 use Rattle.kr_rollout.specs.declared.opening.Entry.{Entry}
 use Rattle.kr_rollout.specs.declared.opening.Opening.{Opening}
-use Rattle.kr_rollout.specs.declared.opening_board.StartNo.{StartNo}
+use Rattle.kr_starts.specs.declared.opening_board.StartNo.{StartNo}
 use Rattle.kr_script.specs.Fleets.{Fleet, Worker, worker_of}
 use Rattle.kr_script.specs.Output.{fleet_output}
 use Rattle.kr_script.specs.declared.script.Part.{Part}

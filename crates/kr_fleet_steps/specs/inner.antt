@@ -1,4 +1,4 @@
 -- The definitions of inner contracts.
 pub mod Crews
-pub mod FleetFiles
+pub mod Plans
 pub mod Outfits

@@ -3,7 +3,6 @@
 //! the world that a command runs in, which gives files, and lends tapes, random sources and links.
 #![tactic(auto)]
 
-mod both;
 mod cache;
 mod file_faults;
 mod health;

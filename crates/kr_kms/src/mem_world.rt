@@ -12,12 +12,11 @@ ghost use Rattle.kr_kms.specs.MemWorld.{file_of, seat_of, name_of, link_key, wit
 ghost use Rattle.kr_kms.specs.MemWorld.{first_dice, first_tape, first_link, new_tape, told_by};
 ghost use Rattle.kr_kms.specs.MemWorld.{GivesFile, GivesFirst, GivesTape};
 
-use crate::both::both;
 use crate::file_faults::FileFaults;
 use crate::plugin::Kms;
 use crate::shelf::{Shelf, name_place, plugin_place};
 use crate::world::{FileNo, World, WorldCall};
-use kr_base::{Bytes, List, MemDice, MemTape, NoMemory, Text};
+use kr_base::{Bytes, List, MemDice, MemTape, NoMemory, Text, both};
 use std::alloc::Global;
 
 /// A world in memory. Files and tapes stand with their names, random sources and links with their

@@ -5,10 +5,9 @@ ghost use Rattle.kr_kms.specs.Limits.{IsWithinLimits};
 ghost use Rattle.kr_kms.specs.Seeds.{IsSeedRow, MakesSeed};
 ghost use Rattle.kr_kms.specs.inner.Wrapping.{IsDrawn, row_with, IsRowOf};
 
-use crate::both::both;
 use crate::health::{SeedNo, key_id_of};
 use crate::plugin::{Kms, KmsNo, Wrapped};
-use kr_base::{Annotations, Bytes, Dice, NoMemory, Text};
+use kr_base::{Annotations, Bytes, Dice, NoMemory, Text, both};
 use std::alloc::Global;
 
 /// The bytes of a seed.

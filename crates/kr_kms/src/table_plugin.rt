@@ -9,9 +9,8 @@ ghost use Rattle.kr_kms.specs.Limits.{IsWithinLimits};
 ghost use Rattle.kr_kms.specs.Table.{Answers, salt_in, mask_of, xor_of, salt_pair, wrapped_by};
 ghost use Rattle.kr_kms.specs.Table.{status_of, table_truth, link_of};
 
-use crate::both::both;
 use crate::plugin::{Kms, KmsNo, Status, Wrapped};
-use kr_base::{Annotations, Bytes, CallLog, List, NoMemory, Text, is_short};
+use kr_base::{Annotations, Bytes, CallLog, List, NoMemory, Text, both, is_short};
 use std::alloc::Global;
 use std::marker::Model;
 

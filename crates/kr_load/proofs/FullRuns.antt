@@ -14,7 +14,7 @@ use Rattle.kr_base.specs.Lines.{of_seat}
 use Rattle.kr_base.proofs.Counting.{Rose-later}
 use Rattle.kr_kms.specs.Calls.{Link}
 use Rattle.kr_kms.specs.Truth.{Truth}
-use Rattle.kr_rollout.specs.ContentLaws.{NamesNoPlugin}
+use Rattle.kr_callers.specs.ContentLaws.{NamesNoPlugin}
 use Rattle.kr_rollout.specs.Entries.{seat_of}
 use Rattle.kr_rollout.specs.Histories.{IsLegal, IsRun, state_from, state_of}
 use Rattle.kr_rollout.specs.Openings.{start_of}
@@ -25,7 +25,7 @@ use Rattle.kr_rollout.specs.declared.line.Gave.TheVariants as gave
 use Rattle.kr_rollout.specs.declared.opening.Entry.{Entry}
 use Rattle.kr_rollout.specs.declared.opening.Opening.{Opening}
 use Rattle.kr_rollout.proofs.Appending.{front_law}
-use Rattle.kr_rollout.proofs.NoNames.{no_names_no_plugin}
+use Rattle.kr_callers.proofs.NoNames.{no_names_no_plugin}
 use Rattle.kr_script.specs.Fleets.{worker_of, Worker as fleet_worker}
 use Rattle.kr_script.specs.declared.script.Part.{Part}
 use Rattle.kr_script.specs.declared.told.Told.{Told}

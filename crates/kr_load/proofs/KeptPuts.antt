@@ -13,14 +13,15 @@ use Rattle.kr_kms.specs.Calls.{Link}
 use Rattle.kr_kms.specs.Truth.{Truth}
 use Rattle.kr_provider.specs.Publication.{Publication}
 use Rattle.kr_rollout.specs.Answers.{IsAnswer}
-use Rattle.kr_rollout.specs.Checks.{written_check}
+use Rattle.kr_starts.specs.Checks.{written_check}
 use Rattle.kr_rollout.specs.Entries.{generation_named_in, published_at, seat_of}
 use Rattle.kr_rollout.specs.Histories.{IsRun, state_from, state_of}
-use Rattle.kr_rollout.specs.Openings.{generations_from, settings_of, start_of}
+use Rattle.kr_rollout.specs.Openings.{start_of}
+use Rattle.kr_starts.specs.Replicas.{generations_from, settings_of}
 use Rattle.kr_rollout.specs.States.{State}
 use Rattle.kr_rollout.specs.Steps.{IsStep, after, new_generation, new_generations, new_rows, put_row}
 use Rattle.kr_rollout.specs.Writes.{WouldWrite, Writes}
-use Rattle.kr_rollout.specs.declared.generation.Generation.{Generation}
+use Rattle.kr_starts.specs.declared.generation.Generation.{Generation}
 use Rattle.kr_rollout.specs.declared.line.Did.{Did}
 use Rattle.kr_rollout.specs.declared.line.Did.TheVariants as did
 use Rattle.kr_rollout.specs.declared.line.Gave.{Gave}

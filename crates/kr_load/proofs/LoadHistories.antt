@@ -15,14 +15,15 @@ use Rattle.kr_provider.specs.Readers.{writer_of}
 use Rattle.kr_provider.specs.Sealing.{IsSealing, value_size}
 use Rattle.kr_provider.proofs.SealedSizes.{sealing_is_sized}
 use Rattle.kr_rollout.specs.Answers.{IsAnswer}
-use Rattle.kr_rollout.specs.Checks.{written_check}
+use Rattle.kr_starts.specs.Checks.{written_check}
 use Rattle.kr_rollout.specs.Entries.{generation_named_in, published_at, seat_of}
 use Rattle.kr_rollout.specs.Histories.{IsRun, state_from}
-use Rattle.kr_rollout.specs.Openings.{current_from, generations_from, settings_of, start_of}
+use Rattle.kr_rollout.specs.Openings.{start_of}
+use Rattle.kr_starts.specs.Replicas.{current_from, generations_from, settings_of}
 use Rattle.kr_rollout.specs.States.{State, current_of}
 use Rattle.kr_rollout.specs.Steps.{IsStep, KeepsRules, after, current_after, new_generations, new_rows, put_row, row_written_by}
 use Rattle.kr_rollout.specs.Writes.{WouldWrite, Writes, file_size}
-use Rattle.kr_rollout.specs.declared.generation.Generation.{Generation}
+use Rattle.kr_starts.specs.declared.generation.Generation.{Generation}
 use Rattle.kr_rollout.specs.declared.line.Did.{Did}
 use Rattle.kr_rollout.specs.declared.line.Did.TheVariants as did
 use Rattle.kr_rollout.specs.declared.line.Gave.{Gave}

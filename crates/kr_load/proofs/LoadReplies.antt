@@ -14,8 +14,8 @@ use Rattle.kr_provider.specs.Publication.{Publication}
 use Rattle.kr_provider.specs.Reading.{Reading, data_of, refused, unopened}
 use Rattle.kr_provider.specs.declared.refusal.ValueNo.{ValueNo}
 use Rattle.kr_provider.specs.declared.refusal.ValueNo.TheVariants as value
-use Rattle.kr_rollout.specs.ContentLaws.{NamesNoPlugin}
-use Rattle.kr_rollout.specs.Contents.{ContentBy, IsContent, last_change, puts}
+use Rattle.kr_callers.specs.ContentLaws.{NamesNoPlugin}
+use Rattle.kr_callers.specs.Contents.{ContentBy, IsContent, last_change, puts}
 use Rattle.kr_rollout.specs.Entries.{seat_of}
 use Rattle.kr_rollout.specs.declared.line.Gave.TheVariants as gave
 use Rattle.kr_rollout.specs.declared.opening.Entry.{Entry}

@@ -8,8 +8,8 @@ use Rattle.kr_base.specs.Lines.{of_seat}
 use Rattle.kr_kms.specs.Calls.{Link}
 use Rattle.kr_kms.specs.Truth.{Truth}
 use Rattle.kr_provider.specs.BenchState.{BenchState}
-use Rattle.kr_rollout.specs.ContentLaws.{NamesNoPlugin}
-use Rattle.kr_rollout.specs.Contents.{last_change, puts}
+use Rattle.kr_callers.specs.ContentLaws.{NamesNoPlugin}
+use Rattle.kr_callers.specs.Contents.{last_change, puts}
 use Rattle.kr_rollout.specs.Entries.{seat_of}
 use Rattle.kr_rollout.specs.declared.line.Did.{Did}
 use Rattle.kr_rollout.specs.declared.opening.Entry.{Entry}

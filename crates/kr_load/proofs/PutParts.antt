@@ -7,15 +7,15 @@ use Rattle.kr_provider.specs.Publication.{Publication, writer_at}
 use Rattle.kr_provider.specs.declared.refusal.ValueNo.{ValueNo}
 use Rattle.kr_provider.specs.declared.refusal.ValueNo.TheVariants as value
 use Rattle.kr_rollout.specs.declared.answer.Answer.TheVariants as answer
-use Rattle.kr_rollout.specs.declared.call.CallNo.{CallNo}
-use Rattle.kr_rollout.specs.declared.call.CallNo.TheVariants as refusal
+use Rattle.kr_callers.specs.declared.call.CallNo.{CallNo}
+use Rattle.kr_callers.specs.declared.call.CallNo.TheVariants as refusal
 use Rattle.kr_rollout.specs.declared.event.Event.TheVariants as event
 use Rattle.kr_rollout.specs.declared.line.Did.TheVariants as did
 use Rattle.kr_rollout.specs.declared.line.Gave.TheVariants as gave
 use Rattle.kr_rollout.specs.declared.opening.Entry.{Entry}
-use Rattle.kr_rollout.specs.Acting.{AddsEntry, Caller}
-use Rattle.kr_rollout.specs.Calls.{LetsGo}
-use Rattle.kr_rollout.specs.Parts.{Adds}
+use Rattle.kr_callers.specs.Acting.{AddsEntry, Caller}
+use Rattle.kr_callers.specs.Calls.{LetsGo}
+use Rattle.kr_callers.specs.Parts.{Adds}
 use Rattle.kr_fleet.specs.WriteCalls.{IsWrite, Puts}
 use Rattle.kr_script.specs.declared.told.Told.{Told}
 use Rattle.kr_script.specs.declared.told.Told.TheVariants as told

@@ -4,7 +4,7 @@ use Rattle.kr_config.specs.Kept.{Row}
 use Rattle.kr_config.specs.declared.who.Who.TheVariants.{Identity}
 use Rattle.kr_kms.specs.Calls.{Link}
 use Rattle.kr_kms.specs.Truth.{Truth}
-use Rattle.kr_rollout.specs.Openings.{settings_of}
+use Rattle.kr_starts.specs.Replicas.{settings_of}
 use Rattle.kr_rollout.specs.declared.opening.Entry.{Entry}
 use Rattle.kr_rollout.specs.declared.opening.Opening.{Opening}
 use Rattle.kr_script.specs.Fleets.{worker_of}

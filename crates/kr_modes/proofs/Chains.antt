@@ -1,12 +1,12 @@
 -- CBC, block by block.
-use Rattle.std.proofs.Common.{◌≡◌, ℕ, ◌+◌, ◌*◌, ◌-◌, ◌<◌, ◌≤◌, List, ◌∷◌, ◌++◌, length, take, drop, refl, sym, ap, ◌∙◌, arith, rules}
-use Rattle.std.proofs.lemmas.List.{append_assoc, append-nil, drop-drop, length-drop, take_all, places}
+use Rattle.std.proofs.Common.{◌≡◌, ℕ, ◌+◌, ◌*◌, ◌-◌, ◌<◌, ◌≤◌, List, ◌++◌, length, take, drop, refl, sym, ap, ◌∙◌, arith, rules}
+use Rattle.std.proofs.lemmas.List.{append_assoc, append-nil, drop-drop, take_all, places}
 use Rattle.std.proofs.lemmas.Slice.{drop-put_mid, take-put_mid}
 use Rattle.std.specs.Fork.{slice_chunk}
 use Rattle.std.specs.Int.{div_ceil}
 use borrow.Rule.Slice.PartMut.{put_mid}
 use Rattle.kr_modes.specs.Blocks.{xor}
-use Rattle.kr_modes.specs.Cbc.{cbc, cbc_blocks, uncbc, uncbc_blocks}
+use Rattle.kr_modes.specs.Cbc.{cbc, cbc_blocks}
 use Rattle.kr_modes.proofs.FirstBlocks.{blocks-first_blocks, first_blocks, first_blocks-from}
 
 -- what the first i blocks of output and the last of them make of the rest
@@ -42,46 +42,6 @@ unfolding cbc_blocks first_blocks
 chained_all encipher out previous bytes count i e long =
     let none : count - i ≡ 0 = omega arith in
     rw none (append-nil (take (16 * i) out) ∙ take_all (16 * i) out (omega arith))
-
--- ---- the other way
-
--- what i blocks of output and the blocks behind them make
-abbrev pub unchained_from : (List ℕ → List ℕ) → List ℕ → List ℕ → ℕ → ℕ → List ℕ
-unchained_from decipher out body count i =
-    take (16 * i) out ++ uncbc_blocks decipher (slice_chunk body 16 i) (first_blocks (count - i) (drop ((i + 1) * 16) body))
-
-pub unchained_more : (decipher : List ℕ → List ℕ) (out body block : List ℕ) (count i k : ℕ) → i < count → 16 * i + 16 ≤ length out
-    → k ≡ 16 → length block ≡ 16 → block ≡ xor (decipher (slice_chunk body 16 (i + 1))) (slice_chunk body 16 i)
-    → unchained_from decipher (put_mid (16 * i) k out block) body count (i + 1) ≡ unchained_from decipher out body count i
-unfolding uncbc_blocks
-unchained_more decipher out body block count i k lt fits size long is =
-    let chunk : List ℕ = slice_chunk body 16 (i + 1) in
-    let rest : List (List ℕ) = first_blocks (count - (i + 1)) (drop ((i + 1 + 1) * 16) body) in
-    let front : take (16 * (i + 1)) (put_mid (16 * i) k out block) ≡ take (16 * i) out ++ block =
-    take-put_mid (16 * i) k out block (16 * (i + 1)) (omega arith) (omega arith) in
-    let one : count + 1 - (i + 1) ≡ count - i = omega arith in
-    let two : count + 1 - (i + 1 + 1) ≡ count - (i + 1) = omega arith in
-    let blocks : first_blocks (count - i) (drop ((i + 1) * 16) body) ≡ chunk ∷ rest =
-    ap (λ (n : ℕ). first_blocks n (drop ((i + 1) * 16) body)) (sym one)
-    ∙ first_blocks-from body (count + 1) (i + 1) (omega arith)
-    ∙ ap (λ (n : ℕ). chunk ∷ first_blocks n (drop ((i + 1 + 1) * 16) body)) two in
-    rw (front, blocks, append_assoc (take (16 * i) out) block (uncbc_blocks decipher chunk rest), ← is) refl
-
-pub unchained_none : (decipher : List ℕ → List ℕ) (out body : List ℕ) (count : ℕ) → count * 16 + 16 ≡ length body
-    → unchained_from decipher out body count 0 ≡ uncbc decipher (take 16 body) (drop 16 body)
-unfolding uncbc
-unchained_none decipher out body count e =
-    let all : count - 0 ≡ count = omega arith in
-    let same : count ≡ div_ceil (length (drop 16 body)) 16 = omega (arith, length-drop 16 body) in
-    rw all (ap (uncbc_blocks decipher (take 16 body)) (ap (λ (n : ℕ). first_blocks n (drop 16 body)) same ∙ sym (blocks-first_blocks (drop 16 body))))
-
-pub unchained_all : (decipher : List ℕ → List ℕ) (out body : List ℕ) (count i n : ℕ) → i ≡ count → n ≡ 16 * count
-    → unchained_from decipher out body count i ≡ take n out
-unfolding uncbc_blocks first_blocks
-unchained_all decipher out body count i n e long =
-    let none : count - i ≡ 0 = omega arith in
-    let all : 16 * i ≡ n = omega arith in
-    rw none (append-nil (take (16 * i) out) ∙ ap (λ (k : ℕ). take k out) all)
 
 -- ---- in one buffer
 

@@ -2,7 +2,7 @@
 use Rattle.std.proofs.Common.{◌≡◌, ℕ, zero, suc, ◌+◌, ◌*◌, ◌/◌, ◌%◌, ◌^◌, ◌<◌, ◌≤◌, slice_index, bit_xor, sym, ap, ◌∙◌, arith, inl, inr}
 use Rattle.std.specs.Int.{w128, bit_at, byte_at, bytes_low_first, to_le_bytes}
 use Rattle.std.specs.Int.Bits.{xor_zero_r}
-use Rattle.std.proofs.lemmas.Nat.{shr-shr}
+use Rattle.std.proofs.lemmas.Nat.{shr-shr, xor_comm}
 use Rattle.std.proofs.lemmas.Nat.Bits.{bit_at-lt, bit_at_cat_low}
 use lib.Bits.{xor_assoc}
 use Rattle.kr_aes.proofs.Linear.{below_two, one_times, zero_times}
@@ -18,7 +18,7 @@ bit_of_group a i k lt =
     let split : x / 16 * 2 ^ 4 + x % 16 ≡ x = omega arith in
     sym (bit_at_cat_low (x / 16) 4 (x % 16) k lt) ∙ ap (λ (y : ℕ). bit_at y k) split ∙ ap (λ (y : ℕ). y % 2) (shr-shr a i k)
 
-term_more : (i a h : ℕ) → i < 128 → h < 2 ^ 128
+pub term_more : (i a h : ℕ) → i < 128 → h < 2 ^ 128
     → partial_product (i + 1) a h ≡ bit_xor (partial_product i a h) (bit_at a i * power i h)
 term_more i a h lt fits = elim (below_two (bit_at a i) (bit_at-lt a i)) [
   | inl none ↦ rw (none, zero_times (power i h), xor_zero_r (partial_product i a h)) (sym (partial_product_same i a h none))
@@ -28,6 +28,12 @@ term_more i a h lt fits = elim (below_two (bit_at a i) (bit_at-lt a i)) [
 four_sum : (x a b c d : ℕ)
     → bit_xor (bit_xor (bit_xor (bit_xor x a) b) c) d ≡ bit_xor x (bit_xor (bit_xor a b) (bit_xor c d))
 four_sum x a b c d = simp xor_assoc
+
+-- two sums that each get one more
+pub sums_exchanged : (a x b y : ℕ) → bit_xor (bit_xor a x) (bit_xor b y) ≡ bit_xor (bit_xor (bit_xor a b) x) y
+sums_exchanged a x b y =
+    sym (xor_assoc (bit_xor a x) b y)
+    ∙ ap (λ (s : ℕ). bit_xor s y) (xor_assoc a x b ∙ ap (bit_xor a) (xor_comm x b) ∙ sym (xor_assoc a b x))
 
 pub group_more : (i a h : ℕ) → i + 4 ≤ 128 → h < 2 ^ 128
     → bit_xor (partial_product i a h) (four_terms (a / 2 ^ i % 16) (power i h)) ≡ partial_product (i + 4) a h

@@ -1,13 +1,13 @@
 -- GHASH, block by block.
-use Rattle.std.proofs.Common.{◌≡◌, ℕ, zero, suc, ◌+◌, ◌*◌, ◌-◌, ◌<◌, List, [], ◌∷◌, ◌++◌, length, take, drop, bit_xor, refl, sym, ap, ◌∙◌, arith}
-use Rattle.std.proofs.lemmas.List.{drop-append-le, length-append, length-drop, nil_from_length, take-append-le}
+use Rattle.std.proofs.Common.{◌≡◌, ℕ, zero, suc, ◌+◌, ◌*◌, ◌-◌, ◌<◌, ◌≤◌, List, [], ◌∷◌, ◌++◌, length, take, drop, bit_xor, refl, sym, ap, ◌∙◌, arith}
+use Rattle.std.proofs.lemmas.List.{drop-append-le, length-append, length-drop, length-take-le, nil_from_length, take-append-le}
 use Rattle.std.specs.Fork.{slice_chunk}
 use Rattle.std.specs.Int.{div_ceil}
 use Rattle.kr_modes.specs.Blocks.{blocks}
 use Rattle.kr_modes.specs.Gcm.{zero_padded}
 use Rattle.kr_modes.specs.Ghash.{ghash_blocks, polynomial, product}
 use Rattle.kr_modes.proofs.FirstBlocks.{blocks-first_blocks, first_blocks, first_blocks-from}
-use Rattle.kr_modes.proofs.Paddings.{count_of_zero_padded, length-zero_padded, zero_padded_whole}
+use Rattle.kr_modes.proofs.Paddings.{count_of_zero_padded, length-zero_padded, zero_padded_parts, zero_padded_whole}
 
 -- what the blocks from i on make of a value
 abbrev pub hashed_from : ℕ → ℕ → List ℕ → ℕ → ℕ
@@ -59,6 +59,19 @@ blocks-append xs ys n e =
     let both : div_ceil (length (xs ++ ys)) 16 ≡ n + m = omega (arith, length-append xs ys) in
     blocks-first_blocks (xs ++ ys) ∙ ap (λ (k : ℕ). first_blocks k (xs ++ ys)) both ∙ first_blocks-append n m xs ys e
     ∙ (λ i. sym (blocks-first_blocks xs ∙ ap (λ (k : ℕ). first_blocks k xs) one) i ++ sym (blocks-first_blocks ys) i)
+
+-- whole blocks first, and then the rest
+pub hashed_in_parts : (h value : ℕ) (bytes : List ℕ) (n k : ℕ) → k ≡ n * 16 → k ≤ length bytes
+    → ghash_blocks h (ghash_blocks h value (blocks (zero_padded (take k bytes)))) (blocks (zero_padded (drop k bytes)))
+    ≡ ghash_blocks h value (blocks (zero_padded bytes))
+hashed_in_parts h value bytes n k e within =
+    let front : List ℕ = take k bytes in
+    let rest : List ℕ = zero_padded (drop k bytes) in
+    let size : length front ≡ n * 16 = length-take-le k bytes within ∙ e in
+    ap (λ (bs : List ℕ). ghash_blocks h (ghash_blocks h value (blocks bs)) (blocks rest)) (zero_padded_whole front n size)
+    ∙ sym (ghash_blocks-append h value (blocks front) (blocks rest))
+    ∙ ap (ghash_blocks h value) (sym (blocks-append front rest n size))
+    ∙ ap (λ (bs : List ℕ). ghash_blocks h value (blocks bs)) (sym (zero_padded_parts bytes n k e within))
 
 -- the hash of the associated data, the ciphertext and the block of their lengths
 pub hash_of_three : (h : ℕ) (aad ciphertext lengths : List ℕ) → length lengths ≡ 16

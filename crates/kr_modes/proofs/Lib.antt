@@ -4,6 +4,7 @@ pub mod FirstBlocks
 pub mod Paddings
 pub mod Unpaddings
 pub mod Chains
+pub mod Opened
 pub mod Remainders
 pub mod Groups
 pub mod Hashes
@@ -14,3 +15,4 @@ pub mod BlockBits
 pub mod BlockSums
 pub mod Numbers
 pub mod Counters
+pub mod Squares

@@ -1,7 +1,7 @@
 -- Strings with bytes behind them, as blocks.
 use Rattle.std.proofs.Common.{◌≡◌, ℕ, ◌+◌, ◌*◌, ◌-◌, ◌/◌, ◌%◌, ◌<◌, ◌≤◌, List, [], ◌++◌, length, take, drop, replicate, min, sym, ap, ◌∙◌, arith, inl, inr}
 use Rattle.std.proofs.lemmas.Bool.{cases_lt}
-use Rattle.std.proofs.lemmas.List.{append-nil, drop-append-le, drop_all, length-append, length-drop, length-replicate, length-take, length-take-le, take-append-le, take-replicate, take_all}
+use Rattle.std.proofs.lemmas.List.{append-nil, append_assoc, drop-append-le, drop_all, length-append, length-drop, length-replicate, length-take, length-take-le, take-append-drop, take-append-le, take-replicate, take_all}
 use Rattle.std.proofs.Math.Seq.{take-append-add}
 use Rattle.std.specs.Fork.{slice_chunk}
 use Rattle.std.specs.Int.{div_ceil, next_multiple_of}
@@ -97,3 +97,13 @@ unfolding zero_padded
 zero_padded_whole bytes n e =
     let none : zeros_behind bytes ≡ 0 = omega (arith, zeros_fill (length bytes)) in
     ap (λ (k : ℕ). bytes ++ replicate k 0) none ∙ append-nil bytes
+
+-- whole blocks in front have none either
+pub zero_padded_parts : (bytes : List ℕ) (n k : ℕ) → k ≡ n * 16 → k ≤ length bytes
+    → zero_padded bytes ≡ take k bytes ++ zero_padded (drop k bytes)
+unfolding zero_padded
+zero_padded_parts bytes n k e within =
+    let rest : List ℕ = drop k bytes in
+    let same : zeros_behind bytes ≡ zeros_behind rest = omega (arith, length-drop k bytes) in
+    (λ i. sym (take-append-drop k bytes) i ++ replicate (same i) 0)
+    ∙ append_assoc (take k bytes) rest (replicate (zeros_behind rest) 0)

@@ -1,15 +1,17 @@
 -- The key stream, block by block.
-use Rattle.std.proofs.Common.{◌≡◌, ℕ, zero, suc, ◌+◌, ◌*◌, ◌-◌, ◌/◌, ◌%◌, ◌<◌, ◌≤◌, List, [], ◌∷◌, ◌++◌, length, take, drop, replicate, min, refl, sym, ap, ◌∙◌, arith, add-one, rules}
-use Rattle.std.proofs.lemmas.List.{append-nil, drop_all, drop_at, length-append, length-drop, length-take, map-id, places, take_at}
+use Rattle.std.proofs.Common.{◌≡◌, ℕ, zero, suc, ◌+◌, ◌*◌, ◌-◌, ◌/◌, ◌%◌, ◌<◌, ◌≤◌, List, [], ◌∷◌, ◌++◌, length, get_or, map, take, drop, replicate, min, refl, sym, ap, ◌∙◌, arith, add-one, rules}
+use Rattle.std.proofs.lemmas.List.{append-nil, drop-drop, drop_all, drop_at, get_or-map, length-append, length-drop, length-take, map-id, places, take_all, take_at}
 use Rattle.std.proofs.lemmas.List.Concat.{flat_map-append}
-use Rattle.std.proofs.lemmas.List.FromFn.{map-range_with_len_more}
-use Rattle.std.proofs.lemmas.Slice.{take-put_mid}
+use Rattle.std.proofs.lemmas.List.FromFn.{get_or-map-range_with_len, map-range_with_len_more}
+use Rattle.std.proofs.lemmas.Slice.{drop-put_mid, take-put_mid}
+use Rattle.std.specs.Fork.{slice_chunk}
 use Rattle.std.specs.Int.{div_ceil}
 use Rattle.std.specs.List.{flat_map, range_with_len}
 use borrow.Rule.Slice.PartMut.{put_mid}
 use Rattle.kr_modes.specs.Blocks.{xor}
 use Rattle.kr_modes.specs.Gcm.{gctr, counter_block, key_stream}
-use Rattle.kr_modes.proofs.Paddings.{filled}
+use Rattle.kr_modes.specs.inner.Streamed.{IsStreamed}
+use Rattle.kr_modes.proofs.Paddings.{filled, filled_whole}
 use Rattle.kr_modes.proofs.Xors.{length-xor, take-xor, xor-append, xor_cut, xor_nothing}
 
 range_with_len-more : (n : ℕ) → range_with_len 1 (n + 1) ≡ range_with_len 1 n ++ (n + 1) ∷ []
@@ -113,3 +115,71 @@ put_end xs zs ys a k size most =
     let front : take a (xs ++ zs) ≡ xs = take_at xs zs a size in
     let rest : drop k (drop a (xs ++ zs)) ≡ [] = ap (drop k) (drop_at xs zs a size) ∙ drop_all k zs most in
     (λ i. front i ++ (ys ++ rest i)) ∙ ap (λ (s : List ℕ). xs ++ s) (append-nil ys)
+
+-- ---- in one buffer
+
+-- a block that isn't read yet
+streamed_block : (encipher : List ℕ → List ℕ) (nonce bytes buffer : List ℕ) (from i : ℕ) → IsStreamed encipher nonce bytes buffer from i
+    → slice_chunk (drop from buffer) 16 i ≡ slice_chunk bytes 16 i
+streamed_block encipher nonce bytes buffer from i is =
+    let at : 16 * i ≡ i * 16 = omega arith in
+    ap (take 16) (drop-drop (i * 16) from buffer ∙ ap (λ (k : ℕ). drop (from + k) buffer) (sym at) ∙ is.unread ∙ ap (λ (k : ℕ). drop k bytes) at)
+
+-- nothing is written yet
+pub streamed_none : (encipher : List ℕ → List ℕ) (nonce buffer : List ℕ) (from : ℕ) → from ≤ length buffer
+    → IsStreamed encipher nonce (drop from buffer) buffer from 0
+streamed_none encipher nonce buffer from within = record {
+  size = omega (arith, length-drop from buffer);
+  written = stream_none encipher nonce (drop from buffer);
+  unread = ap (λ (k : ℕ). drop k buffer) (omega arith);
+}
+
+-- one block more
+pub streamed_more : (encipher : List ℕ → List ℕ) (nonce bytes buffer block : List ℕ) (from i k : ℕ) → GivesBlocks encipher
+    → from + 16 * i + 16 ≤ length buffer → k ≡ 16 → length block ≡ 16
+    → block ≡ xor (slice_chunk (drop from buffer) 16 i) (encipher (counter_block nonce (i + 1)))
+    → IsStreamed encipher nonce bytes buffer from i → IsStreamed encipher nonce bytes (put_mid (16 * i) k buffer block) from (i + 1)
+streamed_more encipher nonce bytes buffer block from i k gives fits size long is before =
+    let many : length buffer ≡ from + length bytes = before.size in
+    let end : ℕ = 16 * i + 16 in
+    let next : end ≡ 16 * (i + 1) = omega arith in
+    let part : end - 16 * i ≡ k = omega arith in
+    let cut : block ≡ take (end - 16 * i) block = sym (take_all (end - 16 * i) block (omega arith)) in
+    let value : block ≡ xor (filled bytes i 0) (encipher (counter_block nonce (i + 1))) =
+    is ∙ ap (λ (xs : List ℕ). xor xs (encipher (counter_block nonce (i + 1))))
+    (streamed_block encipher nonce bytes buffer from i before ∙ sym (filled_whole bytes i 0 (omega arith))) in
+    let step = gctr_more encipher nonce bytes buffer block block i end gives (omega arith) (omega arith) (omega arith) value cut before.written in
+    let put : put_mid (16 * i) (end - 16 * i) buffer block ≡ put_mid (16 * i) k buffer block =
+    ap (λ (n : ℕ). put_mid (16 * i) n buffer block) part in
+    let on : from + 16 * (i + 1) ≡ from + 16 * i + 16 = omega arith in
+    record {
+      size = ap length (sym put) ∙ step.0 ∙ many;
+      written = (λ j. take (sym next j) (sym put j)) ∙ step.1;
+      unread = drop-put_mid (16 * i) k buffer block (from + 16 * (i + 1)) (omega arith) (omega arith) (long ∙ sym size)
+          ∙ ap (λ (n : ℕ). drop n buffer) on ∙ sym (drop-drop 16 (from + 16 * i) buffer)
+          ∙ ap (drop 16) before.unread ∙ drop-drop 16 (16 * i) bytes ∙ ap (λ (n : ℕ). drop n bytes) next;
+    }
+
+-- all whole blocks are written, and there is nothing else
+pub streamed_all : (encipher : List ℕ → List ℕ) (nonce bytes buffer : List ℕ) (from i : ℕ) → length bytes ≡ 16 * i
+    → IsStreamed encipher nonce bytes buffer from i → take (length bytes) buffer ≡ gctr encipher nonce bytes
+streamed_all encipher nonce bytes buffer from i whole before =
+    gctr_all encipher nonce bytes buffer i (16 * i) (omega arith) (sym whole) before.written
+
+-- the last block is written, which is no whole one
+pub streamed_end : (encipher : List ℕ → List ℕ) (nonce bytes buffer block ys : List ℕ) (from i k : ℕ) → GivesBlocks encipher
+    → i ≡ length bytes / 16 → (length bytes % 16 ≡ 0 → ⊥) → k ≡ length bytes - 16 * i
+    → block ≡ xor (filled (drop from buffer) i 0) (encipher (counter_block nonce (i + 1))) → ys ≡ take (length bytes % 16) block
+    → IsStreamed encipher nonce bytes buffer from i → take (length bytes) (put_mid (16 * i) k buffer ys) ≡ gctr encipher nonce bytes
+streamed_end encipher nonce bytes buffer block ys from i k gives at some size is cut before =
+    let chunk : filled (drop from buffer) i 0 ≡ filled bytes i 0 =
+    ap (λ (zs : List ℕ). zs ++ replicate (16 - length zs) 0) (streamed_block encipher nonce bytes buffer from i before) in
+    gctr_end encipher nonce bytes buffer block ys i k gives at some (omega (arith, before.size)) size
+    (is ∙ ap (λ (xs : List ℕ). xor xs (encipher (counter_block nonce (i + 1)))) chunk) cut before.written
+
+-- one of eight blocks of the key stream
+pub stream_at : (encipher : List ℕ → List ℕ) (nonce : List ℕ) (n i : ℕ) → i < 8
+    → get_or (map encipher (map (counter_block nonce) (range_with_len (n + 1) 8))) i [] ≡ encipher (counter_block nonce (n + i + 1))
+stream_at encipher nonce n i lt =
+    get_or-map encipher (map (counter_block nonce) (range_with_len (n + 1) 8)) i [] [] lt
+    ∙ ap encipher (get_or-map-range_with_len (counter_block nonce) (n + 1) 8 i (n + i + 1) [] lt (omega arith))

@@ -1,6 +1,7 @@
 -- The exclusive or of strings, byte by byte.
 use Rattle.std.proofs.Common.{◌≡◌, ℕ, zero, suc, ◌<◌, ◌≤◌, List, [], ◌∷◌, ◌++◌, length, take, drop, slice_index, bit_xor, min, refl, sym, ap, ◌∙◌, arith}
 use Rattle.std.proofs.lemmas.List.{ext_get_or, take_all}
+use Rattle.std.specs.Simd.Lanes.{zip2}
 use Rattle.std.specs.Int.Bits.{xor_self, xor_zero_l, xor_zero_r}
 use Rattle.std.proofs.lemmas.Nat.{xor_comm}
 use lib.Bits.{xor_assoc}
@@ -66,3 +67,10 @@ xor_twice (x ∷ xs) (y ∷ ys) h = λ i. bit_twice x y i ∷ xor_twice xs ys (o
 pub same_from_xor : (a b : ℕ) → bit_xor a b ≡ 0 → a ≡ b
 same_from_xor a b e =
     sym (xor_zero_r a) ∙ ap (bit_xor a) (sym e) ∙ sym (xor_assoc a a b) ∙ ap (λ (x : ℕ). bit_xor x b) (xor_self a) ∙ xor_zero_l b
+
+-- the exclusive or of vectors
+pub xor_lanes : (xs ys : List ℕ) → zip2 bit_xor xs ys ≡ xor xs ys
+unfolding xor
+xor_lanes [] ys = refl
+xor_lanes (x ∷ xs) [] = refl
+xor_lanes (x ∷ xs) (y ∷ ys) = ap (λ (rest : List ℕ). bit_xor x y ∷ rest) (xor_lanes xs ys)

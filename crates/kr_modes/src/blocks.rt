@@ -1,8 +1,11 @@
 //! Blocks of 16 bytes, taken from slices.
 
-ghost use Rattle.std.specs.Prelude.{◌≡◌, ◌<◌, ◌≤◌, ◌+◌, ◌-◌, ◌*◌, ◌++◌, All, length, replicate};
+ghost use Rattle.std.specs.Prelude.{◌≡◌, ◌<◌, ◌≤◌, ◌+◌, ◌-◌, ◌*◌, ◌++◌, All, length, map, replicate};
 ghost use Rattle.std.specs.Fork.{slice_chunk};
+ghost use Rattle.std.specs.List.{range_with_len};
 ghost use Rattle.kr_modes.specs.Blocks.{xor};
+
+use std::simd::prelude::*;
 
 /// The length of a block of AES in bytes.
 pub(crate) const BLOCK: usize = 16;
@@ -73,6 +76,15 @@ fn half_sum(half: [u8; 8], other: [u8; 8]) -> [u8; 8]
     (u64::from_le_bytes(half) ^ u64::from_le_bytes(other)).to_le_bytes()
 }
 
+/// The exclusive or of both as vectors: of blocks that are read from memory, where the numbers of
+/// `half_sum` would be taken apart again.
+#[inline(always)]
+pub(crate) fn vector_sum(block: &[u8; BLOCK], other: &[u8; BLOCK]) -> [u8; BLOCK]
+    ensures { result ≡ xor block.now other.now }
+{
+    (u8x16::from_array(*block) ^ u8x16::from_array(*other)).to_array()
+}
+
 /// Each byte is below 256. The function does nothing.
 pub(crate) fn known(bytes: &[u8])
     ensures { All (λ byte. byte < 256) bytes.now }
@@ -88,6 +100,24 @@ pub(crate) fn whole_block(bytes: &[u8], index: usize) -> [u8; BLOCK]
     let mut block = [0; BLOCK];
     block.copy_from_slice(&bytes[start..start + BLOCK]);
     block
+}
+
+/// Eight blocks of the bytes, from block `index` on.
+#[inline(always)]
+pub(crate) fn eight_blocks(bytes: &[u8], index: usize) -> [[u8; BLOCK]; 8]
+    requires { 16 * index + 128 ≤ length bytes.now }
+    ensures { result ≡ map (slice_chunk bytes.now 16) (range_with_len index 8) }
+{
+    [
+        whole_block(bytes, index),
+        whole_block(bytes, index + 1),
+        whole_block(bytes, index + 2),
+        whole_block(bytes, index + 3),
+        whole_block(bytes, index + 4),
+        whole_block(bytes, index + 5),
+        whole_block(bytes, index + 6),
+        whole_block(bytes, index + 7),
+    ]
 }
 
 /// Block `index` of the bytes, with `fill` behind it where they end before it does.

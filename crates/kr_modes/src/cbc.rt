@@ -1,16 +1,18 @@
 //! CBC (SP 800-38A section 6.2) with the padding of PKCS #7 (RFC 5652 section 6.3).
 
-ghost use Rattle.std.specs.Prelude.{◌≡◌, ◌≢◌, ◌↔◌, ℕ, ◌≤◌, ◌<◌, ◌+◌, ◌-◌, ◌*◌, ◌%◌, List, All, length, take, drop, IsTrue, IfOk, IfErr, IfSome, MatchOption, MatchResult};
+ghost use Rattle.std.specs.Prelude.{◌≡◌, ◌≢◌, ◌↔◌, ℕ, ◌≤◌, ◌<◌, ◌+◌, ◌-◌, ◌*◌, ◌/◌, ◌%◌, List, All, length, take, drop, IsTrue, IfOk, IfErr, IfSome, MatchOption, MatchResult};
 ghost use Rattle.kr_aes.specs.Cipher.{cipher};
-ghost use Rattle.kr_aes.specs.EquivalentInverse.{inverse_schedule};
 ghost use Rattle.kr_aes.specs.InverseCipher.{inverse_cipher};
 ghost use Rattle.kr_aes.specs.KeyExpansion.{IsSchedule};
 ghost use Rattle.kr_modes.specs.Cbc.{cbc, cbc_opened, uncbc};
+ghost use Rattle.kr_bitsliced.specs.KeyPlanes.{key_planes};
 ghost use Rattle.kr_modes.specs.Padding.{pad, unpad};
+ghost use Rattle.kr_modes.specs.inner.Opened.{opened_from};
 
 use crate::ModeNo;
 use crate::blocks::{self, BLOCK};
 use kr_aes::Rounds;
+use kr_bitsliced::{KeyPlanes, Planes};
 
 /// The length in bytes of what `cbc_seal` makes of `n` bytes: 1 to 16 bytes of padding are added.
 /// The data has at most 4,194,304 bytes.
@@ -58,7 +60,7 @@ pub fn cbc_seal_in_place(
 }
 
 /// Opens what `cbc_seal` sealed: the body is the IV and the blocks behind it. The length of the
-/// data is answered, and the data stands at the front of `out`; the rest of `out` is any bytes, and
+/// data is answered, and the data stand at the front of `out`; the rest of `out` is any bytes, and
 /// so is all of it after `BadPadding`. A wrong key isn't noticed where what it decrypts to is
 /// padded data. The words and the rounds are what `kr_aes::expand` gave for one key.
 pub fn cbc_unseal(
@@ -83,7 +85,7 @@ pub fn cbc_unseal(
     open(words, rounds, out, 0)
 }
 
-/// The same in one buffer: the body stands behind its first `from` bytes, and the data stands at
+/// The same in one buffer: the body stands behind its first `from` bytes, and the data stand at
 /// its front afterwards.
 pub fn cbc_unseal_in_place(
     words: &[u32; 60],
@@ -124,7 +126,6 @@ fn refused_size(size: usize) -> Option<ModeNo>
 /// Writes the decryption of the blocks to the front of the buffer. The IV and the blocks stand
 /// behind its first `from` bytes. The length of the data whose padding they are is answered.
 fn open(words: &[u32; 60], rounds: Rounds, buffer: &mut [u8], from: usize) -> Result<usize, ModeNo>
-    requires schedule { IsSchedule words.now rounds }
     requires fits { length buffer.old ≤ 4194304 }
     requires from { from + 16 < length buffer.old }
     requires whole { (length buffer.old - from) % 16 ≡ 0 }
@@ -134,35 +135,84 @@ fn open(words: &[u32; 60], rounds: Rounds, buffer: &mut [u8], from: usize) -> Re
         (λ why. cbc_opened (inverse_cipher words.now rounds) body ≡ Err why) }
     ensures why { IfErr result (λ why. why ≡ ModeNo.BadPadding) }
 {
-    let mut inverse = [0; 60];
-    kr_aes::invert(words, rounds, &mut inverse);
-    decrypt(&inverse, rounds, buffer, from);
+    decrypt(words, rounds, buffer, from);
     match unpadded_length(&buffer[..buffer.len() - from - BLOCK]) {
         Some(length) => Ok(length),
         None => Err(ModeNo::BadPadding),
     }
 }
 
-/// Writes the decryption of the blocks behind the IV to the front of the buffer, by the words that
-/// `kr_aes::invert` made. The IV stands behind the first `from` bytes, so that no block is written
-/// over before it is read.
-fn decrypt(inverse: &[u32; 60], rounds: Rounds, buffer: &mut [u8], from: usize)
+/// Writes the decryption of the blocks behind the IV to the front of the buffer: eight at once, and
+/// then those that are left. The IV stands behind the first `from` bytes, so that no block is
+/// written over before it is read.
+fn decrypt(words: &[u32; 60], rounds: Rounds, buffer: &mut [u8], from: usize)
     requires fits { length buffer.old ≤ 4194304 }
     requires from { from + 16 ≤ length buffer.old }
     requires whole { (length buffer.old - from) % 16 ≡ 0 }
-    ensures { (words : List ℕ) → inverse.now ≡ inverse_schedule words rounds
-        → let body = drop from buffer.old in take (length body - 16) buffer.new
-        ≡ uncbc (inverse_cipher words rounds) (take 16 body) (drop 16 body) }
+    ensures { let body = drop from buffer.old in take (length body - 16) buffer.new
+        ≡ uncbc (inverse_cipher words.now rounds) (take 16 body) (drop 16 body) }
 {
-    let mut previous = blocks::whole_block(&buffer[from..], 0);
-    for index in 0..(buffer.len() - from) / BLOCK - 1 {
+    let count = (buffer.len() - from) / BLOCK - 1;
+    decrypt_eights(words, rounds, buffer, from, count / 8);
+    decrypt_each(words, rounds, buffer, from, count - count % 8);
+}
+
+/// Opens so many times eight blocks, from the first on.
+fn decrypt_eights(words: &[u32; 60], rounds: Rounds, buffer: &mut [u8], from: usize, times: usize)
+    requires fits { length buffer.old ≤ 4194304 }
+    requires from { from + 16 + 128 * times ≤ length buffer.old }
+    ensures { let decipher = inverse_cipher words.now rounds in
+        opened_from decipher from (8 * times) buffer.new ≡ opened_from decipher from 0 buffer.old }
+{
+    if times == 0 {
+        return;
+    }
+    let mut keys = [Planes::default(); 15];
+    kr_bitsliced::slice_keys(words, &mut keys);
+    for time in 0..times {
+        decrypt_eight(&keys, rounds, buffer, from, 8 * time);
+    }
+}
+
+/// Opens eight blocks at once, where so many are opened.
+fn decrypt_eight(keys: &KeyPlanes, rounds: Rounds, buffer: &mut [u8], from: usize, opened: usize)
+    requires fits { length buffer.old ≤ 4194304 }
+    requires from { from + 16 * opened + 144 ≤ length buffer.old }
+    ensures { (words : List ℕ) → keys.now ≡ key_planes words
+        → let decipher = inverse_cipher words rounds in
+        opened_from decipher from (opened + 8) buffer.new
+        ≡ opened_from decipher from opened buffer.old }
+{
+    let mut deciphered = blocks::eight_blocks(&buffer[from..], opened + 1);
+    kr_bitsliced::decrypt_eight(keys, rounds, &mut deciphered);
+    for i in 0..8 {
+        let place = opened + i;
+        let start = BLOCK * place;
+        let before = blocks::whole_block(&buffer[from..], place);
+        buffer[start..start + BLOCK].copy_from_slice(&blocks::vector_sum(&deciphered[i], &before));
+    }
+}
+
+/// Opens the blocks that are left, one by one, where so many are opened.
+fn decrypt_each(words: &[u32; 60], rounds: Rounds, buffer: &mut [u8], from: usize, opened: usize)
+    requires fits { length buffer.old ≤ 4194304 }
+    requires from { from + 16 * opened + 16 ≤ length buffer.old }
+    ensures { let decipher = inverse_cipher words.now rounds in
+        let count = (length buffer.old - from) / 16 - 1 in
+        opened_from decipher from count buffer.new ≡ opened_from decipher from opened buffer.old }
+{
+    let count = (buffer.len() - from) / BLOCK - 1;
+    if opened == count {
+        return;
+    }
+    let mut inverse = [0; 60];
+    kr_aes::invert(words, rounds, &mut inverse);
+    for index in opened..count {
         let start = BLOCK * index;
-        let sealed = blocks::whole_block(&buffer[from..], index + 1);
-        let mut block = sealed;
-        kr_aes::decrypt_block_by_inverse(inverse, rounds, &mut block);
-        blocks::add(&mut block, &previous);
+        let mut block = blocks::whole_block(&buffer[from..], index + 1);
+        kr_aes::decrypt_block_by_inverse(&inverse, rounds, &mut block);
+        blocks::add(&mut block, &blocks::whole_block(&buffer[from..], index));
         buffer[start..start + BLOCK].copy_from_slice(&block);
-        previous = sealed;
     }
 }
 

@@ -4,15 +4,12 @@ ghost use Rattle.std.specs.Prelude.{◌≡◌, ◌↔◌, ◌≤◌, ◌<◌, �
 ghost use Rattle.std.specs.Int.{w64, to_be_bytes};
 ghost use Rattle.kr_aes.specs.Cipher.{cipher};
 ghost use Rattle.kr_aes.specs.KeyExpansion.{IsSchedule};
-ghost use Rattle.kr_aes.specs.Begun.{BegunState};
-ghost use Rattle.kr_modes.specs.Gcm.{gctr, counter_block, gcm, gcm_opened, gcm_tag};
+ghost use Rattle.kr_modes.specs.Gcm.{gctr, gcm, gcm_opened, gcm_tag};
 
 use crate::blocks::{self, BLOCK};
+use crate::gctr::{NONCE, gctr, stream_block};
 use crate::{ModeNo, ghash};
-use kr_aes::{Begun, Rounds};
-
-/// The length of a nonce in bytes.
-const NONCE: usize = 12;
+use kr_aes::Rounds;
 
 /// The length of a tag in bytes.
 const TAG: usize = 16;
@@ -59,7 +56,7 @@ pub fn gcm_seal_in_place(
 }
 
 /// Opens what `gcm_seal` sealed: the body is ciphertext and tag. The length of the data is
-/// answered, and the data stands at the front of `out`; the rest of `out` stays as it was. The
+/// answered, and the data stand at the front of `out`; the rest of `out` stays as it was. The
 /// words and the rounds are what `kr_aes::expand` gave for one key.
 pub fn gcm_unseal(
     words: &[u32; 60],
@@ -86,7 +83,7 @@ pub fn gcm_unseal(
     Ok(size)
 }
 
-/// The same in one buffer: the body stands behind its first `from` bytes, and the data stands at
+/// The same in one buffer: the body stands behind its first `from` bytes, and the data stand at
 /// its front afterwards.
 pub fn gcm_unseal_in_place(
     words: &[u32; 60],
@@ -149,79 +146,6 @@ fn is_same(tag: &[u8; TAG], other: &[u8]) -> bool
         difference |= *byte ^ other[i];
     }
     difference == 0
-}
-
-/// The cipher of J0, counted up `n` times.
-#[inline(always)]
-fn stream_block(words: &[u32; 60], rounds: Rounds, nonce: &[u8; NONCE], n: u32) -> [u8; BLOCK]
-    requires schedule { IsSchedule words.now rounds }
-    requires fits { n + 1 < 2 ^ 32 }
-    ensures { result ≡ cipher words.now rounds (counter_block nonce.now n) }
-{
-    let mut block = counter_block(nonce, n);
-    kr_aes::encrypt_block(words, rounds, &mut block);
-    block
-}
-
-/// J0, counted up `n` times.
-#[inline(always)]
-fn counter_block(nonce: &[u8; NONCE], n: u32) -> [u8; BLOCK]
-    requires { n + 1 < 2 ^ 32 }
-    ensures { result ≡ counter_block nonce.now n }
-{
-    let mut block = [0; BLOCK];
-    block[..NONCE].copy_from_slice(nonce);
-    block[NONCE..].copy_from_slice(&(1 + n).to_be_bytes());
-    block
-}
-
-/// What is begun for the counter block after `n` counts. It is begun anew where the last byte is 0,
-/// since the block before it differs elsewhere too.
-#[inline(always)]
-fn begun_for<'a>(begun: Begun<'a>, words: &'a [u32; 60], nonce: &[u8; NONCE], n: u32) -> Begun<'a>
-    requires some { 0 < n }
-    requires fits { n + 1 < 2 ^ 32 }
-    requires before { begun ≡ record {
-      words = words.now;
-      front = take 15 (counter_block nonce.now (n - 1));
-    } }
-    ensures { result ≡ record { words = words.now; front = take 15 (counter_block nonce.now n) } }
-{
-    if (n + 1) % 256 == 0 {
-        Begun::new(words, &counter_block(nonce, n))
-    } else {
-        begun
-    }
-}
-
-/// Writes the exclusive or of the bytes that stand behind the first `from` ones and the key stream
-/// to the front of the buffer, so that no block is written over before it is read.
-fn gctr(words: &[u32; 60], rounds: Rounds, nonce: &[u8; NONCE], buffer: &mut [u8], from: usize)
-    requires schedule { IsSchedule words.now rounds }
-    requires from { from ≤ length buffer.old }
-    requires fits { length buffer.old ≤ 4194304 }
-    ensures { let bytes = drop from buffer.old in
-        take (length bytes) buffer.new ≡ gctr (cipher words.now rounds) nonce.now bytes }
-{
-    let size = buffer.len() - from;
-    let whole = size / BLOCK;
-    let mut begun = Begun::new(words, &counter_block(nonce, 0));
-    for index in 0..whole {
-        let start = BLOCK * index;
-        let n = (index + 1) as u32;
-        begun = begun_for(begun, words, nonce, n);
-        let mut block = begun.encrypt_block(rounds, ((n + 1) % 256) as u8);
-        blocks::add(&mut block, &blocks::whole_block(&buffer[from..], index));
-        buffer[start..start + BLOCK].copy_from_slice(&block);
-    }
-    if size % BLOCK != 0 {
-        let mut block = blocks::filled_block(&buffer[from..], whole, 0);
-        blocks::add(
-            &mut block,
-            &stream_block(words, rounds, nonce, (whole + 1) as u32),
-        );
-        buffer[BLOCK * whole..size].copy_from_slice(&block[..size % BLOCK]);
-    }
 }
 
 /// The two lengths in bits.

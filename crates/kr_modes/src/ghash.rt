@@ -3,7 +3,7 @@
 //! entries of tables, which are made once for a subkey: one entry for each half byte of the other
 //! factor.
 
-ghost use Rattle.std.specs.Prelude.{◌≡◌, ◌<◌, ◌≤◌, ℕ, length, slice_index};
+ghost use Rattle.std.specs.Prelude.{◌≡◌, ◌<◌, ◌≤◌, ◌%◌, ℕ, length, slice_index};
 ghost use Rattle.std.specs.Int.{w128, reverse_bits};
 ghost use Rattle.kr_modes.specs.Blocks.{blocks};
 ghost use Rattle.kr_modes.specs.Gcm.{zero_padded};
@@ -14,6 +14,12 @@ use crate::blocks::{self, BLOCK};
 
 /// The tables of a subkey: 32 of 16 blocks, one for each half byte, from the first byte's high one.
 pub(crate) type Products = [[u128; 16]; 32];
+
+/// Two blocks.
+const PAIR: usize = 2 * BLOCK;
+
+/// From so many bytes on it pays to make the tables of the subkey's square.
+const LONG: usize = 32768;
 
 /// The coefficients of 1 + x + x^2 + x^7, the first one highest: the modulus without its x^128.
 const MODULUS_LOW: u128 = 0xe1 << 120;
@@ -81,24 +87,67 @@ pub(crate) fn fill(subkey: &[u8; BLOCK], products: &mut Products)
     }
 }
 
-/// The product of a block and the subkey that the tables are made of.
+/// The product of a block and the subkey that the tables are made of. The entries go into two sums,
+/// so that fewer of them wait for each other.
 #[inline(always)]
 fn product(products: &Products, a: u128) -> u128
     ensures { (subkey : ℕ) → IsTableOf products.now subkey
         → polynomial_of result ≡ product (polynomial_of a) subkey }
 {
     let bytes = a.to_le_bytes();
-    let mut sum = 0;
+    let mut high = 0;
+    let mut low = 0;
     for (i, byte) in bytes.iter().enumerate() {
-        let high = products[2 * i][(*byte / 16) as usize];
-        let low = products[2 * i + 1][(*byte % 16) as usize];
-        sum = sum ^ high ^ low;
+        high ^= products[2 * i][(*byte / 16) as usize];
+        low ^= products[2 * i + 1][(*byte % 16) as usize];
     }
-    sum
+    high ^ low
 }
 
 /// The value that the bytes, with zeros behind them, make of the value `start`.
 pub(crate) fn absorb(products: &Products, start: u128, bytes: &[u8]) -> u128
+    requires { length bytes.now ≤ 4194304 }
+    ensures { (subkey : ℕ) → IsTableOf products.now subkey
+        → polynomial_of result
+        ≡ ghash_blocks subkey (polynomial_of start) (blocks (zero_padded bytes.now)) }
+{
+    if bytes.len() < LONG {
+        return absorb_each(products, start, bytes);
+    }
+    let paired = bytes.len() / PAIR * PAIR;
+    let value = absorb_pairs(products, start, &bytes[..paired]);
+    absorb_each(products, value, &bytes[paired..])
+}
+
+/// The same for whole pairs of blocks. The first block of a pair is multiplied twice, which the
+/// tables of the subkey's square do at once: so its entries and the second's don't wait for each
+/// other. Inlined into its caller, LLVM would put all of them into one sum.
+#[inline(never)]
+fn absorb_pairs(products: &Products, start: u128, bytes: &[u8]) -> u128
+    requires fits { length bytes.now ≤ 4194304 }
+    requires pairs { length bytes.now % 32 ≡ 0 }
+    ensures { (subkey : ℕ) → IsTableOf products.now subkey
+        → polynomial_of result
+        ≡ ghash_blocks subkey (polynomial_of start) (blocks (zero_padded bytes.now)) }
+{
+    let subkey = products[0][8];
+    let square = product(products, subkey).to_le_bytes();
+    let mut squares = [[0; 16]; 32];
+    fill(&square, &mut squares);
+    let mut value = start;
+    for pair in 0..bytes.len() / PAIR {
+        let first = blocks::whole_block(bytes, 2 * pair);
+        let second = blocks::whole_block(bytes, 2 * pair + 1);
+        let twice = product(&squares, value ^ number(&first));
+        let once = product(products, number(&second));
+        value = twice ^ once;
+    }
+    value
+}
+
+/// The same block by block.
+#[inline(never)]
+fn absorb_each(products: &Products, start: u128, bytes: &[u8]) -> u128
     requires { length bytes.now ≤ 4194304 }
     ensures { (subkey : ℕ) → IsTableOf products.now subkey
         → polynomial_of result

@@ -5,6 +5,7 @@
 mod blocks;
 mod cbc;
 mod gcm;
+mod gctr;
 mod ghash;
 pub mod laws;
 

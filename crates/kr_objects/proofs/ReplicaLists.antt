@@ -6,7 +6,7 @@ use Rattle.std.proofs.lemmas.List.Sums.{length-filter}
 use Rattle.std.proofs.lemmas.Option.{none-some, slice_get-get_or}
 use Rattle.kr_config.specs.Kept.{rows_of}
 use Rattle.kr_config.specs.declared.settings.Settings.{Settings}
-use Rattle.kr_rollout.specs.Openings.{IsFirstIn, settings_rows, rows_in}
+use Rattle.kr_starts.specs.Replicas.{IsFirstIn, settings_rows, rows_in}
 use Rattle.kr_words.specs.Grammar.{replicas_of}
 use Rattle.kr_words.specs.Options.{is_named}
 use Rattle.kr_commands.specs.Command.{replica_names}

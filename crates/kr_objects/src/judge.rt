@@ -1,7 +1,7 @@
 //! `judge`: store, the replicas' configurations, the new one, the verdict on it.
 ghost use Rattle.std.specs.Prelude.{◌≡◌, ◌≤◌, length};
 ghost use Rattle.kr_config.specs.Kept.{rows_of};
-ghost use Rattle.kr_rollout.specs.Openings.{IsFirstIn, rows_in};
+ghost use Rattle.kr_starts.specs.Replicas.{IsFirstIn, rows_in};
 ghost use Rattle.kr_steps.specs.Around.{Around, with_world};
 ghost use Rattle.kr_steps.specs.Commands.{judging, judging_on, judging_by, judging_at};
 ghost use Rattle.kr_steps.specs.Judgements.{verdict_done};
@@ -17,7 +17,7 @@ use kr_commands::{Done, Judgement, Object, Outcome, Refusal, Stop};
 use kr_config::Settings;
 use kr_judge::Verdict;
 use kr_kms::World;
-use kr_rollout::{StartNo, board_of};
+use kr_starts::{StartNo, board_of};
 use kr_steps::{close_tape, load_settings, load_store, open_tape};
 use kr_store::Store;
 use std::alloc::Global;

@@ -8,7 +8,7 @@ ghost use Rattle.kr_provider.specs.PluginOrder.{plugin_order};
 ghost use Rattle.kr_provider.specs.Readers.{writer_of};
 ghost use Rattle.kr_store.specs.declared.rows.LogRow.{LogRow};
 ghost use Rattle.kr_steps.specs.Around.{Around, around, with_world};
-ghost use Rattle.kr_rollout.specs.Checks.{store_check};
+ghost use Rattle.kr_starts.specs.Checks.{store_check};
 ghost use Rattle.kr_steps.specs.Commands.{putting, revision_line, sealed_into, stored_into, stored_on};
 ghost use Rattle.kr_steps.specs.Steps.{and_then};
 ghost use Rattle.kr_steps.specs.StoreFiles.{with_row};

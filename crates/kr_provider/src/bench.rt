@@ -140,14 +140,15 @@ impl<L: Kms, D: Dice> Bench<L, D> {
         ensures later { D.count self.old.dice ≤ D.count self.new.dice }
         ensures kept { self.new ≡ record self.old { dice = self.new.dice } }
     {
-        let beside = beside(self.adoption.published().writer_for(resource));
+        let beside = beside_for(&self.adoption, resource, plain.len());
         match with_room(alloc, plain, beside) {
-            Ok(plain) => self.seal_in_place(alloc, resource, path, plain),
+            Ok(plain) => seal_for(alloc, &self.adoption, resource, path, plain, &mut self.dice),
             Err(_) => Err(SealNo::NoMemory),
         }
     }
 
-    /// The same, in the buffer of data that are given away, as far as that has the room.
+    /// The same, in the buffer of data that are given away. It grows by what is missing alone, since
+    /// its room stays with the value.
     pub fn seal_in_place(
         &mut self,
         alloc: Global,
@@ -165,7 +166,11 @@ impl<L: Kms, D: Dice> Bench<L, D> {
         ensures later { D.count self.old.dice ≤ D.count self.new.dice }
         ensures kept { self.new ≡ record self.old { dice = self.new.dice } }
     {
-        seal_for(alloc, &self.adoption, resource, path, plain, &mut self.dice)
+        let beside = beside_for(&self.adoption, resource, plain.as_slice().len());
+        match grown(plain, beside) {
+            Ok(plain) => seal_for(alloc, &self.adoption, resource, path, plain, &mut self.dice),
+            Err(_) => Err(SealNo::NoMemory),
+        }
     }
 
     /// What the stored value of the resource at the path, which may be empty, holds. The first
@@ -293,6 +298,23 @@ fn seal_for<D: Dice>(
     let words = adoption.words(writer);
     plain.known();
     seal_by(alloc, writer, published.seeds(), words, path, plain, dice)
+}
+
+/// How many bytes a value of the resource has beside so many bytes of data.
+fn beside_for(adoption: &Adoption, resource: &str, size: usize) -> usize
+    requires { IsSome adoption.now.published }
+{
+    let published = adoption.published();
+    beside(published.writer_for(resource), published.seeds(), size)
+}
+
+/// The data, with room for so many bytes beside them.
+fn grown(plain: Bytes, beside: usize) -> Result<Bytes, NoMemory>
+    ensures { IfOk result (λ same. same ≡ plain) }
+{
+    let mut bytes = plain.into_vec();
+    bytes.reserve_exact(beside)?;
+    Ok(Bytes::from_vec(bytes))
 }
 
 /// A copy of the data, with room for so many bytes beside them.

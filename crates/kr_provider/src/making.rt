@@ -1,6 +1,5 @@
 //! The seeds of a configuration's plugins, made in the order of their names.
 ghost use Rattle.std.specs.Prelude.{◌≡◌, ◌≤◌, ◌⊎◌, [], false, Contains, IfOk, IsOk};
-ghost use Rattle.std.specs.Str.{IsUtf8};
 ghost use Rattle.kr_config.specs.Kept.{plugins_in, rows_of};
 ghost use Rattle.kr_provider.specs.AskedLinks.{AskedOnly};
 ghost use Rattle.kr_provider.specs.Names.{HasLinks, names_of};
@@ -9,7 +8,7 @@ ghost use Rattle.kr_provider.specs.inner.Making.{MakesAll, MakesAt, refusal_at};
 
 use crate::links::Links;
 use crate::refusal::PublishNo;
-use kr_base::{Dice, List, Text};
+use kr_base::{Dice, List, Text, tell_text};
 use kr_config::Settings;
 use kr_kms::{Kms, SeedNo, SeedRow};
 use std::alloc::Global;
@@ -44,11 +43,6 @@ pub(crate) fn make_seeds<L: Kms, D: Dice>(
     }
     Ok(made)
 }
-
-/// Tells that a text is one.
-fn tell_text(text: &str)
-    ensures { IsUtf8 text.now }
-{}
 
 /// A seed of the plugin of this name.
 fn make_one<L: Kms, D: Dice>(

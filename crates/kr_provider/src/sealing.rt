@@ -18,7 +18,7 @@ ghost use Rattle.kr_provider.specs.inner.Scan.{HasSeed, HasWords};
 
 use crate::refusal::SealNo;
 use crate::rounds::rounds_of;
-use crate::seed_sealing::by_seed;
+use crate::seed_sealing::{beside_by_seed, by_seed};
 use crate::seeds::seed_of;
 use kr_base::{Bytes, DATA_LIMIT, Dice, Failed, Text};
 use kr_config::Who;
@@ -183,20 +183,23 @@ fn prefixed(alloc: Global, kind: Kind, name: &Text, zeros: usize) -> Option<Vec<
 }
 
 /// The length of the prefix of a provider's values and of so many bytes more.
-fn prefix_and(kind: Kind, name: &Text, more: usize) -> usize
+pub(crate) fn prefix_and(kind: Kind, name: &Text, more: usize) -> usize
     requires { more ≤ 64 }
     ensures { result ≡ length (prefix kind name.now) + more }
 {
     kind.head().len() + name.as_str().as_bytes().len() + 1 + more
 }
 
-/// How many bytes a provider's values have beside the data, those of a plugin at most times.
-pub(crate) fn beside(who: &Who) -> usize {
+/// How many bytes a provider's value has beside so many bytes of data.
+pub(crate) fn beside(who: &Who, seeds: &[SeedRow], size: usize) -> usize {
     match who {
         Who::Identity => 0,
         Who::Aescbc(name, _) => prefix_and(Kind::Aescbc, name, IV + IV),
         Who::Aesgcm(name, _) => prefix_and(Kind::Aesgcm, name, NONCE + TAG),
-        Who::Kms(_) => 4096,
+        Who::Kms(name) => match seed_of(seeds, name.as_str()) {
+            Some(row) => beside_by_seed(name, row, size),
+            None => 0,
+        },
     }
 }
 

@@ -12,7 +12,7 @@ ghost use Rattle.kr_provider.specs.Publication.{seed_of};
 ghost use Rattle.kr_provider.specs.Sealing.{Seals};
 
 use crate::refusal::SealNo;
-use crate::sealing::{NONCE, TAG, draw, framed, write_gcm};
+use crate::sealing::{NONCE, TAG, draw, framed, prefix_and, write_gcm};
 use crate::value_keys::{SEED, value_key};
 use kr_aes::expand;
 use kr_base::{Bytes, Dice, Failed, Text};
@@ -22,6 +22,9 @@ use std::alloc::Global;
 
 /// About as many bytes as a value has before its sealed data.
 const FRONT: usize = 128;
+
+/// The bytes of the field that tells that the source is a seed.
+const KIND: usize = 2;
 
 /// The value by a plugin's seed, under an info and a nonce that are drawn.
 pub(crate) fn by_seed<D: Dice>(
@@ -51,6 +54,43 @@ pub(crate) fn by_seed<D: Dice>(
     }
     fill(row.seed.as_slice(), &drawn, path, &mut value, start, size);
     Ok(Bytes::from_vec(value))
+}
+
+/// How many bytes a value by the seed has beside so many bytes of data.
+pub(crate) fn beside_by_seed(name: &Text, row: &SeedRow, size: usize) -> usize {
+    let around = SEED + NONCE + TAG;
+    let mut beside = prefix_and(Kind::Kms, name, around)
+        .saturating_add(head_size(size.saturating_add(around)))
+        .saturating_add(field_size(row.key_id.as_str().len()))
+        .saturating_add(field_size(row.source.as_slice().len()))
+        .saturating_add(KIND);
+    for (key, value) in row.annotations.pairs() {
+        let key = field_size(key.as_str().len());
+        let value = field_size(value.as_slice().len());
+        let pair = key.saturating_add(value);
+        beside = beside.saturating_add(head_size(pair)).saturating_add(pair);
+    }
+    beside
+}
+
+/// How many bytes a field of so many takes, none where it is empty.
+fn field_size(size: usize) -> usize {
+    if size == 0 {
+        0
+    } else {
+        head_size(size).saturating_add(size)
+    }
+}
+
+/// How many bytes stand in front of a field's own: its number, and its length by sevens of bits.
+fn head_size(size: usize) -> usize {
+    if size < 128 {
+        2
+    } else if size < 16_384 {
+        3
+    } else {
+        4
+    }
 }
 
 /// The value with the data in place of their ciphertext and zeros in place of the other sealed

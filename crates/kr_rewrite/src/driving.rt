@@ -5,16 +5,16 @@ ghost use Rattle.kr_provider.specs.AskedLinks.{AskedOnly};
 ghost use Rattle.kr_provider.specs.KeyPages.{size_of};
 ghost use Rattle.kr_provider.specs.Names.{names_of};
 ghost use Rattle.kr_rollout.specs.Callers.{holding};
-ghost use Rattle.kr_rollout.specs.Calls.{AreServed, KeepsToldHonesty};
+ghost use Rattle.kr_callers.specs.Calls.{AreServed, KeepsToldHonesty};
 ghost use Rattle.kr_rewrite.specs.Drives.{IsDrive, IsIdleAtEnd, report_at};
 ghost use Rattle.kr_rewrite.specs.inner.Stages.{GoesOn};
 
 use crate::outcome::Report;
 use crate::step::rewrite_next;
 use kr_base::{Dice, Text};
+use kr_callers::{Acts, CallNo};
 use kr_kms::Kms;
 use kr_provider::Bench;
-use kr_rollout::{Acts, CallNo};
 use std::alloc::Global;
 
 /// Takes steps, the first above this path, which may be empty, and each further one above the path

@@ -4,16 +4,17 @@ ghost use Rattle.kr_provider.specs.AskedLinks.{AskedOnly};
 ghost use Rattle.kr_provider.specs.Names.{names_of};
 ghost use Rattle.kr_store.specs.Rows.{IsRow};
 ghost use Rattle.kr_rollout.specs.Callers.{found_in, holding};
-ghost use Rattle.kr_rollout.specs.Calls.{KeepsToldHonesty};
-ghost use Rattle.kr_rollout.specs.Parts.{AddsWithin};
+ghost use Rattle.kr_callers.specs.Calls.{KeepsToldHonesty};
+ghost use Rattle.kr_callers.specs.Parts.{AddsWithin};
 ghost use Rattle.kr_rewrite.specs.Rewrites.{IsStepTo, ReplacesBy, Rewrites, unread_step, unsealed_step};
 ghost use Rattle.kr_rewrite.specs.inner.Stages.{AnswersReplace, HoldsAdopted, ReadsData, ResealsRow};
 
 use crate::outcome::Step;
 use kr_base::{Bytes, Dice, Spent, Text};
+use kr_callers::{Acts, CallNo, seal_in_place, unseal};
 use kr_kms::Kms;
 use kr_provider::{Bench, Opened, SealNo, UnsealNo};
-use kr_rollout::{Acts, Answer, CallNo, Event, seal, unseal};
+use kr_rollout::{Answer, Event};
 use kr_store::Row;
 use std::alloc::Global;
 
@@ -86,7 +87,7 @@ fn reseal<A: Acts, L: Kms, D: Dice>(
     let Ok(copy) = Text::copy(alloc, row.path.as_str()) else {
         return Err(CallNo::NoMemory);
     };
-    let stored = match seal(alloc, bench, &row.resource, &row.path, &plain) {
+    let stored = match seal_in_place(alloc, bench, &row.resource, &row.path, plain) {
         Ok(stored) => stored,
         Err(why) => return unsealed_step(path, why),
     };

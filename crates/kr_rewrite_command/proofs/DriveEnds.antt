@@ -16,14 +16,14 @@ use Rattle.kr_store.specs.Stores.{IsNext}
 use Rattle.kr_store.specs.declared.rows.Row.{Row}
 use Rattle.kr_rollout.specs.declared.answer.Answer.{Answer}
 use Rattle.kr_rollout.specs.declared.answer.Answer.TheVariants as answer
-use Rattle.kr_rollout.specs.declared.call.CallNo.{CallNo}
-use Rattle.kr_rollout.specs.declared.call.CallNo.TheVariants as no
+use Rattle.kr_callers.specs.declared.call.CallNo.{CallNo}
+use Rattle.kr_callers.specs.declared.call.CallNo.TheVariants as no
 use Rattle.kr_rollout.specs.declared.event.Event.TheVariants as event
 use Rattle.kr_rollout.specs.declared.line.Did.TheVariants as did
 use Rattle.kr_rollout.specs.declared.opening.Opening.{Opening}
-use Rattle.kr_rollout.specs.Acting.{Caller, AddsEntry}
+use Rattle.kr_callers.specs.Acting.{Caller, AddsEntry}
 use Rattle.kr_rollout.specs.Callers.{gave_of, holding}
-use Rattle.kr_rollout.specs.Calls.{AdoptsNothing, LetsGo}
+use Rattle.kr_callers.specs.Calls.{AdoptsNothing, LetsGo}
 use Rattle.kr_rollout.specs.Histories.{state_of}
 use Rattle.kr_rollout.specs.Steps.{new_rows}
 use Rattle.kr_rewrite.specs.Rewrites.{FindsNext, FindsNone, IsStep, ReplacesBy, ResealsBy, Rewrites, RewritesBy, RewritesData, Steps, unsealed_step}

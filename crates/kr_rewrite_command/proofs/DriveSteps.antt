@@ -17,18 +17,18 @@ use Rattle.kr_store.specs.Stores.{IsNext}
 use Rattle.kr_store.specs.declared.rows.Row.{Row}
 use Rattle.kr_rollout.specs.declared.answer.Answer.{Answer}
 use Rattle.kr_rollout.specs.declared.answer.Answer.TheVariants as answer
-use Rattle.kr_rollout.specs.declared.call.CallNo.{CallNo}
-use Rattle.kr_rollout.specs.declared.call.CallNo.TheVariants as no
+use Rattle.kr_callers.specs.declared.call.CallNo.{CallNo}
+use Rattle.kr_callers.specs.declared.call.CallNo.TheVariants as no
 use Rattle.kr_rollout.specs.declared.event.Event.{Event}
 use Rattle.kr_rollout.specs.declared.event.Event.TheVariants as event
 use Rattle.kr_rollout.specs.declared.opening.Opening.{Opening}
-use Rattle.kr_rollout.specs.Acting.{Caller, AddsEntry}
+use Rattle.kr_callers.specs.Acting.{Caller, AddsEntry}
 use Rattle.kr_rollout.specs.Callers.{did_of, gave_of, holding}
-use Rattle.kr_rollout.specs.Calls.{LetsGo}
+use Rattle.kr_callers.specs.Calls.{LetsGo}
 use Rattle.kr_rollout.specs.Histories.{state_of}
 use Rattle.kr_rollout.specs.Steps.{new_rows}
-use Rattle.kr_rollout.proofs.Following.{adopted_law}
-use Rattle.kr_rollout.proofs.KeptByEvents.{holds_still}
+use Rattle.kr_callers.proofs.Following.{adopted_law}
+use Rattle.kr_callers.proofs.KeptByEvents.{holds_still}
 use Rattle.kr_rewrite.specs.Drives.{FindsRow, path_of}
 use Rattle.kr_rewrite.specs.Rewrites.{FindsNext, FindsNone, IsStep, ReplacesBy, ResealsBy, Rewrites, RewritesBy, RewritesData, Steps}
 use Rattle.kr_rewrite.specs.declared.outcome.Step.{Step}

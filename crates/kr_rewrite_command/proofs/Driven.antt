@@ -14,15 +14,15 @@ use Rattle.kr_provider.proofs.AskedLists.{asked_none}
 use Rattle.kr_store.specs.File.{IsFile}
 use Rattle.kr_store.specs.Stores.{Holds, Kept}
 use Rattle.kr_store.specs.declared.rows.Row.{Row}
-use Rattle.kr_rollout.specs.declared.call.CallNo.{CallNo}
-use Rattle.kr_rollout.specs.declared.call.CallNo.TheVariants as no
+use Rattle.kr_callers.specs.declared.call.CallNo.{CallNo}
+use Rattle.kr_callers.specs.declared.call.CallNo.TheVariants as no
 use Rattle.kr_rollout.specs.declared.event.Event.TheVariants as event
 use Rattle.kr_rollout.specs.declared.answer.Answer.TheVariants as answer
 use Rattle.kr_rollout.specs.declared.opening.Opening.{Opening}
-use Rattle.kr_rollout.specs.Acting.{Caller}
+use Rattle.kr_callers.specs.Acting.{Caller}
 use Rattle.kr_rollout.specs.Histories.{IsRun, state_of}
 use Rattle.kr_rollout.specs.Openings.{start_of}
-use Rattle.kr_rollout.specs.Parts.{AddsWithin}
+use Rattle.kr_callers.specs.Parts.{AddsWithin}
 use Rattle.kr_rewrite.specs.Drives as drives
 use Rattle.kr_rewrite.specs.Drives.{CopiesNoPath, Drives, EndsBy, IsCut, Walks, count_of, is_changed, is_fresh, is_left, is_rewritten, last_of, path_of}
 use Rattle.kr_rewrite.specs.declared.outcome.Report.{Report}

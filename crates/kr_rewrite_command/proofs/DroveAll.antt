@@ -10,12 +10,13 @@ use Rattle.kr_provider.specs.Publication.{Publication}
 use Rattle.kr_store.specs.Stores.{Holds, IsListing, Kept}
 use Rattle.kr_store.specs.declared.rows.Row.{Row}
 use Rattle.kr_store.proofs.Listings.{listing_once}
-use Rattle.kr_rollout.specs.declared.call.CallNo.{CallNo}
+use Rattle.kr_callers.specs.declared.call.CallNo.{CallNo}
 use Rattle.kr_rollout.specs.declared.opening.Opening.{Opening}
-use Rattle.kr_rollout.specs.Acting.{Caller, IsCaller, only_caller}
+use Rattle.kr_callers.specs.Acting.{Caller, IsCaller, only_caller}
 use Rattle.kr_rollout.specs.Cores.{CoreState}
 use Rattle.kr_rollout.specs.Histories.{IsRun, state_of}
-use Rattle.kr_rollout.specs.Openings.{current_from, generations_from, start_of}
+use Rattle.kr_rollout.specs.Openings.{start_of}
+use Rattle.kr_starts.specs.Replicas.{current_from, generations_from}
 use Rattle.kr_rewrite.specs.Drives.{CopiesNoPath, Drives, IsCut, IsDrive}
 use Rattle.kr_rewrite.specs.declared.outcome.Report.{Report}
 use Rattle.kr_steps.specs.Around.{Around}

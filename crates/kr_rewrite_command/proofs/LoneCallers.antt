@@ -18,31 +18,31 @@ use Rattle.kr_rollout.specs.declared.answer.Answer.{Answer}
 use Rattle.kr_rollout.specs.declared.answer.Answer.TheVariants as answer
 use Rattle.kr_rollout.specs.declared.event.Event.{Event}
 use Rattle.kr_rollout.specs.declared.event.Event.TheVariants as event
-use Rattle.kr_rollout.specs.declared.generation.Generation.{Generation}
+use Rattle.kr_starts.specs.declared.generation.Generation.{Generation}
 use Rattle.kr_rollout.specs.declared.line.Did.{Did}
 use Rattle.kr_rollout.specs.declared.line.Did.TheVariants as did
 use Rattle.kr_rollout.specs.declared.line.Gave.{Gave}
 use Rattle.kr_rollout.specs.declared.line.Gave.TheVariants as gave
 use Rattle.kr_rollout.specs.declared.opening.Entry.{Entry}
 use Rattle.kr_rollout.specs.declared.opening.Opening.{Opening}
-use Rattle.kr_rollout.specs.Acting.{Caller, IsCaller, AddsEntry}
+use Rattle.kr_callers.specs.Acting.{Caller, IsCaller, AddsEntry}
 use Rattle.kr_rollout.specs.Answers.{IsAnswer}
 use Rattle.kr_rollout.specs.Callers.{did_of, gave_of, holding}
-use Rattle.kr_rollout.specs.CallLaws.{NamesHeld}
-use Rattle.kr_rollout.specs.Checks.{written_check}
-use Rattle.kr_rollout.specs.ContentLaws.{IsRowFor}
+use Rattle.kr_callers.specs.CallLaws.{NamesHeld}
+use Rattle.kr_starts.specs.Checks.{written_check}
+use Rattle.kr_callers.specs.ContentLaws.{IsRowFor}
 use Rattle.kr_rollout.specs.Entries.{generation_named_by, published_at, seat_of}
 use Rattle.kr_rollout.specs.Histories.{IsLegal, IsRun, state_from, state_of}
 use Rattle.kr_rollout.specs.Openings.{start_of}
-use Rattle.kr_rollout.specs.SizeLaws.{TellsSize}
+use Rattle.kr_callers.specs.SizeLaws.{TellsSize}
 use Rattle.kr_rollout.specs.States.{State}
 use Rattle.kr_rollout.specs.Steps.{IsStep, after, current_after, new_generation, new_generations, new_rows, put_row, with_current}
 use Rattle.kr_rollout.specs.Writes.{IsSealedAnew, WouldWrite, Writes, file_size}
 use Rattle.kr_rollout.proofs.Appending.{state_more}
-use Rattle.kr_rollout.proofs.FoundRows.{found_is_live}
-use Rattle.kr_rollout.proofs.FullExact.{full_is_exact}
-use Rattle.kr_rollout.proofs.HeldFacts.{held_is_named}
-use Rattle.kr_rollout.proofs.Nexts.{caller_next, legal_now, opening_is, seat_is, seen_is}
+use Rattle.kr_callers.proofs.FoundRows.{found_is_live}
+use Rattle.kr_callers.proofs.FullExact.{full_is_exact}
+use Rattle.kr_callers.proofs.HeldFacts.{held_is_named}
+use Rattle.kr_callers.proofs.Nexts.{caller_next, legal_now, opening_is, seat_is, seen_is}
 use Rattle.kr_steps.specs.Commands.{row_anew}
 
 -- sees.

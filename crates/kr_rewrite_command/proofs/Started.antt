@@ -10,9 +10,9 @@ use Rattle.kr_provider.specs.PluginOrder.{plugin_order}
 use Rattle.kr_provider.specs.Publication.{Publication}
 use Rattle.kr_rollout.specs.Cores.{CoreState}
 use Rattle.kr_rollout.specs.Openings.{opening_by}
-use Rattle.kr_rollout.specs.Starts.{MayStart, IsNoStart}
-use Rattle.kr_rollout.specs.declared.opening_board.StartNo.{StartNo}
-use Rattle.kr_rollout.specs.declared.opening_board.StartNo.TheVariants as start
+use Rattle.kr_starts.specs.Starts.{MayStart, IsNoStart}
+use Rattle.kr_starts.specs.declared.opening_board.StartNo.{StartNo}
+use Rattle.kr_starts.specs.declared.opening_board.StartNo.TheVariants as start
 use Rattle.kr_store.specs.Stores.{Kept}
 use Rattle.kr_store.specs.declared.rows.Row as stored
 use Rattle.kr_steps.specs.Around.{Around}

@@ -8,7 +8,7 @@ ghost use Rattle.kr_provider.specs.KeyPages.{size_of};
 ghost use Rattle.kr_provider.specs.Names.{AreDistinct, names_of};
 ghost use Rattle.kr_provider.specs.PluginOrder.{plugin_order};
 ghost use Rattle.kr_provider.specs.Publication.{Publication};
-ghost use Rattle.kr_rollout.specs.Calls.{AreServed};
+ghost use Rattle.kr_callers.specs.Calls.{AreServed};
 ghost use Rattle.kr_store.specs.Stores.{IsListing};
 ghost use Rattle.kr_steps.specs.Around.{Around, with_world};
 ghost use Rattle.kr_steps.specs.Commands.{nothing_done, driving, rewriting, rewriting_on, rewriting_by};
@@ -21,6 +21,7 @@ ghost use Rattle.kr_rewrite_command.specs.inner.Rewriting.{HasRoom, LacksRoom, L
 ghost use Rattle.kr_steps.specs.inner.Tapes.{stored_of};
 
 use kr_base::{Dice, JOURNAL_LIMIT, List, NoMemory, Shared, Tape, Text};
+use kr_callers::{Acts, CallNo, Solo};
 use kr_commands::{
     Counts, Done, Ended, Limit, Object, Outcome, Refusal, Rewriting, Stop, report_text,
 };
@@ -28,7 +29,7 @@ use kr_config::Settings;
 use kr_kms::{Kms, World};
 use kr_provider::{Bench, Links, Published};
 use kr_rewrite::{Report, drive};
-use kr_rollout::{Acts, CallNo, Core, Solo};
+use kr_rollout::Core;
 use kr_steps::{
     Program, close_dice, close_link, close_tape, configure, first_of, load_store, names_of,
     open_dice, open_link, open_tape, programs_of, publish_by, start_stop, take_last,

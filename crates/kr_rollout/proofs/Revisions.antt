@@ -1,17 +1,15 @@
 -- Rows by their revisions, and that more rows and generations change none of those that are there.
-use Rattle.std.proofs.Common.{◌≡◌, ℕ, zero, suc, ◌<◌, ◌≤◌, ◌+◌, ◌-◌, true, List, [], ◌∷◌, ◌++◌, length, Option, None, Some, IfSome, refl, sym, ap, arith}
+use Rattle.std.proofs.Common.{◌≡◌, ℕ, zero, suc, ◌<◌, ◌≤◌, ◌+◌, ◌-◌, List, [], ◌∷◌, ◌++◌, length, Option, None, Some, IfSome, refl, sym, ap, arith}
 use Rattle.std.specs.List.{slice_get}
 use Rattle.std.specs.Option.{option_map}
-use Rattle.std.specs.Str.{bytes_eq}
 use Rattle.std.proofs.lemmas.Option.{none-some, same_Some, slice_get_within}
-use Rattle.std.proofs.lemmas.Slice.Eq.{bytes_eq-Decides}
 use Rattle.kr_store.specs.declared.rows.LogRow.{LogRow}
 use Rattle.kr_store.specs.declared.rows.Row.{Row}
 use Rattle.kr_store.specs.declared.rows.Change.{Change}
 use Rattle.kr_store.specs.declared.rows.Change.TheVariants as change
-use Rattle.kr_store.specs.Rows.{latest_from, live, live_row, row_of, with_revision, put_at}
-use Rattle.kr_store.proofs.Places.{found_in, live_at_revision}
-use Rattle.kr_rollout.specs.declared.generation.Generation.{Generation}
+use Rattle.kr_store.specs.Rows.{live, live_row, row_of, with_revision, put_at}
+use Rattle.kr_store.proofs.Places.{live_at_revision}
+use Rattle.kr_starts.specs.declared.generation.Generation.{Generation}
 use Rattle.kr_rollout.specs.Entries.{published_at}
 
 pub get_front : {X : Type 0} (xs ys : List X) (k : ℕ) → k < length xs
@@ -26,23 +24,6 @@ pub published_front : (generations more : List Generation) (number : Option ℕ)
 published_front generations more None l = refl
 published_front generations more (Some n) l =
     ap (option_map (λ g. g.published)) (get_front generations more n l)
-
--- where the last row of a path stands
-pub record IsLastAt (k : ℕ) (rows : List LogRow) (path : List ℕ) (found : ℕ × LogRow) : Type 0 where
-  pub place : ℕ
-  pub number : found.0 ≡ k + place
-  pub is : slice_get rows place ≡ Some found.1
-  pub same : bytes_eq found.1.path path ≡ true
-
-pub last_at : (k : ℕ) (rows : List LogRow) (path : List ℕ) (found : ℕ × LogRow)
-    → latest_from k rows path ≡ Some found → IsLastAt k rows path found
-last_at k rows path found e = let s = found_in k rows path found e in
-    record {
-      place = found.0 - k;
-      number = omega (arith, s.first);
-      is = s.item;
-      same = (bytes_eq-Decides found.1.path path).1 s.path_is;
-    }
 
 pub revision_is : (n : ℕ) (path : List ℕ) (c : Change) (row : Row) → row_of n path c ≡ Some row
     → (row.revision ≡ n) × (row.path ≡ path)

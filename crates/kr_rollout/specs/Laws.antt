@@ -1,5 +1,5 @@
 -- What follows from the definitions of histories and of what seats know by their own entries.
-use Rattle.std.specs.Prelude.{◌≡◌, ℕ, ◌<◌, ◌++◌, List, length, Option, Some}
+use Rattle.std.specs.Prelude.{◌≡◌, ℕ, ◌<◌, ◌++◌, List, length, Option, Some, Ok}
 use Rattle.kr_store.specs.declared.rows.Row as stored_row
 use Rattle.kr_store.specs.Rows.{put_at}
 use Rattle.kr_config.specs.Kept.{Row}
@@ -12,7 +12,10 @@ use Rattle.kr_rollout.specs.Entries.{seat_of}
 use Rattle.kr_rollout.specs.States.{held_by}
 use Rattle.kr_rollout.specs.Histories.{state_of, IsLegal}
 use Rattle.kr_rollout.specs.Callers.{number_with, holding, found_in}
-use Rattle.kr_rollout.specs.Starts.{AllFit, IsUnfit}
+use Rattle.kr_starts.specs.Starts.{AllFit, IsUnfit, Boards}
+use Rattle.kr_judge.specs.Boards.{BoardState}
+use Rattle.kr_rollout.specs.Openings.{start_of, room_of, board}
+use Rattle.kr_starts.specs.Replicas.{settings_of}
 
 -- a replica that is named as unfit doesn't fit with the others
 abbrev pub UnfitIsUnfit : Type 0
@@ -36,3 +39,9 @@ FoundIsThere = (o : Opening) (history : List Entry) (seat : ℕ) (row : stored_r
     → IsLegal o history
     → found_in (of_seat seat_of seat history) ≡ Some row
     → put_at (state_of o history).rows row.revision ≡ Some row
+
+-- the board that is made of an opening's rows and of its replicas' settings, with room for as many
+-- generations, is the one of the state that a core begins with
+abbrev pub BoardAtStart : Type 0
+BoardAtStart = (o : Opening) (made : BoardState)
+    → Boards o.rows (settings_of o.replicas) (room_of o) (Ok made) → made ≡ board o (start_of o)

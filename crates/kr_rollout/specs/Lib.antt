@@ -1,5 +1,4 @@
 -- The definitions that public contracts and laws name.
-pub mod Checks
 pub mod Entries
 pub mod States
 pub mod Openings
@@ -10,18 +9,7 @@ pub mod Steps
 pub mod Histories
 pub mod Callers
 pub mod Cores
-pub mod Acting
-pub mod Starts
 pub mod inner
 pub mod Laws
 pub mod Judgements
-pub mod Contents
-pub mod Honesty
-pub mod FitLaws
-pub mod ContentLaws
-pub mod CallerLaws
-pub mod CallLaws
-pub mod SizeLaws
-pub mod Parts
-pub mod PartLaws
-pub mod Calls
+pub mod CoreStarts

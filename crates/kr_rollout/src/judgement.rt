@@ -2,11 +2,11 @@
 ghost use Rattle.std.specs.Prelude.{◌≡◌, None, IfOk};
 ghost use Rattle.kr_rollout.specs.inner.Membership.{IsJudgement};
 
-use crate::opening_board::is_refusal;
 use kr_base::{NoMemory, Shared};
 use kr_config::Settings;
 use kr_judge::{Board, Verdict};
 use kr_provider::Published;
+use kr_starts::is_refusal;
 use std::alloc::Global;
 
 /// What the board says of a replica's new configuration. All is there that taking it up or refusing

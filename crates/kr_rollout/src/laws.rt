@@ -1,6 +1,5 @@
 //! Laws of the definitions, for a reader and for callers' proofs. The functions do nothing.
-ghost use Rattle.kr_rollout.specs.Laws.{FrontIsLegal, HoldingIsHeld, FoundIsThere, UnfitIsUnfit};
-ghost use Rattle.kr_rollout.specs.SizeLaws.{FullIsExact};
+ghost use Rattle.kr_rollout.specs.Laws.{FrontIsLegal, HoldingIsHeld, FoundIsThere, UnfitIsUnfit, BoardAtStart};
 
 /// A replica that is named as unfit doesn't fit with the others, so a start is refused for that
 /// only where the opening doesn't fit.
@@ -23,8 +22,8 @@ pub fn found_is_there()
     ensures { FoundIsThere }
 {}
 
-/// An event that would write a row is answered that the store is full exactly where the file with
-/// that row passes the limit, and then with the file's size; want of memory aside.
-pub fn full_is_exact()
-    ensures { FullIsExact }
+/// What `board_of` makes of a store and of replicas' settings is the board of the core that begins
+/// with them, if there is room for as many generations.
+pub fn board_at_start()
+    ensures { BoardAtStart }
 {}

@@ -8,7 +8,6 @@ ghost use Rattle.kr_rollout.specs.inner.Membership.{with_generation};
 ghost use Rattle.kr_rollout.specs.inner.Rollouts.{MayServe, Serves};
 
 use crate::answer::Answer;
-use crate::generation::Generation;
 use crate::judgement::{Judgement, judge};
 use crate::line::{Did, Gave, Line};
 use crate::rollout::Rollout;
@@ -16,6 +15,7 @@ use crate::writing::known;
 use kr_base::{NoMemory, Shared, Tape};
 use kr_config::Settings;
 use kr_provider::Published;
+use kr_starts::Generation;
 
 /// Whether the generation is the expected one, or any is.
 fn is_expected(expect: Option<u32>, current: u32) -> bool

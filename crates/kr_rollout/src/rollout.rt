@@ -7,11 +7,12 @@ ghost use Rattle.kr_rollout.specs.inner.Rollouts.{line_now, MayServe, Serves};
 
 use crate::answer::Answer;
 use crate::event::Event;
-use crate::generation::{Generation, published_of};
 use crate::line::{Did, Gave, Line};
+use crate::published::published_of;
 use kr_base::{List, NoMemory, Shared, Tape, Text};
 use kr_judge::Board;
 use kr_provider::Published;
+use kr_starts::Generation;
 use kr_store::Store;
 use std::alloc::Global;
 use std::marker::Model;

@@ -7,22 +7,22 @@ ghost use Rattle.kr_base.specs.Rules.{IsPath, IsResource};
 ghost use Rattle.kr_store.specs.Rows.{longest_value, put_of, check_in};
 ghost use Rattle.kr_store.specs.Stores.{Puts, Deletes, Replaces};
 ghost use Rattle.kr_rollout.specs.Answers.{IsStill};
-ghost use Rattle.kr_rollout.specs.Checks.{store_check};
+ghost use Rattle.kr_starts.specs.Checks.{store_check};
 ghost use Rattle.kr_rollout.specs.Callers.{gave_of};
 ghost use Rattle.kr_rollout.specs.declared.event.Event.TheVariants as event;
 ghost use Rattle.kr_rollout.specs.inner.Rollouts.{MayServe, Serves};
 ghost use Rattle.kr_rollout.specs.inner.Writing.{refused_as, written_as, deleted_as, needs_with, needs_without, StaysBy, ReplacesBy};
 
 use crate::answer::Answer;
-use crate::check::store_check;
-use crate::generation::published_of;
 use crate::line::{Did, Gave, Line};
+use crate::published::published_of;
 use crate::rollout::Rollout;
 use kr_base::{Bytes, NoMemory, Tape, Text};
 use kr_config::Who;
 use kr_judge::Board;
 use kr_provider::Published;
 use kr_provider::laws::size_of_sealing;
+use kr_starts::store_check;
 use kr_store::{Check, PutNo, Store};
 
 /// Keeps the proposed need where the row was written, and else lets it go.
@@ -220,7 +220,7 @@ fn delete_line(wrote: &Result<Option<u64>, PutNo>) -> Gave
 }
 
 /// The provider by which the configuration writes values of the resource.
-#[tactic(auto, using(crate::proofs::Passing::list_some, crate::proofs::Passing::first_writes))]
+#[tactic(auto, using(crate::proofs::Writers::list_some, crate::proofs::Writers::first_writes))]
 fn writer_of<'a>(published: &'a Published, resource: &str) -> &'a Who
     ensures writer { result.now ≡ writer_of (list_at published.now resource.now) }
     ensures kept { IsPublished published.now }

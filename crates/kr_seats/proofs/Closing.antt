@@ -15,9 +15,9 @@ use Rattle.kr_rollout.specs.declared.opening.Entry.{Entry}
 use Rattle.kr_rollout.specs.declared.opening.Opening.{Opening}
 use Rattle.kr_rollout.specs.Entries.{seat_of}
 use Rattle.kr_rollout.specs.Histories.{IsLegal}
-use Rattle.kr_rollout.specs.Honesty.{KeepsHonest}
-use Rattle.kr_rollout.proofs.HonestSeats.{honest_by_seats}
-use Rattle.kr_rollout.proofs.KeptHonest.{honesty_stands}
+use Rattle.kr_callers.specs.Honesty.{KeepsHonest}
+use Rattle.kr_callers.proofs.HonestSeats.{honest_by_seats}
+use Rattle.kr_callers.proofs.KeptHonest.{honesty_stands}
 use Rattle.kr_seats.specs.Fleets.{IsFleetSeat, AreAdded, HonestIfSeatsAre}
 
 parted : (n m : ℕ) → (n < m) ⊎ (m ≤ n)

@@ -8,11 +8,11 @@ use Rattle.kr_rollout.specs.declared.answer.Answer.{Answer}
 use Rattle.kr_rollout.specs.declared.event.Event.{Event}
 use Rattle.kr_rollout.specs.declared.opening.Entry.{Entry}
 use Rattle.kr_rollout.specs.declared.opening.Opening.{Opening}
-use Rattle.kr_rollout.specs.Acting.{Caller, IsCaller}
+use Rattle.kr_callers.specs.Acting.{Caller, IsCaller}
 use Rattle.kr_rollout.specs.Callers.{Records}
 use Rattle.kr_rollout.specs.Entries.{seat_of}
 use Rattle.kr_rollout.specs.Histories.{state_of}
-use Rattle.kr_rollout.specs.Honesty.{IsHonest, KeepsHonest}
+use Rattle.kr_callers.specs.Honesty.{IsHonest, KeepsHonest}
 use Rattle.kr_rollout.specs.Steps.{IsStep}
 
 -- the entry is a step from where the entries before it lead, and that of this seat, event and

@@ -5,7 +5,8 @@ ghost use Rattle.kr_seats.specs.Fleets.{IsFleetSeat};
 use crate::fleet::{Fleet, Seat};
 use crate::shared_core::SharedCore;
 use kr_base::{Spent, Tape};
-use kr_rollout::{Acts, Answer, Event};
+use kr_callers::Acts;
+use kr_rollout::{Answer, Event};
 use std::marker::Model;
 use std::sync::Wait;
 

@@ -2,7 +2,7 @@
 ghost use Rattle.std.specs.Prelude.{◌≡◌, ◌↔◌, ◌<◌, ◌≤◌, ◌^◌, ℕ, [], length, sum, All, IsErr, IfOk, IfErr, OnErr};
 ghost use Rattle.kr_base.specs.Lines.{of_seat, Stands};
 ghost use Rattle.kr_turn.specs.Seats.{AreFresh, AreAll, number_of, left_of, lines_seen, mine};
-ghost use Rattle.kr_rollout.specs.Acting.{AddsEntry};
+ghost use Rattle.kr_callers.specs.Acting.{AddsEntry};
 ghost use Rattle.kr_rollout.specs.Callers.{MayAsk};
 ghost use Rattle.kr_rollout.specs.Entries.{seat_of};
 ghost use Rattle.kr_rollout.specs.Histories.{IsLegal};

@@ -6,10 +6,11 @@ use Rattle.kr_config.specs.Kept.{Row}
 use Rattle.kr_provider.specs.Publication.{Publication, names_plugin}
 use Rattle.kr_provider.proofs.Lists.{no_names}
 use Rattle.kr_rollout.specs.declared.opening.Opening.{Opening}
-use Rattle.kr_rollout.specs.declared.opening_board.StartNo.{StartNo}
+use Rattle.kr_starts.specs.declared.opening_board.StartNo.{StartNo}
 use Rattle.kr_rollout.specs.Cores.{CoreState}
-use Rattle.kr_rollout.specs.Openings.{NamesAmong, AreAmong, IsFirstIn}
-use Rattle.kr_rollout.specs.Starts.{Starts}
+use Rattle.kr_rollout.specs.Openings.{NamesAmong, AreAmong}
+use Rattle.kr_starts.specs.Replicas.{IsFirstIn}
+use Rattle.kr_rollout.specs.CoreStarts.{Starts}
 use Rattle.kr_seats_tests.specs.Ready.{IsOneBare, IsNewCore}
 
 bare_names : (rows : List Row) → names_plugin rows ≡ false → NamesAmong [] rows

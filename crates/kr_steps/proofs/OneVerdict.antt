@@ -2,10 +2,10 @@
 use Rattle.std.proofs.Common.{◌≡◌, ◌≢◌, ℕ, List, Option, None, Some, Result, Ok, Err, sym, ◌∙◌, ap}
 use Rattle.kr_config.specs.Kept.{Row}
 use Rattle.kr_judge.specs.declared.verdict.Verdict.{Verdict}
-use Rattle.kr_rollout.specs.declared.opening_board.StartNo.{StartNo}
-use Rattle.kr_rollout.specs.declared.opening_board.StartNo.TheVariants as no
-use Rattle.kr_rollout.proofs.Causes.{one_cause}
-use Rattle.kr_rollout.proofs.Judging.{refusal_is_exact}
+use Rattle.kr_starts.specs.declared.opening_board.StartNo.{StartNo}
+use Rattle.kr_starts.specs.declared.opening_board.StartNo.TheVariants as no
+use Rattle.kr_callers.proofs.Causes.{one_cause}
+use Rattle.kr_callers.proofs.Judging.{refusal_is_exact}
 use Rattle.kr_store.specs.declared.rows.LogRow.{LogRow}
 use Rattle.kr_commands.specs.Command.{reload_in, reload_number, reload_file}
 use Rattle.kr_steps.specs.Commands.{configuration, judging_at}

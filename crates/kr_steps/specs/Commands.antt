@@ -20,11 +20,11 @@ use Rattle.kr_provider.specs.Sealing.{draw_size, sealed_by}
 use Rattle.kr_provider.specs.declared.refusal.Opened.{Opened}
 use Rattle.kr_provider.specs.declared.refusal.ValueNo.{ValueNo}
 use Rattle.kr_provider.specs.declared.refusal.ValueNo.TheVariants.{LooksEncrypted}
-use Rattle.kr_rollout.specs.Checks.{store_check}
+use Rattle.kr_starts.specs.Checks.{store_check}
 use Rattle.kr_store.specs.File.{file_bytes}
-use Rattle.kr_rollout.specs.Checks.{written_check}
-use Rattle.kr_rollout.specs.Starts.{MayStart, IsNoStart}
-use Rattle.kr_rollout.specs.declared.opening_board.StartNo.{StartNo}
+use Rattle.kr_starts.specs.Checks.{written_check}
+use Rattle.kr_starts.specs.Starts.{MayStart, IsNoStart}
+use Rattle.kr_starts.specs.declared.opening_board.StartNo.{StartNo}
 use Rattle.kr_store.specs.Rows.{check_in, live, put_of}
 use Rattle.kr_store.specs.Stores.{IsListing}
 use Rattle.kr_store.specs.declared.format.Check as kept

@@ -5,10 +5,11 @@ use Rattle.kr_judge.specs.Texts.{verdict_text}
 use Rattle.kr_judge.specs.Verdicts.{verdict_of}
 use Rattle.kr_judge.specs.declared.verdict.Verdict.{Verdict}
 use Rattle.kr_judge.specs.declared.verdict.Verdict.TheVariants.{Pass, DropsStored, DropsWriter, Unread}
-use Rattle.kr_rollout.specs.Openings.{first_rows, needs_of}
-use Rattle.kr_rollout.specs.Starts.{MayStart, IsNoStart, opening_generations}
-use Rattle.kr_rollout.specs.declared.opening_board.StartNo.{StartNo}
-use Rattle.kr_rollout.specs.declared.opening_board.StartNo.TheVariants as no
+use Rattle.kr_starts.specs.Needs.{needs_of}
+use Rattle.kr_starts.specs.Replicas.{first_rows}
+use Rattle.kr_starts.specs.Starts.{MayStart, IsNoStart, opening_generations}
+use Rattle.kr_starts.specs.declared.opening_board.StartNo.{StartNo}
+use Rattle.kr_starts.specs.declared.opening_board.StartNo.TheVariants as no
 use Rattle.kr_store.specs.declared.rows.LogRow.{LogRow}
 use Rattle.kr_commands.specs.Texts.{line}
 use Rattle.kr_commands.specs.declared.refusal.Done.{Done}

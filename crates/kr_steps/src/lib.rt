@@ -13,7 +13,7 @@ pub use phases::{
     close_dice, close_link, configure, load_settings, open_dice, open_link, show, take_input,
     write_output,
 };
-pub use programs::{Program, Programs, names_of, programs_of, tell_text, without_program};
+pub use programs::{Program, Programs, names_of, programs_of, without_program};
 pub use publication::publish_by;
 pub use starts::start_stop;
 pub use stores::{add_delete, add_put, close_tape, load_store, open_tape};

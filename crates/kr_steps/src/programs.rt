@@ -1,6 +1,5 @@
 //! The programs of the plugins that a configuration names.
 ghost use Rattle.std.specs.Prelude.{◌≡◌, ◌⊎◌, [], ◌∷◌, ◌++◌, map, IfOk, OnOk, OnErr};
-ghost use Rattle.std.specs.Str.{IsUtf8};
 ghost use Rattle.kr_config.specs.Kept.{rows_of};
 ghost use Rattle.kr_provider.specs.PluginOrder.{plugin_order};
 ghost use Rattle.kr_steps.specs.Around.{Around};
@@ -10,7 +9,7 @@ ghost use Rattle.kr_commands.specs.declared.refusal.Stop.{Stop};
 ghost use Rattle.kr_steps.specs.inner.ProgramNames.{names_in};
 ghost use Rattle.kr_steps.specs.inner.Phases.{Does};
 
-use kr_base::{List, NoMemory, Text};
+use kr_base::{List, NoMemory, Text, tell_text};
 use kr_commands::{Options, Refusal, Stop};
 use kr_config::Settings;
 use std::alloc::Global;
@@ -99,11 +98,6 @@ pub fn programs_of(alloc: Global, options: &Options, settings: &Settings) -> Res
     }
     Ok(programs)
 }
-
-/// Tells that a text is UTF-8. It does nothing.
-pub fn tell_text(text: &str)
-    ensures { IsUtf8 text.now }
-{}
 
 /// The refusal of a plugin without a program, or that there is no memory for it.
 pub fn without_program(alloc: Global, plugin: &str) -> Stop

@@ -3,7 +3,7 @@ ghost use Rattle.std.specs.Prelude.{◌≡◌};
 ghost use Rattle.kr_steps.specs.inner.Starts.{start_stop};
 
 use kr_commands::{Refusal, Stop};
-use kr_rollout::StartNo;
+use kr_starts::StartNo;
 
 /// Why a core didn't start, as a command says it.
 pub fn start_stop(why: StartNo) -> Stop

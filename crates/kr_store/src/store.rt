@@ -283,15 +283,11 @@ impl<T: Tape> Store<T> {
         let empty = at == 0;
         let needed = at + row_length(self.format, empty, path, &change);
         if needed > self.limit {
-            drop(change);
             return Err(PutNo::Full { needed });
         }
         match self.rows.reserve(1) {
             Ok(()) => {}
-            Err(NoMemory) => {
-                drop(change);
-                return Err(PutNo::NoMemory);
-            }
+            Err(NoMemory) => return Err(PutNo::NoMemory),
         }
         let revision = self.rows.as_slice().len() as u64 + 1;
         let made = match make_row(self.alloc, self.format, empty, revision, path, change) {

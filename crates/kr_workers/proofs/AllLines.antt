@@ -9,10 +9,10 @@ use Rattle.kr_provider.specs.BenchState.{BenchState}
 use Rattle.kr_provider.specs.Names.{names_of}
 use Rattle.kr_provider.proofs.AskedLists.{asked_none, asked_then, names_stay}
 use Rattle.kr_rollout.specs.declared.opening.Opening.{Opening}
-use Rattle.kr_rollout.specs.Acting.{Caller}
+use Rattle.kr_callers.specs.Acting.{Caller}
 use Rattle.kr_rollout.specs.Callers.{reloads_in}
-use Rattle.kr_rollout.specs.Calls.{AreServed, KeepsToldHonesty}
-use Rattle.kr_rollout.proofs.PartsAdd.{parts_add_up}
+use Rattle.kr_callers.specs.Calls.{AreServed, KeepsToldHonesty}
+use Rattle.kr_callers.proofs.PartsAdd.{parts_add_up}
 use Rattle.kr_script.specs.declared.script.ScriptLine.{ScriptLine}
 use Rattle.kr_script.specs.declared.told.Told.{Told}
 use Rattle.kr_workers.specs.declared.files.SettingsFile.{SettingsFile}

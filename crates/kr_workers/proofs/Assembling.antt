@@ -21,13 +21,13 @@ use Rattle.kr_rollout.specs.declared.line.Did.{Did}
 use Rattle.kr_rollout.specs.declared.line.Did.TheVariants as did
 use Rattle.kr_rollout.specs.declared.opening.Entry.{Entry}
 use Rattle.kr_rollout.specs.declared.opening.Opening.{Opening}
-use Rattle.kr_rollout.specs.Acting.{Caller}
+use Rattle.kr_callers.specs.Acting.{Caller}
 use Rattle.kr_rollout.specs.Callers.{holding, reloads_in}
-use Rattle.kr_rollout.specs.Calls.{AreServed}
+use Rattle.kr_callers.specs.Calls.{AreServed}
 use Rattle.kr_rollout.specs.Entries.{seat_of}
 use Rattle.kr_rollout.specs.Histories.{IsLegal}
-use Rattle.kr_rollout.specs.Honesty.{IsHonest, KeepsHonest}
-use Rattle.kr_rollout.specs.Parts.{written_puts}
+use Rattle.kr_callers.specs.Honesty.{IsHonest, KeepsHonest}
+use Rattle.kr_callers.specs.Parts.{written_puts}
 use Rattle.kr_script.specs.declared.script.Part.{Part}
 use Rattle.kr_script.specs.declared.told.Told.{Told}
 use Rattle.kr_seats.specs.Fleets.{AreAdded, HonestIfSeatsAre, IsFleetSeat, caller_of}

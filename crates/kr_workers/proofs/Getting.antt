@@ -14,18 +14,18 @@ use Rattle.kr_provider.specs.declared.refusal.ValueNo.{ValueNo}
 use Rattle.kr_store.specs.declared.rows.Row.{Row}
 use Rattle.kr_rollout.specs.declared.answer.Answer.{Answer}
 use Rattle.kr_rollout.specs.declared.answer.Answer.TheVariants as answer
-use Rattle.kr_rollout.specs.declared.call.CallNo.{CallNo}
-use Rattle.kr_rollout.specs.declared.call.CallNo.TheVariants as refusal
+use Rattle.kr_callers.specs.declared.call.CallNo.{CallNo}
+use Rattle.kr_callers.specs.declared.call.CallNo.TheVariants as refusal
 use Rattle.kr_rollout.specs.declared.event.Event.TheVariants as event
 use Rattle.kr_rollout.specs.declared.line.Gave.TheVariants as gave
 use Rattle.kr_rollout.specs.declared.opening.Entry.{Entry}
 use Rattle.kr_rollout.specs.declared.opening.Opening.{Opening}
-use Rattle.kr_rollout.specs.Acting.{Caller, AddsEntry}
-use Rattle.kr_rollout.specs.Calls.{LetsGo}
-use Rattle.kr_rollout.specs.Contents.{IsContent}
+use Rattle.kr_callers.specs.Acting.{Caller, AddsEntry}
+use Rattle.kr_callers.specs.Calls.{LetsGo}
+use Rattle.kr_callers.specs.Contents.{IsContent}
 use Rattle.kr_rollout.specs.Entries.{seat_of}
-use Rattle.kr_rollout.specs.Parts.{Adds}
-use Rattle.kr_rollout.proofs.PartsAdd.{parts_follow}
+use Rattle.kr_callers.specs.Parts.{Adds}
+use Rattle.kr_callers.proofs.PartsAdd.{parts_follow}
 use Rattle.kr_fleet.specs.declared.outcome.Read.{Read}
 use Rattle.kr_fleet.specs.declared.outcome.Read.TheVariants as found
 use Rattle.kr_fleet.specs.ReadCalls.{Finds, FindsRow, IsRead}

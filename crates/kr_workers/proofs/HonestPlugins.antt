@@ -22,23 +22,24 @@ use Rattle.kr_provider.specs.Publication.{Publication, list_at, seed_of}
 use Rattle.kr_provider.specs.Readers.{reader_in}
 use Rattle.kr_provider.specs.Reading.{Reading, data_of, object_refusal, reader_reading, refused, unopened}
 use Rattle.kr_provider.specs.Unsealing.{IsSeedOf, MayAsk, MayAskFor, TakesSeed}
-use Rattle.kr_rollout.specs.declared.generation.Generation.{Generation}
+use Rattle.kr_starts.specs.declared.generation.Generation.{Generation}
 use Rattle.kr_rollout.specs.declared.line.Did.{Did}
 use Rattle.kr_rollout.specs.declared.line.Did.TheVariants.{Adopt, Fetch, After, Put, Delete, Replace, LetGo, Reload, Join, Leave}
 use Rattle.kr_rollout.specs.declared.line.Gave.{Gave}
 use Rattle.kr_rollout.specs.declared.line.Gave.TheVariants.{Adopted, Found, Absent, Written, Changed, Released, Reloaded, Joined, Refused, Moved, Present, Departed, Gone, StoreFailed, StoreFull, Nothing}
 use Rattle.kr_rollout.specs.declared.opening.Entry.{Entry}
 use Rattle.kr_rollout.specs.declared.opening.Opening.{Opening}
-use Rattle.kr_rollout.specs.Acting.{Caller}
+use Rattle.kr_callers.specs.Acting.{Caller}
 use Rattle.kr_rollout.specs.Entries.{generation_named_in, published_at, seat_of}
 use Rattle.kr_rollout.specs.Histories.{IsRun, state_from}
-use Rattle.kr_rollout.specs.Honesty.{HonestBy, IsHonestEntry, KeepsData, SeedsOpen}
-use Rattle.kr_rollout.specs.Openings.{generations_from, start_of}
-use Rattle.kr_rollout.specs.Parts.{Adds}
+use Rattle.kr_callers.specs.Honesty.{HonestBy, IsHonestEntry, KeepsData, SeedsOpen}
+use Rattle.kr_rollout.specs.Openings.{start_of}
+use Rattle.kr_starts.specs.Replicas.{generations_from}
+use Rattle.kr_callers.specs.Parts.{Adds}
 use Rattle.kr_rollout.specs.States.{State}
 use Rattle.kr_rollout.specs.Steps.{IsStep, after, new_generations}
 use Rattle.kr_rollout.proofs.Appending.{front_law}
-use Rattle.kr_rollout.proofs.PartsAdd.{parts_follow}
+use Rattle.kr_callers.proofs.PartsAdd.{parts_follow}
 use Rattle.kr_script.specs.declared.script.Part.{Part}
 use Rattle.kr_workers.specs.declared.files.SettingsFile.{SettingsFile}
 use Rattle.kr_workers.specs.declared.worker.Worker.{Worker}

@@ -13,7 +13,7 @@ use Rattle.kr_rollout.specs.declared.line.Did.TheVariants as did
 use Rattle.kr_rollout.specs.declared.line.Gave.TheVariants as gave
 use Rattle.kr_rollout.specs.declared.opening.Entry.{Entry}
 use Rattle.kr_rollout.specs.declared.opening.Opening.{Opening}
-use Rattle.kr_rollout.specs.Contents.{IsContent}
+use Rattle.kr_callers.specs.Contents.{IsContent}
 use Rattle.kr_rollout.specs.Entries.{seat_of}
 use Rattle.kr_fleet.specs.ReadCalls.{IsContentByAny, IsKnownContent}
 use Rattle.kr_script.specs.declared.script.Part.{Part}

@@ -15,7 +15,7 @@ use Rattle.kr_rollout.specs.declared.line.Gave.TheVariants as gave
 use Rattle.kr_rollout.specs.declared.opening.Entry.{Entry}
 use Rattle.kr_rollout.specs.declared.opening.Opening.{Opening}
 use Rattle.kr_rollout.specs.Histories.{state_of}
-use Rattle.kr_rollout.specs.Honesty.{IsHonest, SeedsOpen}
+use Rattle.kr_callers.specs.Honesty.{IsHonest, SeedsOpen}
 use Rattle.kr_script.specs.declared.script.Part.{Part}
 use Rattle.kr_workers.specs.declared.files.SettingsFile.{SettingsFile}
 use Rattle.kr_workers.specs.declared.worker.Worker.{Worker}

@@ -5,7 +5,7 @@ use Rattle.kr_kms.specs.Truth.{Truth}
 use Rattle.kr_provider.specs.AskedLinks.{AskedOnly}
 use Rattle.kr_provider.specs.Names.{names_of}
 use Rattle.kr_rollout.specs.declared.opening.Entry.{Entry}
-use Rattle.kr_rollout.specs.Parts.{Adds, IsWithin}
+use Rattle.kr_callers.specs.Parts.{Adds, IsWithin}
 use Rattle.kr_script.specs.declared.script.ScriptLine.{ScriptLine}
 use Rattle.kr_script.specs.declared.told.Told.{Told}
 use Rattle.kr_workers.specs.declared.files.SettingsFile.{SettingsFile}

@@ -5,9 +5,9 @@ ghost use Rattle.kr_workers.specs.inner.WholeRuns.{AreReady, Runs};
 use crate::files::SettingsFile;
 use crate::line::serve_line;
 use kr_base::{Dice, List, Spent};
+use kr_callers::Acts;
 use kr_kms::Kms;
 use kr_provider::Bench;
-use kr_rollout::Acts;
 use kr_script::{ScriptLine, Told};
 use std::alloc::Global;
 

@@ -2,7 +2,7 @@
 ghost use Rattle.std.specs.Prelude.{◌≡◌, ◌<◌, ◌≤◌, ◌^◌, ℕ, [], length, map, sum, slice_index_or, All, IfOk, IfErr, IsSome, OnErr};
 ghost use Rattle.kr_provider.specs.KeyPages.{size_of};
 ghost use Rattle.kr_provider.specs.Names.{names_of};
-ghost use Rattle.kr_rollout.specs.Calls.{AreServed};
+ghost use Rattle.kr_callers.specs.Calls.{AreServed};
 ghost use Rattle.kr_workers.specs.declared.worker.Worker.{Worker};
 ghost use Rattle.kr_workers.specs.Budgets.{AreBudgets, all_reloads};
 ghost use Rattle.kr_workers.specs.Histories.{IsOneHistory};

@@ -4,10 +4,11 @@ use Rattle.std.specs.Prelude.{IfSome}
 use Rattle.std.proofs.lemmas.List.Elements.{All-cons, All-nil}
 use Rattle.kr_provider.specs.Publication.{Publication}
 use Rattle.kr_rollout.specs.declared.opening.Opening.{Opening}
-use Rattle.kr_rollout.specs.declared.opening_board.StartNo.{StartNo}
+use Rattle.kr_starts.specs.declared.opening_board.StartNo.{StartNo}
 use Rattle.kr_rollout.specs.Cores.{CoreState}
-use Rattle.kr_rollout.specs.Openings.{AreAmong, IsFirstIn, NamesAmong}
-use Rattle.kr_rollout.specs.Starts.{Starts}
+use Rattle.kr_rollout.specs.Openings.{AreAmong, NamesAmong}
+use Rattle.kr_starts.specs.Replicas.{IsFirstIn}
+use Rattle.kr_rollout.specs.CoreStarts.{Starts}
 use Rattle.kr_store.specs.Stores.{IsLiveCount}
 use Rattle.kr_workers_tests.specs.Ready.{IsNamed, IsNewCore, one_name}
 

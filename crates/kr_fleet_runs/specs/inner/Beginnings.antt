@@ -13,7 +13,7 @@ use Rattle.kr_fleet_steps.specs.FleetFiles.{NamedRows, no_file, rows_at}
 use Rattle.kr_fleet_steps.specs.Fleets.{Begun, Replicas, publishing}
 use Rattle.kr_fleet_steps.specs.declared.fleet_file.Plan.{Plan}
 use Rattle.kr_commands.specs.declared.refusal.Stop.{Stop}
-use Rattle.kr_fleet_steps.specs.inner.FleetFiles.{plan_of}
+use Rattle.kr_fleet_steps.specs.inner.Plans.{plan_of}
 use Rattle.kr_steps.specs.inner.Lent.{with_lent_dice, with_lent_links}
 use Rattle.kr_steps.specs.inner.ProgramNames.{names_in}
 use Rattle.kr_steps.specs.inner.Phases.{Does}

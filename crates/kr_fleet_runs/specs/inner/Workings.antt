@@ -12,8 +12,8 @@ use Rattle.kr_fleet_steps.specs.declared.fleet_file.Plan.{Plan}
 use Rattle.kr_fleet_steps.specs.declared.outfit.Outfit.{Outfit}
 use Rattle.kr_commands.specs.declared.refusal.Stop.{Stop}
 use Rattle.kr_fleet_steps.specs.inner.Crews.{outfits_of}
-use Rattle.kr_fleet_steps.specs.inner.FleetFiles.{named}
-use Rattle.kr_fleet_runs.specs.inner.Fleets.{LacksWorkers, LeavesRecord}
+use Rattle.kr_fleet_steps.specs.inner.Plans.{named}
+use Rattle.kr_fleet_runs.specs.inner.FleetOutcomes.{LacksWorkers, LeavesRecord}
 use Rattle.kr_steps.specs.inner.Lent.{with_lent_tape}
 use Rattle.kr_fleet_steps.specs.inner.Outfits.{AreLater, AreNamed, with_outfits}
 use Rattle.kr_steps.specs.inner.ProgramNames.{names_in}

@@ -4,7 +4,7 @@ use Rattle.kr_base.specs.declared.list.List as lists
 use Rattle.kr_config.specs.Kept.{Row}
 use Rattle.kr_config.specs.declared.settings.Settings.{Settings}
 use Rattle.kr_judge.specs.declared.verdict.Verdict.{Verdict}
-use Rattle.kr_rollout.specs.Openings.{rows_in}
+use Rattle.kr_starts.specs.Replicas.{rows_in}
 use Rattle.kr_store.specs.declared.rows.LogRow.{LogRow}
 use Rattle.kr_steps.specs.Judgements.{IsJudged, verdict_outcome}
 use Rattle.kr_commands.specs.declared.refusal.Outcome.{Outcome}

@@ -7,10 +7,10 @@ use Rattle.kr_provider.specs.Publication.{Publication}
 use Rattle.kr_rewrite.specs.declared.outcome.Report.{Report}
 use Rattle.kr_rollout.specs.Cores.{CoreState}
 use Rattle.kr_rollout.specs.Openings.{opening_by}
-use Rattle.kr_rollout.specs.Starts.{MayStart, IsNoStart}
-use Rattle.kr_rollout.specs.declared.call.CallNo.{CallNo}
-use Rattle.kr_rollout.specs.declared.call.CallNo.TheVariants as no
-use Rattle.kr_rollout.specs.declared.opening_board.StartNo.{StartNo}
+use Rattle.kr_starts.specs.Starts.{MayStart, IsNoStart}
+use Rattle.kr_callers.specs.declared.call.CallNo.{CallNo}
+use Rattle.kr_callers.specs.declared.call.CallNo.TheVariants as no
+use Rattle.kr_starts.specs.declared.opening_board.StartNo.{StartNo}
 use Rattle.kr_store.specs.Stores.{IsListing, Kept}
 use Rattle.kr_store.specs.declared.rows.LogRow.{LogRow}
 use Rattle.kr_store.specs.declared.rows.Row as stored

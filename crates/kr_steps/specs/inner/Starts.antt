@@ -1,6 +1,6 @@
 -- Why a core didn't start, as a command says it.
-use Rattle.kr_rollout.specs.declared.opening_board.StartNo.{StartNo}
-use Rattle.kr_rollout.specs.declared.opening_board.StartNo.TheVariants as no
+use Rattle.kr_starts.specs.declared.opening_board.StartNo.{StartNo}
+use Rattle.kr_starts.specs.declared.opening_board.StartNo.TheVariants as no
 use Rattle.kr_commands.specs.declared.refusal.Refusal.TheVariants.{Stray, OtherSecret, Unfit}
 use Rattle.kr_commands.specs.declared.refusal.Stop.{Stop}
 use Rattle.kr_commands.specs.declared.refusal.Stop.TheVariants.{Refused, NoMemory}

@@ -7,21 +7,21 @@ use Rattle.kr_calls.proofs.opening.published.Goals as goal
 pub publish-requires : goal.publish-requires
 publish-requires g c = record {
   links = one_serves (names_of g.L.Kms.link c.args.bench.now.links)
-      (rows_of c.args.settings.entries.0) c.requires.linked_is
-      (c.in_ok-known.ensures c.if-not-known.false);
+      (rows_of c.in_ok-settings.settings.entries.0) c.requires.linked_is
+      c.in_ok-settings.ensures;
 }
 
 pub returns-in-Ok-clause-named : goal.returns-in-Ok-clause-named
 returns-in-Ok-clause-named g c = names_shared c.shared.result c.in-Ok.published
-    (rows_of c.args.settings.entries.0) c.shared.ensures c.in-Ok.ensures.published.0
-    (c.in_ok-known.ensures c.if-not-known.false)
+    (rows_of c.in_ok-settings.settings.entries.0) c.shared.ensures c.in-Ok.ensures.published.0
+    c.in_ok-settings.ensures
 
 pub returns-in-Ok-clause-bench : goal.returns-in-Ok-clause-bench
 returns-in-Ok-clause-bench g c = bench_kept g.L.Kms.link
-    (plugins_in (rows_of c.args.settings.entries.0)) c.args.bench.now c.publish.new.self
+    (plugins_in (rows_of c.in_ok-settings.settings.entries.0)) c.args.bench.now c.publish.new.self
     c.requires c.publish.ensures.asked c.publish.ensures.kept
 
 pub returns-in-Err-clause-bench : goal.returns-in-Err-clause-bench
 returns-in-Err-clause-bench g c = bench_kept g.L.Kms.link
-    (plugins_in (rows_of c.args.settings.entries.0)) c.args.bench.now c.publish.new.self
+    (plugins_in (rows_of c.in_ok-settings.settings.entries.0)) c.args.bench.now c.publish.new.self
     c.requires c.publish.ensures.asked c.publish.ensures.kept

@@ -2,8 +2,8 @@
 use Rattle.std.proofs.Common.{[], inl, subst, ◌∙◌}
 use Rattle.std.specs.Prelude.{IfOk}
 use Rattle.kr_fleet_steps.specs.Fleets.{launching, publishing, starting}
-use Rattle.kr_fleet_steps.specs.inner.FleetFiles.{named, plan_of}
-use Rattle.kr_fleet_runs.specs.inner.Fleets.{ArePublished, published_in}
+use Rattle.kr_fleet_steps.specs.inner.Plans.{named, plan_of}
+use Rattle.kr_fleet_runs.specs.inner.FleetOutcomes.{ArePublished, published_in}
 use Rattle.kr_steps.specs.inner.Lent.{with_lent_tape}
 use Rattle.kr_fleet_steps.specs.inner.Outfits.{with_outfits}
 use Rattle.kr_steps.specs.inner.ProgramNames.{names_in}

@@ -1,7 +1,7 @@
 -- `fleet`: the plan, what the workers left, and what was written.
 use Rattle.std.proofs.Common.{refl}
 use Rattle.kr_steps.specs.Around.{with_world}
-use Rattle.kr_fleet_steps.specs.inner.FleetFiles.{plan_of}
+use Rattle.kr_fleet_steps.specs.inner.Plans.{plan_of}
 use Rattle.kr_fleet_runs.proofs.FleetRuns.{ran, stopped, unplanned}
 use Rattle.kr_fleet_runs.proofs.fleet.fleet.Goals as goal
 

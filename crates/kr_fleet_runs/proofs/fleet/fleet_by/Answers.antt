@@ -4,7 +4,7 @@ use Rattle.std.specs.Prelude.{◌<◌}
 use Rattle.kr_steps.specs.Commands.{stored_on}
 use Rattle.kr_fleet_steps.specs.Fleets.{beginning}
 use Rattle.kr_steps.specs.Steps.{and_then}
-use Rattle.kr_fleet_steps.specs.inner.FleetFiles.{plan_of}
+use Rattle.kr_fleet_steps.specs.inner.Plans.{plan_of}
 use Rattle.kr_commands.specs.declared.refusal.Object.TheVariants.{Store}
 use Rattle.kr_fleet_runs.proofs.FleetRuns.{over_tape}
 use Rattle.kr_steps.proofs.Tapes.{not_lent, is_out}

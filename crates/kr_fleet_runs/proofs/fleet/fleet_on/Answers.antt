@@ -7,7 +7,7 @@ use Rattle.kr_steps.specs.Around.{with_world}
 use Rattle.kr_steps.specs.Commands.{stored_on}
 use Rattle.kr_fleet_steps.specs.Fleets.{beginning, budgeting, equipping_all, parts_of}
 use Rattle.kr_steps.specs.Steps.{and_then}
-use Rattle.kr_fleet_steps.specs.inner.FleetFiles.{plan_of}
+use Rattle.kr_fleet_steps.specs.inner.Plans.{plan_of}
 use Rattle.kr_steps.specs.inner.Lent.{with_lent_tape}
 use Rattle.kr_steps.specs.inner.Phases.{Does}
 use Rattle.kr_steps.specs.inner.Tapes.{stored_of}

@@ -5,8 +5,8 @@ use Rattle.kr_script.specs.Fleets.{worker_of}
 use Rattle.kr_steps.specs.Around.{with_world}
 use Rattle.kr_fleet_steps.specs.FleetFiles.{all_rows}
 use Rattle.kr_fleet_steps.specs.Fleets.{equipping, launching}
-use Rattle.kr_fleet_steps.specs.inner.FleetFiles.{plan_of}
-use Rattle.kr_fleet_runs.specs.inner.Fleets.{RunsBy}
+use Rattle.kr_fleet_steps.specs.inner.Plans.{plan_of}
+use Rattle.kr_fleet_runs.specs.inner.FleetOutcomes.{RunsBy}
 use Rattle.kr_steps.specs.inner.Lent.{with_lent_tape}
 use Rattle.kr_fleet_steps.specs.inner.Outfits.{AreNamed}
 use Rattle.kr_steps.specs.inner.ProgramNames.{names_in}

@@ -6,7 +6,7 @@ use Rattle.kr_provider.specs.Names.{names_of}
 use Rattle.kr_provider.proofs.AskedLists.{asked_none}
 use Rattle.kr_fleet_steps.specs.FleetFiles.{no_file}
 use Rattle.kr_fleet_runs.specs.inner.Beginnings.{with_first}
-use Rattle.kr_fleet_steps.specs.inner.FleetFiles.{named}
+use Rattle.kr_fleet_steps.specs.inner.Plans.{named}
 use Rattle.kr_fleet_runs.proofs.Publishings.{asked_wider, has_links, next_fails, next_gap, next_lacks, next_published, next_unkept, published_by, published_gap, read_rows, read_there, rows_in_file}
 use Rattle.kr_fleet_runs.proofs.fleet.publish_at.Goals as goal
 

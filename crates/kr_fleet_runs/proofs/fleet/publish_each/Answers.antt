@@ -2,7 +2,7 @@
 use Rattle.std.proofs.Common.{subst, sym}
 use Rattle.kr_provider.specs.Names.{names_of}
 use Rattle.kr_fleet_runs.specs.inner.Beginnings.{MayPublish}
-use Rattle.kr_fleet_steps.specs.inner.FleetFiles.{named}
+use Rattle.kr_fleet_steps.specs.inner.Plans.{named}
 use Rattle.kr_fleet_runs.proofs.Publishings.{IsPublishing, asked_further, may_publish, published_all, publishing_all, publishing_more, publishing_none, publishing_stops, publishing_unkept}
 use Rattle.kr_fleet_runs.proofs.fleet.publish_each.Goals as goal
 

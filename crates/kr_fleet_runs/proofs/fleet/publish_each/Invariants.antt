@@ -1,5 +1,5 @@
 -- So many replicas were gone through.
-use Rattle.kr_fleet_steps.specs.inner.FleetFiles.{named}
+use Rattle.kr_fleet_steps.specs.inner.Plans.{named}
 use Rattle.kr_fleet_runs.proofs.Publishings.{IsPublishing}
 use Rattle.kr_fleet_runs.proofs.fleet.publish_each.Given as goal
 

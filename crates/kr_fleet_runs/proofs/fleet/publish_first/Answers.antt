@@ -4,8 +4,8 @@ use Rattle.kr_provider.specs.Names.{names_of}
 use Rattle.kr_fleet_steps.specs.Fleets.{publishing}
 use Rattle.kr_fleet_steps.specs.declared.outfit.Outfit.{Outfit}
 use Rattle.kr_fleet_runs.specs.inner.Beginnings.{with_first}
-use Rattle.kr_fleet_steps.specs.inner.FleetFiles.{named}
-use Rattle.kr_fleet_runs.specs.inner.Fleets.{published_in}
+use Rattle.kr_fleet_steps.specs.inner.Plans.{named}
+use Rattle.kr_fleet_runs.specs.inner.FleetOutcomes.{published_in}
 use Rattle.kr_fleet_steps.specs.inner.Outfits.{AreLater, with_outfits}
 use Rattle.kr_steps.specs.inner.Phases.{Does}
 use Rattle.kr_fleet_runs.proofs.Publishings.{first_later, first_named, may_each, with_the_first}

@@ -1,7 +1,7 @@
 -- `start`: the core at its opening, or why there is none.
 use Rattle.std.proofs.Common.{Err, sym, subst}
 use Rattle.kr_fleet_steps.specs.Fleets.{starting}
-use Rattle.kr_fleet_steps.specs.inner.FleetFiles.{plan_of}
+use Rattle.kr_fleet_steps.specs.inner.Plans.{plan_of}
 use Rattle.kr_steps.specs.inner.Phases.{Does}
 use Rattle.kr_steps.specs.inner.Tapes.{stored_of}
 use Rattle.kr_fleet_runs.proofs.Beginnings.{not_started, started}

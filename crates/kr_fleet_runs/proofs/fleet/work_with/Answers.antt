@@ -4,7 +4,7 @@ use Rattle.kr_rollout.specs.Cores.{CoreState}
 use Rattle.kr_store.specs.Stores.{Kept}
 use Rattle.kr_workers.specs.Budgets.{AreBudgets}
 use Rattle.kr_fleet_steps.specs.Fleets.{launching, publishing, starting}
-use Rattle.kr_fleet_steps.specs.inner.FleetFiles.{named, plan_of}
+use Rattle.kr_fleet_steps.specs.inner.Plans.{named, plan_of}
 use Rattle.kr_fleet_steps.specs.inner.Outfits.{AreLater, AreNamed}
 use Rattle.kr_steps.specs.inner.ProgramNames.{names_in}
 use Rattle.kr_steps.specs.inner.Phases.{Does}

@@ -4,8 +4,8 @@ use Rattle.kr_steps.specs.Around.{with_world}
 use Rattle.kr_steps.specs.Commands.{stored_on}
 use Rattle.kr_fleet_steps.specs.GeneratedLoads.{load_beginning, load_over, with_streams}
 use Rattle.kr_steps.specs.Steps.{and_then}
-use Rattle.kr_fleet_steps.specs.inner.FleetFiles.{plan_of}
-use Rattle.kr_fleet_runs.specs.inner.GeneratedLoads.{RunsLoad}
+use Rattle.kr_fleet_steps.specs.inner.Plans.{plan_of}
+use Rattle.kr_fleet_runs.specs.inner.LoadOutcomes.{RunsLoad}
 use Rattle.kr_commands.specs.declared.refusal.Object.TheVariants.{Store}
 use Rattle.kr_fleet_runs.proofs.Generating.{load_over_tape, others_stay, untaped}
 use Rattle.kr_steps.proofs.Tapes.{is_out}

@@ -2,7 +2,7 @@
 use Rattle.std.proofs.Common.{◌≡◌, [], Ok, ap, inl, length, sym, subst, ◌∙◌, arith}
 use Rattle.kr_fleet_steps.specs.Fleets.{launching, publishing, starting}
 use Rattle.kr_fleet_steps.specs.GeneratedLoads.{no_faults, with_streams, nothing_told}
-use Rattle.kr_fleet_steps.specs.inner.FleetFiles.{named, plan_of}
+use Rattle.kr_fleet_steps.specs.inner.Plans.{named, plan_of}
 use Rattle.kr_steps.specs.inner.Lent.{with_lent_tape}
 use Rattle.kr_fleet_steps.specs.inner.Outfits.{AreNamed}
 use Rattle.kr_steps.specs.inner.ProgramNames.{names_in}

@@ -1,6 +1,6 @@
 -- `make_outfits`: so many seats have theirs, and there is room for the others.
 use Rattle.std.proofs.Common.{◌≡◌, ◌+◌, ◌≤◌, length}
-use Rattle.kr_fleet_runs.specs.inner.GeneratedLoads.{AreGenerated}
+use Rattle.kr_fleet_runs.specs.inner.LoadOutcomes.{AreGenerated}
 use Rattle.kr_fleet_runs.proofs.loads.make_outfits.Given as goal
 
 abbrev pub invariant-loop-seat : goal.invariant-loop-seat

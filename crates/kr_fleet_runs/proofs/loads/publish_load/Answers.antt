@@ -2,8 +2,8 @@
 use Rattle.std.proofs.Common.{[], None, ap, subst, sym, ◌∙◌}
 use Rattle.kr_provider.specs.Names.{names_of}
 use Rattle.kr_fleet_steps.specs.Fleets.{publishing}
-use Rattle.kr_fleet_steps.specs.inner.FleetFiles.{named}
-use Rattle.kr_fleet_runs.specs.inner.Fleets.{published_in}
+use Rattle.kr_fleet_steps.specs.inner.Plans.{named}
+use Rattle.kr_fleet_runs.specs.inner.FleetOutcomes.{published_in}
 use Rattle.kr_steps.specs.inner.Lent.{with_lent_dice, with_lent_links}
 use Rattle.kr_steps.specs.inner.ProgramNames.{names_in}
 use Rattle.kr_steps.specs.inner.Phases.{Does}

@@ -5,7 +5,7 @@ use Rattle.kr_script.specs.Fleets.{Worker, worker_of}
 use Rattle.kr_script.specs.declared.script.Part.{Part}
 use Rattle.std.proofs.Common.{map}
 use Rattle.kr_fleet_steps.specs.FleetFiles.{file_in, file_of_replica}
-use Rattle.kr_fleet_steps.specs.inner.FleetFiles.{GoesThrough, named}
+use Rattle.kr_fleet_steps.specs.inner.Plans.{GoesThrough, named}
 use Rattle.kr_fleet_steps.proofs.FleetLoads.{lines_mentioned, through_cut, through_then}
 use Rattle.kr_fleet_steps.proofs.fleet_file.load_files.Goals as goal
 

@@ -1,7 +1,7 @@
 -- `load_line`: the file of a line that names one.
 use Rattle.std.proofs.Common.{◌∷◌, [], subst, sym}
 use Rattle.kr_fleet_steps.specs.FleetFiles.{file_in}
-use Rattle.kr_fleet_steps.specs.inner.FleetFiles.{GoesThrough, named}
+use Rattle.kr_fleet_steps.specs.inner.Plans.{GoesThrough, named}
 use Rattle.kr_fleet_steps.proofs.fleet_file.load_line.Goals as goal
 
 pub returns-in-Reload : goal.returns-in-Reload

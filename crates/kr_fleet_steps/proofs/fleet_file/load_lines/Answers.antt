@@ -1,6 +1,6 @@
 -- `load_lines`: one more is gone through, or ends the command.
 use Rattle.kr_fleet_steps.specs.FleetFiles.{file_in}
-use Rattle.kr_fleet_steps.specs.inner.FleetFiles.{named}
+use Rattle.kr_fleet_steps.specs.inner.Plans.{named}
 use Rattle.kr_fleet_steps.proofs.FleetLoads.{through_all, through_more, through_none, through_not}
 use Rattle.kr_fleet_steps.proofs.fleet_file.load_lines.Goals as goal
 

@@ -2,7 +2,7 @@
 use Rattle.std.proofs.Common.{Ok, take}
 use Rattle.std.specs.List.{flat_map}
 use Rattle.kr_fleet_steps.specs.FleetFiles.{file_in}
-use Rattle.kr_fleet_steps.specs.inner.FleetFiles.{GoesThrough, named}
+use Rattle.kr_fleet_steps.specs.inner.Plans.{GoesThrough, named}
 use Rattle.kr_fleet_steps.proofs.fleet_file.load_lines.Given as goal
 
 abbrev pub invariant-loop-line : goal.invariant-loop-line

@@ -4,7 +4,7 @@ use Rattle.kr_config.specs.Kept.{rows_of}
 use Rattle.kr_config.specs.declared.settings.Settings.{Settings}
 use Rattle.kr_workers.specs.Files as workers
 use Rattle.kr_workers.specs.declared.files.SettingsFile.{SettingsFile}
-use Rattle.kr_fleet_steps.specs.inner.FleetFiles.{GoesThrough, named}
+use Rattle.kr_fleet_steps.specs.inner.Plans.{GoesThrough, named}
 use Rattle.kr_fleet_steps.proofs.FleetLoads.{already, loaded, named_more, not_kept, not_loaded, same_rows}
 use Rattle.kr_fleet_steps.proofs.fleet_file.load_once.Goals as goal
 

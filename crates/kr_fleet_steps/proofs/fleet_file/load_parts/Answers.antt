@@ -3,7 +3,7 @@ use Rattle.std.proofs.Common.{Err, Ok, subst}
 use Rattle.std.specs.List.{flat_map}
 use Rattle.kr_script.specs.declared.script.Part.{Part}
 use Rattle.kr_fleet_steps.specs.FleetFiles.{file_in}
-use Rattle.kr_fleet_steps.specs.inner.FleetFiles.{GoesThrough, named}
+use Rattle.kr_fleet_steps.specs.inner.Plans.{GoesThrough, named}
 use Rattle.kr_fleet_steps.proofs.FleetLoads.{through_all, through_more, through_none, through_not}
 use Rattle.kr_fleet_steps.proofs.fleet_file.load_parts.Goals as goal
 

@@ -6,7 +6,7 @@ use Rattle.kr_fleet_steps.specs.FleetFiles.{FleetPlan, NamedRows, all_rows, file
 use Rattle.kr_steps.specs.Steps.{Steps, and_then, give}
 use Rattle.kr_steps.specs.declared.programs.Program.{Program}
 use Rattle.kr_steps.specs.Around.{with_world}
-use Rattle.kr_fleet_steps.specs.inner.FleetFiles.{named}
+use Rattle.kr_fleet_steps.specs.inner.Plans.{named}
 use Rattle.kr_steps.specs.inner.ProgramNames.{names_in}
 use Rattle.kr_steps.specs.inner.Phases.{Does}
 use Rattle.kr_fleet_steps.proofs.FleetLoads.{all_read, all_through, not_through, through_from}

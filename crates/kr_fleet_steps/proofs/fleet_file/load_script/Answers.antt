@@ -1,6 +1,6 @@
 use Rattle.std.proofs.Common.{subst}
 use Rattle.kr_kms.specs.declared.world.WorldCall.TheVariants.{File}
-use Rattle.kr_fleet_steps.specs.inner.FleetFiles.{ReadsBytes}
+use Rattle.kr_fleet_steps.specs.inner.Plans.{ReadsBytes}
 use Rattle.kr_fleet_steps.proofs.FleetLoads.{script_read}
 use Rattle.kr_steps.proofs.Goes.{asked_for}
 use Rattle.kr_fleet_steps.proofs.fleet_file.load_script.Goals as goal

@@ -6,7 +6,7 @@ use Rattle.kr_steps.specs.Commands.{by_result}
 use Rattle.kr_provider.specs.PluginOrder.{plugin_order}
 use Rattle.kr_fleet_steps.specs.FleetFiles.{all_rows}
 use Rattle.kr_steps.specs.Plugins.{programs_of}
-use Rattle.kr_fleet_steps.specs.inner.FleetFiles.{named}
+use Rattle.kr_fleet_steps.specs.inner.Plans.{named}
 use Rattle.kr_fleet_steps.proofs.FleetPrograms.{none_passed_yet}
 use Rattle.kr_steps.proofs.NamedPrograms.{ArePassed, all_passed, linked, names_in, one_linked, unlinked}
 use Rattle.kr_steps.proofs.Works.{lacks}

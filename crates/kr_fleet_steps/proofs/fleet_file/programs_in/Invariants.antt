@@ -5,7 +5,7 @@ use Rattle.kr_config.specs.Kept.{plugins_in}
 use Rattle.kr_provider.proofs.NameOrder.{count_after}
 use Rattle.kr_fleet_steps.specs.FleetFiles.{all_rows}
 use Rattle.kr_steps.specs.Plugins.{programs_of}
-use Rattle.kr_fleet_steps.specs.inner.FleetFiles.{named}
+use Rattle.kr_fleet_steps.specs.inner.Plans.{named}
 use Rattle.kr_steps.proofs.NamedPrograms.{ArePassed, names_in}
 use Rattle.kr_fleet_steps.proofs.fleet_file.programs_in.Given as goal
 

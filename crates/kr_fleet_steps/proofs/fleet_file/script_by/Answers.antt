@@ -1,6 +1,6 @@
 -- `script_by`: why there is no script.
 use Rattle.std.proofs.Common.{Err, subst, sym}
-use Rattle.kr_fleet_steps.specs.inner.FleetFiles.{ReadsBytes}
+use Rattle.kr_fleet_steps.specs.inner.Plans.{ReadsBytes}
 use Rattle.kr_fleet_steps.proofs.FleetLoads.{script_refused}
 use Rattle.kr_fleet_steps.proofs.fleet_file.script_by.Goals as goal
 

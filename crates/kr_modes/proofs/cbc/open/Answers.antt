@@ -14,7 +14,7 @@ returns-in-Some-clause-opened c =
     let same : length body - 16 ≡ size = omega (arith, long, kept) in
     cbc_some (inverse_cipher c.args.words.now c.args.rounds) body c.decrypt.new.buffer size c.in-Some.length
     (omega (arith, long, c.requires.from)) (omega (arith, long, c.requires.whole))
-    (ap (λ (k : ℕ). take k c.decrypt.new.buffer) (sym same) ∙ c.decrypt.ensures c.args.words.now c.invert.ensures)
+    (ap (λ (k : ℕ). take k c.decrypt.new.buffer) (sym same) ∙ c.decrypt.ensures)
     (omega (arith, length-take size c.decrypt.new.buffer, c.in-Some.ensures.within)) c.in-Some.ensures.value
 
 pub returns-in-None-clause-opened : goal.returns-in-None-clause-opened
@@ -27,5 +27,5 @@ returns-in-None-clause-opened c =
     let same : length body - 16 ≡ size = omega (arith, long, kept) in
     cbc_none (inverse_cipher c.args.words.now c.args.rounds) body c.decrypt.new.buffer size
     (omega (arith, long, c.requires.from)) (omega (arith, long, c.requires.whole))
-    (ap (λ (k : ℕ). take k c.decrypt.new.buffer) (sym same) ∙ c.decrypt.ensures c.args.words.now c.invert.ensures)
+    (ap (λ (k : ℕ). take k c.decrypt.new.buffer) (sym same) ∙ c.decrypt.ensures)
     c.in-None.ensures.value

@@ -1,7 +1,7 @@
 use Rattle.std.specs.Prelude.{get_or, []}
 use Rattle.std.proofs.Common.{◌≡◌, ◌+◌, ◌*◌, ◌/◌, ◌%◌, ◌^◌, ◌<◌, ℕ, List, bit_xor, slice_index, sym, ap, ◌∙◌, arith}
 use Rattle.kr_modes.specs.inner.Tables.{IsTableOf, four_terms, polynomial_of, power, turned}
-use Rattle.kr_modes.proofs.Groups.{byte_of_factor, group_more, high_group, low_group}
+use Rattle.kr_modes.proofs.Groups.{byte_of_factor, group_more, high_group, low_group, sums_exchanged}
 use Rattle.kr_modes.proofs.Numbers.{polynomial_of-xor, polynomial_of_none, turned_group}
 use Rattle.kr_modes.proofs.Remainders.{partial_product, partial_product_none, partial_product_whole}
 use Rattle.kr_modes.proofs.ghash.product.Goals as goal
@@ -32,8 +32,11 @@ loop-i-preserved c = λ h is.
     let high = entry products h a (8 * l.i) (byte / 16) (2 * l.i) is (omega arith) (omega arith) (omega (arith, known)) up in
     let low = entry products h a (8 * l.i + 4) (byte % 16) (2 * l.i + 1) is (omega arith) (omega arith) (omega arith) down in
     let end : 8 * l.i + 4 + 4 ≡ 8 * (l.i + 1) = omega arith in
-    polynomial_of-xor (bit_xor l.sum (slice_index (get_or products (2 * l.i) []) (byte / 16))) (slice_index (get_or products (2 * l.i + 1) []) (byte % 16))
-    ∙ ap (λ (x : ℕ). bit_xor x (polynomial_of (slice_index (get_or products (2 * l.i + 1) []) (byte % 16)))) (polynomial_of-xor l.sum (slice_index (get_or products (2 * l.i) []) (byte / 16)))
+    let x : ℕ = slice_index (get_or products (2 * l.i) []) (byte / 16) in
+    let y : ℕ = slice_index (get_or products (2 * l.i + 1) []) (byte % 16) in
+    ap polynomial_of (sums_exchanged l.high x l.low y)
+    ∙ polynomial_of-xor (bit_xor (bit_xor l.high l.low) x) y
+    ∙ ap (λ (z : ℕ). bit_xor z (polynomial_of y)) (polynomial_of-xor (bit_xor l.high l.low) x)
     ∙ (λ k. bit_xor (bit_xor (l.invariant h is k) (high k)) (low k))
     ∙ ap (λ (x : ℕ). bit_xor x (four_terms (p / 2 ^ (8 * l.i + 4) % 16) (power (8 * l.i + 4) h))) (group_more (8 * l.i) p h (omega arith) is.fits)
     ∙ group_more (8 * l.i + 4) p h (omega arith) is.fits

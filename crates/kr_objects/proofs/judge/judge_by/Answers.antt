@@ -1,7 +1,7 @@
 -- `judge_by`: the replicas' configurations, the new one, the verdict.
 use Rattle.std.proofs.Common.{[], Ok, Err, subst, arith}
 use Rattle.kr_config.specs.Kept.{rows_of}
-use Rattle.kr_rollout.specs.Openings.{rows_in}
+use Rattle.kr_starts.specs.Replicas.{rows_in}
 use Rattle.kr_steps.specs.Around.{with_world}
 use Rattle.kr_commands.specs.Command.{replica_names, reload_in, reload_number, reload_file}
 use Rattle.kr_steps.specs.Commands.{configuration, configurations, judging_at}

@@ -1,7 +1,7 @@
 -- `outcome_on`: the verdict, what the command makes of it.
 use Rattle.std.proofs.Common.{Ok, Err}
 use Rattle.kr_config.specs.Kept.{rows_of}
-use Rattle.kr_rollout.specs.Openings.{rows_in}
+use Rattle.kr_starts.specs.Replicas.{rows_in}
 use Rattle.kr_steps.specs.Commands.{judgement_on, telling}
 use Rattle.kr_steps.proofs.Goes.{goes_on, stops}
 use Rattle.kr_objects.proofs.Judging.{judges, tells_verdict}

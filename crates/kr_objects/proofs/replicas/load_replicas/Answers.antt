@@ -2,7 +2,7 @@
 use Rattle.std.proofs.Common.{◌≡◌, ℕ, ◌+◌, List, [], ◌∷◌, ◌++◌, Option, Some, sym, ◌∙◌, ap, subst, arith}
 use Rattle.kr_config.specs.declared.settings.Settings.{Settings}
 use Rattle.kr_kms.specs.Outside.{Outside}
-use Rattle.kr_rollout.specs.Openings.{rows_in}
+use Rattle.kr_starts.specs.Replicas.{rows_in}
 use Rattle.kr_commands.specs.Command.{replica_names}
 use Rattle.kr_objects.specs.inner.Judging.{AreIn}
 use Rattle.kr_objects.proofs.Loads.{IsLoading, loads_none, loads_more, loads_not, lacks_room, loads_all, keeps_all}

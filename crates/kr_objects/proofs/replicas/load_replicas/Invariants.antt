@@ -1,5 +1,5 @@
 -- `load_replicas`: so many are loaded, and all that was loaded is in.
-use Rattle.kr_rollout.specs.Openings.{rows_in}
+use Rattle.kr_starts.specs.Replicas.{rows_in}
 use Rattle.kr_commands.specs.Command.{replica_names}
 use Rattle.kr_objects.specs.inner.Judging.{AreIn}
 use Rattle.kr_objects.proofs.Loads.{IsLoading}

@@ -10,7 +10,7 @@ use Rattle.kr_kms.specs.Outside.{same_name}
 use Rattle.kr_provider.specs.Readers.{writer_of}
 use Rattle.kr_store.specs.Rows.{check_in, put_of}
 use Rattle.kr_steps.specs.Around.{with_lent, with_world}
-use Rattle.kr_rollout.specs.Checks.{store_check}
+use Rattle.kr_starts.specs.Checks.{store_check}
 use Rattle.kr_steps.specs.Commands.{adding, bench_steps, new_row, revision_line, sealed_into, silently, stored_on}
 use Rattle.kr_steps.specs.Steps.{Steps, and_then, give}
 use Rattle.kr_steps.specs.StoreFiles.{Stored}

@@ -2,10 +2,10 @@
 use Rattle.std.proofs.Common.{[], Err, Ok, inr, refl, ◌∙◌}
 use Rattle.kr_provider.specs.Publication.{writer_at}
 use Rattle.kr_provider.specs.Sealing.{IsSealing, Seals}
-use Rattle.kr_rollout.specs.declared.call.CallNo.TheVariants as refusal
+use Rattle.kr_callers.specs.declared.call.CallNo.TheVariants as refusal
 use Rattle.kr_rollout.specs.declared.event.Event.TheVariants as event
-use Rattle.kr_rollout.proofs.KeptByEvents.{holds_still}
-use Rattle.kr_rollout.proofs.PartsAdd.{entry_within, nothing_within, same_within}
+use Rattle.kr_callers.proofs.KeptByEvents.{holds_still}
+use Rattle.kr_callers.proofs.PartsAdd.{entry_within, nothing_within, same_within}
 use Rattle.kr_rewrite.specs.inner.Stages.{ReadsData, ResealsRow}
 use Rattle.kr_rewrite.proofs.Options.{holds_at, holds_of, is_there}
 use Rattle.kr_rewrite.proofs.Replacing.{keeps_replace, may_replace, replaces_to, reseals_done, reseals_in_vain, reseals_nothing, unsealed_to}
@@ -22,18 +22,18 @@ returns-in_default-clause-reseals g c =
 pub returns-in_default-clause-adds : goal.returns-in_default-clause-adds
 returns-in_default-clause-adds g c = nothing_within 1 0 [] (g.A.Acts.caller c.args.acts.now)
 
-pub seal-requires-clause-adopted : goal.seal-requires-clause-adopted
-seal-requires-clause-adopted g c = is_there _ _ c.requires.held.adopted
+pub seal_in_place-requires-clause-adopted : goal.seal_in_place-requires-clause-adopted
+seal_in_place-requires-clause-adopted g c = is_there _ _ c.requires.held.adopted
 
-pub seal-requires-clause-path : goal.seal-requires-clause-path
-seal-requires-clause-path g c = c.requires.rules.0.1
+pub seal_in_place-requires-clause-path : goal.seal_in_place-requires-clause-path
+seal_in_place-requires-clause-path g c = c.requires.rules.0.1
 
 pub returns-in-Err-clause-reseals : goal.returns-in-Err-clause-reseals
 returns-in-Err-clause-reseals g c =
     let h = c.requires.held in
     let old = g.A.Acts.caller c.args.acts.now in
     let dice = c.args.bench.now.dice in
-    let after = c.seal.new.bench.dice in
+    let after = c.seal_in_place.new.bench.dice in
     holds_at (λ p. ResealsRow g.D.Dice.left g.D.Dice.count p c.args.row.now c.args.plain old dice
     c.unsealed_step.result old after) c.args.bench.now.published h.p h.adopted
     (reseals_nothing g.D.Dice.left g.D.Dice.count c.args.row.now c.args.path c.args.plain
@@ -56,12 +56,13 @@ act-requires g c =
     let h = c.requires.held in
     let old = g.A.Acts.caller c.args.acts.now in
     may_replace old.opening old.seat old.mine h.number h.p c.args.row.now c.args.plain
-    c.in-Ok.copy c.in-Ok-seal.stored c.known.ensures.seat_in c.requires.rules.0 h.held
+    c.in-Ok.copy c.in-Ok-seal_in_place.stored c.known.ensures.seat_in c.requires.rules.0 h.held
     c.requires.found (c.in-Ok.ensures ∙ c.as_str.ensures)
     (holds_of (λ p. ReadsData g.L.Kms.truth p c.args.row.now c.args.plain)
     c.args.bench.now.published h.p h.adopted c.requires.reads).some
     (holds_of (λ p. IsSealing p c.args.row.now.resource c.args.row.now.path c.args.plain
-    c.in-Ok-seal.stored) c.args.bench.now.published h.p h.adopted c.in-Ok-seal.ensures.sealing)
+    c.in-Ok-seal_in_place.stored) c.args.bench.now.published h.p h.adopted
+    c.in-Ok-seal_in_place.ensures.sealing)
 
 pub returns-in-Ok-act-clause-reseals : goal.returns-in-Ok-act-clause-reseals
 returns-in-Ok-act-clause-reseals g c =
@@ -69,18 +70,19 @@ returns-in-Ok-act-clause-reseals g c =
     let old = g.A.Acts.caller c.args.acts.now in
     let new = g.A.Acts.caller c.act.new.self in
     let dice = c.args.bench.now.dice in
-    let after = c.seal.new.bench.dice in
+    let after = c.seal_in_place.new.bench.dice in
     holds_at (λ p. ResealsRow g.D.Dice.left g.D.Dice.count p c.args.row.now c.args.plain old dice
     c.replaced_step.result new after) c.args.bench.now.published h.p h.adopted
     (reseals_done g.D.Dice.left g.D.Dice.count c.args.row.now c.args.path c.args.plain
     c.requires.path c.args.bench.now.published h.p h.adopted old new dice after
-    c.in-Ok.copy c.in-Ok-seal.stored c.in-Ok-act.answer c.replaced_step.result
+    c.in-Ok.copy c.in-Ok-seal_in_place.stored c.in-Ok-act.answer c.replaced_step.result
     (holds_of (λ p. Seals g.D.Dice.left g.D.Dice.count p.seeds (writer_at p
     c.args.row.now.resource) c.args.row.now.path c.args.plain dice after
-    (Ok c.in-Ok-seal.stored)) c.args.bench.now.published h.p h.adopted
-    c.in-Ok-seal.ensures.sealed)
+    (Ok c.in-Ok-seal_in_place.stored)) c.args.bench.now.published h.p h.adopted
+    c.in-Ok-seal_in_place.ensures.sealed)
     (holds_of (λ p. IsSealing p c.args.row.now.resource c.args.row.now.path c.args.plain
-    c.in-Ok-seal.stored) c.args.bench.now.published h.p h.adopted c.in-Ok-seal.ensures.sealing)
+    c.in-Ok-seal_in_place.stored) c.args.bench.now.published h.p h.adopted
+    c.in-Ok-seal_in_place.ensures.sealing)
     (c.in-Ok.ensures ∙ c.as_str.ensures) c.in-Ok-act.ensures.acted c.replaced_step.ensures)
 
 pub returns-in-Ok-act-clause-path : goal.returns-in-Ok-act-clause-path
@@ -91,25 +93,27 @@ returns-in-Ok-act-clause-path g c = replaces_to c.args.path c.args.row.now.path
 pub returns-in-Ok-act-clause-adds : goal.returns-in-Ok-act-clause-adds
 returns-in-Ok-act-clause-adds g c = entry_within (g.A.Acts.caller c.args.acts.now)
     (g.A.Acts.caller c.act.new.self)
-    (event.Replace c.in-Ok.copy c.args.row.now.revision c.in-Ok-seal.stored)
+    (event.Replace c.in-Ok.copy c.args.row.now.revision c.in-Ok-seal_in_place.stored)
     c.in-Ok-act.answer c.in-Ok-act.ensures.acted
 
 pub returns-in-Ok-act-clause-honest : goal.returns-in-Ok-act-clause-honest
 returns-in-Ok-act-clause-honest g c =
     let h = c.requires.held in
     keeps_replace g.L.Kms.truth (g.A.Acts.caller c.args.acts.now) (g.A.Acts.caller c.act.new.self)
-    h.number h.p c.args.row.now c.args.plain c.in-Ok.copy c.in-Ok-seal.stored c.in-Ok-act.answer
+    h.number h.p c.args.row.now c.args.plain c.in-Ok.copy c.in-Ok-seal_in_place.stored
+    c.in-Ok-act.answer
     c.known.ensures h.held c.requires.found
     (holds_of (λ p. ReadsData g.L.Kms.truth p c.args.row.now c.args.plain)
     c.args.bench.now.published h.p h.adopted c.requires.reads)
     (holds_of (λ p. IsSealing p c.args.row.now.resource c.args.row.now.path c.args.plain
-    c.in-Ok-seal.stored) c.args.bench.now.published h.p h.adopted c.in-Ok-seal.ensures.sealing)
+    c.in-Ok-seal_in_place.stored) c.args.bench.now.published h.p h.adopted
+    c.in-Ok-seal_in_place.ensures.sealing)
     (c.in-Ok.ensures ∙ c.as_str.ensures) c.in-Ok-act.ensures.acted
 
 pub returns-in-Ok-act-clause-holds : goal.returns-in-Ok-act-clause-holds
 returns-in-Ok-act-clause-holds g c = holds_still (g.A.Acts.caller c.args.acts.now)
     (g.A.Acts.caller c.act.new.self)
-    (event.Replace c.in-Ok.copy c.args.row.now.revision c.in-Ok-seal.stored)
+    (event.Replace c.in-Ok.copy c.args.row.now.revision c.in-Ok-seal_in_place.stored)
     c.in-Ok-act.answer tt c.in-Ok-act.ensures.acted
 
 pub returns-in-Err-act-clause-reseals : goal.returns-in-Err-act-clause-reseals
@@ -118,16 +122,16 @@ returns-in-Err-act-clause-reseals g c =
     let old = g.A.Acts.caller c.args.acts.now in
     let new = g.A.Acts.caller c.act.new.self in
     let dice = c.args.bench.now.dice in
-    let after = c.seal.new.bench.dice in
+    let after = c.seal_in_place.new.bench.dice in
     holds_at (λ p. ResealsRow g.D.Dice.left g.D.Dice.count p c.args.row.now c.args.plain old dice
     (Err refusal.Spent) new after) c.args.bench.now.published h.p h.adopted
     (reseals_in_vain g.D.Dice.left g.D.Dice.count c.args.row.now c.args.path c.args.plain
     c.requires.path c.args.bench.now.published h.p h.adopted old new dice after
-    c.in-Ok-seal.stored
+    c.in-Ok-seal_in_place.stored
     (holds_of (λ p. Seals g.D.Dice.left g.D.Dice.count p.seeds (writer_at p
     c.args.row.now.resource) c.args.row.now.path c.args.plain dice after
-    (Ok c.in-Ok-seal.stored)) c.args.bench.now.published h.p h.adopted
-    c.in-Ok-seal.ensures.sealed)
+    (Ok c.in-Ok-seal_in_place.stored)) c.args.bench.now.published h.p h.adopted
+    c.in-Ok-seal_in_place.ensures.sealed)
     (record { spent = c.in-Err-act.ensures.spent.0 refl; same = c.in-Err-act.ensures.nothing }))
 
 pub returns-in-Err-act-clause-adds : goal.returns-in-Err-act-clause-adds

@@ -4,9 +4,9 @@ use Rattle.std.proofs.lemmas.List.Elements.{All-contains_itself}
 use Rattle.kr_base.specs.Lines.{of_seat}
 use Rattle.kr_provider.specs.Names.{names_of}
 use Rattle.kr_provider.proofs.AskedLists.{names_stay}
-use Rattle.kr_rollout.specs.Acting.{Caller, IsCaller, only_caller}
+use Rattle.kr_callers.specs.Acting.{Caller, IsCaller, only_caller}
 use Rattle.kr_rollout.specs.Callers.{holding}
-use Rattle.kr_rollout.specs.Calls.{AreServed}
+use Rattle.kr_callers.specs.Calls.{AreServed}
 use Rattle.kr_rollout.specs.Entries.{seat_of}
 use Rattle.kr_rollout.specs.declared.opening.Entry.{Entry}
 use Rattle.kr_steps.specs.Commands.{nothing_done}

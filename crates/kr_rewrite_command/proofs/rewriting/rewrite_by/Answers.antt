@@ -12,7 +12,7 @@ use Rattle.kr_provider.proofs.AskedLists.{names_stay}
 use Rattle.kr_rollout.specs.Cores.{CoreState}
 use Rattle.kr_store.specs.Stores.{IsListing}
 use Rattle.kr_commands.specs.declared.refusal.Stop.TheVariants.{NoMemory}
-use Rattle.kr_rollout.specs.Starts.{MayStart, IsNoStart}
+use Rattle.kr_starts.specs.Starts.{MayStart, IsNoStart}
 use Rattle.kr_steps.specs.inner.Lent.{with_lent_tape}
 use Rattle.kr_steps.specs.inner.Phases.{Does}
 use Rattle.kr_steps.specs.inner.Tapes.{stored_of}

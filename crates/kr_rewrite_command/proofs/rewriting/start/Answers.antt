@@ -3,10 +3,12 @@ use Rattle.std.proofs.Common.{◌≡◌, ℕ, List, [], ◌∷◌, Option, Some,
 use Rattle.std.specs.Prelude.{◌≤◌, IfSome, length}
 use Rattle.kr_provider.specs.Publication.{Publication}
 use Rattle.kr_rollout.specs.Cores.{CoreState}
-use Rattle.kr_rollout.specs.Openings.{AreAmong, IsFirstIn, NamesAmong, opening_by, settings_of}
-use Rattle.kr_rollout.specs.Starts.{MayStart, Starts}
-use Rattle.kr_rollout.specs.declared.opening_board.StartNo.{StartNo}
-use Rattle.kr_rollout.specs.declared.opening_board.StartNo.TheVariants as start
+use Rattle.kr_rollout.specs.Openings.{AreAmong, NamesAmong, opening_by}
+use Rattle.kr_starts.specs.Replicas.{IsFirstIn, settings_of}
+use Rattle.kr_starts.specs.Starts.{MayStart}
+use Rattle.kr_rollout.specs.CoreStarts.{Starts}
+use Rattle.kr_starts.specs.declared.opening_board.StartNo.{StartNo}
+use Rattle.kr_starts.specs.declared.opening_board.StartNo.TheVariants as start
 use Rattle.kr_store.specs.Stores.{Kept}
 use Rattle.kr_steps.specs.inner.Starts.{start_stop}
 use Rattle.kr_rewrite_command.specs.inner.Rewriting.{StartsAlone}

@@ -3,7 +3,7 @@ use Rattle.std.proofs.Common.{Err, Ok, refl, inl, arith, subst}
 use Rattle.kr_words.specs.Grammar.{texts}
 use Rattle.kr_steps.specs.Around.{around}
 use Rattle.kr_commands.specs.Receipts.{receipt}
-use Rattle.kr_commands.specs.inner.FleetAsked.{IsFleetAsked}
+use Rattle.kr_commands.specs.inner.FleetAnswers.{IsFleetAsked}
 use Rattle.kr_fleet_laws.proofs.FleetReadings.{fleet_readings}
 use Rattle.kr_fleet_runs.proofs.FleetRuns.{at_once, for_asked, one_fleet, unread}
 use Rattle.kr_commands.proofs.LoadAsked.{asked_small, not_both}

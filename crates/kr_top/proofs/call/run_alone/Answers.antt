@@ -3,7 +3,7 @@ use Rattle.std.proofs.Common.{Err, Ok, refl, inl, arith, subst}
 use Rattle.kr_words.specs.Grammar.{texts}
 use Rattle.kr_steps.specs.Around.{around}
 use Rattle.kr_commands.specs.Receipts.{receipt}
-use Rattle.kr_commands.specs.inner.FleetAsked.{IsFleetAsked}
+use Rattle.kr_commands.specs.inner.FleetAnswers.{IsFleetAsked}
 use Rattle.kr_fleet_runs.proofs.FleetRuns.{alone_or_memory, at_once}
 use Rattle.kr_call_laws.proofs.Leaving.{tapes_left}
 use Rattle.kr_call_laws.proofs.Readings.{readings}

@@ -3,7 +3,7 @@ use Rattle.std.proofs.Common.{Err, Ok, refl, inl, arith, subst}
 use Rattle.kr_words.specs.Grammar.{texts}
 use Rattle.kr_steps.specs.Around.{around}
 use Rattle.kr_commands.specs.Receipts.{receipt}
-use Rattle.kr_commands.specs.inner.LoadAsked.{IsLoadAsked}
+use Rattle.kr_commands.specs.inner.LoadAnswers.{IsLoadAsked}
 use Rattle.kr_call_laws.proofs.Leaving.{tapes_left}
 use Rattle.kr_commands.proofs.LoadAsked.{asked_small, one_load}
 use Rattle.kr_fleet_laws.proofs.LoadReadings.{load_readings}

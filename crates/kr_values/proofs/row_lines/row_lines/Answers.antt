@@ -3,7 +3,7 @@ use Rattle.kr_store.specs.declared.rows.Row.{Row}
 use Rattle.kr_store.specs.Stores.{IsNext}
 use Rattle.kr_steps.specs.RowLines.{ShowsRows, IsTag, row_line}
 use Rattle.kr_steps.specs.inner.Tapes.{path_of}
-use Rattle.kr_rollout.proofs.Walking.{goes_on}
+use Rattle.kr_starts.proofs.Walking.{goes_on}
 use Rattle.kr_values.proofs.Walk.{IsShown, shown_none, shown_more, shown_all}
 use Rattle.kr_values.proofs.row_lines.row_lines.Goals as goal
 

@@ -1,5 +1,5 @@
 use Rattle.kr_steps.specs.inner.Tapes.{path_of}
-use Rattle.kr_rollout.proofs.Walking.{left_after}
+use Rattle.kr_starts.proofs.Walking.{left_after}
 use Rattle.kr_values.proofs.Walk.{IsShown}
 use Rattle.kr_values.proofs.row_lines.row_lines.Given as goal
 

@@ -3,7 +3,7 @@ use Rattle.std.proofs.Common.{arith, ap, ◌∙◌, []}
 use Rattle.std.specs.Prelude.{Result, Some}
 use Rattle.kr_base.specs.InMemory.{InputState}
 use Rattle.kr_provider.specs.Names.{names_of}
-use Rattle.kr_rollout.specs.declared.call.CallNo.{CallNo}
+use Rattle.kr_callers.specs.declared.call.CallNo.{CallNo}
 use Rattle.kr_rewrite.specs.declared.outcome.Report.{Report}
 use Rattle.kr_calls.specs.Desks.{is_spent}
 use Rattle.kr_calls.proofs.Calling.{bench_asked, caller_after, drive_few, idle_at_end, served}
@@ -11,10 +11,10 @@ use Rattle.kr_calls.proofs.desk.Desk.drive.Goals as goal
 
 pub drive-driven-requires-clause-replica : goal.drive-driven-requires-clause-replica
 drive-driven-requires-clause-replica g c = omega
-    (arith, (c.may.ensures c.if-not-may.false).1, c.self.invariant.0.replicas_are)
+    (arith, (c.may_above.ensures c.if-not-may_above.false).1, c.self.invariant.0.replicas_are)
 
 pub drive-driven-requires-clause-idle : goal.drive-driven-requires-clause-idle
-drive-driven-requires-clause-idle g c = c.self.invariant.0.idle (c.may.ensures c.if-not-may.false).0
+drive-driven-requires-clause-idle g c = c.self.invariant.0.idle (c.may_above.ensures c.if-not-may_above.false).0
 
 pub drive-driven-requires-clause-links : goal.drive-driven-requires-clause-links
 drive-driven-requires-clause-links g c = served (g.A.Acts.caller c.self.inside.acts).opening.names

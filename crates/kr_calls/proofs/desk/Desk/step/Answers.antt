@@ -6,11 +6,11 @@ use Rattle.kr_calls.proofs.desk.Desk.step.Goals as goal
 
 pub rewrite_next-done-requires-clause-replica : goal.rewrite_next-done-requires-clause-replica
 rewrite_next-done-requires-clause-replica g c = omega
-    (arith, (c.may.ensures c.if-not-may.false).1, c.self.invariant.0.replicas_are)
+    (arith, (c.may_above.ensures c.if-not-may_above.false).1, c.self.invariant.0.replicas_are)
 
 pub rewrite_next-done-requires-clause-idle : goal.rewrite_next-done-requires-clause-idle
 rewrite_next-done-requires-clause-idle g c = c.self.invariant.0.idle
-    (c.may.ensures c.if-not-may.false).0
+    (c.may_above.ensures c.if-not-may_above.false).0
 
 pub rewrite_next-done-requires-clause-links : goal.rewrite_next-done-requires-clause-links
 rewrite_next-done-requires-clause-links g c = served

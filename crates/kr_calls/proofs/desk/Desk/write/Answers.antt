@@ -7,10 +7,10 @@ use Rattle.kr_calls.proofs.desk.Desk.write.Goals as goal
 
 pub write-done-requires-clause-replica : goal.write-done-requires-clause-replica
 write-done-requires-clause-replica g c = omega
-    (arith, (c.may.ensures c.if-not-may.false).1, c.self.invariant.0.replicas_are)
+    (arith, (c.may_at.ensures c.if-not-may_at.false).1, c.self.invariant.0.replicas_are)
 
 pub write-done-requires-clause-idle : goal.write-done-requires-clause-idle
-write-done-requires-clause-idle g c = c.self.invariant.0.idle (c.may.ensures c.if-not-may.false).0
+write-done-requires-clause-idle g c = c.self.invariant.0.idle (c.may_at.ensures c.if-not-may_at.false).0
 
 pub write-done-requires-clause-links : goal.write-done-requires-clause-links
 write-done-requires-clause-links g c = served (g.A.Acts.caller c.self.inside.acts).opening.names
@@ -24,7 +24,7 @@ pub invariant_of-self : goal.invariant_of-self
 invariant_of-self g c = (
   caller_after (g.A.Acts.caller c.self.inside.acts)
       (g.A.Acts.caller c.write-done.new.acts) c.self.inside.replicas c.self.inside.left
-      c.self.inside.left 3 0 (Put c.args.path.now c.args.resource.now c.args.plain ∷ [])
+      c.self.inside.left 3 0 (Put c.args.path.now c.args.resource.now c.in_ok-plain.plain ∷ [])
       c.self.inside.ended c.is_spent-self-inside.result c.self.invariant.0
       c.write-done.ensures.adds (omega arith)
       (idle_after c.write-done.result (g.A.Acts.caller c.write-done.new.acts)

@@ -1,0 +1,19 @@
+-- The lemmas that the answers cite.
+pub mod ByteBits
+pub mod PlaneSums
+pub mod PlaneDoubles
+pub mod PlaneMoves
+pub mod SlicedBlocks
+pub mod ForwardMixing
+pub mod InverseMixing
+pub mod KeyBytes
+pub mod ForwardRounds
+pub mod InverseRounds
+pub mod EightBlocks
+pub mod Gates
+pub mod NibbleGates
+pub mod HalfProducts
+pub mod Exchange
+pub mod Transposed
+pub mod TransposedBlocks
+pub mod InverseByPairs

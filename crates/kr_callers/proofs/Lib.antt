@@ -1,0 +1,27 @@
+-- The lemmas of kr_callers: of what callers do and know, and of the laws of histories.
+pub mod Effects
+pub mod Fitting
+pub mod Judging
+pub mod Sound
+pub mod Alone
+pub mod ContentSteps
+pub mod ContentReads
+pub mod FoundRows
+pub mod WithoutPlugin
+pub mod HonestSeats
+pub mod NeedsLive
+pub mod Following
+pub mod HeldFacts
+pub mod FoundRules
+pub mod KeptHonest
+pub mod Causes
+pub mod HavingContent
+pub mod FullExact
+pub mod Answered
+pub mod KeptByEvents
+pub mod Nexts
+pub mod AdoptedLetGo
+pub mod PartsAdd
+pub mod NoNames
+pub mod LivePuts
+pub mod AskedReaders

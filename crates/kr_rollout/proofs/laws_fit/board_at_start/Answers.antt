@@ -1,5 +1,0 @@
-use Rattle.kr_rollout.proofs.Beginning as proved
-use Rattle.kr_rollout.proofs.laws_fit.board_at_start.Goals as goal
-
-pub returns : goal.returns
-returns c = proved.board_at_start
