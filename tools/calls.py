@@ -2,7 +2,7 @@
 """Writes the stored run of kr_calls, crates/kr_calls/stdin and stdout; with the word `check` it compares them instead.
 
 The cases are written here. What they answer is found by tools/calls_model.py; the program itself is never asked. The lines
-are those at the heads of crates/kr_calls/src/case.rt and call.rt.
+are those at the heads of crates/kr_calls/src/case.rt and crates/kr_desks/src/call.rt.
 """
 
 import sys

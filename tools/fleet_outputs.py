@@ -275,7 +275,7 @@ def program():
     built = os.path.join(CRATE, "out", "kr_outputs")
     if os.path.exists(built):
         age = os.path.getmtime(built)
-        sources = [os.path.join(folder, name) for crate in ("kr_outputs", "kr_script", "kr_judge", "kr_base")
+        sources = [os.path.join(folder, name) for crate in ("kr_outputs", "kr_test_lines", "kr_script", "kr_judge", "kr_base")
                    for folder, _, names in os.walk(os.path.join(HERE, "..", "crates", crate, "src")) for name in names]
         if all(os.path.getmtime(source) <= age for source in sources):
             return ["./out/kr_outputs"]

@@ -132,6 +132,8 @@ READ_OTHERWISE = {
     "cr_in_a_comment": PLAIN.replace("  providers:\n", "  providers: # x\r"),
     "cr_within": "a: b\rc\n",
     "two_crs": "a: b\r\r\n",
+    "cr_at_the_end": PLAIN.replace("\n", "\r\n").removesuffix("\n"),
+    "cr_alone_at_the_end": "a: b\n# x\r",
     "next_line": PLAIN.replace("  providers:\n", "  providers: # x\u0085\n"),
     "line_separator": PLAIN.replace("{}\n", "{} # \u2028\n"),
     "paragraph_separator": "# \u2029\n",

@@ -24,8 +24,9 @@ class Worker:
 def read(data):
     """The replicas and the workers of a fleet file that is in form."""
     replicas, workers = [], []
-    for line in data.decode().split("\n"):
-        words = line.removesuffix("\r").split(" ")
+    lines = data.decode().split("\n")
+    for number, line in enumerate(lines, 1):
+        words = (line.removesuffix("\r") if number < len(lines) else line).split(" ")
         words = [word for word in words if word]
         if not words or words[0].startswith("#") or words[0] == "fleet":
             continue

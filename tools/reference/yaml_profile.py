@@ -164,8 +164,10 @@ def last_token(content):
 def all_tokens(text):
     """The tokens of the text with the numbers of their lines."""
     found, is_first = [], True
-    for number, line in enumerate(text.split("\n"), 1):
-        line = line[:-1] if line.endswith("\r") else line
+    lines = text.split("\n")
+    for number, line in enumerate(lines, 1):
+        # a CR ends a line only with the LF behind it
+        line = line[:-1] if number < len(lines) and line.endswith("\r") else line
         try:
             if not ALLOWED.fullmatch(line) or "\t" in re.match(r"[ \t]*", line)[0]:
                 raise NoTokens

@@ -16,9 +16,9 @@
 //!     paths RESOURCE NAME           prints how many paths need the provider, and the first
 //!     # TEXT                        says nothing
 use crate::asking::ask;
-use crate::named::NamedSettings;
+use crate::named::{NamedSettings, writer};
 use crate::play::{Play, Then};
-use crate::wrong::{Wrong, number_of, two_words};
+use kr_test_lines::{Wrong, answer_or_line, first_word, number_before, number_of, two_words};
 use std::alloc::{AllocError, Global};
 use std::mem;
 
@@ -29,11 +29,7 @@ pub fn answer(
     current: &mut Option<Play>,
     line: &str,
 ) -> Result<Vec<u8>, AllocError> {
-    match act(alloc, named, current, line) {
-        Ok(text) => Ok(text),
-        Err(Wrong::Form) => b"line\n".to_vec(alloc),
-        Err(Wrong::Memory) => Err(AllocError),
-    }
+    answer_or_line(alloc, act(alloc, named, current, line))
 }
 
 fn act(
@@ -42,13 +38,10 @@ fn act(
     current: &mut Option<Play>,
     line: &str,
 ) -> Result<Vec<u8>, Wrong> {
-    let (key, rest) = match line.split_once(' ') {
-        Some(parts) => parts,
-        None => (line, ""),
-    };
+    let (key, rest) = first_word(line);
     match key {
         "#" => Ok(Vec::new(alloc)),
-        "settings" => silent(alloc, named.add(alloc, rest)),
+        "settings" => silent(alloc, named.add_settings(alloc, rest)),
         "board" => silent(alloc, begin(alloc, current, rest)),
         _ => match current {
             Some(play) => act_on(alloc, named, play, key, rest),
@@ -97,20 +90,20 @@ fn begin(alloc: Global, current: &mut Option<Play>, rest: &str) -> Result<(), Wr
 
 /// `REPLICA NAME`.
 fn add(named: &NamedSettings, play: &mut Play, rest: &str, then: Then) -> Result<(), Wrong> {
-    let (replica, name) = two_words(rest)?;
-    play.add(number_of(replica)?, named.at(name)?.share()?, then)
+    let (replica, name) = number_before(rest)?;
+    play.add(replica, named.share(name)?, then)
 }
 
 /// `PATH RESOURCE NAME`.
 fn set_need(named: &NamedSettings, play: &mut Play, rest: &str) -> Result<(), Wrong> {
     let (path, rest) = two_words(rest)?;
     let (resource, name) = two_words(rest)?;
-    play.set_need(path, resource, named.writer(resource, name)?)
+    play.set_need(path, resource, writer(named, resource, name)?)
 }
 
 /// `PATH RESOURCE NAME`.
 fn propose(named: &NamedSettings, play: &mut Play, rest: &str, keep: bool) -> Result<(), Wrong> {
     let (path, rest) = two_words(rest)?;
     let (resource, name) = two_words(rest)?;
-    play.propose(path, resource, named.writer(resource, name)?, keep)
+    play.propose(path, resource, writer(named, resource, name)?, keep)
 }

@@ -1,8 +1,8 @@
 //! What is asked of a board, which stays as it is.
-use crate::named::NamedSettings;
+use crate::named::{NamedSettings, writer};
 use crate::play::Play;
 use crate::printing::{numbers_line, paths_line, verdict_line};
-use crate::wrong::{Wrong, number_of, two_words};
+use kr_test_lines::{Wrong, number_before, two_words};
 use std::alloc::Global;
 
 /// Takes the line's words apart, and asks the play what they ask.
@@ -30,8 +30,8 @@ fn judge(
     times: u32,
     rest: &str,
 ) -> Result<Vec<u8>, Wrong> {
-    let (replica, name) = two_words(rest)?;
-    let verdict = play.judge(times, number_of(replica)?, named.at(name)?.get())?;
+    let (replica, name) = number_before(rest)?;
+    let verdict = play.judge(times, replica, named.at(name)?.get())?;
     let line = verdict_line(alloc, &verdict);
     drop(verdict);
     line
@@ -44,8 +44,8 @@ fn judge_again(
     play: &Play,
     rest: &str,
 ) -> Result<Vec<u8>, Wrong> {
-    let (times, rest) = two_words(rest)?;
-    judge(alloc, named, play, number_of(times)?, rest)
+    let (times, rest) = number_before(rest)?;
+    judge(alloc, named, play, times, rest)
 }
 
 /// `RESOURCE NAME`.
@@ -56,5 +56,5 @@ fn tell_paths(
     rest: &str,
 ) -> Result<Vec<u8>, Wrong> {
     let (resource, name) = two_words(rest)?;
-    paths_line(alloc, play.paths(resource, named.writer(resource, name)?))
+    paths_line(alloc, play.paths(resource, writer(named, resource, name)?))
 }

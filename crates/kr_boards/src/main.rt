@@ -7,7 +7,6 @@ mod asking;
 mod named;
 mod play;
 mod printing;
-mod wrong;
 
 use named::NamedSettings;
 use play::Play;

@@ -1,10 +1,10 @@
 //! A board, and what its calls ask to be known of it.
 ghost use Rattle.std.specs.Prelude.{◌≡◌, None};
 
-use crate::wrong::Wrong;
 use kr_base::Shared;
 use kr_config::{Settings, Who};
 use kr_judge::{Board, PathSet, Verdict};
+use kr_test_lines::Wrong;
 use std::alloc::Global;
 use std::marker::Model;
 

@@ -16,7 +16,8 @@ use Rattle.kr_rollout.specs.Entries.{seat_of}
 use Rattle.kr_rollout.specs.Openings.{AreAmong, NamesAmong}
 use Rattle.kr_seats.specs.Fleets.{IsFleetSeat, caller_of}
 use Rattle.kr_calls.specs.declared.opening.Budget.{Budget}
-use Rattle.kr_calls.specs.Desks.{IsCallerOf, IsCore, one_name}
+use Rattle.kr_desks.specs.Desks.{IsCallerOf, one_name}
+use Rattle.kr_calls.specs.Openings.{IsCore}
 
 -- ---- a new core
 

@@ -1,4 +1,3 @@
 -- The lemmas that the answers cite.
 mod Lists
-mod Calling
 mod Beginning

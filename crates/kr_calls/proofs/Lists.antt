@@ -1,16 +1,7 @@
 -- What is there in a list.
-use Rattle.std.proofs.Common.{◌≡◌, suc, List, [], ◌∷◌, ◌++◌, Option, None, Some, refl, sym, subst, arith, Contains, All}
+use Rattle.std.proofs.Common.{◌≡◌, List, [], ◌∷◌, ◌++◌, Option, None, Some, sym, subst, Contains, All}
 use Rattle.std.specs.Prelude.{IfSome}
 use Rattle.std.proofs.lemmas.List.Elements.{All-cons, All-contains, All-contains_itself, All-head, All-nil, All-tail}
-
-there_later : {X : Type 0} (xs : List X) (x y : X) → Contains xs y → Contains (x ∷ xs) y
-there_later xs x y c = (suc c.0, omega (arith, c.1), c.2)
-
-pub from_each : {X : Type 0} (P : X → Type 0) (xs : List X)
-    → ((x : X) → Contains xs x → P x) → All P xs
-from_each P [] h = All-nil P
-from_each P (x ∷ xs) h = All-cons P x xs (h x (0, omega arith, refl))
-    (from_each P xs (λ y c. h y (there_later xs x y c)))
 
 all_split : {X : Type 0} (P : X → Type 0) (xs : List X) (x : X) → All P (xs ++ x ∷ [])
     → All P xs × P x

@@ -12,32 +12,33 @@
 //!
 //! A case of lines `settings NAME JSON` names settings for those behind it.
 ghost use Rattle.kr_provider.specs.Names.{names_of};
-ghost use Rattle.kr_calls.specs.Desks.{IsBench, IsCore};
+ghost use Rattle.kr_desks.specs.Desks.{IsBench};
+ghost use Rattle.kr_calls.specs.Openings.{IsCore};
 
-use crate::call::serve_line;
-use crate::desk::Desk;
-use crate::linked::{Spelled, bench_of, end_bench, end_benches};
-use crate::named::Named;
 use crate::opening::{Budget, Terms, core_of, terms_of};
-use crate::page::Page;
-use crate::stored::{add_rows, load};
+use crate::stored::add_rows;
 use crate::two::{play_two, seated};
-use crate::words::{Wrong, behind, both, two_lines, two_words};
-use kr_base::{MemDice, MemTape};
+use kr_base::{MemDice, MemTape, both};
 use kr_callers::{Acts, Solo};
+use kr_config::Settings;
+use kr_desks::{Desk, Spelled, bench_of, end_bench, end_benches, serve_line};
 use kr_keywrap::{ExampleRing, KeyLink};
 use kr_kms::TablePlugin;
 use kr_provider::Bench;
 use kr_rollout::Core;
 use kr_store::Store;
+use kr_test_lines::{NamedValues, Page, Wrong, behind, load_store, two_lines, two_words};
 use std::alloc::Global;
 use std::sync::Wait;
+
+/// How many bytes a tape may have.
+const ROOM: usize = 262_144;
 
 /// Runs a case, and prints what came of its lines.
 pub fn run<R: Wait>(
     rt: &R,
     alloc: Global,
-    named: &mut Named,
+    named: &mut NamedValues<Settings>,
     case: &str,
     page: &mut Page,
 ) -> Result<(), Wrong> {
@@ -51,9 +52,9 @@ pub fn run<R: Wait>(
     }
 }
 
-fn name_all(alloc: Global, named: &mut Named, case: &str) -> Result<(), Wrong> {
+fn name_all(alloc: Global, named: &mut NamedValues<Settings>, case: &str) -> Result<(), Wrong> {
     for line in case.lines() {
-        named.add(alloc, behind("settings", line)?)?;
+        named.add_settings(alloc, behind("settings", line)?)?;
     }
     Ok(())
 }
@@ -62,7 +63,7 @@ fn name_all(alloc: Global, named: &mut Named, case: &str) -> Result<(), Wrong> {
 fn begin<L: Spelled, R: Wait>(
     rt: &R,
     alloc: Global,
-    named: &Named,
+    named: &NamedValues<Settings>,
     words: &str,
     rest: &str,
     page: &mut Page,
@@ -70,7 +71,7 @@ fn begin<L: Spelled, R: Wait>(
     let (second, rest) = two_lines(rest);
     let (third, calls) = two_lines(rest);
     let stored = behind("store", second)?;
-    let (store, terms) = both(load(alloc, stored), terms_of(named, third))?;
+    let (store, terms) = both(load_store(alloc, stored, ROOM), terms_of(named, third))?;
     match bench_of::<L>(alloc, words) {
         Ok(bench) => play(rt, alloc, named, store, terms, bench, words, calls, page),
         Err(why) => {
@@ -85,7 +86,7 @@ fn begin<L: Spelled, R: Wait>(
 fn play<L: Spelled, R: Wait>(
     rt: &R,
     alloc: Global,
-    named: &Named,
+    named: &NamedValues<Settings>,
     store: Store<MemTape>,
     terms: Terms,
     mut bench: Bench<L, MemDice>,
@@ -117,7 +118,7 @@ fn play<L: Spelled, R: Wait>(
 fn play_with_rival<L: Spelled, R: Wait>(
     rt: &R,
     alloc: Global,
-    named: &Named,
+    named: &NamedValues<Settings>,
     core: Core<MemTape>,
     budget: Budget,
     bench: Bench<L, MemDice>,
@@ -148,7 +149,7 @@ fn play_with_rival<L: Spelled, R: Wait>(
 /// The calls of an only caller.
 fn play_alone<L: Spelled>(
     alloc: Global,
-    named: &Named,
+    named: &NamedValues<Settings>,
     core: Core<MemTape>,
     budget: Budget,
     bench: Bench<L, MemDice>,
@@ -175,7 +176,7 @@ fn play_alone<L: Spelled>(
 /// Makes the calls, one behind another.
 fn serve_all<A: Acts, L: Spelled>(
     alloc: Global,
-    named: &Named,
+    named: &NamedValues<Settings>,
     desk: &mut Desk<A, L>,
     calls: &str,
     page: &mut Page,

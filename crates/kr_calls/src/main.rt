@@ -2,21 +2,13 @@
 //! it can be compared with another implementation.
 #![tactic(auto)]
 
-mod between;
-mod call;
 mod case;
-mod desk;
-mod linked;
-mod named;
 mod opening;
-mod page;
 mod stored;
-mod telling;
 mod two;
-mod words;
 
-use crate::named::Named;
-use crate::page::Page;
+use kr_config::Settings;
+use kr_test_lines::{NamedValues, Page};
 use std::alloc::Global;
 use std::io::{self, BufWriter, Write};
 use std::sync::Wait;
@@ -25,7 +17,7 @@ fn main(rt: HostRuntime) -> io::Result<()> {
     let alloc = rt.alloc();
     let mut output = BufWriter::new(alloc, rt.stdout())?;
     let text = io::read_to_string(alloc, rt.stdin())?;
-    let mut named = Named::new(alloc);
+    let mut named = NamedValues::<Settings>::new(alloc);
     let done = run_all(&rt, alloc, &mut named, text.as_str(), &mut output);
     drop(named);
     drop(text);
@@ -37,7 +29,7 @@ fn main(rt: HostRuntime) -> io::Result<()> {
 fn run_all<R: Wait, W: Write>(
     rt: &R,
     alloc: Global,
-    named: &mut Named,
+    named: &mut NamedValues<Settings>,
     text: &str,
     output: &mut W,
 ) -> io::Result<()> {
@@ -53,7 +45,7 @@ fn run_all<R: Wait, W: Write>(
 fn run_one<R: Wait, W: Write>(
     rt: &R,
     alloc: Global,
-    named: &mut Named,
+    named: &mut NamedValues<Settings>,
     case: &str,
     output: &mut W,
 ) -> io::Result<()> {
@@ -62,10 +54,12 @@ fn run_one<R: Wait, W: Write>(
         page.told_wrong("case", why);
     }
     page.end_line();
-    let printed = match page.bytes() {
-        Some(bytes) => output.write_all(bytes),
-        None => Err(io::ErrorKind::OutOfMemory.into()),
-    };
-    drop(page);
-    printed
+    match page.into_bytes() {
+        Ok(bytes) => {
+            let printed = output.write_all(bytes.as_slice());
+            drop(bytes);
+            printed
+        }
+        Err(_) => Err(io::ErrorKind::OutOfMemory.into()),
+    }
 }

@@ -2,17 +2,17 @@
 ghost use Rattle.std.specs.Prelude.{◌≡◌, IfOk, IfSome, Some, codes, [], ◌∷◌};
 ghost use Rattle.kr_provider.specs.Names.{names_of};
 ghost use Rattle.kr_rollout.specs.Openings.{NamesAmong};
-ghost use Rattle.kr_calls.specs.Desks.{IsBench, IsCore};
+ghost use Rattle.kr_desks.specs.Desks.{IsBench};
+ghost use Rattle.kr_calls.specs.Openings.{IsCore};
 
-use crate::linked::allowed;
-use crate::named::Named;
-use crate::words::{Wrong, both, number_before, two_words};
-use kr_base::{List, MemDice, MemTape, Shared, Text};
+use kr_base::{List, MemDice, MemTape, Shared, Text, both};
 use kr_config::Settings;
+use kr_desks::share_allowed;
 use kr_kms::Kms;
 use kr_provider::{Bench, Published};
 use kr_rollout::Core;
 use kr_store::Store;
+use kr_test_lines::{NamedValues, Wrong, number_before, shared, two_words};
 use std::alloc::Global;
 
 /// How many configurations each seat may bring, and how many lines the journal may have.
@@ -34,39 +34,18 @@ pub struct Terms {
 
 /// `KIND ROOM RELOADS NAME NAME`: `two` for two callers, the journal's room, how many
 /// configurations each seat may bring, and each replica's settings, `-` for one that is out.
-pub fn terms_of(named: &Named, words: &str) -> Result<Terms, Wrong> {
+pub fn terms_of(named: &NamedValues<Settings>, words: &str) -> Result<Terms, Wrong> {
     let (kind, rest) = two_words(words)?;
     let (room, rest) = number_before(rest)?;
     let (reloads, names) = number_before(rest)?;
     let (first, second) = two_words(names)?;
-    let (first, second) = both(named.share(first), share_some(named, second))?;
+    let (first, second) = both(named.share(first), named.share_some(second))?;
     Ok(Terms {
         first,
         second,
         budget: Budget { reloads, room },
         with_rival: kind == "two",
     })
-}
-
-/// The settings of the name; `-` stands for none.
-fn share_some(named: &Named, name: &str) -> Result<Option<Shared<Settings>>, Wrong> {
-    if name == "-" {
-        return Ok(None);
-    }
-    Ok(Some(named.share(name)?))
-}
-
-/// A configuration to be shared.
-fn shared(alloc: Global, published: Published) -> Result<Shared<Published>, Wrong>
-    ensures { IfOk result (λ p. p ≡ published) }
-{
-    match Shared::new(alloc, published) {
-        Ok(shared) => Ok(shared),
-        Err(refused) => {
-            drop(refused);
-            Err(Wrong::Memory)
-        }
-    }
 }
 
 /// Publishes settings.
@@ -79,7 +58,7 @@ fn published<L: Kms>(
     ensures named { IfOk result (λ p. NamesAmong (codes "p" ∷ []) p.rows) }
     ensures bench { IsBench (names_of L.link bench.new.links) bench.new.pages }
 {
-    let settings = allowed(alloc, settings)?;
+    let settings = share_allowed(alloc, settings)?;
     match bench.publish(alloc, settings) {
         Ok(published) => shared(alloc, published),
         Err(refused) => {

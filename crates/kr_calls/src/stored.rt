@@ -1,38 +1,7 @@
-//! Stores: how they come to be, and what is printed of them.
-use crate::call::bytes_of;
-use crate::page::Page;
-use crate::words::{Wrong, both, longs_of, number_before, two_words};
-use kr_base::{Bytes, List, MemTape};
+//! What is printed of a store.
+use kr_base::MemTape;
 use kr_store::{Row, RowRef, Store};
-use std::alloc::Global;
-
-/// How many bytes a tape may have.
-const ROOM: usize = 262_144;
-
-/// `HEX LIMIT FAILS`: a store of the tape's bytes; the writes of these numbers fail.
-pub fn load(alloc: Global, words: &str) -> Result<Store<MemTape>, Wrong> {
-    let (content, rest) = two_words(words)?;
-    let (limit, fails) = number_before(rest)?;
-    let (content, fails) = both(bytes_of(alloc, content), longs_of(alloc, fails))?;
-    let tape = tape_of(alloc, content, fails)?;
-    match Store::load(alloc, tape, limit as u64) {
-        Ok(store) => Ok(store),
-        Err(refused) => {
-            drop(refused);
-            Err(Wrong::Form)
-        }
-    }
-}
-
-/// A tape of these bytes, whose writes of these numbers fail.
-fn tape_of(alloc: Global, content: Vec<u8>, fails: List<u64>) -> Result<MemTape, Wrong> {
-    if content.len() > ROOM {
-        drop(content);
-        drop(fails);
-        return Err(Wrong::Form);
-    }
-    Ok(MemTape::new(Bytes::from_vec(content), ROOM, List::new(alloc), fails)?)
-}
+use kr_test_lines::Page;
 
 /// The rows, and then how often the tape failed and whether a write is broken off.
 pub fn add_rows(page: &mut Page, store: &Store<MemTape>) {

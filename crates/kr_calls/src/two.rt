@@ -2,21 +2,18 @@
 ghost use Rattle.std.specs.Prelude.{◌≡◌, false, Contains, IfSome};
 ghost use Rattle.kr_provider.specs.Names.{names_of};
 ghost use Rattle.kr_seats.specs.Fleets.{IsFleetSeat, caller_of};
-ghost use Rattle.kr_calls.specs.Desks.{IsBench, IsCallerOf, IsCore};
+ghost use Rattle.kr_desks.specs.Desks.{IsBench, IsCallerOf};
+ghost use Rattle.kr_calls.specs.Openings.{IsCore};
 
-use crate::between::Between;
-use crate::call::{Call, serve_line};
-use crate::desk::Desk;
-use crate::linked::{Spelled, end_benches};
-use crate::named::Named;
 use crate::opening::Budget;
-use crate::page::Page;
-use crate::words::{Wrong, number_before};
 use kr_base::{List, MemDice, MemTape};
 use kr_callers::Acts;
+use kr_config::Settings;
+use kr_desks::{Between, Call, Desk, Spelled, end_benches, serve_line};
 use kr_provider::Bench;
 use kr_rollout::Core;
 use kr_seats::{Fleet, Seat};
+use kr_test_lines::{NamedValues, Page, Wrong, number_before};
 use std::alloc::Global;
 use std::sync::Wait;
 
@@ -78,7 +75,7 @@ fn with_first(
 pub fn play_two<L: Spelled, R: Wait>(
     rt: &R,
     alloc: Global,
-    named: &Named,
+    named: &NamedValues<Settings>,
     seats: Seated,
     budget: Budget,
     own: Bench<L, MemDice>,
@@ -113,7 +110,7 @@ type Both<A: Acts, B: Acts, L: Spelled> = Desk<Between<A, B, L>, L>;
 /// Makes the calls, one behind another.
 fn serve_both<A: Acts, B: Acts, L: Spelled>(
     alloc: Global,
-    named: &Named,
+    named: &NamedValues<Settings>,
     desk: &mut Both<A, B, L>,
     calls: &str,
     page: &mut Page,
@@ -127,7 +124,7 @@ fn serve_both<A: Acts, B: Acts, L: Spelled>(
 /// Makes the call of a line, or plans one of the rival's.
 fn serve_either<A: Acts, B: Acts, L: Spelled>(
     alloc: Global,
-    named: &Named,
+    named: &NamedValues<Settings>,
     desk: &mut Both<A, B, L>,
     line: &str,
     page: &mut Page,

@@ -3,17 +3,11 @@
 #![tactic(auto)]
 
 mod calling;
-mod case;
-mod making;
-mod plugin;
 mod printing;
-mod reading;
-mod spelling;
-mod streams;
-mod world;
 
 use anyhow::{Result, bail};
-use case::{Case, Wrong};
+use kr_case_worlds::{Case, add_line};
+use kr_test_lines::Wrong;
 use std::alloc::Global;
 use std::io::{BufRead, BufReader, BufWriter, Write};
 use std::mem;
@@ -68,7 +62,7 @@ fn take<R: Threads + Wait + Sync, W: Write>(
         finish(rt, alloc, output, current)?;
         return begin(alloc, current, name);
     }
-    match reading::add(alloc, current, line) {
+    match add_line(alloc, current, line) {
         Ok(()) => Ok(()),
         Err(Wrong::Form) => bail!("line {number} isn't of the form"),
         Err(Wrong::Memory) => bail!("memory"),

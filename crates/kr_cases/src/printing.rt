@@ -1,7 +1,7 @@
 //! The line that is printed for a call.
 use crate::calling::Left;
-use crate::case::Case;
-use crate::making::whole;
+use kr_base::whole;
+use kr_case_worlds::Case;
 use sha2::{Digest, Sha256};
 use std::alloc::{AllocError, Global};
 

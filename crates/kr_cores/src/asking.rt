@@ -7,21 +7,20 @@
 //!     reload REPLICA NAME EXPECTED, join REPLICA NAME
 use crate::configuration::Named;
 use crate::line_text::add_line;
-use crate::page::Page;
 use crate::play::{Play, Stage};
-use crate::request::Request;
 use crate::stored::add_parts;
-use crate::table::Table;
-use crate::words::{Wrong, both, bytes_of, number_of, option_of, text_of, two_words};
-use kr_base::{Bytes, Text};
+use kr_base::{Bytes, Text, both};
+use kr_hands::{Request, Table};
 use kr_rollout::{Event, Gave};
+use kr_test_lines::{
+    Page, Wrong, bytes_of, first_word, number_before, number_of, option_of, own_text_of, two_words,
+};
 use std::alloc::Global;
 
 impl Play {
     /// `SEAT EVENT`: makes the event, and prints its line; of a core with one caller at its close.
     pub fn once(&mut self, alloc: Global, page: &mut Page, rest: &str) -> Result<(), Wrong> {
-        let (seat, event) = two_words(rest)?;
-        let seat = number_of(seat)?;
+        let (seat, event) = number_before(rest)?;
         let request = request_of(alloc, &self.named, event)?;
         self.ask(alloc, seat, request)?;
         match &self.stage {
@@ -42,14 +41,12 @@ impl Play {
     /// `TIMES SEAT REPLICA NAME NAME`: reloads the replica as often with the two configurations in
     /// turn, and prints the last line and how many there are.
     pub fn turns(&mut self, alloc: Global, page: &mut Page, rest: &str) -> Result<(), Wrong> {
-        let (times, rest) = two_words(rest)?;
-        let (seat, rest) = two_words(rest)?;
-        let (replica, names) = two_words(rest)?;
+        let (times, rest) = number_before(rest)?;
+        let (seat, rest) = number_before(rest)?;
+        let (replica, names) = number_before(rest)?;
         let (first, second) = two_words(names)?;
-        let seat = number_of(seat)?;
-        let replica = number_of(replica)?;
         self.table()?;
-        for turn in 0..number_of(times)? {
+        for turn in 0..times {
             let name = if turn % 2 == 0 { first } else { second };
             self.turn(alloc, seat, replica, name)?;
         }
@@ -66,21 +63,18 @@ impl Play {
 /// The last line of the journal, and how many there are.
 fn add_turns(alloc: Global, page: &mut Page, table: &Table, seat: u32) -> Result<(), Wrong> {
     add_last(alloc, page, table, seat)?;
-    page.counted(b"lines", table.journal().len() as u64);
+    page.counted("lines", table.journal().len() as u64);
     page.end_line();
     Ok(())
 }
 
 fn request_of(alloc: Global, named: &Named, event: &str) -> Result<Request, Wrong> {
-    let (key, rest) = match event.split_once(' ') {
-        Some(parts) => parts,
-        None => (event, ""),
-    };
+    let (key, rest) = first_word(event);
     match key {
         "put" => putting(alloc, rest),
         "replace" => Ok(Request::Replace),
         "letgo" => Ok(Request::Plain(Event::LetGo)),
-        "fetch" | "after" | "delete" => Ok(about_path(key, text_of(alloc, rest)?)),
+        "fetch" | "after" | "delete" => Ok(about_path(key, own_text_of(alloc, rest)?)),
         "reload" | "join" => bringing(named, key, rest),
         _ => about_replica(key, number_of(rest)?),
     }
@@ -90,7 +84,7 @@ fn request_of(alloc: Global, named: &Named, event: &str) -> Result<Request, Wron
 fn putting(alloc: Global, rest: &str) -> Result<Request, Wrong> {
     let (path, rest) = two_words(rest)?;
     let (resource, plain) = two_words(rest)?;
-    let names = both(text_of(alloc, path), text_of(alloc, resource));
+    let names = both(own_text_of(alloc, path), own_text_of(alloc, resource));
     match both(names, bytes_of(alloc, plain)) {
         Ok((names, plain)) => {
             let (path, resource) = names;
@@ -123,10 +117,9 @@ fn about_replica(key: &str, replica: u32) -> Result<Request, Wrong> {
 
 /// `REPLICA NAME`, and for a reload `EXPECTED` behind it.
 fn bringing(named: &Named, key: &str, rest: &str) -> Result<Request, Wrong> {
-    let (replica, rest) = two_words(rest)?;
-    let replica = number_of(replica)?;
+    let (replica, rest) = number_before(rest)?;
     if key == "join" {
-        let published = named.at(rest)?.share()?;
+        let published = named.share(rest)?;
         return Ok(Request::Plain(Event::Join { replica, published }));
     }
     let (name, expect) = two_words(rest)?;
@@ -139,7 +132,7 @@ fn reload_of(
     name: &str,
     expect: Option<u32>,
 ) -> Result<Request, Wrong> {
-    let published = named.at(name)?.share()?;
+    let published = named.share(name)?;
     Ok(Request::Plain(Event::Reload {
         replica,
         published,

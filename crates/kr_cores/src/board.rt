@@ -3,12 +3,11 @@ ghost use Rattle.std.specs.Prelude.{IsTrue};
 ghost use Rattle.kr_starts.specs.Replicas.{IsFirstIn};
 
 use crate::line_text::add_refusal;
-use crate::page::Page;
-use crate::words::Wrong;
 use kr_base::{List, MemTape, Shared};
 use kr_config::Settings;
 use kr_starts::board_of;
 use kr_store::Store;
+use kr_test_lines::{Page, Wrong};
 use std::alloc::Global;
 
 /// Prints the numbers of the board's live generations, or why there is none. It has room for so
@@ -46,7 +45,7 @@ fn is_first_in(replicas: &[Option<Shared<Settings>>]) -> bool
 
 /// A line with the numbers of live generations.
 pub fn add_live(page: &mut Page, numbers: &[u32]) {
-    page.word(b"live");
+    page.word("live");
     for number in numbers {
         page.number(*number as u64);
     }

@@ -1,46 +1,34 @@
 //! Published configurations by their names. None names a plugin.
-use crate::words::{Wrong, add, both, two_words, whole};
-use kr_base::{Bytes, List, MemDice, Shared};
-use kr_config::{ConfigErr, Settings, read};
+use kr_base::{Bytes, List, MemDice, Shared, whole};
+use kr_config::Settings;
 use kr_kms::TablePlugin;
 use kr_provider::{Links, Published, publish};
+use kr_test_lines::{NamedValues, Wrong, add, settings_of, shared, two_words};
 use std::alloc::Global;
 
-/// Configurations that a line named.
+/// Configurations that lines named.
 #[derive(Drop)]
 pub struct Named {
-    all: Vec<(String, Shared<Published>)>,
+    all: NamedValues<Published>,
 }
 
 impl Named {
     /// None yet.
     pub fn new(alloc: Global) -> Named {
         Named {
-            all: Vec::new(alloc),
+            all: NamedValues::new(alloc),
         }
     }
 
     /// `NAME JSON`.
     pub fn add(&mut self, alloc: Global, rest: &str) -> Result<(), Wrong> {
         let (name, text) = two_words(rest)?;
-        let own = both(string_of(alloc, name), published(alloc, text))?;
-        match self.all.push(own) {
-            Ok(()) => Ok(()),
-            Err(refused) => {
-                drop(refused);
-                Err(Wrong::Memory)
-            }
-        }
+        self.all.add(alloc, name, published(alloc, text))
     }
 
-    /// The configuration of the name.
-    pub fn at(&self, name: &str) -> Result<&Shared<Published>, Wrong> {
-        for own in &self.all {
-            if own.0.as_str() == name {
-                return Ok(&own.1);
-            }
-        }
-        Err(Wrong::Form)
+    /// One more owner of the configuration of the name.
+    pub fn share(&self, name: &str) -> Result<Shared<Published>, Wrong> {
+        self.all.share(name)
     }
 
     /// The configuration of each name, parted by commas; none for `-`.
@@ -60,16 +48,9 @@ impl Named {
         all: &mut List<Option<Shared<Published>>>,
     ) -> Result<(), Wrong> {
         for name in names.split(',') {
-            add(all, self.replica(name))?;
+            add(all, self.all.share_some(name))?;
         }
         Ok(())
-    }
-
-    fn replica(&self, name: &str) -> Result<Option<Shared<Published>>, Wrong> {
-        if name == "-" {
-            return Ok(None);
-        }
-        Ok(Some(self.at(name)?.share()?))
     }
 
     /// The same, of each its settings.
@@ -98,34 +79,14 @@ impl Named {
         if name == "-" {
             return Ok(None);
         }
-        Ok(Some(self.at(name)?.get().settings.share()?))
+        Ok(Some(self.all.at(name)?.get().settings.share()?))
     }
-}
-
-fn string_of(alloc: Global, name: &str) -> Result<String, Wrong> {
-    Ok(name.to_string(alloc)?)
 }
 
 fn published(alloc: Global, text: &str) -> Result<Shared<Published>, Wrong> {
-    let settings = match read(alloc, text.as_bytes()) {
-        Ok(settings) => settings,
-        Err(ConfigErr::No(_)) => return Err(Wrong::Form),
-        Err(ConfigErr::NoMemory) => return Err(Wrong::Memory),
-    };
-    match shared(alloc, settings) {
+    match settings_of(alloc, text) {
         Ok(settings) => publish_bare(alloc, settings),
         Err(why) => Err(why),
-    }
-}
-
-/// A value to be shared.
-fn shared<T: Drop>(alloc: Global, value: T) -> Result<Shared<T>, Wrong> {
-    match Shared::new(alloc, value) {
-        Ok(shared) => Ok(shared),
-        Err(refused) => {
-            drop(refused);
-            Err(Wrong::Memory)
-        }
     }
 }
 

@@ -2,21 +2,13 @@
 //! each line of the journal, so that it can be compared with another implementation.
 #![tactic(auto)]
 
-mod alone;
 mod asking;
 mod board;
 mod configuration;
-mod hand;
 mod line_text;
-mod page;
 mod play;
 mod reading;
-mod request;
-mod sealing;
 mod stored;
-mod table;
-mod terms;
-mod words;
 
 use play::Play;
 use std::alloc::Global;

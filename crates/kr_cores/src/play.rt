@@ -1,20 +1,17 @@
 //! What there is between two lines: configurations, and a store or a core over it.
 ghost use Rattle.std.specs.Prelude.{IfOk};
-ghost use Rattle.kr_cores.specs.Hands.{AreTerms};
+ghost use Rattle.kr_hands.specs.Hands.{AreTerms};
 
-use crate::alone::Alone;
 use crate::board::{add_board, add_live};
 use crate::configuration::Named;
 use crate::line_text::{add_line, add_refusal};
-use crate::page::Page;
 use crate::stored::add_rows;
-use crate::table::Table;
-use crate::terms::Terms;
-use crate::words::{Wrong, both, long_of, number_of, numbers_of, two_words};
-use kr_base::{List, MemTape};
+use kr_base::{List, MemTape, both};
+use kr_hands::{Alone, Table, Terms};
 use kr_rollout::Line;
 use kr_starts::StartNo;
 use kr_store::Store;
+use kr_test_lines::{Page, Wrong, long_of, number_before, numbers_of, two_words};
 use std::alloc::Global;
 use std::mem;
 
@@ -102,8 +99,7 @@ impl Play {
 
     /// `ROOM NAMES`: prints the board of the store and these settings.
     pub fn board(&mut self, alloc: Global, page: &mut Page, rest: &str) -> Result<(), Wrong> {
-        let (room, names) = two_words(rest)?;
-        let room = number_of(room)?;
+        let (room, names) = number_before(rest)?;
         let replicas = self.named.settings(alloc, names)?;
         add_board(alloc, page, self.store()?, &replicas, room)
     }
@@ -158,7 +154,7 @@ impl Play {
         match started(alloc, store, terms, is_alone) {
             Ok(stage) => {
                 self.put(stage);
-                page.word(b"started");
+                page.word("started");
                 page.end_line();
             }
             Err((why, store)) => {

@@ -18,38 +18,38 @@
 //!     close                            gives the store back, and prints its rows; before them, of
 //!                                      an only caller, its lines
 //!     # TEXT                           says nothing
-use crate::page::Page;
 use crate::play::Play;
-use crate::stored::{load, put_row};
-use crate::words::Wrong;
+use crate::stored::put_row;
+use kr_test_lines::{Page, Wrong, answer_or_line, first_word, load_store};
 use std::alloc::{AllocError, Global};
+
+/// How many bytes a tape may have.
+const ROOM: usize = 65_536;
 
 /// Does what the line says, and tells what is printed for it.
 pub fn answer(alloc: Global, play: &mut Play, line: &str) -> Result<Vec<u8>, AllocError> {
+    answer_or_line(alloc, page_of(alloc, play, line))
+}
+
+/// What the line prints.
+fn page_of(alloc: Global, play: &mut Play, line: &str) -> Result<Vec<u8>, Wrong> {
     let mut page = Page::new(alloc);
     match act(alloc, play, &mut page, line) {
         Ok(()) => page.into_bytes(),
-        Err(Wrong::Form) => {
+        Err(why) => {
             drop(page);
-            b"line\n".to_vec(alloc)
-        }
-        Err(Wrong::Memory) => {
-            drop(page);
-            Err(AllocError)
+            Err(why)
         }
     }
 }
 
 fn act(alloc: Global, play: &mut Play, page: &mut Page, line: &str) -> Result<(), Wrong> {
-    let (key, rest) = match line.split_once(' ') {
-        Some(parts) => parts,
-        None => (line, ""),
-    };
+    let (key, rest) = first_word(line);
     match key {
         "#" => Ok(()),
         "settings" => play.named.add(alloc, rest),
         "store" => {
-            play.begin(load(alloc, rest)?);
+            play.begin(load_store(alloc, rest, ROOM)?);
             Ok(())
         }
         "row" => put_row(alloc, play.store()?, page, rest),

@@ -4,7 +4,4 @@ pub mod ClosedCores
 pub mod FleetCrews
 pub mod FleetOutfits
 pub mod FleetRuns
-pub mod Generating
-pub mod LoadPlans
-pub mod LoadRuns
 pub mod Publishings

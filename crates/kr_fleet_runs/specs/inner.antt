@@ -2,5 +2,4 @@
 pub mod Beginnings
 pub mod CrewRuns
 pub mod FleetOutcomes
-pub mod LoadOutcomes
 pub mod Workings

@@ -49,9 +49,11 @@ use std::thread::Threads;
 
 /// What a fleet leaves: the journal, and each worker's replies.
 #[derive(Drop)]
-pub(crate) struct Record {
-    lines: List<Line>,
-    pub(crate) replies: List<List<Told>>,
+pub struct Record {
+    /// The journal.
+    pub lines: List<Line>,
+    /// Each worker's replies, in the order of the seats.
+    pub replies: List<List<Told>>,
 }
 
 /// Runs the fleet and writes its journal and its replies.
@@ -135,7 +137,7 @@ fn fleet_on<R: Threads + Wait + Sync, W: World>(
 }
 
 /// Why there are no budgets, as a command says it.
-pub(crate) fn budget_stop(why: BudgetNo) -> Stop
+pub fn budget_stop(why: BudgetNo) -> Stop
     ensures { result ≡ budget_stop why }
 {
     match why {
@@ -222,7 +224,7 @@ fn begin<R: Threads + Wait + Sync, T: Tape + Send, L: Kms + Send, D: Dice + Send
 
 /// Starts the core with what the replicas published, and lets the workers work with these outfits.
 /// The store and the outfits come back.
-pub(crate) fn work_with<R: Threads + Wait + Sync, T: Tape + Send, L: Kms + Send, D: Dice + Send>(
+pub fn work_with<R: Threads + Wait + Sync, T: Tape + Send, L: Kms + Send, D: Dice + Send>(
     rt: &R,
     alloc: Global,
     plan: &Plan,
@@ -339,7 +341,7 @@ fn publish_first<L: Kms, D: Dice>(
 }
 
 /// Publishes the configuration of each replica that is in.
-pub(crate) fn publish_each<L: Kms, D: Dice>(
+pub fn publish_each<L: Kms, D: Dice>(
     alloc: Global,
     files: &[SettingsFile],
     replicas: &[(Text, Text)],

@@ -1,5 +1,4 @@
-//! The commands `fleet` and `gen`, whose workers wait for each other.
+//! The command `fleet`, whose workers wait for each other, and what any fleet is run by.
 #![tactic(auto)]
 
 pub mod fleet;
-pub mod loads;

@@ -1,3 +1,2 @@
 -- The definitions of inner contracts.
 pub mod Judging
-pub mod Migrating

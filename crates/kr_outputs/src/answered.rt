@@ -5,8 +5,8 @@
 //!     adopted GENERATION, reloaded GENERATION, joined GENERATION, moved GENERATION,
 //!     present GENERATION, departed GENERATION, gone REPLICA
 use crate::verdict::verdict_of;
-use crate::words::{Wrong, number_of, revision_of};
 use kr_rollout::Gave;
+use kr_test_lines::{Wrong, long_of, number_of};
 use std::alloc::Global;
 
 /// Reads an answer; a number behind a word that takes none, or a word not listed, is no form.
@@ -30,7 +30,7 @@ fn alone(word: &str) -> Result<Gave, Wrong> {
 fn with_more(alloc: Global, word: &str, rest: &str) -> Result<Gave, Wrong> {
     match word {
         "refused" => Ok(Gave::Refused(verdict_of(alloc, rest)?)),
-        "found" | "written" | "changed" | "full" => of_store(word, revision_of(rest)?),
+        "found" | "written" | "changed" | "full" => of_store(word, long_of(rest)?),
         _ => of_replica(word, number_of(rest)?),
     }
 }

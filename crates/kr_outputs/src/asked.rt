@@ -3,9 +3,9 @@
 //!     adopt REPLICA, leave REPLICA, reload REPLICA, join REPLICA, letgo
 //!     fetch PATH, after PATH, delete PATH, put PATH RESOURCE HEX, replace PATH REVISION
 use crate::configuration::published;
-use crate::words::{Wrong, both, bytes_of, number_of, revision_of, text_of, two_words};
-use kr_base::{Bytes, Text};
+use kr_base::{Bytes, Text, both};
 use kr_rollout::Did;
+use kr_test_lines::{Wrong, bytes_of, long_of, number_of, own_text_of, two_words};
 use std::alloc::Global;
 
 /// Reads what a seat did. A path, a resource and the hex stand as words, so none holds a space.
@@ -17,7 +17,7 @@ pub fn did_of(alloc: Global, text: &str) -> Result<Did, Wrong> {
     match kind {
         "put" => put_of(alloc, rest),
         "replace" => replace_of(alloc, rest),
-        "fetch" | "after" | "delete" => about_path(kind, text_of(alloc, rest)?),
+        "fetch" | "after" | "delete" => about_path(kind, own_text_of(alloc, rest)?),
         _ => about_replica(alloc, kind, number_of(rest)?),
     }
 }
@@ -51,7 +51,7 @@ fn about_replica(alloc: Global, kind: &str, replica: u32) -> Result<Did, Wrong> 
 fn put_of(alloc: Global, rest: &str) -> Result<Did, Wrong> {
     let (path, rest) = two_words(rest)?;
     let (resource, plain) = two_words(rest)?;
-    let names = both(text_of(alloc, path), text_of(alloc, resource));
+    let names = both(own_text_of(alloc, path), own_text_of(alloc, resource));
     match both(names, bytes_of(alloc, plain)) {
         Ok((names, plain)) => {
             let (path, resource) = names;
@@ -69,9 +69,9 @@ fn put_of(alloc: Global, rest: &str) -> Result<Did, Wrong> {
 /// `PATH REVISION`.
 fn replace_of(alloc: Global, rest: &str) -> Result<Did, Wrong> {
     let (path, revision) = two_words(rest)?;
-    let revision = revision_of(revision)?;
+    let revision = long_of(revision)?;
     Ok(Did::Replace {
-        path: text_of(alloc, path)?,
+        path: own_text_of(alloc, path)?,
         revision,
     })
 }

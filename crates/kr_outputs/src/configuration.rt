@@ -1,9 +1,9 @@
 //! A published configuration, of which the output shows nothing.
-use crate::words::Wrong;
 use kr_base::{Bytes, List, MemDice, Shared};
-use kr_config::{Settings, read};
+use kr_config::Settings;
 use kr_kms::TablePlugin;
 use kr_provider::{Links, Published, publish};
+use kr_test_lines::{Wrong, settings_of, shared};
 use std::alloc::Global;
 
 const FILE: &str = r#"{"apiVersion":"apiserver.config.k8s.io/v1","kind":"EncryptionConfiguration",
@@ -11,24 +11,7 @@ const FILE: &str = r#"{"apiVersion":"apiserver.config.k8s.io/v1","kind":"Encrypt
 
 /// Publishes one configuration, whose provider is identity: no plugin is asked, nothing is drawn.
 pub fn published(alloc: Global) -> Result<Shared<Published>, Wrong> {
-    match read(alloc, FILE.as_bytes()) {
-        Ok(settings) => publish_bare(alloc, shared(alloc, settings)?),
-        Err(why) => {
-            drop(why);
-            Err(Wrong::Form)
-        }
-    }
-}
-
-/// A value to be shared.
-fn shared<T: Drop>(alloc: Global, value: T) -> Result<Shared<T>, Wrong> {
-    match Shared::new(alloc, value) {
-        Ok(shared) => Ok(shared),
-        Err(refused) => {
-            drop(refused);
-            Err(Wrong::Memory)
-        }
-    }
+    publish_bare(alloc, settings_of(alloc, FILE)?)
 }
 
 /// Publishes settings that name no plugin.

@@ -5,13 +5,12 @@
 mod answered;
 mod asked;
 mod configuration;
-mod page;
+mod fleet_output;
 mod reading;
 mod told;
 mod verdict;
-mod words;
 
-use page::Page;
+use fleet_output::FleetOutput;
 use std::alloc::Global;
 use std::io::{self, BufRead, BufReader, BufWriter, Lines, Write};
 
@@ -19,7 +18,7 @@ fn main(rt: HostRuntime) -> io::Result<()> {
     let alloc = rt.alloc();
     let mut output = BufWriter::new(alloc, rt.stdout())?;
     let lines = BufReader::new(alloc, rt.stdin())?.lines(alloc);
-    let mut current: Option<Page> = None;
+    let mut current: Option<FleetOutput> = None;
     let answered = answer_all(alloc, &mut current, lines, &mut output);
     drop(current);
     answered?;
@@ -29,7 +28,7 @@ fn main(rt: HostRuntime) -> io::Result<()> {
 /// Prints what the lines are answered by.
 fn answer_all<R: BufRead + Drop, W: Write>(
     alloc: Global,
-    current: &mut Option<Page>,
+    current: &mut Option<FleetOutput>,
     lines: Lines<R>,
     output: &mut W,
 ) -> io::Result<()> {
@@ -42,7 +41,7 @@ fn answer_all<R: BufRead + Drop, W: Write>(
 /// Prints what the line is answered by.
 fn answer_line<W: Write>(
     alloc: Global,
-    current: &mut Option<Page>,
+    current: &mut Option<FleetOutput>,
     line: io::Result<String>,
     output: &mut W,
 ) -> io::Result<()> {

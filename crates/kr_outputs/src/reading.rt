@@ -8,32 +8,26 @@
 //!     # TEXT                   says nothing
 use crate::answered::gave_of;
 use crate::asked::did_of;
-use crate::page::Page;
+use crate::fleet_output::FleetOutput;
 use crate::told::told_of;
-use crate::words::{Wrong, both, bytes_of, number_of, two_words};
+use kr_base::both;
 use kr_rollout::Line;
 use kr_script::read_script;
+use kr_test_lines::{Wrong, answer_or_line, bytes_of, first_word, number_before};
 use std::alloc::{AllocError, Global};
 use std::mem;
 
 /// Takes the line up, and tells what is printed for it.
 pub fn answer(
     alloc: Global,
-    current: &mut Option<Page>,
+    current: &mut Option<FleetOutput>,
     line: &str,
 ) -> Result<Vec<u8>, AllocError> {
-    match act(alloc, current, line) {
-        Ok(text) => Ok(text),
-        Err(Wrong::Form) => b"line\n".to_vec(alloc),
-        Err(Wrong::Memory) => Err(AllocError),
-    }
+    answer_or_line(alloc, act(alloc, current, line))
 }
 
-fn act(alloc: Global, current: &mut Option<Page>, line: &str) -> Result<Vec<u8>, Wrong> {
-    let (key, rest) = match line.split_once(' ') {
-        Some(parts) => parts,
-        None => (line, ""),
-    };
+fn act(alloc: Global, current: &mut Option<FleetOutput>, line: &str) -> Result<Vec<u8>, Wrong> {
+    let (key, rest) = first_word(line);
     match key {
         "#" => Ok(Vec::new(alloc)),
         "fleet" => {
@@ -48,7 +42,7 @@ fn act(alloc: Global, current: &mut Option<Page>, line: &str) -> Result<Vec<u8>,
     }
 }
 
-fn act_on(alloc: Global, page: &mut Page, key: &str, rest: &str) -> Result<Vec<u8>, Wrong> {
+fn act_on(alloc: Global, page: &mut FleetOutput, key: &str, rest: &str) -> Result<Vec<u8>, Wrong> {
     if key == "print" {
         return page.print(alloc);
     }
@@ -62,12 +56,12 @@ fn act_on(alloc: Global, page: &mut Page, key: &str, rest: &str) -> Result<Vec<u
 }
 
 /// `HEX`.
-fn begin(alloc: Global, rest: &str) -> Result<Page, Wrong> {
+fn begin(alloc: Global, rest: &str) -> Result<FleetOutput, Wrong> {
     let file = bytes_of(alloc, rest)?;
     let script = read_script(alloc, file.as_slice());
     drop(file);
     match script {
-        Ok(script) => Ok(Page::new(alloc, script)),
+        Ok(script) => Ok(FleetOutput::new(alloc, script)),
         Err(why) => {
             drop(why);
             Err(Wrong::Form)
@@ -77,8 +71,7 @@ fn begin(alloc: Global, rest: &str) -> Result<Page, Wrong> {
 
 /// `SEAT DID | GAVE`.
 fn line_of(alloc: Global, rest: &str) -> Result<Line, Wrong> {
-    let (seat, rest) = two_words(rest)?;
-    let seat = number_of(seat)?;
+    let (seat, rest) = number_before(rest)?;
     let Some((did, gave)) = rest.split_once(" | ") else {
         return Err(Wrong::Form);
     };

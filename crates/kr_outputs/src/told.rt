@@ -6,11 +6,11 @@
 //!     refreshed GENERATION, unchanged, moved GENERATION, refused VERDICT, value NUMBER
 //!     unhealthy NAME FIELD TEXT, plugin NAME, dice SEAT, store, full, memory
 use crate::verdict::verdict_of;
-use crate::words::{Wrong, both, bytes_of, number_of, revision_of, text_of, two_words};
-use kr_base::Bytes;
+use kr_base::{Bytes, both};
 use kr_kms::Field;
 use kr_provider::ValueNo;
 use kr_script::Told;
+use kr_test_lines::{Wrong, bytes_of, long_of, number_of, own_text_of, two_words};
 use std::alloc::Global;
 
 /// The refusals of values, in the order of their numbers, from 1.
@@ -58,12 +58,12 @@ fn with_more(alloc: Global, word: &str, rest: &str) -> Result<Told, Wrong> {
         "rewritten" => rewritten(rest),
         "unhealthy" => unhealthy(alloc, rest),
         "plugin" => Ok(Told::FaultPlugin {
-            name: text_of(alloc, rest)?,
+            name: own_text_of(alloc, rest)?,
         }),
         "refused" => Ok(Told::Refused {
             verdict: verdict_of(alloc, rest)?,
         }),
-        "put" | "deleted" => of_store(word, revision_of(rest)?),
+        "put" | "deleted" => of_store(word, long_of(rest)?),
         _ => of_replica(word, number_of(rest)?),
     }
 }
@@ -103,7 +103,7 @@ fn value(number: usize) -> Result<Told, Wrong> {
 /// `REVISION HEX`.
 fn got(alloc: Global, rest: &str) -> Result<Told, Wrong> {
     let (revision, plain) = two_words(rest)?;
-    let revision = revision_of(revision)?;
+    let revision = long_of(revision)?;
     Ok(Told::Got {
         revision,
         plain: Bytes::from_vec(bytes_of(alloc, plain)?),
@@ -116,10 +116,10 @@ fn rewritten(rest: &str) -> Result<Told, Wrong> {
     let (fresh, rest) = two_words(rest)?;
     let (changed, left) = two_words(rest)?;
     Ok(Told::Rewritten {
-        rewritten: revision_of(rewritten)?,
-        fresh: revision_of(fresh)?,
-        changed: revision_of(changed)?,
-        left: revision_of(left)?,
+        rewritten: long_of(rewritten)?,
+        fresh: long_of(fresh)?,
+        changed: long_of(changed)?,
+        left: long_of(left)?,
     })
 }
 
@@ -128,7 +128,7 @@ fn unhealthy(alloc: Global, rest: &str) -> Result<Told, Wrong> {
     let (name, rest) = two_words(rest)?;
     let (field, text) = two_words(rest)?;
     let field = field_of(field)?;
-    match both(text_of(alloc, name), text_of(alloc, text)) {
+    match both(own_text_of(alloc, name), own_text_of(alloc, text)) {
         Ok((name, text)) => Ok(Told::Unhealthy { name, field, text }),
         Err(why) => Err(why),
     }

@@ -1,8 +1,8 @@
 //! Verdicts, in the words in which they are printed.
-use crate::words::{Wrong, both, number_of, two_words};
-use kr_base::{Bytes, Text};
+use kr_base::{Bytes, both};
 use kr_config::{Class, Who};
 use kr_judge::Verdict;
+use kr_test_lines::{Wrong, kept, number_of, two_words};
 use std::alloc::Global;
 
 /// The verdict of a line's last words, as `verdict_text` prints it: `pass`, or the reason with its
@@ -18,10 +18,6 @@ pub fn verdict_of(alloc: Global, text: &str) -> Result<Verdict, Wrong> {
         "unread" => numbered(alloc, false, rest),
         _ => Err(Wrong::Form),
     }
-}
-
-fn kept(alloc: Global, word: &str) -> Result<Text, Wrong> {
-    Ok(Text::copy(alloc, word)?)
 }
 
 /// `PATH WHO`.

@@ -25,10 +25,11 @@ use kr_commands::{
     read_load, tell,
 };
 use kr_fleet_runs::fleet::fleet;
-use kr_fleet_runs::loads::load;
 use kr_kms::World;
+use kr_load_runs::load;
+use kr_migration::migrate;
 use kr_objects::judge::judge;
-use kr_objects::{get, migrate, put};
+use kr_objects::{get, put};
 use kr_rewrite_command::rewrite;
 use kr_steps::write_output;
 use kr_values::check::check;

@@ -1,7 +1,7 @@
 -- `published`: the bench's link serves the settings, and what they give names no other plugin.
 use Rattle.kr_config.specs.Kept.{plugins_in, rows_of}
 use Rattle.kr_provider.specs.Names.{names_of}
-use Rattle.kr_calls.proofs.Calling.{bench_kept, names_shared, one_serves}
+use Rattle.kr_desks.proofs.Calling.{bench_kept, names_shared, one_serves}
 use Rattle.kr_calls.proofs.opening.published.Goals as goal
 
 pub publish-requires : goal.publish-requires

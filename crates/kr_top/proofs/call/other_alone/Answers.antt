@@ -5,7 +5,7 @@ use Rattle.kr_steps.specs.Around.{around}
 use Rattle.kr_commands.specs.Receipts.{receipt}
 use Rattle.kr_commands.specs.inner.LoadAnswers.{IsLoadAsked}
 use Rattle.kr_call_laws.proofs.Leaving.{tapes_left}
-use Rattle.kr_fleet_runs.proofs.LoadRuns.{load_at_once, no_load_or_memory}
+use Rattle.kr_load_runs.proofs.LoadRuns.{load_at_once, no_load_or_memory}
 use Rattle.kr_call_laws.proofs.Readings.{readings}
 use Rattle.kr_top.proofs.call.other_alone.Goals as goal
 

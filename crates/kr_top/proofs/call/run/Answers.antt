@@ -8,7 +8,7 @@ use Rattle.kr_fleet_laws.proofs.FleetReadings.{fleet_readings}
 use Rattle.kr_fleet_runs.proofs.FleetRuns.{at_once, for_asked, one_fleet, unread}
 use Rattle.kr_commands.proofs.LoadAsked.{asked_small, not_both}
 use Rattle.kr_fleet_laws.proofs.LoadReadings.{load_readings}
-use Rattle.kr_fleet_runs.proofs.LoadRuns.{fleet_unread}
+use Rattle.kr_load_runs.proofs.LoadRuns.{fleet_unread}
 use Rattle.kr_call_laws.proofs.Readings.{readings}
 use Rattle.kr_call_laws.proofs.Leaving.{tapes_left}
 use Rattle.kr_top.proofs.call.run.Goals as goal

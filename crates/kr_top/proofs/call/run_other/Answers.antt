@@ -7,7 +7,7 @@ use Rattle.kr_commands.specs.inner.LoadAnswers.{IsLoadAsked}
 use Rattle.kr_call_laws.proofs.Leaving.{tapes_left}
 use Rattle.kr_commands.proofs.LoadAsked.{asked_small, one_load}
 use Rattle.kr_fleet_laws.proofs.LoadReadings.{load_readings}
-use Rattle.kr_fleet_runs.proofs.LoadRuns.{for_load, load_at_once, load_unread}
+use Rattle.kr_load_runs.proofs.LoadRuns.{for_load, load_at_once, load_unread}
 use Rattle.kr_call_laws.proofs.Readings.{readings}
 use Rattle.kr_top.proofs.call.run_other.Goals as goal
 

@@ -1,0 +1,3 @@
+-- The lemmas that the answers cite.
+mod Lists
+pub mod Calling

@@ -1,0 +1,37 @@
+//! Stores in memory by lines.
+use crate::words::{bytes_of, longs_of, number_before, two_words};
+use crate::wrong::Wrong;
+use kr_base::{Bytes, List, MemTape, both};
+use kr_store::Store;
+use std::alloc::Global;
+
+/// `HEX LIMIT FAILS`: a store of the tape's bytes, on a tape that has room for so many; the writes
+/// of these numbers fail.
+pub fn load_store(alloc: Global, words: &str, room: usize) -> Result<Store<MemTape>, Wrong> {
+    let (content, rest) = two_words(words)?;
+    let (limit, fails) = number_before(rest)?;
+    let (content, fails) = both(bytes_of(alloc, content), longs_of(alloc, fails))?;
+    let tape = tape_of(alloc, content, fails, room)?;
+    match Store::load(alloc, tape, limit as u64) {
+        Ok(store) => Ok(store),
+        Err(refused) => {
+            drop(refused);
+            Err(Wrong::Form)
+        }
+    }
+}
+
+/// A tape of these bytes, whose writes of these numbers fail.
+fn tape_of(
+    alloc: Global,
+    content: Vec<u8>,
+    fails: List<u64>,
+    room: usize,
+) -> Result<MemTape, Wrong> {
+    if content.len() > room {
+        drop(content);
+        drop(fails);
+        return Err(Wrong::Form);
+    }
+    Ok(MemTape::new(Bytes::from_vec(content), room, List::new(alloc), fails)?)
+}

@@ -1,0 +1,138 @@
+//! The words of a line, parted by single spaces.
+use crate::wrong::Wrong;
+use hex::FromHexError;
+use kr_base::{List, Text, whole};
+use std::alloc::Global;
+
+/// Puts an item that was made at the end.
+pub fn add<T: Drop>(all: &mut List<T>, item: Result<T, Wrong>) -> Result<(), Wrong> {
+    match item {
+        Ok(item) => match all.push(item) {
+            Ok(()) => Ok(()),
+            Err(refused) => {
+                drop(refused);
+                Err(Wrong::Memory)
+            }
+        },
+        Err(why) => Err(why),
+    }
+}
+
+/// A word to be kept.
+pub fn kept(alloc: Global, word: &str) -> Result<Text, Wrong> {
+    Ok(Text::copy(alloc, word)?)
+}
+
+/// The first word, and what stands behind the space, of which there may be nothing.
+pub fn first_word(text: &str) -> (&str, &str) {
+    match text.split_once(' ') {
+        Some(words) => words,
+        None => (text, ""),
+    }
+}
+
+/// The first word, and what stands behind the space.
+pub fn two_words(text: &str) -> Result<(&str, &str), Wrong> {
+    match text.split_once(' ') {
+        Some(words) => Ok(words),
+        None => Err(Wrong::Form),
+    }
+}
+
+/// The first line, and those behind it, of which there may be none.
+pub fn two_lines(text: &str) -> (&str, &str) {
+    match text.split_once('\n') {
+        Some(lines) => lines,
+        None => (text, ""),
+    }
+}
+
+/// What stands behind the key.
+pub fn behind<'a>(key: &str, line: &'a str) -> Result<&'a str, Wrong> {
+    let (word, rest) = two_words(line)?;
+    if word == key {
+        Ok(rest)
+    } else {
+        Err(Wrong::Form)
+    }
+}
+
+/// A number of 32 bits in digits.
+pub fn number_of(text: &str) -> Result<u32, Wrong> {
+    match text.parse::<u32>() {
+        Ok(number) => Ok(number),
+        Err(_) => Err(Wrong::Form),
+    }
+}
+
+/// A number of 32 bits in digits, and what stands behind the space.
+pub fn number_before(text: &str) -> Result<(u32, &str), Wrong> {
+    let (number, rest) = two_words(text)?;
+    Ok((number_of(number)?, rest))
+}
+
+/// A number of 64 bits in digits.
+pub fn long_of(text: &str) -> Result<u64, Wrong> {
+    match text.parse::<u64>() {
+        Ok(number) => Ok(number),
+        Err(_) => Err(Wrong::Form),
+    }
+}
+
+/// Numbers of 64 bits parted by commas; `-` stands for none.
+pub fn longs_of(alloc: Global, word: &str) -> Result<List<u64>, Wrong> {
+    let mut numbers = List::new(alloc);
+    if word == "-" {
+        return Ok(numbers);
+    }
+    let done = add_longs(&mut numbers, word);
+    whole(numbers, done)
+}
+
+fn add_longs(numbers: &mut List<u64>, word: &str) -> Result<(), Wrong> {
+    for part in word.split(',') {
+        numbers.push(long_of(part)?)?;
+    }
+    Ok(())
+}
+
+/// Numbers of 32 bits parted by commas.
+pub fn numbers_of(alloc: Global, word: &str) -> Result<Vec<u32>, Wrong> {
+    let mut numbers = Vec::new(alloc);
+    let done = add_numbers(&mut numbers, word);
+    whole(numbers, done)
+}
+
+fn add_numbers(numbers: &mut Vec<u32>, word: &str) -> Result<(), Wrong> {
+    for part in word.split(',') {
+        numbers.push(number_of(part)?)?;
+    }
+    Ok(())
+}
+
+/// A number of 32 bits; `-` stands for none.
+pub fn option_of(word: &str) -> Result<Option<u32>, Wrong> {
+    if word == "-" {
+        return Ok(None);
+    }
+    Ok(Some(number_of(word)?))
+}
+
+/// The text of a word; `-` stands for the empty one.
+pub fn text_of(word: &str) -> &str {
+    if word == "-" { "" } else { word }
+}
+
+/// The same as a text of its own.
+pub fn own_text_of(alloc: Global, word: &str) -> Result<Text, Wrong> {
+    kept(alloc, text_of(word))
+}
+
+/// The bytes of digits in hex; `-` stands for none.
+pub fn bytes_of(alloc: Global, word: &str) -> Result<Vec<u8>, Wrong> {
+    match hex::decode(alloc, text_of(word)) {
+        Ok(bytes) => Ok(bytes),
+        Err(FromHexError::OutOfMemory) => Err(Wrong::Memory),
+        Err(_) => Err(Wrong::Form),
+    }
+}
