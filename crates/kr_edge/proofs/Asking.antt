@@ -8,11 +8,13 @@ use Rattle.kr_base.specs.Numbering.{next_number}
 use Rattle.kr_base.specs.Streams.{AppendsFront}
 use Rattle.kr_kms.specs.declared.plugin.KmsNo.{KmsNo}
 use Rattle.kr_kms.specs.declared.plugin.KmsNo.TheVariants.{Failed, NoMemory}
-use Rattle.kr_plugin_lines.specs.declared.replies.Asked.{Asked}
-use Rattle.kr_plugin_lines.specs.declared.replies.Reply.{Reply}
-use Rattle.kr_plugin_lines.specs.declared.requests.Request.{Request}
+use Rattle.kr_kms_wire.specs.declared.replies.Asked.{Asked}
+use Rattle.kr_kms_wire.specs.declared.replies.Reply.{Reply}
+use Rattle.kr_kms_wire.specs.declared.requests.Request.{Request}
 use Rattle.kr_base.specs.Faults.{Rose}
-use Rattle.kr_edge.specs.Lines.{Ends, Exchanged, IsCutOff, TakesLine, TakesNoLine}
+use Rattle.kr_kms_wire.specs.declared.replies.ReplyNo.{ReplyNo}
+use Rattle.kr_kms_wire.specs.declared.replies.ReplyNo.TheVariants.{Error}
+use Rattle.kr_edge.specs.Lines.{Ends, Exchanged, IsCutOff, TakesLine, TakesNoLine, broken_off}
 use Rattle.kr_edge.specs.Plugins.{Answers}
 
 -- a question of which nothing was written, and one that was written whole
@@ -84,36 +86,63 @@ pub cut_off_as : (old new : Ends) (question text : List ℕ) → question ≡ te
     → IsCutOff old new question → IsCutOff old new text
 cut_off_as old new question text same cut = subst (IsCutOff old new) same cut
 
+-- the parts of a result, each other than what it isn't
+abbrev Parts : Result Reply ReplyNo → Result Reply ReplyNo → Type 0
+Parts (Ok x) (Ok y) = x ≡ y
+Parts (Ok x) (Err why) = ⊥
+Parts (Err why) (Ok y) = ⊥
+Parts (Err why) (Err other) = ⊤
+
+parts : (x y : Result Reply ReplyNo) → x ≡ y → Parts x y
+parts x y same = subst (Parts x) same (own x)
+  where
+    own : (x : Result Reply ReplyNo) → Parts x x
+    own (Ok x) = refl
+    own (Err why) = tt
+
 -- what is no reply at all is none of one kind
 pub passes_on : {T : Type 0} (reply : T → Reply) (usable : T → Type 0) (old new : Ends)
     (asked : Asked) (request : Request) (why : KmsNo)
     → Answers (λ r. r) (λ _. ⊤) old new asked request (Err why)
     → Answers reply usable old new asked request (Err why)
 passes_on reply usable old new asked request Failed (inl cut) = inl cut
-passes_on reply usable old new asked request Failed (inr (line, exchanged, none)) =
-    inr (line, exchanged, λ answer is fits. none (reply answer) is tt)
+passes_on reply usable old new asked request Failed (inr (inl (line, asks, inl refuses))) =
+    inr (inl (line, asks, inl refuses))
+passes_on reply usable old new asked request Failed
+    (inr (inl (line, asks, inr (answer, is, unusable)))) = absurd (unusable tt)
+passes_on reply usable old new asked request Failed
+    (inr (inr (mid, (line, asks, none), broken))) =
+    inr (inr (mid, (line, asks, ((λ answer is. none.0 (reply answer) is), none.1)), broken))
 passes_on reply usable old new asked request NoMemory (inl same) = inl same
 passes_on reply usable old new asked request NoMemory (inr asks) = inr asks
 
--- a reply that is none of the kind, or can't be used
-pub refused : {T : Type 0} (reply : T → Reply) (usable : T → Type 0) (old new : Ends)
+-- a reply of another kind, behind which the exchange was broken off
+pub other_kind : {T : Type 0} (reply : T → Reply) (usable : T → Type 0) (old mid new : Ends)
     (asked : Asked) (request : Request) (found : Reply)
-    → Answers (λ r. r) (λ _. ⊤) old new asked request (Ok found)
-    → ((answer : T) → found ≡ reply answer → usable answer → ⊥)
+    → Answers (λ r. r) (λ _. ⊤) old mid asked request (Ok found)
+    → ((answer : T) → found ≡ reply answer → ⊥) → new ≡ broken_off mid
     → Answers reply usable old new asked request (Err Failed)
-refused reply usable old new asked request found ((line, exchanged, is), _) none =
-    inr (
-      line,
-      exchanged,
-      λ answer same fits. none answer (ok_once found (reply answer) (sym is ∙ same)) fits,
-    )
-  where
-    value_of : {A B : Type 0} → A → Result A B → A
-    value_of d (Ok x) = x
-    value_of d (Err e) = d
+other_kind reply usable old mid new asked request found ((line, asks, is), _) none broken =
+    inr (inr (
+      mid,
+      (
+        line,
+        asks,
+        (
+          (λ answer same. none answer (parts (Ok found) (Ok (reply answer)) (sym is ∙ same))),
+          λ text same. parts (Ok found) (Err (Error text)) (sym is ∙ same),
+        ),
+      ),
+      broken,
+    ))
 
-    ok_once : {B : Type 0} (x y : Reply) → ◌≡◌ {A = Result Reply B} (Ok x) (Ok y) → x ≡ y
-    ok_once x y e = ap (value_of x) e
+-- a reply of the kind that can't be used
+pub unusable : {T : Type 0} (reply : T → Reply) (usable : T → Type 0) (old new : Ends)
+    (asked : Asked) (request : Request) (found : Reply) (answer : T)
+    → Answers (λ r. r) (λ _. ⊤) old new asked request (Ok found) → found ≡ reply answer
+    → (usable answer → ⊥) → Answers reply usable old new asked request (Err Failed)
+unusable reply usable old new asked request found answer ((line, asks, is), _) same not =
+    inr (inl (line, asks, inr (answer, is ∙ ap Ok same, not)))
 
 -- a failure that counts behind a call that counted none
 pub counts_behind : (old mid new : ℕ) → mid ≡ old → new ≡ next_number mid → new ≡ next_number old

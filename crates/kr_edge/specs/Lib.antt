@@ -3,3 +3,4 @@ pub mod Lines
 pub mod Opened
 pub mod Plugins
 pub mod RealWorld
+pub mod Wiped

@@ -26,7 +26,7 @@ TakesNoLine most old new = (bytes : List ℕ) × Consumes old new bytes
 -- ---- exchanges
 
 -- the two ends of an exchange: the bytes that were written and those that are left to be read,
--- where they are told; how often each end failed; and whether an exchange was cut off
+-- where they are told; how often each end failed; and whether an exchange was cut off or broken off
 pub record Ends : Type 0 where
   pub written : Option (List ℕ)
   pub left : Option (List ℕ)
@@ -44,7 +44,7 @@ ends_of contents remaining exchange = record {
   broken = exchange.broken;
 }
 
--- no exchange was cut off before; the question was written, once, and a line of at most 131,072
+-- no exchange was cut off or broken off before; the question was written, once, and a line of at most 131,072
 -- bytes was taken as its answer
 pub record Exchanged (old new : Ends) (question line : List ℕ) : Type 0 where
   pub before : old.broken ≡ false
@@ -58,10 +58,14 @@ abbrev pub FailsToAnswer : Ends → Ends → Type 0
 FailsToAnswer old new = Rose old.write_faults new.write_faults
     ⊎ Rose old.read_faults new.read_faults ⊎ TakesNoLine 131073 old.left new.left
 
--- one was cut off before, so nothing was asked; or this one fails
+-- one was cut off or broken off before, so nothing was asked; or this one fails
 abbrev pub CutsOff : Ends → Ends → Type 0
 CutsOff old new = ((old.broken ≡ true) × (new ≡ old))
     ⊎ ((old.broken ≡ false) × FailsToAnswer old new)
+
+-- the same ends, of which the last exchange was broken off by the one who asked
+abbrev pub broken_off : Ends → Ends
+broken_off ends = record ends { broken = true }
 
 -- a front of the question was written at most
 pub record IsCutOff (old new : Ends) (question : List ℕ) : Type 0 where

@@ -4,30 +4,37 @@ use Rattle.kr_base.specs.Numbering.{next_number}
 use Rattle.kr_kms.specs.Calls.{Link}
 use Rattle.kr_kms.specs.declared.plugin.KmsNo.{KmsNo}
 use Rattle.kr_kms.specs.declared.plugin.KmsNo.TheVariants.{Failed, NoMemory}
-use Rattle.kr_plugin_lines.specs.declared.replies.Asked.{Asked}
-use Rattle.kr_plugin_lines.specs.declared.replies.Reply.{Reply}
-use Rattle.kr_plugin_lines.specs.declared.requests.Request.{Request}
-use Rattle.kr_plugin_lines.specs.Replies.{reply_of}
-use Rattle.kr_plugin_lines.specs.Requests.{request_text}
-use Rattle.kr_edge.specs.Lines.{Ends, Exchanged, IsCutOff}
+use Rattle.kr_kms_wire.specs.declared.replies.Asked.{Asked}
+use Rattle.kr_kms_wire.specs.declared.replies.Reply.{Reply}
+use Rattle.kr_kms_wire.specs.declared.requests.Request.{Request}
+use Rattle.kr_kms_wire.specs.Replies.{reply_of}
+use Rattle.kr_kms_wire.specs.Requests.{request_text}
+use Rattle.kr_kms_wire.specs.declared.replies.ReplyNo.TheVariants.{Error}
+use Rattle.kr_edge.specs.Lines.{Ends, Exchanged, IsCutOff, broken_off}
 
 -- the request's line was exchanged for a line of which this holds
 abbrev pub Asks : Ends → Ends → Request → (List ℕ → Type 0) → Type 0
 Asks old new request P = (line : List ℕ) × Exchanged old new (request_text request) line × P line
 
--- the line is no reply of this kind that can be used
+-- the same, and the exchange was broken off behind it
+abbrev pub BreaksOff : Ends → Ends → Request → (List ℕ → Type 0) → Type 0
+BreaksOff old new request P = (mid : Ends) × Asks old mid request P × (new ≡ broken_off mid)
+
+-- the line answers the request by a text at `error`, or by a reply of this kind that can't be used
 abbrev pub IsRefusal : {T : Type 0} → (T → Reply) → (T → Type 0) → Asked → List ℕ → Type 0
 IsRefusal {T} reply usable asked line =
-    (answer : T) → reply_of asked line ≡ Ok (reply answer) → usable answer → ⊥
+    ((text : List ℕ) × (reply_of asked line ≡ Err (Error text)))
+    ⊎ ((answer : T) × (reply_of asked line ≡ Ok (reply answer)) × (usable answer → ⊥))
 
--- a line as the reply to a call of this kind
-abbrev pub Judges : Asked → List ℕ → Result Reply KmsNo → Type 0
-Judges asked line (Ok reply) = reply_of asked line ≡ Ok reply
-Judges asked line (Err Failed) = IsRefusal (λ reply. reply) (λ _. ⊤) asked line
-Judges asked line (Err NoMemory) = ⊤
+-- the line is neither: no JSON, or not the shape of a reply of this kind
+abbrev pub IsNoReply : {T : Type 0} → (T → Reply) → Asked → List ℕ → Type 0
+IsNoReply {T} reply asked line = ((answer : T) → reply_of asked line ≡ Ok (reply answer) → ⊥)
+    × ((text : List ℕ) → reply_of asked line ≡ Err (Error text) → ⊥)
 
 -- the answer is what the plugin replied to the request. A call fails where the exchange is cut off,
--- or what came is no reply that can be used. Want of memory leaves no exchange half done
+-- where the plugin refuses or what it replies can't be used, which leaves the exchange whole, and
+-- where the line is no reply, so that the reply may still come: then it is broken off. So it is where
+-- memory lacked to read the line
 abbrev pub Answers : {T : Type 0} → (T → Reply) → (T → Type 0) → Ends → Ends → Asked → Request
     → Result T KmsNo → Type 0
 Answers reply usable old new asked request (Ok answer) =
@@ -35,8 +42,9 @@ Answers reply usable old new asked request (Ok answer) =
 Answers reply usable old new asked request (Err Failed) =
     IsCutOff old new (request_text request)
     ⊎ Asks old new request (λ line. IsRefusal reply usable asked line)
+    ⊎ BreaksOff old new request (λ line. IsNoReply reply asked line)
 Answers reply usable old new asked request (Err NoMemory) =
-    (new ≡ old) ⊎ Asks old new request (λ line. ⊤)
+    (new ≡ old) ⊎ BreaksOff old new request (λ line. ⊤)
 
 -- ---- counts
 

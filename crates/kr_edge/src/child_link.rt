@@ -4,11 +4,12 @@ ghost use Rattle.kr_base.specs.Numbering.{next_number};
 ghost use Rattle.kr_kms.specs.Calls.{Says, Unwraps, Wraps};
 ghost use Rattle.kr_kms.specs.Limits.{IsWithinLimits};
 ghost use Rattle.kr_kms.specs.Truth.{untold};
-ghost use Rattle.kr_plugin_lines.specs.declared.replies.Asked.{Asked};
-ghost use Rattle.kr_plugin_lines.specs.declared.replies.Reply.{Reply};
-ghost use Rattle.kr_plugin_lines.specs.declared.requests.Request.{Request};
+ghost use Rattle.kr_kms_wire.specs.declared.replies.Asked.{Asked};
+ghost use Rattle.kr_kms_wire.specs.declared.replies.Reply.{Reply};
+ghost use Rattle.kr_kms_wire.specs.declared.requests.Request.{Request};
 ghost use Rattle.kr_edge.specs.Lines.{ends_of};
 ghost use Rattle.kr_edge.specs.Plugins.{Answers, Counts, line_link};
+ghost use Rattle.kr_edge.specs.Wiped.{IsWiped};
 
 use crate::answer_room::AnswerRoom;
 use crate::plugin_lines::PluginLines;
@@ -143,6 +144,7 @@ impl<C, W: Write, R: Read> Kms for LineLink<C, W, R> {
             Asked.Status Request.Status result }
         ensures uid { self.new.lines.uid ≡ self.old.lines.uid }
         ensures once { Counts result self.old.lines.faults self.new.lines.faults }
+        ensures wiped { IsWiped self.new.lines.exchange.line.line.items }
 
         // As the trait says.
         ensures says { Says (line_link self.old.name self.old.lines.faults) result
@@ -158,6 +160,7 @@ impl<C, W: Write, R: Read> Kms for LineLink<C, W, R> {
             Asked.Encrypt (Request.Encrypt plain.now (next_number self.old.lines.uid)) result }
         ensures uid { self.new.lines.uid ≡ next_number self.old.lines.uid }
         ensures once { Counts result self.old.lines.faults self.new.lines.faults }
+        ensures wiped { IsWiped self.new.lines.exchange.line.line.items }
 
         // As the trait says.
         ensures wraps { Wraps untold (line_link self.old.name self.old.lines.faults) plain.now
@@ -180,6 +183,7 @@ impl<C, W: Write, R: Read> Kms for LineLink<C, W, R> {
             (next_number self.old.lines.uid)) result }
         ensures uid { self.new.lines.uid ≡ next_number self.old.lines.uid }
         ensures once { Counts result self.old.lines.faults self.new.lines.faults }
+        ensures wiped { IsWiped self.new.lines.exchange.line.line.items }
 
         // As the trait says.
         ensures unwraps { Unwraps untold (line_link self.old.name self.old.lines.faults)

@@ -3,15 +3,17 @@ ghost use Rattle.std.specs.Prelude.{◌≡◌, ◌<◌, ◌≤◌, ◌==◌, tru
 ghost use Rattle.std.specs.Prelude.{IfOk, IfSome, IsErr, OnErr, ◌⊎◌};
 ghost use Rattle.std.specs.Io.KnownBytes.{Consumes, IsAtEnd};
 ghost use Rattle.kr_base.specs.Faults.{Rose, IsCounted};
-ghost use Rattle.kr_edge.specs.Lines.{TakesLine, TakesNoLine, Exchanged, IsCutOff, ends_of};
+ghost use Rattle.kr_edge.specs.Lines.{TakesLine, TakesNoLine, Exchanged, IsCutOff};
+ghost use Rattle.kr_edge.specs.Wiped.{IsWiped};
+ghost use Rattle.kr_edge.specs.Lines.{ends_of, broken_off};
 
 use crate::answer_room::AnswerRoom;
 use crate::streams::{StdSink, StdSource};
 use kr_base::{Failed, Source, write_all};
 use std::io::{Read, Write};
 
-/// The ends of what answers each line with one. After an exchange that was cut off it stays broken:
-/// the next line would answer an older question.
+/// The ends of what answers each line with one. After an exchange that was cut off, or that its
+/// caller broke off, it stays broken: the next line would answer an older question.
 #[derive(Drop)]
 pub struct Exchange<W, R> {
     input: StdSink<W>,
@@ -64,6 +66,23 @@ impl<W: Write, R: Read> Exchange<W, R> {
         ensures { result.now ≡ take size self.now.line.line.items }
     {
         &self.line.line[..size]
+    }
+
+    /// Breaks it off: what was read is no answer to what was asked, so the answer may still come.
+    pub fn break_off(&mut self)
+        ensures ends { ends_of W.contents R.remaining self.new
+            ≡ broken_off (ends_of W.contents R.remaining self.old) }
+    {
+        self.broken = true;
+    }
+
+    /// Lets nothing of the last answer stand in its room.
+    pub fn wipe(&mut self)
+        ensures ends { ends_of W.contents R.remaining self.new
+            ≡ ends_of W.contents R.remaining self.old }
+        ensures wiped { IsWiped self.new.line.line.items }
+    {
+        self.line.wipe();
     }
 }
 

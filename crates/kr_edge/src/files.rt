@@ -47,7 +47,7 @@ pub trait NamedFiles {
         ensures { make ≡ true → IfErr result (λ why. why ≡ OpenNo.Failed) };
 
     /// Starts the program of that name with no arguments, with pipes as its input and output. Its
-    /// errors go nowhere, so that nobody has to read them.
+    /// errors are this process' own, so that the user reads them and nobody's pipe fills.
     fn start(&self, alloc: Global, program: &str) -> Result<Child<SystemProcess>, StartNo>;
 }
 
@@ -110,7 +110,7 @@ impl<R: Files<File = File> + Processes<Started = SystemProcess>> NamedFiles for 
         command
             .stdin(Stdio::piped())
             .stdout(Stdio::piped())
-            .stderr(Stdio::null());
+            .stderr(Stdio::inherit());
         let started = command.spawn(self.rt);
         drop(command);
         match started {

@@ -3,24 +3,26 @@ ghost use Rattle.std.specs.Prelude.{◌≡◌, ◌≤◌, ⊤, false, IfOk, IsEr
 ghost use Rattle.kr_base.specs.Faults.{Rose};
 ghost use Rattle.kr_base.specs.Numbering.{next_number};
 ghost use Rattle.kr_kms.specs.Limits.{IsWithinLimits};
-ghost use Rattle.kr_plugin_lines.specs.declared.replies.Asked.{Asked};
-ghost use Rattle.kr_plugin_lines.specs.declared.replies.Reply.{Reply};
-ghost use Rattle.kr_plugin_lines.specs.declared.requests.Request.{Request};
+ghost use Rattle.kr_kms_wire.specs.declared.replies.Asked.{Asked};
+ghost use Rattle.kr_kms_wire.specs.declared.replies.Reply.{Reply};
+ghost use Rattle.kr_kms_wire.specs.declared.requests.Request.{Request};
 ghost use Rattle.kr_kms.specs.declared.plugin.KmsNo.{KmsNo};
 ghost use Rattle.kr_edge.specs.Lines.{ends_of};
-ghost use Rattle.kr_edge.specs.Plugins.{Answers, Counts, Judges};
+ghost use Rattle.kr_edge.specs.Plugins.{Answers, Counts};
+ghost use Rattle.kr_edge.specs.Wiped.{IsWiped};
 
 use crate::answer_room::AnswerRoom;
 use crate::exchange::Exchange;
 use kr_base::{Annotations, Bytes, FaultCount, NoMemory, Text};
 use kr_kms::{KmsNo, Status, Wrapped, is_within_limits};
-use kr_plugin_lines::{Asked, Reply, ReplyNo, Request, read_reply, request_line};
+use kr_kms_wire::{Asked, Reply, ReplyNo, Request, read_reply, request_line};
 use std::alloc::Global;
 use std::io::{Read, Write};
 
 /// The calls on a plugin over two ends, of which the one takes requests and the other gives
-/// replies. An exchange that was cut off leaves it broken, so that each later call fails too; a
-/// reply that is none, a refusal, and a wrap above the limits are faults that leave it whole.
+/// replies. An exchange that was cut off, and a line that is no reply to what was asked, leave it
+/// broken, so that each later call fails too; a refusal, and a wrap above the limits, are faults that
+/// leave it whole.
 #[derive(Drop)]
 pub struct PluginLines<W, R> {
     exchange: Exchange<W, R>,
@@ -52,7 +54,7 @@ impl<W: Write, R: Read> PluginLines<W, R> {
     }
 
     /// Asks for the status.
-    #[tactic(auto, using(crate::proofs::Asking::passes_on, crate::proofs::Asking::refused, crate::proofs::Asking::counts_behind))]
+    #[tactic(auto, using(crate::proofs::Asking::passes_on, crate::proofs::Asking::other_kind, crate::proofs::Asking::counts_behind))]
     pub fn status(&mut self, alloc: Global) -> Result<Status, KmsNo>
         ensures later { self.old.faults ≤ self.new.faults }
         ensures failed { IsErrOf result KmsNo.Failed → Rose self.old.faults self.new.faults }
@@ -62,11 +64,13 @@ impl<W: Write, R: Read> PluginLines<W, R> {
             (ends_of W.contents R.remaining self.new.exchange)
             Asked.Status Request.Status result }
         ensures uid { self.new.uid ≡ self.old.uid }
+        ensures wiped { IsWiped self.new.exchange.line.line.items }
     {
         match self.ask(alloc, Asked::Status, &Request::Status) {
             Ok(Reply::Status(status)) => Ok(status),
             Ok(other) => {
                 drop(other);
+                self.exchange.break_off();
                 self.faults.rise();
                 Err(KmsNo::Failed)
             }
@@ -76,7 +80,7 @@ impl<W: Write, R: Read> PluginLines<W, R> {
 
     /// Wraps plain bytes. Requests to wrap and to unwrap are numbered from 1 up to the greatest
     /// number.
-    #[tactic(auto, using(crate::proofs::Asking::passes_on, crate::proofs::Asking::refused, crate::proofs::Asking::counts_behind))]
+    #[tactic(auto, using(crate::proofs::Asking::passes_on, crate::proofs::Asking::other_kind, crate::proofs::Asking::counts_behind))]
     pub fn wrap(&mut self, alloc: Global, plain: &[u8]) -> Result<Wrapped, KmsNo>
         ensures later { self.old.faults ≤ self.new.faults }
         ensures failed { IsErrOf result KmsNo.Failed → Rose self.old.faults self.new.faults }
@@ -86,9 +90,11 @@ impl<W: Write, R: Read> PluginLines<W, R> {
             (ends_of W.contents R.remaining self.new.exchange)
             Asked.Encrypt (Request.Encrypt plain.now (next_number self.old.uid)) result }
         ensures uid { self.new.uid ≡ next_number self.old.uid }
+        ensures wiped { IsWiped self.new.exchange.line.line.items }
     {
         let uid = self.next_uid();
         let Ok(plain) = Bytes::copy(alloc, plain) else {
+            self.exchange.wipe();
             return Err(KmsNo::NoMemory);
         };
         let request = Request::Encrypt { plain, uid };
@@ -106,6 +112,7 @@ impl<W: Write, R: Read> PluginLines<W, R> {
             }
             Ok(other) => {
                 drop(other);
+                self.exchange.break_off();
                 self.faults.rise();
                 Err(KmsNo::Failed)
             }
@@ -114,7 +121,7 @@ impl<W: Write, R: Read> PluginLines<W, R> {
     }
 
     /// Unwraps what was wrapped under this key id with these annotations.
-    #[tactic(auto, using(crate::proofs::Asking::passes_on, crate::proofs::Asking::refused, crate::proofs::Asking::counts_behind))]
+    #[tactic(auto, using(crate::proofs::Asking::passes_on, crate::proofs::Asking::other_kind, crate::proofs::Asking::counts_behind))]
     pub fn unwrap_source(
         &mut self,
         alloc: Global,
@@ -131,9 +138,11 @@ impl<W: Write, R: Read> PluginLines<W, R> {
             Asked.Decrypt (Request.Decrypt source.now key_id.now annotations.now
             (next_number self.old.uid)) result }
         ensures uid { self.new.uid ≡ next_number self.old.uid }
+        ensures wiped { IsWiped self.new.exchange.line.line.items }
     {
         let uid = self.next_uid();
         let Ok(request) = decrypt_request(alloc, source, key_id, annotations, uid) else {
+            self.exchange.wipe();
             return Err(KmsNo::NoMemory);
         };
         let answered = self.ask(alloc, Asked::Decrypt, &request);
@@ -142,6 +151,7 @@ impl<W: Write, R: Read> PluginLines<W, R> {
             Ok(Reply::Decrypt(plain)) => Ok(plain),
             Ok(other) => {
                 drop(other);
+                self.exchange.break_off();
                 self.faults.rise();
                 Err(KmsNo::Failed)
             }
@@ -160,7 +170,7 @@ impl<W: Write, R: Read> PluginLines<W, R> {
         self.uid
     }
 
-    /// Asks the plugin, and reads its reply.
+    /// Asks the plugin, reads its reply, and lets nothing of it stand in its room.
     fn ask(&mut self, alloc: Global, asked: Asked, request: &Request) -> Result<Reply, KmsNo>
         ensures later { self.old.faults ≤ self.new.faults }
         ensures failed { IsErrOf result KmsNo.Failed → Rose self.old.faults self.new.faults }
@@ -169,26 +179,55 @@ impl<W: Write, R: Read> PluginLines<W, R> {
             (ends_of W.contents R.remaining self.old.exchange)
             (ends_of W.contents R.remaining self.new.exchange) asked request.now result }
         ensures uid { self.new.uid ≡ self.old.uid }
+        ensures wiped { IsWiped self.new.exchange.line.line.items }
     {
-        let line = match request_line(alloc, request) {
-            Ok(line) => line,
-            Err(_) => return Err(KmsNo::NoMemory),
-        };
-        let exchanged = self.exchange.ask(line.as_slice());
-        drop(line);
-        match exchanged {
-            Ok(size) => match judge(alloc, asked, self.exchange.answer(size)) {
-                Ok(reply) => Ok(reply),
-                Err(KmsNo::NoMemory) => Err(KmsNo::NoMemory),
-                Err(KmsNo::Failed) => {
-                    self.faults.rise();
-                    Err(KmsNo::Failed)
-                }
-            },
-            Err(_) => {
+        let answered = ask_once(&mut self.exchange, alloc, asked, request);
+        self.exchange.wipe();
+        match answered {
+            Ok(reply) => Ok(reply),
+            Err(KmsNo::NoMemory) => Err(KmsNo::NoMemory),
+            Err(KmsNo::Failed) => {
                 self.faults.rise();
                 Err(KmsNo::Failed)
             }
+        }
+    }
+}
+
+/// Exchanges the request's line for one, and reads that as its reply. What is no reply breaks the
+/// exchange off, and so does what memory lacked to read.
+fn ask_once<W: Write, R: Read>(
+    exchange: &mut Exchange<W, R>,
+    alloc: Global,
+    asked: Asked,
+    request: &Request,
+) -> Result<Reply, KmsNo>
+    ensures { Answers (λ reply. reply) (λ _. ⊤)
+        (ends_of W.contents R.remaining exchange.old)
+        (ends_of W.contents R.remaining exchange.new) asked request.now result }
+{
+    let line = match request_line(alloc, request) {
+        Ok(line) => line,
+        Err(_) => return Err(KmsNo::NoMemory),
+    };
+    let exchanged = exchange.ask(line.as_slice());
+    drop(line);
+    let Ok(size) = exchanged else {
+        return Err(KmsNo::Failed);
+    };
+    match read_reply(alloc, asked, exchange.answer(size)) {
+        Ok(reply) => Ok(reply),
+        Err(ReplyNo::Error(text)) => {
+            drop(text);
+            Err(KmsNo::Failed)
+        }
+        Err(ReplyNo::NotJson) | Err(ReplyNo::Shape) => {
+            exchange.break_off();
+            Err(KmsNo::Failed)
+        }
+        Err(ReplyNo::NoMemory) => {
+            exchange.break_off();
+            Err(KmsNo::NoMemory)
         }
     }
 }
@@ -221,21 +260,5 @@ fn decrypt_request(
             drop(key_id);
             Err(NoMemory)
         }
-    }
-}
-
-/// Reads a reply. A refusal is a fault, as what is none.
-fn judge(alloc: Global, asked: Asked, line: &[u8]) -> Result<Reply, KmsNo>
-    ensures { Judges asked line.now result }
-{
-    match read_reply(alloc, asked, line) {
-        Ok(reply) => Ok(reply),
-        Err(ReplyNo::NotJson) => Err(KmsNo::Failed),
-        Err(ReplyNo::Shape) => Err(KmsNo::Failed),
-        Err(ReplyNo::Error(text)) => {
-            drop(text);
-            Err(KmsNo::Failed)
-        }
-        Err(ReplyNo::NoMemory) => Err(KmsNo::NoMemory),
     }
 }

@@ -10,15 +10,15 @@ use Rattle.kr_kms.specs.Truth.{Opens}
 use Rattle.kr_provider.specs.Publication.{Publication, names_plugin}
 use Rattle.kr_provider.specs.Reading.{Reading, HasReading, HasSomeReading}
 use Rattle.kr_provider.proofs.WithoutPlugins.{none_listed}
-use Rattle.kr_starts.specs.declared.generation.Generation.{Generation}
+use Rattle.kr_opening.specs.declared.generation.Generation.{Generation}
 use Rattle.kr_rollout.specs.declared.opening.Entry.{Entry}
 use Rattle.kr_rollout.specs.declared.opening.Opening.{Opening}
-use Rattle.kr_callers.specs.ContentLaws.{NamesNoPlugin}
+use Rattle.kr_history.specs.ContentLaws.{NamesNoPlugin}
 use Rattle.kr_rollout.specs.Entries.{published_at}
 use Rattle.kr_rollout.specs.Histories.{state_of}
 use Rattle.kr_rollout.specs.States.{IsLive}
-use Rattle.kr_callers.proofs.HeldFacts.{there_holds}
-use Rattle.kr_callers.proofs.WithoutPlugin.{some_reads}
+use Rattle.kr_history.proofs.HeldFacts.{there_holds}
+use Rattle.kr_history.proofs.WithoutPlugin.{some_reads}
 
 -- a live configuration names none
 none_live : (generations : List Generation) (number : ℕ) (rows : List settings_row)

@@ -15,21 +15,21 @@ use Rattle.kr_rollout.specs.declared.line.Did.TheVariants as did
 use Rattle.kr_rollout.specs.declared.line.Gave.{Gave}
 use Rattle.kr_rollout.specs.declared.line.Gave.TheVariants.{Adopted, Found, Absent, Written, Changed, Released, Reloaded, Joined, Refused, Moved, Present, Departed, Gone, StoreFailed, StoreFull, Nothing}
 use Rattle.kr_rollout.specs.declared.opening.Entry.{Entry}
-use Rattle.kr_callers.specs.Acting.{Caller, AddsEntry}
+use Rattle.kr_history.specs.Acting.{Caller, AddsEntry}
 use Rattle.kr_rollout.specs.Callers.{gave_of, holding}
-use Rattle.kr_callers.specs.Honesty.{HonestBy, SeedsOpen}
-use Rattle.kr_callers.proofs.KeptHonest.{honesty_follows}
-use Rattle.kr_callers.specs.declared.call.CallNo.{CallNo}
-use Rattle.kr_callers.specs.declared.call.CallNo.TheVariants as refusal
+use Rattle.kr_history.specs.Honesty.{HonestBy, SeedsOpen}
+use Rattle.kr_history.proofs.KeptHonest.{honesty_follows}
+use Rattle.kr_history.specs.declared.call.CallNo.{CallNo}
+use Rattle.kr_history.specs.declared.call.CallNo.TheVariants as refusal
 use Rattle.kr_fleet.specs.declared.outcome.Joining.{Joining}
 use Rattle.kr_fleet.specs.declared.outcome.Loaded.{Loaded}
-use Rattle.kr_callers.specs.Calls.{AddsNothing, KeepsHonestBy}
+use Rattle.kr_history.specs.Calls.{AddsNothing, KeepsHonestBy}
 use Rattle.kr_fleet.specs.LoadCalls.{BringsBy, IsJoin, IsReload}
 use Rattle.kr_fleet.specs.inner.Answering as answers
 use Rattle.kr_fleet.specs.inner.Answering.{ReloadsBy}
 use Rattle.kr_fleet.specs.inner.Stages.{NotShared, publish_refusal}
-use Rattle.kr_callers.proofs.Answered.{may_give}
-use Rattle.kr_callers.proofs.KeptByEvents.{holds_still}
+use Rattle.kr_history.proofs.Answered.{may_give}
+use Rattle.kr_history.proofs.KeptByEvents.{holds_still}
 
 -- ---- the seeds that are brought open
 

@@ -18,29 +18,30 @@ use Rattle.kr_rollout.specs.declared.answer.Answer.{Answer}
 use Rattle.kr_rollout.specs.declared.answer.Answer.TheVariants as answer
 use Rattle.kr_rollout.specs.declared.event.Event.TheVariants as event
 use Rattle.kr_rollout.specs.declared.opening.Entry.{Entry}
-use Rattle.kr_callers.specs.Acting.{Caller, AddsEntry, IsCaller}
+use Rattle.kr_history.specs.Acting.{Caller, AddsEntry, IsCaller}
 use Rattle.kr_rollout.specs.Callers.{holding}
-use Rattle.kr_callers.specs.Contents.{IsContent}
+use Rattle.kr_history.specs.Contents.{IsContent}
 use Rattle.kr_rollout.specs.Entries.{seat_of}
 use Rattle.kr_rollout.specs.Histories.{state_of}
-use Rattle.kr_callers.specs.Honesty.{IsHonest, SeedsOpen}
+use Rattle.kr_history.specs.Honesty.{IsHonest, IsHonestAt, SeedsOpen}
 use Rattle.kr_rollout.specs.States.{IsLive}
-use Rattle.kr_callers.proofs.FoundRows.{absent_is_nothing, found_reads}
-use Rattle.kr_callers.proofs.HeldFacts.{held_is_named, held_opens}
-use Rattle.kr_callers.proofs.Judging.{holding_is_live}
-use Rattle.kr_callers.proofs.NeedsLive.{live_is_readable}
-use Rattle.kr_callers.proofs.WithoutPlugin.{honest_without_plugin}
-use Rattle.kr_callers.specs.declared.call.CallNo.{CallNo}
-use Rattle.kr_callers.specs.declared.call.CallNo.TheVariants as refusal
+use Rattle.kr_history.proofs.FoundRows.{absent_is_nothing, found_reads}
+use Rattle.kr_history.proofs.HeldFacts.{held_is_named, held_opens}
+use Rattle.kr_history.proofs.HonestPaths.{honest_at_each}
+use Rattle.kr_history.proofs.Judging.{holding_is_live}
+use Rattle.kr_history.proofs.NeedsLive.{live_is_readable}
+use Rattle.kr_history.proofs.WithoutPlugin.{honest_without_plugin}
+use Rattle.kr_history.specs.declared.call.CallNo.{CallNo}
+use Rattle.kr_history.specs.declared.call.CallNo.TheVariants as refusal
 use Rattle.kr_fleet.specs.declared.outcome.Read.{Read}
 use Rattle.kr_fleet.specs.declared.outcome.Read.TheVariants.{Absent}
-use Rattle.kr_callers.specs.Calls.{LetsGo}
+use Rattle.kr_history.specs.Calls.{LetsGo}
 use Rattle.kr_fleet.specs.ReadCalls.{FindsRow, Finds, IsContentOf, IsKnownContent, IsOfValue, IsRead, IsReadByAny}
 use Rattle.kr_fleet.specs.inner.Answering.{FetchesBy}
 use Rattle.kr_fleet.specs.inner.Stages.{Fetches, HoldsAdopted, value_of}
 use Rattle.kr_fleet.proofs.Allowed.{refused_allowed}
 use Rattle.kr_fleet.proofs.Bare.{reads_bare}
-use Rattle.kr_callers.proofs.Nexts.{front_own, found_row, legal_now}
+use Rattle.kr_history.proofs.Nexts.{front_own, found_row, legal_now}
 
 -- ---- what the bench answers is the answer
 
@@ -113,7 +114,7 @@ module _ (old : Caller) (k : IsCaller old) (number : ℕ) (p : Publication)
   module _ {L : Type 0} (truth : Truth) (link : L → Link) (new : Caller) (olds news : List L) where
     found_content : (opens : Opens) (row : Row)
         (f : AddsEntry old (event.Fetch path) (answer.Found row) new) (reading : Reading)
-        → IsHonest opens old.opening (old.seen ++ f.others)
+        → IsHonestAt opens path (old.seen ++ f.others)
         → HasReading opens (list_at p row.resource) path row.stored reading
         → IsContent opens old.opening (old.seen ++ f.others) path (Some reading)
     found_content opens row f reading honest reads =
@@ -122,7 +123,8 @@ module _ (old : Caller) (k : IsCaller old) (number : ℕ) (p : Publication)
         let r = found_row old new path row k f in
         subst (λ q. IsContent opens old.opening h q (Some reading)) r.path_is
         ((found_reads opens old.opening h f.entry row.revision row p.rows reading
-        (legal_now old new (event.Fetch path) given f) honest f.records.gave_is f.records.shows
+        (legal_now old new (event.Fetch path) given f)
+        (subst (λ q. IsHonestAt opens q h) (sym r.path_is) honest) f.records.gave_is f.records.shows
         (lives new given f)).0
         (subst (λ q. HasReading opens (list_of p.rows row.resource) q row.stored reading)
         (sym r.path_is) reads))
@@ -137,10 +139,12 @@ module _ (old : Caller) (k : IsCaller old) (number : ℕ) (p : Publication)
         let given = answer.Found row in
         let h = old.seen ++ f.others in
         record {
-          told = λ told honest. found_content truth.opens row f reading honest
+          told = λ told honest. found_content truth.opens row f reading
+              (honest_at_each truth.opens old.opening h path f.legal honest)
               (reads told (seeds_open new given f truth.opens honest));
           bare = λ opens none. found_content opens row f reading
-              (honest_without_plugin opens old.opening h f.legal none)
+              (honest_at_each opens old.opening h path f.legal
+              (honest_without_plugin opens old.opening h f.legal none))
               (reads_bare opens old.opening h p.rows row.resource path row.stored reading
               (lives new given f) none some);
         }

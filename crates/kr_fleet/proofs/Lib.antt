@@ -2,7 +2,9 @@
 pub mod Allowed
 pub mod Asked
 pub mod Bare
+pub mod Beginning
 pub mod Bringing
+pub mod Closing
 pub mod Finding
 pub mod Putting
 pub mod Renewed

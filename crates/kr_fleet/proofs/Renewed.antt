@@ -13,16 +13,16 @@ use Rattle.kr_judge.specs.declared.verdict.Verdict.{Verdict}
 use Rattle.kr_rollout.specs.declared.answer.Answer.{Answer}
 use Rattle.kr_rollout.specs.declared.answer.Answer.TheVariants as answer
 use Rattle.kr_rollout.specs.declared.event.Event.TheVariants as event
-use Rattle.kr_starts.specs.declared.generation.Generation.{Generation}
-use Rattle.kr_callers.specs.Acting.{Caller, AddsEntry, IsCaller}
+use Rattle.kr_opening.specs.declared.generation.Generation.{Generation}
+use Rattle.kr_history.specs.Acting.{Caller, AddsEntry, IsCaller}
 use Rattle.kr_rollout.specs.Answers.{IsAnswer, Reloads}
 use Rattle.kr_rollout.specs.Callers.{gave_of, holding, number_with, with_published}
 use Rattle.kr_rollout.specs.Entries.{published_at}
 use Rattle.kr_rollout.specs.Histories.{state_of}
 use Rattle.kr_rollout.specs.States.{held_by}
 use Rattle.kr_rollout.proofs.Holdings.{holding_of}
-use Rattle.kr_callers.proofs.Judging.{refresh_is_not_refused}
-use Rattle.kr_callers.specs.declared.call.CallNo.{CallNo}
+use Rattle.kr_history.proofs.Judging.{refresh_is_not_refused}
+use Rattle.kr_history.specs.declared.call.CallNo.{CallNo}
 use Rattle.kr_fleet.specs.declared.outcome.Loaded.{Loaded}
 use Rattle.kr_fleet.specs.LoadCalls.{BringsBy, IsKeyChanged, Refreshes, plugin_names, reload_of}
 use Rattle.kr_fleet.specs.inner.Answering.{ReloadsBy}
@@ -30,7 +30,7 @@ use Rattle.kr_fleet.specs.inner.Stages.{ComparesKeys, SharesPublished}
 use Rattle.kr_provider.proofs.AskedLists.{asked_then}
 use Rattle.kr_fleet.proofs.Asked.{asked_among}
 use Rattle.kr_fleet.proofs.Bringing.{not_shared}
-use Rattle.kr_callers.proofs.Nexts.{front_own, legal_now}
+use Rattle.kr_history.proofs.Nexts.{front_own, legal_now}
 
 -- ---- the generation that is held
 

@@ -5,12 +5,12 @@ use Rattle.kr_store.specs.declared.rows.Row.{Row}
 use Rattle.kr_rollout.specs.declared.answer.Answer.{Answer}
 use Rattle.kr_rollout.specs.declared.answer.Answer.TheVariants as answer
 use Rattle.kr_rollout.specs.declared.event.Event.TheVariants as event
-use Rattle.kr_callers.specs.Acting.{Caller, AddsEntry}
+use Rattle.kr_history.specs.Acting.{Caller, AddsEntry}
 use Rattle.kr_rollout.specs.Callers.{holding}
-use Rattle.kr_callers.specs.declared.call.CallNo.{CallNo}
+use Rattle.kr_history.specs.declared.call.CallNo.{CallNo}
 use Rattle.kr_fleet.specs.inner.Answering.{FetchesBy}
 use Rattle.kr_fleet.specs.inner.Stages.{Fetches}
-use Rattle.kr_callers.proofs.KeptByEvents.{holds_still}
+use Rattle.kr_history.proofs.KeptByEvents.{holds_still}
 
 pub leave_holds : (old new : Caller) (replica : ℕ) (given : Answer)
     → AddsEntry old (event.Leave replica) given new → holding old.mine ≡ None

@@ -2,9 +2,9 @@
 use Rattle.std.proofs.Common.{◌≡◌, ℕ, ◌<◌, get_or, ap, arith}
 use Rattle.kr_rollout.specs.declared.answer.Answer.{Answer}
 use Rattle.kr_rollout.specs.declared.event.Event.TheVariants as event
-use Rattle.kr_callers.specs.Acting.{Caller, AddsEntry}
+use Rattle.kr_history.specs.Acting.{Caller, AddsEntry}
 use Rattle.kr_rollout.specs.Callers.{reloads_in}
-use Rattle.kr_callers.proofs.KeptHonest.{budget_follows}
+use Rattle.kr_history.proofs.KeptHonest.{budget_follows}
 
 pub adopted_room : (old new : Caller) (replica : ℕ) (given : Answer)
     → AddsEntry old (event.Adopt replica) given new

@@ -1,6 +1,7 @@
 -- The definitions that public contracts and laws name.
-pub mod SingleCalls
-pub mod ReadCalls
-pub mod WriteCalls
+pub mod Fleets
 pub mod LoadCalls
+pub mod ReadCalls
+pub mod SingleCalls
+pub mod WriteCalls
 pub mod inner

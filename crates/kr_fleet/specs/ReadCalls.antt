@@ -18,15 +18,15 @@ use Rattle.kr_rollout.specs.declared.answer.Answer.TheVariants as answer
 use Rattle.kr_rollout.specs.declared.event.Event.TheVariants as event
 use Rattle.kr_rollout.specs.declared.opening.Entry.{Entry}
 use Rattle.kr_rollout.specs.declared.opening.Opening.{Opening}
-use Rattle.kr_callers.specs.Acting.{Caller, AddsEntry}
-use Rattle.kr_callers.specs.Contents.{IsContent}
-use Rattle.kr_callers.specs.ContentLaws.{NamesNoPlugin}
-use Rattle.kr_callers.specs.Honesty.{IsHonest}
-use Rattle.kr_callers.specs.declared.call.CallNo.{CallNo}
-use Rattle.kr_callers.specs.declared.call.CallNo.TheVariants as refusal
+use Rattle.kr_history.specs.Acting.{Caller, AddsEntry}
+use Rattle.kr_history.specs.Contents.{IsContent}
+use Rattle.kr_history.specs.ContentLaws.{NamesNoPlugin}
+use Rattle.kr_history.specs.Honesty.{IsHonest, IsHonestAt}
+use Rattle.kr_history.specs.declared.call.CallNo.{CallNo}
+use Rattle.kr_history.specs.declared.call.CallNo.TheVariants as refusal
 use Rattle.kr_fleet.specs.declared.outcome.Read.{Read}
 use Rattle.kr_fleet.specs.declared.outcome.Read.TheVariants.{Absent, Value}
-use Rattle.kr_callers.specs.Calls.{AddsNothing, EndsEarly, HoldsMeanwhile}
+use Rattle.kr_history.specs.Calls.{AddsNothing, EndsEarly, HoldsMeanwhile}
 
 -- ---- the content at the path
 
@@ -53,12 +53,12 @@ IsContentOf (Ok opened) Is = Is (data_of opened.plain)
 IsContentOf (Err (unsealing.Refused why)) Is = IsOfValue why × Is (refused why)
 IsContentOf (Err why) Is = ⊤
 
--- this is the content by any truth by which the history is honest and the value's source is what it
--- was unwrapped to; a value that no plugin reads has none
+-- this is the content by any truth by which what stands at the path is honest and the value's
+-- source is what it was unwrapped to; a value that no plugin reads has none
 abbrev pub IsContentByAny : Opening → List Entry → (list : List Who) → (path bytes : List ℕ)
     → Envelope → Reading → Type 0
 IsContentByAny o history list path bytes envelope reading = (opens : Opens)
-    → IsHonest opens o history → IsEnvelopeOf opens list bytes envelope
+    → IsHonestAt opens path history → IsEnvelopeOf opens list bytes envelope
     → IsContent opens o history path (Some reading)
 
 -- ---- the call

@@ -8,10 +8,10 @@ use Rattle.kr_provider.specs.declared.refusal.ValueNo.TheVariants.{LooksEncrypte
 use Rattle.kr_rollout.specs.declared.answer.Answer.{Answer}
 use Rattle.kr_rollout.specs.declared.answer.Answer.TheVariants as answer
 use Rattle.kr_rollout.specs.declared.event.Event.TheVariants as event
-use Rattle.kr_callers.specs.Acting.{Caller, AddsEntry}
-use Rattle.kr_callers.specs.declared.call.CallNo.{CallNo}
-use Rattle.kr_callers.specs.declared.call.CallNo.TheVariants as refusal
-use Rattle.kr_callers.specs.Calls.{AddsNothing, EndsEarly, HoldsMeanwhile}
+use Rattle.kr_history.specs.Acting.{Caller, AddsEntry}
+use Rattle.kr_history.specs.declared.call.CallNo.{CallNo}
+use Rattle.kr_history.specs.declared.call.CallNo.TheVariants as refusal
+use Rattle.kr_history.specs.Calls.{AddsNothing, EndsEarly, HoldsMeanwhile}
 
 module _ {D : Type 0} (left : D → Option (List ℕ)) (count : D → ℕ)
     (resource path plain : List ℕ) where

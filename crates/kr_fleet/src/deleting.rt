@@ -2,13 +2,13 @@
 ghost use Rattle.std.specs.Prelude.{◌≡◌, [], None};
 ghost use Rattle.kr_base.specs.Rules.{IsPath};
 ghost use Rattle.kr_rollout.specs.Callers.{holding};
-ghost use Rattle.kr_callers.specs.Calls.{KeepsHonesty};
-ghost use Rattle.kr_callers.specs.Parts.{AddsWithin};
+ghost use Rattle.kr_history.specs.Calls.{KeepsHonesty};
+ghost use Rattle.kr_history.specs.Parts.{AddsWithin};
 ghost use Rattle.kr_fleet.specs.SingleCalls.{IsDelete};
 ghost use Rattle.kr_fleet.specs.inner.Answering.{AnswersDelete, DeletesBy};
 
 use kr_base::{Spent, Text};
-use kr_callers::{Acts, CallNo};
+use kr_history::{Acts, CallNo};
 use kr_rollout::{Answer, Event};
 use std::alloc::Global;
 

@@ -1,13 +1,13 @@
 //! A replica that leaves.
 ghost use Rattle.std.specs.Prelude.{◌≡◌, ◌<◌, [], length, None};
 ghost use Rattle.kr_rollout.specs.Callers.{holding};
-ghost use Rattle.kr_callers.specs.Calls.{KeepsHonesty};
-ghost use Rattle.kr_callers.specs.Parts.{AddsWithin};
+ghost use Rattle.kr_history.specs.Calls.{KeepsHonesty};
+ghost use Rattle.kr_history.specs.Parts.{AddsWithin};
 ghost use Rattle.kr_fleet.specs.SingleCalls.{IsLeave};
 ghost use Rattle.kr_fleet.specs.inner.Answering.{AnswersLeave, DepartsBy};
 
 use kr_base::Spent;
-use kr_callers::{Acts, CallNo};
+use kr_history::{Acts, CallNo};
 use kr_rollout::{Answer, Event};
 
 /// Takes the replica's current generation away. It answers the generation, or `None` where the

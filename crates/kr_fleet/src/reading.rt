@@ -6,15 +6,15 @@ ghost use Rattle.kr_provider.specs.AskedLinks.{AskedOnly};
 ghost use Rattle.kr_provider.specs.KeyPages.{size_of};
 ghost use Rattle.kr_provider.specs.Names.{names_of};
 ghost use Rattle.kr_rollout.specs.Callers.{holding};
-ghost use Rattle.kr_callers.specs.Calls.{AreServed, IsIdle, KeepsHonesty};
-ghost use Rattle.kr_callers.specs.Parts.{AddsWithin};
+ghost use Rattle.kr_history.specs.Calls.{AreServed, IsIdle, KeepsHonesty};
+ghost use Rattle.kr_history.specs.Parts.{AddsWithin};
 ghost use Rattle.kr_fleet.specs.ReadCalls.{Finds, IsRead};
 ghost use Rattle.kr_fleet.specs.inner.Answering.{AnswersFetch, FetchesBy};
 ghost use Rattle.kr_fleet.specs.inner.Stages.{Fetches, HoldsAdopted, value_of};
 
 use crate::outcome::Read;
 use kr_base::{Dice, Shared, Spent, Text};
-use kr_callers::{Acts, CallNo, adopt, let_go, take_up, unseal};
+use kr_history::{Acts, CallNo, adopt, let_go, take_up, unseal};
 use kr_kms::Kms;
 use kr_provider::{Bench, Opened, UnsealNo};
 use kr_rollout::{Answer, Event};

@@ -5,14 +5,14 @@ ghost use Rattle.kr_provider.specs.KeyPages.{size_of};
 ghost use Rattle.kr_provider.specs.Names.{names_of};
 ghost use Rattle.kr_rollout.specs.declared.line.Did.TheVariants.{Put};
 ghost use Rattle.kr_rollout.specs.Callers.{holding};
-ghost use Rattle.kr_callers.specs.Calls.{AreServed, IsIdle, KeepsHonesty};
-ghost use Rattle.kr_callers.specs.Parts.{AddsWithin};
+ghost use Rattle.kr_history.specs.Calls.{AreServed, IsIdle, KeepsHonesty};
+ghost use Rattle.kr_history.specs.Parts.{AddsWithin};
 ghost use Rattle.kr_fleet.specs.WriteCalls.{IsWrite, Puts};
 ghost use Rattle.kr_fleet.specs.inner.Answering.{AnswersPut, PutsBy};
 ghost use Rattle.kr_fleet.specs.inner.Stages.{HoldsAdopted, seal_refusal};
 
 use kr_base::{Bytes, Dice, Spent, Text};
-use kr_callers::{Acts, CallNo, adopt, let_go, seal, take_up};
+use kr_history::{Acts, CallNo, adopt, let_go, seal, take_up};
 use kr_kms::Kms;
 use kr_provider::{Bench, SealNo, ValueNo};
 use kr_rollout::{Answer, Event};

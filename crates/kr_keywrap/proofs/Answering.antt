@@ -1,9 +1,9 @@
 -- Answers of a plugin by their tests.
 use Rattle.std.proofs.Common.{◌≡◌, ℕ, List, length, codes, Result, Ok, Err, IfOk, ◌∙◌, refl, inl, inr}
 use Rattle.std.proofs.lemmas.Bool.{cases_Bool}
-use Rattle.kr_plugin_lines.specs.declared.replies.Answered.{Answered}
-use Rattle.kr_plugin_lines.specs.declared.replies.Answered.TheVariants.{Reply, Error}
-use Rattle.kr_plugin_lines.specs.declared.replies.Reply.TheVariants as reply
+use Rattle.kr_kms_wire.specs.declared.replies.Answered.{Answered}
+use Rattle.kr_kms_wire.specs.declared.replies.Answered.TheVariants.{Reply, Error}
+use Rattle.kr_kms_wire.specs.declared.replies.Reply.TheVariants as reply
 use Rattle.kr_keywrap.specs.Answer.{Plugin, wrap_answer, wrap_by}
 use Rattle.kr_keywrap.specs.KeyWrap.{IsWrappable, is_wrappable}
 use Rattle.kr_keywrap.proofs.Bodies.{wrappable_from, wrappable_true}

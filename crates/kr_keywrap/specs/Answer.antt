@@ -6,14 +6,14 @@ use Rattle.kr_aes.specs.declared.Rounds.{Rounds}
 use Rattle.kr_aes.specs.Cipher.{cipher}
 use Rattle.kr_aes.specs.InverseCipher.{inverse_cipher}
 use Rattle.kr_aes.specs.KeyExpansion.{padded_schedule}
-use Rattle.kr_plugin_lines.specs.Replies.{answer_text}
-use Rattle.kr_plugin_lines.specs.Requests.{request_of}
+use Rattle.kr_kms_wire.specs.Replies.{answer_text}
+use Rattle.kr_kms_wire.specs.Requests.{request_of}
 use Rattle.kr_kms.specs.declared.plugin.Wrapped.{Wrapped}
-use Rattle.kr_plugin_lines.specs.declared.replies.Answered.{Answered}
-use Rattle.kr_plugin_lines.specs.declared.replies.Answered.TheVariants.{Reply, Error}
-use Rattle.kr_plugin_lines.specs.declared.replies.Reply.TheVariants as reply
-use Rattle.kr_plugin_lines.specs.declared.requests.Request.{Request}
-use Rattle.kr_plugin_lines.specs.declared.requests.Request.TheVariants.{Status, Encrypt, Decrypt}
+use Rattle.kr_kms_wire.specs.declared.replies.Answered.{Answered}
+use Rattle.kr_kms_wire.specs.declared.replies.Answered.TheVariants.{Reply, Error}
+use Rattle.kr_kms_wire.specs.declared.replies.Reply.TheVariants as reply
+use Rattle.kr_kms_wire.specs.declared.requests.Request.{Request}
+use Rattle.kr_kms_wire.specs.declared.requests.Request.TheVariants.{Status, Encrypt, Decrypt}
 use Rattle.kr_keywrap.specs.KeyLink.{status_of}
 use Rattle.kr_keywrap.specs.Keys.{rounds_of}
 use Rattle.kr_keywrap.specs.KeyWrap.{is_wrappable, key_unwrap, key_wrap}

@@ -4,7 +4,7 @@ ghost use Rattle.std.specs.Result.{result_ok};
 ghost use Rattle.std.specs.Str.{bytes_eq};
 ghost use Rattle.kr_aes.specs.InverseCipher.{inverse_cipher};
 ghost use Rattle.kr_aes.specs.KeyExpansion.{IsSchedule};
-ghost use Rattle.kr_plugin_lines.specs.Requests.{request_of};
+ghost use Rattle.kr_kms_wire.specs.Requests.{request_of};
 ghost use Rattle.kr_keywrap.specs.Answer.{answer, line_answer, request_answer, unwrap_answer};
 ghost use Rattle.kr_keywrap.specs.Answer.{wrap_answer, wrap_by};
 ghost use Rattle.kr_keywrap.specs.KeyWrap.{IsWrappable, key_unwrap};
@@ -15,7 +15,7 @@ use crate::keys::{ROOM, unwrap_into, wrap_bytes};
 use kr_aes::Rounds;
 use kr_base::{Annotations, Bytes, NoMemory, Text};
 use kr_kms::Wrapped;
-use kr_plugin_lines::{Answered, Reply, Request, RequestNo, read_request, reply_line};
+use kr_kms_wire::{Answered, Reply, Request, RequestNo, read_request, reply_line};
 use std::alloc::Global;
 
 /// The line that answers a line.

@@ -5,14 +5,14 @@ ghost use Rattle.kr_aes.specs.Cipher.{cipher};
 ghost use Rattle.kr_aes.specs.InverseCipher.{inverse_cipher};
 ghost use Rattle.kr_aes.specs.KeyExpansion.{IsSchedule};
 ghost use Rattle.kr_modes.specs.Cbc.{cbc, cbc_opened, uncbc};
-ghost use Rattle.kr_bitsliced.specs.KeyPlanes.{key_planes};
+ghost use Rattle.kr_aes_bitsliced.specs.KeyPlanes.{key_planes};
 ghost use Rattle.kr_modes.specs.Padding.{pad, unpad};
 ghost use Rattle.kr_modes.specs.inner.Opened.{opened_from};
 
 use crate::ModeNo;
 use crate::blocks::{self, BLOCK};
 use kr_aes::Rounds;
-use kr_bitsliced::{KeyPlanes, Planes};
+use kr_aes_bitsliced::{KeyPlanes, Planes};
 
 /// The length in bytes of what `cbc_seal` makes of `n` bytes: 1 to 16 bytes of padding are added.
 /// The data has at most 4,194,304 bytes.
@@ -168,7 +168,7 @@ fn decrypt_eights(words: &[u32; 60], rounds: Rounds, buffer: &mut [u8], from: us
         return;
     }
     let mut keys = [Planes::default(); 15];
-    kr_bitsliced::slice_keys(words, &mut keys);
+    kr_aes_bitsliced::slice_keys(words, &mut keys);
     for time in 0..times {
         decrypt_eight(&keys, rounds, buffer, from, 8 * time);
     }
@@ -184,7 +184,7 @@ fn decrypt_eight(keys: &KeyPlanes, rounds: Rounds, buffer: &mut [u8], from: usiz
         ≡ opened_from decipher from opened buffer.old }
 {
     let mut deciphered = blocks::eight_blocks(&buffer[from..], opened + 1);
-    kr_bitsliced::decrypt_eight(keys, rounds, &mut deciphered);
+    kr_aes_bitsliced::decrypt_eight(keys, rounds, &mut deciphered);
     for i in 0..8 {
         let place = opened + i;
         let start = BLOCK * place;

@@ -6,13 +6,13 @@ ghost use Rattle.std.specs.List.{range_with_len};
 ghost use Rattle.kr_aes.specs.Cipher.{cipher};
 ghost use Rattle.kr_aes.specs.KeyExpansion.{IsSchedule};
 ghost use Rattle.kr_aes.specs.Begun.{BegunState};
-ghost use Rattle.kr_bitsliced.specs.KeyPlanes.{key_planes};
+ghost use Rattle.kr_aes_bitsliced.specs.KeyPlanes.{key_planes};
 ghost use Rattle.kr_modes.specs.Gcm.{gctr, counter_block};
 ghost use Rattle.kr_modes.specs.inner.Streamed.{IsStreamed};
 
 use crate::blocks::{self, BLOCK};
 use kr_aes::{Begun, Rounds};
-use kr_bitsliced::{KeyPlanes, Planes};
+use kr_aes_bitsliced::{KeyPlanes, Planes};
 
 /// The length of a nonce in bytes.
 pub(crate) const NONCE: usize = 12;
@@ -65,7 +65,7 @@ fn gctr_eights(
         IsStreamed (cipher words.now rounds) nonce.now bytes buffer.new from (8 * times) }
 {
     let mut keys = [Planes::default(); 15];
-    kr_bitsliced::slice_keys(words, &mut keys);
+    kr_aes_bitsliced::slice_keys(words, &mut keys);
     for time in 0..times {
         gctr_eight(&keys, rounds, nonce, buffer, from, 8 * time);
     }
@@ -89,7 +89,7 @@ fn gctr_eight(
         → IsStreamed encipher nonce.now bytes buffer.new from (written + 8) }
 {
     let mut stream = counter_blocks(nonce, (written + 1) as u32);
-    kr_bitsliced::encrypt_eight(keys, rounds, &mut stream);
+    kr_aes_bitsliced::encrypt_eight(keys, rounds, &mut stream);
     for i in 0..8 {
         let index = written + i;
         let start = BLOCK * index;

@@ -58,6 +58,7 @@ module _ {L : Type 0} (truth : Truth) (link : L → Link) (seeds : List SeedRow)
     envelope = unknown;
     object = no_object (reader_in list bytes) bytes n;
     published = no_seed seeds (reader_in list bytes) n;
+    unsourced = λ why is. refl;
     told = λ t all. has_unknown truth.opens (reader_in list bytes) bytes n;
     is = u;
     asked = asked_none link (plugin_reading (reader_in list bytes)) links;
@@ -116,6 +117,7 @@ module _ {L : Type 0} (truth : Truth) (link : L → Link) (seeds : List SeedRow)
           object = subst (λ o. HasObject o bytes (Err breach)) (sym r.reader) there;
           published = subst (λ o. TakesSeed seeds o envelope) (sym r.reader)
               (λ found row e. absurd (cc));
+          unsourced = λ why is. refl;
           told = λ t all.
               subst (λ o. HasEnvelope truth.opens o bytes envelope) (sym r.reader) (there, refl);
           is = by_reader links (Kms name) body first envelope r ∙ is;
@@ -159,6 +161,7 @@ module _ {L : Type 0} (truth : Truth) (link : L → Link) (seeds : List SeedRow)
                 (λ other q e f is. ap (λ x. Some x)
                 (o.is.published (same_seed other q e f is)
                 ∙ ap (λ p. p.seed) (sym (one_row q f))));
+            unsourced = λ why is. absurd (cc);
             told = λ t all. subst (λ w. HasEnvelope truth.opens w bytes envelope) (sym r.reader)
                 (object_is, sym (o.is.told (λ t. of_all P seeds row all row_there) t));
             is = u;

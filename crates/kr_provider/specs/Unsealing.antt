@@ -54,15 +54,21 @@ TakesSeed seeds (Some (Kms name)) envelope = (object : EncryptedObject) (row : S
     → envelope.object ≡ Ok object → seed_of name seeds ≡ Some row → IsSeedOf row name object
     → envelope.source ≡ Some row.seed
 
+-- where the object is refused there is no source
+abbrev pub HasNoSource : Envelope → Type 0
+HasNoSource envelope = (why : ObjectNo) → envelope.object ≡ Err why → envelope.source ≡ None
+
 -- the answer is the reading of an envelope: the object is the value's, whatever the links tell; its
--- source is a published seed where one is the object's; and where the truth is told and the
--- published seeds open to what stands with them, it is what the object's source opens to
+-- source is a published seed where one is the object's, and an object that is refused has none; and
+-- where the truth is told and the published seeds open to what stands with them, it is what the
+-- object's source opens to
 pub record IsReading {L : Type 0} (truth : Truth) (link : L → Link) (seeds : List SeedRow)
     (list : List Who) (path bytes : List ℕ) (old : List L) (result : Result Opened UnsealNo)
     (new : List L) : Type 0 where
   pub envelope : Envelope
   pub object : HasObject (reader_in list bytes) bytes envelope.object
   pub published : TakesSeed seeds (reader_in list bytes) envelope
+  pub unsourced : HasNoSource envelope
   pub told : truth.told ≡ true → OpenAll truth.opens seeds
       → IsEnvelopeOf truth.opens list bytes envelope
   pub is : Unseals envelope seeds list path bytes result

@@ -6,12 +6,12 @@ use Rattle.kr_kms.specs.Truth.{Truth}
 use Rattle.kr_provider.proofs.AskedLists.{asked_then, names_stay}
 use Rattle.kr_provider.specs.AskedLinks.{AskedOnly}
 use Rattle.kr_provider.specs.Names.{names_of}
-use Rattle.kr_callers.specs.Calls.{AreServed}
-use Rattle.kr_callers.specs.declared.call.CallNo.{CallNo}
+use Rattle.kr_history.specs.Calls.{AreServed}
+use Rattle.kr_history.specs.declared.call.CallNo.{CallNo}
 use Rattle.kr_rollout.specs.declared.opening.Opening.{Opening}
-use Rattle.kr_callers.specs.Acting.{Caller}
-use Rattle.kr_callers.specs.Parts.{AddsWithin}
-use Rattle.kr_callers.proofs.PartsAdd.{nothing_within, within_behind, within_more}
+use Rattle.kr_history.specs.Acting.{Caller}
+use Rattle.kr_history.specs.Parts.{AddsWithin}
+use Rattle.kr_history.proofs.PartsAdd.{nothing_within, within_behind, within_more}
 use Rattle.kr_rewrite.specs.Drives.{Counts, CoversLive, Drives, EndsBy, FindsRow, IsCut, IsDrive, Walks, last_of, path_of, report_at}
 use Rattle.kr_rewrite.specs.Rewrites.{IsStep, IsStepTo}
 use Rattle.kr_rewrite.specs.declared.outcome.Report.{Report}

@@ -16,9 +16,9 @@ use Rattle.kr_store.specs.declared.rows.LogRow.{LogRow}
 use Rattle.kr_store.specs.declared.rows.Row.{Row}
 use Rattle.kr_rollout.specs.declared.opening.Entry.{Entry}
 use Rattle.kr_rollout.specs.declared.opening.Opening.{Opening}
-use Rattle.kr_callers.specs.Acting.{Caller}
+use Rattle.kr_history.specs.Acting.{Caller}
 use Rattle.kr_rollout.specs.Histories.{state_of}
-use Rattle.kr_callers.specs.Parts.{Adds}
+use Rattle.kr_history.specs.Parts.{Adds}
 use Rattle.kr_rewrite.specs.Drives.{CoversLive, IsLiveThroughout, last_of, path_of}
 use Rattle.kr_rewrite.specs.declared.outcome.Step.{Step}
 use Rattle.kr_rewrite.proofs.Growing.{Grows, IsAt, LooksAt}

@@ -14,21 +14,21 @@ use Rattle.kr_store.specs.Stores.{IsNext}
 use Rattle.kr_store.specs.declared.rows.Row.{Row}
 use Rattle.kr_rollout.specs.declared.answer.Answer.{Answer}
 use Rattle.kr_rollout.specs.declared.answer.Answer.TheVariants as answer
-use Rattle.kr_callers.specs.declared.call.CallNo.{CallNo}
-use Rattle.kr_callers.specs.declared.call.CallNo.TheVariants as refusal
+use Rattle.kr_history.specs.declared.call.CallNo.{CallNo}
+use Rattle.kr_history.specs.declared.call.CallNo.TheVariants as refusal
 use Rattle.kr_rollout.specs.declared.event.Event.{Event}
 use Rattle.kr_rollout.specs.declared.event.Event.TheVariants as event
 use Rattle.kr_rollout.specs.declared.line.Did.TheVariants as did
 use Rattle.kr_rollout.specs.declared.line.Gave.TheVariants as gave
 use Rattle.kr_rollout.specs.declared.opening.Entry.{Entry}
 use Rattle.kr_rollout.specs.declared.opening.Opening.{Opening}
-use Rattle.kr_callers.specs.Acting.{Caller, AddsEntry}
+use Rattle.kr_history.specs.Acting.{Caller, AddsEntry}
 use Rattle.kr_rollout.specs.Answers.{IsAnswer}
-use Rattle.kr_callers.specs.Calls.{AdoptsNothing, EndsEarly, LetsGo}
-use Rattle.kr_callers.specs.ContentLaws.{IsRowFor}
+use Rattle.kr_history.specs.Calls.{AdoptsNothing, EndsEarly, LetsGo}
+use Rattle.kr_history.specs.ContentLaws.{IsRowFor}
 use Rattle.kr_rollout.specs.Histories.{state_of}
-use Rattle.kr_callers.proofs.FoundRows.{found_is_live}
-use Rattle.kr_callers.proofs.Nexts.{legal_now, opening_is, seat_is, seen_is}
+use Rattle.kr_history.proofs.FoundRows.{found_is_live}
+use Rattle.kr_history.proofs.Nexts.{legal_now, opening_is, seat_is, seen_is}
 use Rattle.kr_rewrite.specs.Drives.{FindsRow, path_of}
 use Rattle.kr_rewrite.specs.Rewrites.{FindsNone, IsStep, ReplacesBy, ResealsBy, Rewrites, RewritesBy, RewritesData, Steps, unread_step, unsealed_step}
 use Rattle.kr_rewrite.specs.declared.outcome.Step.{Step}

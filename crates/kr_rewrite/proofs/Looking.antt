@@ -6,13 +6,13 @@ use Rattle.kr_store.specs.declared.format.Format.{Format}
 use Rattle.kr_store.specs.declared.rows.Row.{Row}
 use Rattle.kr_rollout.specs.declared.answer.Answer.{Answer}
 use Rattle.kr_rollout.specs.declared.answer.Answer.TheVariants as answer
-use Rattle.kr_callers.specs.declared.call.CallNo.{CallNo}
+use Rattle.kr_history.specs.declared.call.CallNo.{CallNo}
 use Rattle.kr_rollout.specs.declared.event.Event.TheVariants as event
-use Rattle.kr_callers.specs.Acting.{Caller, AddsEntry, IsCaller}
+use Rattle.kr_history.specs.Acting.{Caller, AddsEntry, IsCaller}
 use Rattle.kr_rollout.specs.Callers.{found_in}
-use Rattle.kr_callers.proofs.Following.{next_law}
-use Rattle.kr_callers.proofs.FoundRules.{handed_out_keeps_rules}
-use Rattle.kr_callers.proofs.Nexts.{opening_is}
+use Rattle.kr_history.proofs.Following.{next_law}
+use Rattle.kr_history.proofs.FoundRules.{handed_out_keeps_rules}
+use Rattle.kr_history.proofs.Nexts.{opening_is}
 use Rattle.kr_rewrite.specs.inner.Stages.{FindsBy, LooksAbove}
 
 -- the row was found last, and keeps its rules

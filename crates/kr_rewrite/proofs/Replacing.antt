@@ -13,20 +13,20 @@ use Rattle.kr_provider.specs.declared.refusal.SealNo.TheVariants as sealing
 use Rattle.kr_store.specs.declared.rows.Row.{Row}
 use Rattle.kr_rollout.specs.declared.answer.Answer.{Answer}
 use Rattle.kr_rollout.specs.declared.answer.Answer.TheVariants as answer
-use Rattle.kr_callers.specs.declared.call.CallNo.{CallNo}
-use Rattle.kr_callers.specs.declared.call.CallNo.TheVariants as refusal
+use Rattle.kr_history.specs.declared.call.CallNo.{CallNo}
+use Rattle.kr_history.specs.declared.call.CallNo.TheVariants as refusal
 use Rattle.kr_rollout.specs.declared.event.Event.TheVariants as event
 use Rattle.kr_rollout.specs.declared.line.Did.TheVariants as did
 use Rattle.kr_rollout.specs.declared.opening.Entry.{Entry}
 use Rattle.kr_rollout.specs.declared.opening.Opening.{Opening}
-use Rattle.kr_callers.specs.Acting.{Caller, AddsEntry, IsCaller}
+use Rattle.kr_history.specs.Acting.{Caller, AddsEntry, IsCaller}
 use Rattle.kr_rollout.specs.Callers.{MayAsk, found_in, gave_of, holding}
-use Rattle.kr_callers.specs.Calls.{AddsNothing, KeepsToldHonesty}
-use Rattle.kr_callers.specs.Honesty.{HonestBy, IsHonest, KeepsData}
-use Rattle.kr_callers.proofs.FoundRows.{replaced_is_live}
-use Rattle.kr_callers.proofs.HeldFacts.{found_is_named, held_is_named, held_opens}
-use Rattle.kr_callers.proofs.KeptHonest.{honesty_follows}
-use Rattle.kr_callers.proofs.Nexts.{front_own, legal_now}
+use Rattle.kr_history.specs.Calls.{AddsNothing, KeepsToldHonesty}
+use Rattle.kr_history.specs.Honesty.{HonestBy, IsHonest, KeepsData}
+use Rattle.kr_history.proofs.FoundRows.{replaced_is_live}
+use Rattle.kr_history.proofs.HeldFacts.{found_is_named, held_is_named, held_opens}
+use Rattle.kr_history.proofs.KeptHonest.{honesty_follows}
+use Rattle.kr_history.proofs.Nexts.{front_own, legal_now}
 use Rattle.kr_rewrite.specs.declared.outcome.Step.{Step}
 use Rattle.kr_rewrite.specs.Rewrites.{IsStepTo, ReplacesBy, unsealed_step}
 use Rattle.kr_rewrite.specs.inner.Stages.{ReadsData, ResealsRow}

@@ -13,14 +13,14 @@ use Rattle.kr_kms.specs.Calls.{Link}
 use Rattle.kr_kms.specs.Truth.{Truth}
 use Rattle.kr_store.specs.Rows.{live}
 use Rattle.kr_store.specs.declared.rows.Row.{Row}
-use Rattle.kr_callers.specs.declared.call.CallNo.{CallNo}
-use Rattle.kr_callers.specs.declared.call.CallNo.TheVariants as refusal
+use Rattle.kr_history.specs.declared.call.CallNo.{CallNo}
+use Rattle.kr_history.specs.declared.call.CallNo.TheVariants as refusal
 use Rattle.kr_rollout.specs.declared.opening.Opening.{Opening}
-use Rattle.kr_callers.specs.Acting.{Caller}
+use Rattle.kr_history.specs.Acting.{Caller}
 use Rattle.kr_rollout.specs.Histories.{state_of}
-use Rattle.kr_callers.specs.Parts.{AddsWithin}
-use Rattle.kr_callers.proofs.PartsAdd.{nothing_within}
-use Rattle.kr_starts.proofs.Walking.{count_less, itself, lt_is}
+use Rattle.kr_history.specs.Parts.{AddsWithin}
+use Rattle.kr_history.proofs.PartsAdd.{nothing_within}
+use Rattle.kr_opening.proofs.Walking.{count_less, itself, lt_is}
 use Rattle.kr_rewrite.specs.DriveLaws.{DrivesNeedFew, LiveAmong}
 use Rattle.kr_rewrite.specs.Drives.{EndsBy, FindsRow, Walks, last_of, path_of}
 use Rattle.kr_rewrite.specs.declared.outcome.Report.{Report}

@@ -6,7 +6,7 @@ use Rattle.std.proofs.lemmas.List.Sums.{sum_by-append, sum_by-cons}
 use Rattle.kr_base.specs.Numbering.{next_number}
 use Rattle.kr_kms.specs.Calls.{Link}
 use Rattle.kr_kms.specs.Truth.{Truth}
-use Rattle.kr_callers.specs.Acting.{Caller}
+use Rattle.kr_history.specs.Acting.{Caller}
 use Rattle.kr_rewrite.specs.Drives.{Counts, FindsRow, IsSettled, Settles, Walks, count_of, is_changed, is_fresh, is_left, is_rewritten, last_of, path_of}
 use Rattle.kr_rewrite.specs.Rewrites.{IsStep}
 use Rattle.kr_rewrite.specs.declared.outcome.Report.{Report}

@@ -9,14 +9,14 @@ use Rattle.kr_kms.specs.Truth.{Truth}
 use Rattle.kr_provider.specs.AskedLinks.{AskedOnly}
 use Rattle.kr_provider.specs.Names.{names_of}
 use Rattle.kr_store.specs.Rows.{live}
-use Rattle.kr_callers.specs.declared.call.CallNo.{CallNo}
-use Rattle.kr_callers.specs.declared.call.CallNo.TheVariants as refusal
+use Rattle.kr_history.specs.declared.call.CallNo.{CallNo}
+use Rattle.kr_history.specs.declared.call.CallNo.TheVariants as refusal
 use Rattle.kr_rollout.specs.declared.opening.Entry.{Entry}
-use Rattle.kr_callers.specs.Acting.{Caller}
-use Rattle.kr_callers.specs.Calls.{IsIdleAfter}
+use Rattle.kr_history.specs.Acting.{Caller}
+use Rattle.kr_history.specs.Calls.{IsIdleAfter}
 use Rattle.kr_rollout.specs.Callers.{holding}
 use Rattle.kr_rollout.specs.Histories.{state_of}
-use Rattle.kr_callers.specs.Parts.{AddsWithin}
+use Rattle.kr_history.specs.Parts.{AddsWithin}
 use Rattle.kr_rewrite.specs.Rewrites.{IsStep}
 use Rattle.kr_rewrite.specs.declared.outcome.Report.{Report}
 use Rattle.kr_rewrite.specs.declared.outcome.Step.{Step}

@@ -5,14 +5,14 @@ ghost use Rattle.kr_provider.specs.AskedLinks.{AskedOnly};
 ghost use Rattle.kr_provider.specs.KeyPages.{size_of};
 ghost use Rattle.kr_provider.specs.Names.{names_of};
 ghost use Rattle.kr_rollout.specs.Callers.{holding};
-ghost use Rattle.kr_callers.specs.Calls.{AreServed, KeepsToldHonesty};
+ghost use Rattle.kr_history.specs.Calls.{AreServed, KeepsToldHonesty};
 ghost use Rattle.kr_rewrite.specs.Drives.{IsDrive, IsIdleAtEnd, report_at};
 ghost use Rattle.kr_rewrite.specs.inner.Stages.{GoesOn};
 
 use crate::outcome::Report;
 use crate::step::rewrite_next;
 use kr_base::{Dice, Text};
-use kr_callers::{Acts, CallNo};
+use kr_history::{Acts, CallNo};
 use kr_kms::Kms;
 use kr_provider::Bench;
 use std::alloc::Global;

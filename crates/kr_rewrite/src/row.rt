@@ -4,14 +4,14 @@ ghost use Rattle.kr_provider.specs.AskedLinks.{AskedOnly};
 ghost use Rattle.kr_provider.specs.Names.{names_of};
 ghost use Rattle.kr_store.specs.Rows.{IsRow};
 ghost use Rattle.kr_rollout.specs.Callers.{found_in, holding};
-ghost use Rattle.kr_callers.specs.Calls.{KeepsToldHonesty};
-ghost use Rattle.kr_callers.specs.Parts.{AddsWithin};
+ghost use Rattle.kr_history.specs.Calls.{KeepsToldHonesty};
+ghost use Rattle.kr_history.specs.Parts.{AddsWithin};
 ghost use Rattle.kr_rewrite.specs.Rewrites.{IsStepTo, ReplacesBy, Rewrites, unread_step, unsealed_step};
 ghost use Rattle.kr_rewrite.specs.inner.Stages.{AnswersReplace, HoldsAdopted, ReadsData, ResealsRow};
 
 use crate::outcome::Step;
 use kr_base::{Bytes, Dice, Spent, Text};
-use kr_callers::{Acts, CallNo, seal_in_place, unseal};
+use kr_history::{Acts, CallNo, seal_in_place, unseal};
 use kr_kms::Kms;
 use kr_provider::{Bench, Opened, SealNo, UnsealNo};
 use kr_rollout::{Answer, Event};

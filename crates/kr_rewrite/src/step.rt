@@ -6,15 +6,15 @@ ghost use Rattle.kr_provider.specs.KeyPages.{size_of};
 ghost use Rattle.kr_provider.specs.Names.{names_of};
 ghost use Rattle.kr_store.specs.Rows.{IsRow};
 ghost use Rattle.kr_rollout.specs.Callers.{found_in, holding};
-ghost use Rattle.kr_callers.specs.Calls.{AreServed, IsIdle, KeepsHonesty, KeepsToldHonesty};
-ghost use Rattle.kr_callers.specs.Parts.{AddsWithin};
+ghost use Rattle.kr_history.specs.Calls.{AreServed, IsIdle, KeepsHonesty, KeepsToldHonesty};
+ghost use Rattle.kr_history.specs.Parts.{AddsWithin};
 ghost use Rattle.kr_rewrite.specs.Rewrites.{IsStep, IsStepTo, Steps};
 ghost use Rattle.kr_rewrite.specs.inner.Stages.{AnswersAfter, FindsBy, HoldsAdopted, LooksAbove};
 
 use crate::outcome::Step;
 use crate::row::rewrite;
 use kr_base::{Dice, Shared, Spent, Text};
-use kr_callers::{Acts, CallNo, adopt, let_go, take_up};
+use kr_history::{Acts, CallNo, adopt, let_go, take_up};
 use kr_kms::Kms;
 use kr_provider::Bench;
 use kr_rollout::{Answer, Event};

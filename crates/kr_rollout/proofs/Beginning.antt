@@ -13,16 +13,16 @@ use Rattle.kr_config.specs.Kept.{Row}
 use Rattle.kr_provider.specs.Publication.{Publication, IsPublished}
 use Rattle.kr_judge.specs.declared.need.Need.{Need}
 use Rattle.kr_judge.specs.Boards.{BoardState}
-use Rattle.kr_starts.specs.declared.generation.Generation.{Generation}
+use Rattle.kr_opening.specs.declared.generation.Generation.{Generation}
 use Rattle.kr_rollout.specs.declared.opening.Opening.{Opening}
 use Rattle.kr_rollout.specs.States.{number_at, is_number, judged_generations, board_generations, IsLive}
 use Rattle.kr_rollout.specs.Openings.{start_of, room_of, board, opening_by, NamesAmong, AreAmong, IsAdmitted}
-use Rattle.kr_starts.specs.Needs.{needs_of}
-use Rattle.kr_starts.specs.Replicas.{first_rows, generations_from, current_from, settings_of, IsFirstIn}
+use Rattle.kr_opening.specs.Needs.{needs_of}
+use Rattle.kr_opening.specs.Replicas.{first_rows, generations_from, current_from, settings_of, IsFirstIn}
 use Rattle.kr_rollout.specs.Fits.{IsFit}
-use Rattle.kr_starts.specs.LiveFits.{AreFit}
+use Rattle.kr_opening.specs.LiveFits.{AreFit}
 use Rattle.kr_rollout.specs.Histories.{IsLegal}
-use Rattle.kr_starts.specs.Starts.{opening_generations, MayStart, Boards}
+use Rattle.kr_opening.specs.Starts.{opening_generations, MayStart, Boards}
 use Rattle.kr_rollout.specs.Laws.{BoardAtStart}
 use Rattle.kr_rollout.specs.inner.Rollouts.{RolloutState, opening_of, state_with, IsRollout, IsCore}
 

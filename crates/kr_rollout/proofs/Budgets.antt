@@ -17,7 +17,7 @@ use Rattle.kr_rollout.specs.declared.opening.Opening.{Opening}
 use Rattle.kr_rollout.specs.Entries.{seat_of}
 use Rattle.kr_rollout.specs.States.{State}
 use Rattle.kr_rollout.specs.Openings.{start_of, room_of}
-use Rattle.kr_starts.specs.Replicas.{generations_from}
+use Rattle.kr_opening.specs.Replicas.{generations_from}
 use Rattle.kr_rollout.specs.Steps.{after, new_generation, new_generations}
 use Rattle.kr_rollout.specs.Histories.{state_from, state_of, IsRun, IsLegal}
 use Rattle.kr_rollout.specs.Callers.{brings_settings, reloads_in, did_of, Allows, MayAsk}

@@ -11,7 +11,7 @@ use Rattle.std.proofs.lemmas.Option.{none-some, same_Some, slice_get_within}
 use Rattle.kr_provider.specs.Publication.{Publication}
 use Rattle.kr_store.specs.Stores.{Kept}
 use Rattle.kr_judge.specs.Boards.{BoardState, GenerationState, without_current, is_current_of}
-use Rattle.kr_starts.specs.declared.generation.Generation.{Generation}
+use Rattle.kr_opening.specs.declared.generation.Generation.{Generation}
 use Rattle.kr_rollout.specs.declared.opening.Opening.{Opening}
 use Rattle.kr_rollout.specs.States.{State, number_at, is_number, judged_generation, judged_generations}
 use Rattle.kr_rollout.specs.Openings.{board, room_of}

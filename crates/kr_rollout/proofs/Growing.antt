@@ -11,7 +11,7 @@ use Rattle.kr_provider.specs.Publication.{Publication, list_at}
 use Rattle.kr_provider.specs.Readers.{writer_of}
 use Rattle.kr_judge.specs.declared.need.Need.{Need}
 use Rattle.kr_judge.specs.Boards.{BoardState, set_need}
-use Rattle.kr_starts.specs.declared.generation.Generation.{Generation}
+use Rattle.kr_opening.specs.declared.generation.Generation.{Generation}
 use Rattle.kr_rollout.specs.inner.Rollouts.{opening_of, state_with, IsRollout, KeepsFaults}
 use Rattle.kr_rollout.specs.inner.Writing.{needs_without, sealed_over, StaysBy, ReplacesBy}
 use Rattle.kr_rollout.proofs.Storing.{same_rollout}

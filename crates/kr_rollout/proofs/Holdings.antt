@@ -8,7 +8,7 @@ use Rattle.std.proofs.lemmas.Option.{same_Some, none-some}
 use Rattle.kr_provider.specs.Publication.{Publication}
 use Rattle.kr_rollout.specs.declared.event.Event.{Event}
 use Rattle.kr_rollout.specs.declared.event.Event.TheVariants as event
-use Rattle.kr_starts.specs.declared.generation.Generation.{Generation}
+use Rattle.kr_opening.specs.declared.generation.Generation.{Generation}
 use Rattle.kr_rollout.specs.declared.line.Did.{Did}
 use Rattle.kr_rollout.specs.declared.line.Did.TheVariants.{Adopt, Fetch, After, Put, Delete, Replace, LetGo, Reload, Join, Leave}
 use Rattle.kr_rollout.specs.declared.line.Gave.{Gave}

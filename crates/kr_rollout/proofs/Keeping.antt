@@ -6,7 +6,7 @@ use Rattle.std.proofs.lemmas.List.{length-set, get_or-set_same, get_or-set_other
 use Rattle.std.proofs.lemmas.Option.{same_Some, none-some}
 use Rattle.kr_store.specs.Stores.{Kept}
 use Rattle.kr_judge.specs.Boards.{BoardState, GenerationState, changed_at, held_more, held_less, MayHold, IsHeld}
-use Rattle.kr_starts.specs.declared.generation.Generation.{Generation}
+use Rattle.kr_opening.specs.declared.generation.Generation.{Generation}
 use Rattle.kr_rollout.specs.declared.opening.Opening.{Opening}
 use Rattle.kr_rollout.specs.Entries.{published_at}
 use Rattle.kr_rollout.specs.States.{State, number_at, current_of, held_by}

@@ -16,7 +16,7 @@ use Rattle.kr_judge.specs.Fits.{ReadsWriter}
 use Rattle.kr_judge.specs.Verdicts.{with_numbers, is_other, others, verdict_of}
 use Rattle.kr_judge.proofs.Passing.{passes_exactly}
 use Rattle.kr_rollout.specs.Laws.{UnfitIsUnfit}
-use Rattle.kr_starts.specs.Starts.{opening_generations}
+use Rattle.kr_opening.specs.Starts.{opening_generations}
 
 -- ---- the others
 

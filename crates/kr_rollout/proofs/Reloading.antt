@@ -11,7 +11,7 @@ use Rattle.kr_rollout.specs.declared.answer.Answer.{Answer}
 use Rattle.kr_rollout.specs.declared.answer.Answer.TheVariants as answer
 use Rattle.kr_rollout.specs.declared.event.Event.{Event}
 use Rattle.kr_rollout.specs.declared.event.Event.TheVariants as event
-use Rattle.kr_starts.specs.declared.generation.Generation.{Generation}
+use Rattle.kr_opening.specs.declared.generation.Generation.{Generation}
 use Rattle.kr_rollout.specs.declared.line.Did.TheVariants.{Reload, Join, Leave}
 use Rattle.kr_rollout.specs.declared.line.Gave.TheVariants.{Reloaded, Joined, Departed}
 use Rattle.kr_rollout.specs.declared.line.Line.{Line}

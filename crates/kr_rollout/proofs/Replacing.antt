@@ -13,7 +13,7 @@ use Rattle.kr_provider.specs.Publication.{Publication, list_at}
 use Rattle.kr_provider.specs.Readers.{writer_of}
 use Rattle.kr_judge.specs.Boards.{BoardState, set_need}
 use Rattle.kr_rollout.specs.Answers.{IsStill}
-use Rattle.kr_starts.specs.Checks.{store_check}
+use Rattle.kr_opening.specs.Checks.{store_check}
 use Rattle.kr_rollout.specs.inner.Writing.{needs_with, sealed_over, StaysBy, ReplacesBy}
 
 -- what isn't the path's last put isn't replaced, whatever its check

@@ -9,7 +9,7 @@ use Rattle.kr_store.specs.declared.rows.Change.{Change}
 use Rattle.kr_store.specs.declared.rows.Change.TheVariants as change
 use Rattle.kr_store.specs.Rows.{live, live_row, row_of, with_revision, put_at}
 use Rattle.kr_store.proofs.Places.{live_at_revision}
-use Rattle.kr_starts.specs.declared.generation.Generation.{Generation}
+use Rattle.kr_opening.specs.declared.generation.Generation.{Generation}
 use Rattle.kr_rollout.specs.Entries.{published_at}
 
 pub get_front : {X : Type 0} (xs ys : List X) (k : ℕ) → k < length xs

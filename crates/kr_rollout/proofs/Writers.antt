@@ -4,7 +4,7 @@ use Rattle.kr_config.specs.declared.who.Who.{Who}
 use Rattle.kr_config.specs.Patterns.{matches}
 use Rattle.kr_provider.specs.Publication.{Publication, IsPublished, list_at}
 use Rattle.kr_provider.specs.Readers.{writer_of}
-use Rattle.kr_starts.proofs.Passing.{first_some, rows_keep}
+use Rattle.kr_opening.proofs.Passing.{first_some, rows_keep}
 
 -- a resource's list isn't empty, and its first provider writes
 pub list_some : (p : Publication) (resource : List ℕ) (list : List Who) → IsPublished p

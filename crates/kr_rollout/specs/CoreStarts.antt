@@ -1,10 +1,10 @@
 -- When a core starts.
 use Rattle.std.specs.Prelude.{◌≡◌, ℕ, [], Result, Ok, Err}
 use Rattle.kr_rollout.specs.declared.opening.Opening.{Opening}
-use Rattle.kr_starts.specs.declared.opening_board.StartNo.{StartNo}
-use Rattle.kr_starts.specs.Replicas.{settings_of}
+use Rattle.kr_opening.specs.declared.opening_board.StartNo.{StartNo}
+use Rattle.kr_opening.specs.Replicas.{settings_of}
 use Rattle.kr_rollout.specs.Cores.{CoreState}
-use Rattle.kr_starts.specs.Starts.{IsNoStart, MayStart}
+use Rattle.kr_opening.specs.Starts.{IsNoStart, MayStart}
 
 -- a core that begins with the opening
 abbrev pub Starts : {S : Type 0} → Opening → (room : ℕ) → Result CoreState (StartNo × S) → Type 0

@@ -6,7 +6,7 @@ use Rattle.std.specs.Option.{option_map}
 use Rattle.kr_store.specs.declared.rows.LogRow.{LogRow}
 use Rattle.kr_store.specs.Rows.{put_at}
 use Rattle.kr_provider.specs.Publication.{Publication}
-use Rattle.kr_starts.specs.declared.generation.Generation.{Generation}
+use Rattle.kr_opening.specs.declared.generation.Generation.{Generation}
 use Rattle.kr_rollout.specs.declared.line.Did.{Did}
 use Rattle.kr_rollout.specs.declared.line.Did.TheVariants.{Replace}
 use Rattle.kr_rollout.specs.declared.line.Gave.{Gave}

@@ -12,10 +12,10 @@ use Rattle.kr_rollout.specs.Entries.{seat_of}
 use Rattle.kr_rollout.specs.States.{held_by}
 use Rattle.kr_rollout.specs.Histories.{state_of, IsLegal}
 use Rattle.kr_rollout.specs.Callers.{number_with, holding, found_in}
-use Rattle.kr_starts.specs.Starts.{AllFit, IsUnfit, Boards}
+use Rattle.kr_opening.specs.Starts.{AllFit, IsUnfit, Boards}
 use Rattle.kr_judge.specs.Boards.{BoardState}
 use Rattle.kr_rollout.specs.Openings.{start_of, room_of, board}
-use Rattle.kr_starts.specs.Replicas.{settings_of}
+use Rattle.kr_opening.specs.Replicas.{settings_of}
 
 -- a replica that is named as unfit doesn't fit with the others
 abbrev pub UnfitIsUnfit : Type 0

@@ -1,5 +1,6 @@
 -- The definitions that public contracts and laws name.
 pub mod Entries
+pub mod Written
 pub mod States
 pub mod Openings
 pub mod Fits

@@ -7,8 +7,8 @@ use Rattle.kr_provider.specs.Publication.{Publication, IsPublished}
 use Rattle.kr_judge.specs.Boards.{BoardState}
 use Rattle.kr_rollout.specs.declared.opening.Opening.{Opening}
 use Rattle.kr_rollout.specs.States.{State, board_generations}
-use Rattle.kr_starts.specs.Replicas.{first_rows, generations_from, current_from, settings_of, IsFirstIn}
-use Rattle.kr_starts.specs.Needs.{needs_of, HasNoStray, HasNoOtherSecret}
+use Rattle.kr_opening.specs.Replicas.{first_rows, generations_from, current_from, settings_of, IsFirstIn}
+use Rattle.kr_opening.specs.Needs.{needs_of, HasNoStray, HasNoOtherSecret}
 
 -- ---- the state
 

@@ -8,7 +8,7 @@ use Rattle.kr_judge.specs.declared.need.Need.{Need}
 use Rattle.kr_judge.specs.declared.verdict.Verdict.{Verdict}
 use Rattle.kr_judge.specs.Boards.{GenerationState}
 use Rattle.kr_judge.specs.Verdicts.{verdict_of}
-use Rattle.kr_starts.specs.declared.generation.Generation.{Generation}
+use Rattle.kr_opening.specs.declared.generation.Generation.{Generation}
 use Rattle.kr_rollout.specs.Entries.{published_at}
 
 -- the generations, by their numbers; for each replica the number of its current generation, and for

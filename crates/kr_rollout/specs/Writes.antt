@@ -6,7 +6,7 @@ use Rattle.kr_store.specs.declared.rows.LogRow.{LogRow}
 use Rattle.kr_store.specs.declared.rows.Row.{Row}
 use Rattle.kr_store.specs.Rows.{live, put_of, delete_of, row_of}
 use Rattle.kr_store.specs.File.{file_bytes}
-use Rattle.kr_starts.specs.Checks.{written_check}
+use Rattle.kr_opening.specs.Checks.{written_check}
 use Rattle.kr_provider.specs.Publication.{Publication, list_at}
 use Rattle.kr_provider.specs.Reading.{HasSomeReading, data_of}
 use Rattle.kr_provider.specs.Sealing.{IsSealing}

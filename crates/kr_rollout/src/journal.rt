@@ -7,7 +7,7 @@ ghost use Rattle.kr_rollout.specs.Entries.{seat_of};
 ghost use Rattle.kr_rollout.specs.Histories.{IsLegal, state_of};
 ghost use Rattle.kr_base.specs.Lines.{of_seat};
 ghost use Rattle.kr_rollout.specs.Openings.{board, opening_by, AreAmong};
-ghost use Rattle.kr_starts.specs.Replicas.{IsFirstIn};
+ghost use Rattle.kr_opening.specs.Replicas.{IsFirstIn};
 ghost use Rattle.kr_rollout.specs.CoreStarts.{Starts};
 
 use crate::answer::Answer;
@@ -16,8 +16,8 @@ use crate::line::Line;
 use crate::rollout::Rollout;
 use kr_base::{List, NoMemory, Shared, Tape, Text};
 use kr_judge::Board;
+use kr_opening::StartNo;
 use kr_provider::Published;
-use kr_starts::StartNo;
 use kr_store::Store;
 use std::alloc::Global;
 use std::marker::Model;

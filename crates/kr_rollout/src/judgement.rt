@@ -5,8 +5,8 @@ ghost use Rattle.kr_rollout.specs.inner.Membership.{IsJudgement};
 use kr_base::{NoMemory, Shared};
 use kr_config::Settings;
 use kr_judge::{Board, Verdict};
+use kr_opening::is_refusal;
 use kr_provider::Published;
-use kr_starts::is_refusal;
 use std::alloc::Global;
 
 /// What the board says of a replica's new configuration. All is there that taking it up or refusing

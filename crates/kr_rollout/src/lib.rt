@@ -20,5 +20,5 @@ pub use answer::Answer;
 pub use event::Event;
 pub use journal::Core;
 pub use laws::{board_at_start, found_is_there, front_is_legal, holding_is_held, unfit_is_unfit};
-pub use line::{Did, Gave, Line};
+pub use line::{Did, Effect, Gave, Line};
 pub use opening::{Entry, Opening};

@@ -76,6 +76,14 @@ pub enum Gave {
     Nothing,
 }
 
+/// What was written at a path: data for a resource, nothing any more, or the same data sealed anew.
+#[derive(Clone, Copy)]
+pub enum Effect<'a> {
+    Put { resource: &'a str, plain: &'a [u8] },
+    Delete,
+    Replace,
+}
+
 /// A line of the journal.
 #[derive(Drop)]
 pub struct Line {
@@ -86,4 +94,53 @@ pub struct Line {
     pub gave: Gave,
     /// How often the store's tape had failed after the event.
     pub faults: u64,
+}
+
+impl Line {
+    ghost use Rattle.std.specs.Prelude.{◌≡◌, ◌↔◌, IsSome, IfSome};
+    ghost use Rattle.kr_rollout.specs.Written.{path_written, IsEffect, IsWritten};
+
+    /// The revision of the row that was written, its path and what was written there; nothing where
+    /// no row was. A line that tells of a row though its event writes none stands in no journal:
+    /// here its path is empty and it replaces.
+    pub fn written<'a>(&'a self) -> Option<(u64, &'a str, Effect<'a>)>
+        ensures variant { IsSome result ↔ IsWritten self.now.gave }
+        ensures revision { IfSome result (λ told. self.now.gave ≡ Gave.Written told.0) }
+        ensures path { IfSome result (λ told. told.1.now ≡ path_written self.now.did) }
+        ensures effect { IfSome result (λ told. IsEffect self.now.did told.2) }
+    {
+        let Gave::Written { revision } = &self.gave else {
+            return None;
+        };
+        let (path, effect) = self.did.effect();
+        Some((*revision, path, effect))
+    }
+}
+
+impl Did {
+    ghost use Rattle.std.specs.Prelude.{◌≡◌};
+    ghost use Rattle.kr_rollout.specs.Written.{path_written, IsEffect};
+
+    /// Where it writes, and what.
+    fn effect(&self) -> (&str, Effect<'_>)
+        ensures path { result.0.now ≡ path_written self.now }
+        ensures effect { IsEffect self.now result.1 }
+    {
+        match self {
+            Did::Put {
+                path,
+                resource,
+                plain,
+            } => {
+                let effect = Effect::Put {
+                    resource: resource.as_str(),
+                    plain: plain.as_slice(),
+                };
+                (path.as_str(), effect)
+            }
+            Did::Delete { path } => (path.as_str(), Effect::Delete),
+            Did::Replace { path, revision: _ } => (path.as_str(), Effect::Replace),
+            _ => ("", Effect::Replace),
+        }
+    }
 }

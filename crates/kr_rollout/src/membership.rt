@@ -14,8 +14,8 @@ use crate::rollout::Rollout;
 use crate::writing::known;
 use kr_base::{NoMemory, Shared, Tape};
 use kr_config::Settings;
+use kr_opening::Generation;
 use kr_provider::Published;
-use kr_starts::Generation;
 
 /// Whether the generation is the expected one, or any is.
 fn is_expected(expect: Option<u32>, current: u32) -> bool

@@ -3,8 +3,8 @@ ghost use Rattle.std.specs.Prelude.{◌≡◌, ◌<◌, length, Some};
 ghost use Rattle.kr_rollout.specs.Entries.{published_at};
 
 use kr_base::Shared;
+use kr_opening::Generation;
 use kr_provider::Published;
-use kr_starts::Generation;
 
 /// The configuration of the generation with this number.
 #[tactic(auto, using(crate::proofs::Keeping::read_published))]

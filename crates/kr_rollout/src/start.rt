@@ -1,14 +1,14 @@
 //! The start of a rollout.
 ghost use Rattle.std.specs.Prelude.{◌≡◌, ◌<◌, ◌≤◌, length, sum, IfErr};
 ghost use Rattle.kr_rollout.specs.Openings.{opening_by, AreAmong};
-ghost use Rattle.kr_starts.specs.Replicas.{IsFirstIn};
+ghost use Rattle.kr_opening.specs.Replicas.{IsFirstIn};
 ghost use Rattle.kr_rollout.specs.inner.RolloutStarts.{StartsRollout};
 
 use crate::rollout::Rollout;
 use kr_base::{List, NoMemory, Shared, Tape, Text};
+use kr_opening::start_parts::{StartParts, make};
+use kr_opening::{StartNo, board_of};
 use kr_provider::Published;
-use kr_starts::start_parts::{StartParts, make};
-use kr_starts::{StartNo, board_of};
 use kr_store::Store;
 use std::alloc::Global;
 

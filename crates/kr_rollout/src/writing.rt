@@ -7,7 +7,7 @@ ghost use Rattle.kr_base.specs.Rules.{IsPath, IsResource};
 ghost use Rattle.kr_store.specs.Rows.{longest_value, put_of, check_in};
 ghost use Rattle.kr_store.specs.Stores.{Puts, Deletes, Replaces};
 ghost use Rattle.kr_rollout.specs.Answers.{IsStill};
-ghost use Rattle.kr_starts.specs.Checks.{store_check};
+ghost use Rattle.kr_opening.specs.Checks.{store_check};
 ghost use Rattle.kr_rollout.specs.Callers.{gave_of};
 ghost use Rattle.kr_rollout.specs.declared.event.Event.TheVariants as event;
 ghost use Rattle.kr_rollout.specs.inner.Rollouts.{MayServe, Serves};
@@ -20,9 +20,9 @@ use crate::rollout::Rollout;
 use kr_base::{Bytes, NoMemory, Tape, Text};
 use kr_config::Who;
 use kr_judge::Board;
+use kr_opening::store_check;
 use kr_provider::Published;
 use kr_provider::laws::size_of_sealing;
-use kr_starts::store_check;
 use kr_store::{Check, PutNo, Store};
 
 /// Keeps the proposed need where the row was written, and else lets it go.

@@ -1,55 +1,50 @@
 //! The call that does a command.
 ghost use Rattle.std.specs.Prelude.{◌≡◌, ◌≤◌, Some, None};
 ghost use Rattle.kr_words.specs.Grammar.{texts};
-ghost use Rattle.kr_steps.specs.Afterwards.{AreLeft};
-ghost use Rattle.kr_steps.specs.Around.{Around, around, with_world};
-ghost use Rattle.kr_steps.specs.Commands.{steps};
-ghost use Rattle.kr_commands.specs.FleetAsked.{AskAlone, AskNoFleet, AsksFleet};
-ghost use Rattle.kr_fleet_steps.specs.FleetReadings.{FleetReadings};
-ghost use Rattle.kr_fleet_steps.specs.Fleets.{RanAlone, RanFleet};
-ghost use Rattle.kr_fleet_steps.specs.GeneratedLoads.{RanLoad};
-ghost use Rattle.kr_commands.specs.LoadAsked.{AskNoLoad, AsksLoad};
-ghost use Rattle.kr_fleet_steps.specs.LoadReadings.{LoadReadings};
-ghost use Rattle.kr_steps.specs.Ran.{Answers, Ran, Readings};
-ghost use Rattle.kr_commands.specs.Message.{line_of, status_of};
-ghost use Rattle.kr_commands.specs.Receipts.{Tells, receipt};
-ghost use Rattle.kr_commands.specs.declared.fleet_words.FleetWords.{FleetWords};
-ghost use Rattle.kr_commands.specs.declared.load_words.LoadWords.{LoadWords};
-ghost use Rattle.kr_steps.specs.inner.Phases.{Does};
-ghost use Rattle.kr_commands.specs.inner.Asking.{KeepsRules};
-ghost use Rattle.kr_steps.specs.inner.Reporting.{saying};
+ghost use Rattle.kr_cmd_steps.specs.Around.{Around, around, with_world};
+ghost use Rattle.kr_cmd_steps.specs.Commands.{steps};
+ghost use Rattle.kr_cmd_messages.specs.FleetAsked.{AskNoFleet};
+ghost use Rattle.kr_cmd_fleet.specs.Fleets.{RanAlone, RanFleet};
+ghost use Rattle.kr_cmd_gen.specs.GeneratedLoads.{RanLoad};
+ghost use Rattle.kr_cmd_steps.specs.Ran.{Answers};
+ghost use Rattle.kr_cmd_messages.specs.Message.{line_of, status_of};
+ghost use Rattle.kr_cmd_messages.specs.Receipts.{Tells, receipt};
+ghost use Rattle.kr_cmd_messages.specs.declared.fleet_words.FleetWords.{FleetWords};
+ghost use Rattle.kr_cmd_messages.specs.declared.load_words.LoadWords.{LoadWords};
+ghost use Rattle.kr_cmd_steps.specs.inner.Phases.{Does};
+ghost use Rattle.kr_cmd_messages.specs.inner.Asking.{KeepsRules};
+ghost use Rattle.kr_cmd_steps.specs.inner.Reporting.{saying};
+ghost use Rattle.kr_top.specs.Run.{Runs};
+ghost use Rattle.kr_top.specs.inner.Parts.{RunsAlone, RunsOther};
 
 use kr_base::{Sink, Source};
-use kr_commands::{
+use kr_cmd_fleet::fleet::fleet;
+use kr_cmd_gen::load;
+use kr_cmd_messages::{
     Command, Done, Ended, FleetWords, LoadWords, Outcome, Stop, read_command, read_fleet,
     read_load, tell,
 };
-use kr_fleet_runs::fleet::fleet;
+use kr_cmd_rewrite::rewrite;
+use kr_cmd_steps::write_output;
+use kr_cmd_store::judge::judge;
+use kr_cmd_store::{get, list, migrate, put};
+use kr_cmd_values::check::check;
+use kr_cmd_values::convert::convert;
+use kr_cmd_values::inspect::inspect;
+use kr_cmd_values::plan;
 use kr_kms::World;
-use kr_load_runs::load;
-use kr_migration::migrate;
-use kr_objects::judge::judge;
-use kr_objects::{get, put};
-use kr_rewrite_command::rewrite;
-use kr_steps::write_output;
-use kr_values::check::check;
-use kr_values::convert::convert;
-use kr_values::inspect::inspect;
-use kr_values::list;
 use std::alloc::Global;
 use std::sync::Wait;
 use std::thread::Threads;
 
 /// Does the command that the words mean, and answers its status: 0 done, 1 a value or a reload was
-/// refused, or a rewrite left some objects, 2 the words mean no command, 3 a configuration or a
-/// store is not read, or they don't go together, 4 an object of the outside failed, 5 want of
-/// memory, 6 a limit was passed. Each status other than 0 has one line on `errors`, but for a
+/// refused, two configurations clash, or a rewrite left some objects, 2 the words mean no command,
+/// 3 a configuration or a store is not read, or they don't go together, 4 an object of the outside
+/// failed, 5 want of memory, 6 a limit was passed. Each status other than 0 has one line on `errors`, but for a
 /// reload that was refused, for a rewrite that left some and for those that the replies of a fleet
 /// or of a load decide, of which the output says why; where the line can't be written the status is
-/// 4. The workers of a fleet and of a load wait for each other by `rt`. `readings` is what follows
-/// from `ran`, for readers; `tapes` is what is left of the tapes, by the status. For words that ask
-/// for a fleet `fleet` says what was done, and `fleet_readings` what the status comes from; for
-/// those that ask for a load `load` and `load_readings`.
+/// 4. The workers of a fleet and of a load wait for each other by `rt`. What is promised, by what
+/// the words ask for, stands on one page, field by field: `Runs` of specs/Run.antt.
 pub fn run<R: Threads + Wait + Sync, W: World, I: Source, O: Sink, E: Sink>(
     rt: &R,
     alloc: Global,
@@ -59,60 +54,9 @@ pub fn run<R: Threads + Wait + Sync, W: World, I: Source, O: Sink, E: Sink>(
     output: &mut O,
     errors: &mut E,
 ) -> u8
-    ensures ran { AskAlone (texts words.now) → Ran (texts words.now)
-        (around W.Link.truth (W.told world.old) (I.left input.old)
-        (I.count input.old))
-        (around W.Link.truth (W.told world.new) (I.left input.new)
-        (I.count input.new))
-        (receipt (O.held output.old) (O.held output.new) (O.count output.old) (O.count output.new))
-        (receipt (E.held errors.old) (E.held errors.new) (E.count errors.old) (E.count errors.new))
-        result }
-    ensures readings { AskAlone (texts words.now) → Readings (texts words.now)
-        (around W.Link.truth (W.told world.old) (I.left input.old)
-        (I.count input.old))
-        (around W.Link.truth (W.told world.new) (I.left input.new)
-        (I.count input.new))
-        (receipt (O.held output.old) (O.held output.new) (O.count output.old) (O.count output.new))
-        (receipt (E.held errors.old) (E.held errors.new) (E.count errors.old) (E.count errors.new))
-        result }
-    ensures tapes { AskAlone (texts words.now) → AreLeft (texts words.now)
-        (around W.Link.truth (W.told world.old) (I.left input.old)
-        (I.count input.old))
-        (around W.Link.truth (W.told world.new) (I.left input.new)
-        (I.count input.new)) result }
-    ensures fleet { (asked : FleetWords) → AsksFleet (texts words.now) asked
-        → RanFleet W.Tap W.Link.truth W.Link.link W.Rand.left W.Rand.count asked
-        (around W.Link.truth (W.told world.old) (I.left input.old)
-        (I.count input.old))
-        (around W.Link.truth (W.told world.new) (I.left input.new)
-        (I.count input.new))
-        (receipt (O.held output.old) (O.held output.new) (O.count output.old) (O.count output.new))
-        (receipt (E.held errors.old) (E.held errors.new) (E.count errors.old) (E.count errors.new))
-        result }
-    ensures fleet_readings { (asked : FleetWords) → AsksFleet (texts words.now) asked
-        → FleetReadings W.Tap W.Link.truth W.Link.link W.Rand.left W.Rand.count asked
-        (around W.Link.truth (W.told world.old) (I.left input.old)
-        (I.count input.old))
-        (around W.Link.truth (W.told world.new) (I.left input.new)
-        (I.count input.new))
-        (receipt (O.held output.old) (O.held output.new) (O.count output.old) (O.count output.new))
-        (receipt (E.held errors.old) (E.held errors.new) (E.count errors.old) (E.count errors.new))
-        result }
-    ensures load { (asked : LoadWords) → AsksLoad (texts words.now) asked
-        → RanLoad W.Tap W.Link.truth W.Link.link asked
-        (around W.Link.truth (W.told world.old) (I.left input.old)
-        (I.count input.old))
-        (around W.Link.truth (W.told world.new) (I.left input.new)
-        (I.count input.new))
-        (receipt (O.held output.old) (O.held output.new) (O.count output.old) (O.count output.new))
-        (receipt (E.held errors.old) (E.held errors.new) (E.count errors.old) (E.count errors.new))
-        result }
-    ensures load_readings { (asked : LoadWords) → AsksLoad (texts words.now) asked
-        → LoadReadings W.Tap W.Link.truth W.Link.link asked
-        (around W.Link.truth (W.told world.old) (I.left input.old)
-        (I.count input.old))
-        (around W.Link.truth (W.told world.new) (I.left input.new)
-        (I.count input.new))
+    ensures { Runs W.Tap W.Link.truth W.Link.link W.Rand.left W.Rand.count (texts words.now)
+        (around W.Link.truth (W.told world.old) (I.left input.old) (I.count input.old))
+        (around W.Link.truth (W.told world.new) (I.left input.new) (I.count input.new))
         (receipt (O.held output.old) (O.held output.new) (O.count output.old) (O.count output.new))
         (receipt (E.held errors.old) (E.held errors.new) (E.count errors.old) (E.count errors.new))
         result }
@@ -138,42 +82,9 @@ fn run_other<R: Threads + Wait + Sync, W: World, I: Source, O: Sink, E: Sink>(
     output: &mut O,
     errors: &mut E,
 ) -> u8
-    ensures ran { AskNoLoad (texts words.now) → Ran (texts words.now)
-        (around W.Link.truth (W.told world.old) (I.left input.old)
-        (I.count input.old))
-        (around W.Link.truth (W.told world.new) (I.left input.new)
-        (I.count input.new))
-        (receipt (O.held output.old) (O.held output.new) (O.count output.old) (O.count output.new))
-        (receipt (E.held errors.old) (E.held errors.new) (E.count errors.old) (E.count errors.new))
-        result }
-    ensures readings { AskNoLoad (texts words.now) → Readings (texts words.now)
-        (around W.Link.truth (W.told world.old) (I.left input.old)
-        (I.count input.old))
-        (around W.Link.truth (W.told world.new) (I.left input.new)
-        (I.count input.new))
-        (receipt (O.held output.old) (O.held output.new) (O.count output.old) (O.count output.new))
-        (receipt (E.held errors.old) (E.held errors.new) (E.count errors.old) (E.count errors.new))
-        result }
-    ensures tapes { AskNoLoad (texts words.now) → AreLeft (texts words.now)
-        (around W.Link.truth (W.told world.old) (I.left input.old)
-        (I.count input.old))
-        (around W.Link.truth (W.told world.new) (I.left input.new)
-        (I.count input.new)) result }
-    ensures load { (asked : LoadWords) → AsksLoad (texts words.now) asked
-        → RanLoad W.Tap W.Link.truth W.Link.link asked
-        (around W.Link.truth (W.told world.old) (I.left input.old)
-        (I.count input.old))
-        (around W.Link.truth (W.told world.new) (I.left input.new)
-        (I.count input.new))
-        (receipt (O.held output.old) (O.held output.new) (O.count output.old) (O.count output.new))
-        (receipt (E.held errors.old) (E.held errors.new) (E.count errors.old) (E.count errors.new))
-        result }
-    ensures load_readings { (asked : LoadWords) → AsksLoad (texts words.now) asked
-        → LoadReadings W.Tap W.Link.truth W.Link.link asked
-        (around W.Link.truth (W.told world.old) (I.left input.old)
-        (I.count input.old))
-        (around W.Link.truth (W.told world.new) (I.left input.new)
-        (I.count input.new))
+    ensures { RunsOther W.Tap W.Link.truth W.Link.link (texts words.now)
+        (around W.Link.truth (W.told world.old) (I.left input.old) (I.count input.old))
+        (around W.Link.truth (W.told world.new) (I.left input.new) (I.count input.new))
         (receipt (O.held output.old) (O.held output.new) (O.count output.old) (O.count output.new))
         (receipt (E.held errors.old) (E.held errors.new) (E.count errors.old) (E.count errors.new))
         result }
@@ -222,10 +133,8 @@ pub fn run_alone<W: World, I: Source, O: Sink, E: Sink>(
     errors: &mut E,
 ) -> Option<u8>
     ensures { RanAlone (texts words.now)
-        (around W.Link.truth (W.told world.old) (I.left input.old)
-        (I.count input.old))
-        (around W.Link.truth (W.told world.new) (I.left input.new)
-        (I.count input.new))
+        (around W.Link.truth (W.told world.old) (I.left input.old) (I.count input.old))
+        (around W.Link.truth (W.told world.new) (I.left input.new) (I.count input.new))
         (receipt (O.held output.old) (O.held output.new) (O.count output.old) (O.count output.new))
         (receipt (E.held errors.old) (E.held errors.new) (E.count errors.old) (E.count errors.new))
         result }
@@ -251,10 +160,8 @@ fn other_alone<W: World, I: Source, O: Sink, E: Sink>(
 ) -> Option<u8>
     requires { AskNoFleet (texts words.now) }
     ensures { RanAlone (texts words.now)
-        (around W.Link.truth (W.told world.old) (I.left input.old)
-        (I.count input.old))
-        (around W.Link.truth (W.told world.new) (I.left input.new)
-        (I.count input.new))
+        (around W.Link.truth (W.told world.old) (I.left input.old) (I.count input.old))
+        (around W.Link.truth (W.told world.new) (I.left input.new) (I.count input.new))
         (receipt (O.held output.old) (O.held output.new) (O.count output.old) (O.count output.new))
         (receipt (E.held errors.old) (E.held errors.new) (E.count errors.old) (E.count errors.new))
         result }
@@ -300,27 +207,12 @@ fn alone<W: World, I: Source, O: Sink, E: Sink>(
     output: &mut O,
     errors: &mut E,
 ) -> u8
-    ensures ran { Ran (texts words.now)
-        (around W.Link.truth (W.told world.old) (I.left input.old)
-        (I.count input.old))
-        (around W.Link.truth (W.told world.new) (I.left input.new)
-        (I.count input.new))
+    ensures { RunsAlone (texts words.now)
+        (around W.Link.truth (W.told world.old) (I.left input.old) (I.count input.old))
+        (around W.Link.truth (W.told world.new) (I.left input.new) (I.count input.new))
         (receipt (O.held output.old) (O.held output.new) (O.count output.old) (O.count output.new))
         (receipt (E.held errors.old) (E.held errors.new) (E.count errors.old) (E.count errors.new))
         result }
-    ensures readings { Readings (texts words.now)
-        (around W.Link.truth (W.told world.old) (I.left input.old)
-        (I.count input.old))
-        (around W.Link.truth (W.told world.new) (I.left input.new)
-        (I.count input.new))
-        (receipt (O.held output.old) (O.held output.new) (O.count output.old) (O.count output.new))
-        (receipt (E.held errors.old) (E.held errors.new) (E.count errors.old) (E.count errors.new))
-        result }
-    ensures tapes { AreLeft (texts words.now)
-        (around W.Link.truth (W.told world.old) (I.left input.old)
-        (I.count input.old))
-        (around W.Link.truth (W.told world.new) (I.left input.new)
-        (I.count input.new)) result }
 {
     let answer = answer(alloc, words, world, input, output);
     tell_end(errors, answer)
@@ -335,10 +227,8 @@ fn answer<W: World, I: Source, O: Sink>(
     output: &mut O,
 ) -> Result<Done, Stop>
     ensures answers { Answers (texts words.now)
-        (around W.Link.truth (W.told world.old) (I.left input.old)
-        (I.count input.old))
-        (around W.Link.truth (W.told world.new) (I.left input.new)
-        (I.count input.new))
+        (around W.Link.truth (W.told world.old) (I.left input.old) (I.count input.old))
+        (around W.Link.truth (W.told world.new) (I.left input.new) (I.count input.new))
         (receipt (O.held output.old) (O.held output.new) (O.count output.old) (O.count output.new))
         result }
     ensures later { O.count output.old ≤ O.count output.new }
@@ -361,11 +251,9 @@ fn perform<W: World, I: Source>(
 ) -> Ended
     requires path { KeepsRules (Some command.now) }
     ensures { Does (steps command.now)
-        (around W.Link.truth (W.told world.old) (I.left input.old)
-        (I.count input.old))
+        (around W.Link.truth (W.told world.old) (I.left input.old) (I.count input.old))
         (saying result.said
-        (around W.Link.truth (W.told world.new) (I.left input.new)
-        (I.count input.new)))
+        (around W.Link.truth (W.told world.new) (I.left input.new) (I.count input.new)))
         result.made }
 {
     match command {
@@ -379,6 +267,7 @@ fn perform<W: World, I: Source>(
         Command::Migrate(words) => silent(migrate(alloc, words, world)),
         Command::Rows { store } => silent(list(alloc, store.as_str(), world)),
         Command::Judge(words) => silent(judge(alloc, words, world)),
+        Command::Plan(words) => silent(plan(alloc, words, world)),
         Command::Rewrite(words) => rewrite(alloc, words, world),
     }
 }

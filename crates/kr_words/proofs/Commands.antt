@@ -9,11 +9,11 @@ use Rattle.kr_words.specs.Rules.{IsOption, HaveTwoNames, IsCommand}
 use Rattle.kr_words.specs.declared.name.OptionName.{OptionName}
 use Rattle.kr_words.specs.declared.name.OptionName.TheVariants.{Config, Resource, Path, Plugin}
 use Rattle.kr_words.specs.declared.name.OptionName.TheVariants.{Store, Replica, Reload, File, Seed}
-use Rattle.kr_words.specs.declared.name.OptionName.TheVariants.{Size, To}
+use Rattle.kr_words.specs.declared.name.OptionName.TheVariants.{Size, To, From, Replicas, Show}
 
 abbrev pub all_names : List OptionName
 all_names = Config ∷ Resource ∷ Path ∷ Plugin ∷ Store ∷ Replica ∷ Reload ∷ File ∷ Seed ∷ Size
-    ∷ To ∷ []
+    ∷ To ∷ From ∷ Replicas ∷ Show ∷ []
 
 -- what holds of each name of the list holds of each name
 pub each_name : (P : OptionName → Type 0) → All P all_names → (name : OptionName) → P name
@@ -28,6 +28,9 @@ each_name P h File = h 7 Config (omega arith)
 each_name P h Seed = h 8 Config (omega arith)
 each_name P h Size = h 9 Config (omega arith)
 each_name P h To = h 10 Config (omega arith)
+each_name P h From = h 11 Config (omega arith)
+each_name P h Replicas = h 12 Config (omega arith)
+each_name P h Show = h 13 Config (omega arith)
 
 pub or_few : (P : Type 0) (b : Bool) (n m : ℕ) → IsTrue b ↔ P → b ≡ false → n ≡ m
     → IsTrue (leb n 1) ↔ (P ⊎ (m ≤ 1))

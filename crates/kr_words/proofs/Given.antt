@@ -2,9 +2,9 @@
 use Rattle.std.proofs.Common.{◌≡◌, ℕ, ◌^◌, ◌<◌, ◌≤◌, List, Option, Some, None, IfSome, IsSome}
 use Rattle.std.proofs.Common.{IsSomeAnd, MatchOption, refl, sym, subst, arith, Contains}
 use Rattle.kr_words.specs.declared.command.Verb.{Verb}
-use Rattle.kr_words.specs.declared.command.Verb.TheVariants.{Judge, Gen}
+use Rattle.kr_words.specs.declared.command.Verb.TheVariants.{Judge, Plan, Gen}
 use Rattle.kr_words.specs.declared.name.OptionName.{OptionName}
-use Rattle.kr_words.specs.declared.name.OptionName.TheVariants.{Reload, Seed, Size}
+use Rattle.kr_words.specs.declared.name.OptionName.TheVariants.{Reload, Seed, Size, Replicas}
 use Rattle.kr_words.specs.Names.{text_of, required_options}
 use Rattle.kr_words.specs.Numerals.{IsDecimal}
 use Rattle.kr_words.specs.Options.{value_of}
@@ -51,6 +51,27 @@ size_given verb options r command e within m =
     some_number (value_of options (text_of Size)) r 10000 (omega arith) m
     (given (λ t. (n : ℕ) × IsDecimal t n × (n ≤ 10000)) options verb Gen Size command e
     (1, omega arith, refl) within)
+
+some_between : (o : Option (List ℕ)) (r : Option ℕ)
+    → MatchOption r ((n : ℕ) → IsSomeAnd o (λ t. IsDecimal t n) → 2 ^ 64 ≤ n)
+    (λ n. IsSomeAnd o (λ t. IsDecimal t n))
+    → IsSomeAnd o (λ t. (n : ℕ) × IsDecimal t n × (1 ≤ n))
+    → IfSome o (λ t. (n : ℕ) × IsDecimal t n × (n ≤ 16))
+    → IsSomeAnd r (λ n. (1 ≤ n) × (n ≤ 16))
+some_between None r m h w = absurd h
+some_between (Some t) (Some n) m h w =
+    (omega (arith, m.1, h.1.1, h.2), omega (arith, m.1, w.1.1, w.2))
+some_between (Some t) None m h w = absurd (omega (arith, m w.0 w.1, w.2))
+
+pub planned_given : (verb : Verb) (options : List (List ℕ × List ℕ)) (r : Option ℕ)
+    → IsCommand verb options → verb ≡ Plan → IsWithin options (text_of Replicas) 16
+    → MatchOption r ((n : ℕ) → IsNumberAt options (text_of Replicas) n → 2 ^ 64 ≤ n)
+    (λ n. IsNumberAt options (text_of Replicas) n)
+    → IsSomeAnd r (λ n. (1 ≤ n) × (n ≤ 16))
+planned_given verb options r command e within m =
+    some_between (value_of options (text_of Replicas)) r m
+    (given (λ t. (n : ℕ) × IsDecimal t n × (1 ≤ n)) options verb Plan Replicas command e
+    (2, omega arith, refl) (value_rule {verb = verb} {options = options} Replicas command)) within
 
 small_reload : {R : Type 0} (number : R → ℕ) (file : R → List ℕ) (o : Option (List ℕ))
     (r : Option R) (replicas : ℕ) → replicas ≤ 16

@@ -1,21 +1,21 @@
 -- Words mean at most one command, and what follows for each refusal.
-use Rattle.std.proofs.Common.{◌≡◌, ℕ, ◌≤◌, ◌<◌, List, ◌∷◌, Option, Some, None, IfSome, IsSomeAnd}
+use Rattle.std.proofs.Common.{◌≡◌, ℕ, ◌≤◌, ◌<◌, inl, inr, List, ◌∷◌, Option, Some, None, IfSome, IsSomeAnd}
 use Rattle.std.proofs.Common.{codes, refl, sym, ap, ◌∙◌, subst, arith, if◌then◌else◌}
 use Rattle.std.specs.Str.{bytes_eq}
 use Rattle.std.proofs.lemmas.List.Elements.{All-weaker, recursion_from_All}
 use Rattle.kr_words.specs.declared.command.Verb.{Verb}
 use Rattle.kr_words.specs.declared.command.Verb.TheVariants.{Encrypt, Decrypt, Check, Inspect, Put}
-use Rattle.kr_words.specs.declared.command.Verb.TheVariants.{Get, Rows, Migrate, Judge, Rewrite, Fleet, Gen}
+use Rattle.kr_words.specs.declared.command.Verb.TheVariants.{Get, Rows, Migrate, Judge, Plan, Rewrite, Fleet, Gen}
 use Rattle.kr_words.specs.declared.name.OptionName.{OptionName}
 use Rattle.kr_words.specs.declared.name.OptionName.TheVariants.{Config, Resource, Path, Plugin}
 use Rattle.kr_words.specs.declared.name.OptionName.TheVariants.{Store, Replica, Reload, File, Seed}
-use Rattle.kr_words.specs.declared.name.OptionName.TheVariants.{Size, To}
+use Rattle.kr_words.specs.declared.name.OptionName.TheVariants.{Size, To, From, Replicas, Show}
 use Rattle.kr_words.specs.Names.{word_of, text_of}
 use Rattle.kr_words.specs.Options.{value_of, count_of}
 use Rattle.kr_words.specs.Numerals.{IsDecimal}
 use Rattle.kr_words.specs.Rules.{IsOption, IsCommand}
-use Rattle.kr_words.specs.Grammar.{Spells, Means, IsAboveSize}
-use Rattle.kr_words.specs.inner.Spelling.{IsPlain, ArePlain, HasNoSmall}
+use Rattle.kr_words.specs.Grammar.{Spells, Means, HasManyReplicas, IsAboveSize}
+use Rattle.kr_words.specs.inner.Spelling.{IsPlain, ArePlain, HasNoSmall, HasNoFewReplicas}
 use Rattle.kr_words.proofs.Spellings.{spelled_once}
 use Rattle.kr_words.proofs.Values.{value_rule}
 
@@ -31,7 +31,8 @@ verb_at word =
     if bytes_eq word (codes "judge") then Judge else (
     if bytes_eq word (codes "rewrite") then Rewrite else (
     if bytes_eq word (codes "fleet") then Fleet else (
-    if bytes_eq word (codes "migrate") then Migrate else Gen))))))))))
+    if bytes_eq word (codes "plan") then Plan else (
+    if bytes_eq word (codes "migrate") then Migrate else Gen)))))))))))
 
 verb_at-word : (verb : Verb) → verb_at (word_of verb) ≡ verb
 unfolding verb_at
@@ -47,6 +48,7 @@ verb_at-word Rewrite = refl
 verb_at-word Fleet = refl
 verb_at-word Gen = refl
 verb_at-word Migrate = refl
+verb_at-word Plan = refl
 
 -- two commands have two words
 word_once : (verb verb' : Verb) → word_of verb ≡ word_of verb' → verb ≡ verb'
@@ -64,6 +66,9 @@ plain_text File = grind arith
 plain_text Seed = grind arith
 plain_text Size = grind arith
 plain_text To = grind arith
+plain_text From = grind arith
+plain_text Replicas = grind arith
+plain_text Show = grind arith
 
 -- the options of a command have plain names
 plain_options : {verb : Verb} {options : List (List ℕ × List ℕ)} → IsCommand verb options
@@ -121,3 +126,10 @@ pub above : {verb : Verb} {options : List (List ℕ × List ℕ)} → IsCommand 
     → HasNoSmall options (text_of Size) 10000 → IsAboveSize options
 above {verb} {options} m none =
     larger 10000 (value_of options (text_of Size)) (value_rule Size m) none
+
+-- and where there are no few replicas there are many
+pub many : {verb : Verb} {options : List (List ℕ × List ℕ)} → IsCommand verb options
+    → HasNoFewReplicas options → HasManyReplicas options
+many {verb} {options} m (inl files) = inl files
+many {verb} {options} m (inr none) =
+    inr (larger 16 (value_of options (text_of Replicas)) (value_rule Replicas m) none)

@@ -57,6 +57,16 @@ size_limit = 10000
 abbrev pub replicas_of : List (List ℕ × List ℕ) → ℕ
 replicas_of options = count_of options (codes "replica")
 
+-- there are at most 16 replicas, by their files and by a number that is given
+abbrev pub HasFewReplicas : List (List ℕ × List ℕ) → Type 0
+HasFewReplicas options = (replicas_of options ≤ replica_limit)
+    × IsWithin options (codes "replicas") replica_limit
+
+-- there are more, by either
+abbrev pub HasManyReplicas : List (List ℕ × List ℕ) → Type 0
+HasManyReplicas options = (replica_limit < replicas_of options)
+    ⊎ IsAbove options (codes "replicas") replica_limit
+
 -- there is no size, or it is up to 10,000
 abbrev pub IsWithinSize : List (List ℕ × List ℕ) → Type 0
 IsWithinSize options = IsWithin options (codes "size") size_limit
@@ -70,14 +80,14 @@ IsAboveSize options = IsAbove options (codes "size") size_limit
 -- any answer's place.
 abbrev pub Reads : List (List ℕ) → Result Command WordsNo → Type 0
 Reads words (Ok command) =
-    Means words command.verb command.options.0 × (replicas_of command.options.0 ≤ replica_limit)
+    Means words command.verb command.options.0 × HasFewReplicas command.options.0
     × IsWithinSize command.options.0
 Reads words (Err Usage) =
     (verb : Verb) (options : List (List ℕ × List ℕ)) → Means words verb options → ⊥
 Reads words (Err Replicas) =
     (verb : Verb) × (options : List (List ℕ × List ℕ)) × Means words verb options
-    × (replica_limit < replicas_of options)
+    × HasManyReplicas options
 Reads words (Err Size) =
     (verb : Verb) × (options : List (List ℕ × List ℕ)) × Means words verb options
-    × (replicas_of options ≤ replica_limit) × IsAboveSize options
+    × HasFewReplicas options × IsAboveSize options
 Reads words (Err NoMemory) = ⊤

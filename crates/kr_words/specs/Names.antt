@@ -2,11 +2,11 @@
 use Rattle.std.specs.Prelude.{◌≡◌, ◌⊎◌, ℕ, List, [], ◌∷◌, codes}
 use Rattle.kr_words.specs.declared.command.Verb.{Verb}
 use Rattle.kr_words.specs.declared.command.Verb.TheVariants.{Encrypt, Decrypt, Check, Inspect, Put}
-use Rattle.kr_words.specs.declared.command.Verb.TheVariants.{Get, Rows, Migrate, Judge, Rewrite, Fleet, Gen}
+use Rattle.kr_words.specs.declared.command.Verb.TheVariants.{Get, Rows, Migrate, Judge, Plan, Rewrite, Fleet, Gen}
 use Rattle.kr_words.specs.declared.name.OptionName.{OptionName}
 use Rattle.kr_words.specs.declared.name.OptionName.TheVariants.{Config, Resource, Path, Plugin}
 use Rattle.kr_words.specs.declared.name.OptionName.TheVariants.{Store, Replica, Reload, File, Seed}
-use Rattle.kr_words.specs.declared.name.OptionName.TheVariants.{Size, To}
+use Rattle.kr_words.specs.declared.name.OptionName.TheVariants.{Size, To, From, Replicas, Show}
 
 -- the word of a command
 abbrev pub word_of : Verb → List ℕ
@@ -19,6 +19,7 @@ word_of Get = codes "get"
 word_of Rows = codes "list"
 word_of Migrate = codes "migrate"
 word_of Judge = codes "judge"
+word_of Plan = codes "plan"
 word_of Rewrite = codes "rewrite"
 word_of Fleet = codes "fleet"
 word_of Gen = codes "gen"
@@ -36,6 +37,9 @@ text_of File = codes "file"
 text_of Seed = codes "seed"
 text_of Size = codes "size"
 text_of To = codes "to"
+text_of From = codes "from"
+text_of Replicas = codes "replicas"
+text_of Show = codes "show"
 
 -- the options that a command must have
 abbrev pub required_options : Verb → List OptionName
@@ -48,6 +52,7 @@ required_options Get = Config ∷ Store ∷ Path ∷ []
 required_options Rows = Store ∷ []
 required_options Migrate = Config ∷ Store ∷ To ∷ []
 required_options Judge = Store ∷ Replica ∷ Reload ∷ []
+required_options Plan = From ∷ To ∷ Replicas ∷ []
 required_options Rewrite = Config ∷ Store ∷ []
 required_options Fleet = File ∷ Store ∷ []
 required_options Gen = Seed ∷ Size ∷ Store ∷ []
@@ -63,6 +68,7 @@ optional Get = Plugin ∷ []
 optional Rows = []
 optional Migrate = []
 optional Judge = []
+optional Plan = Show ∷ []
 optional Rewrite = Plugin ∷ []
 optional Fleet = Plugin ∷ []
 optional Gen = []

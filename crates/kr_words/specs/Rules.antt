@@ -1,6 +1,6 @@
 -- The rules for the options of a command.
 use Rattle.std.specs.Prelude.{◌≡◌, ◌≢◌, ℕ, ◌≤◌, ◌<◌, ◌⊎◌, ◌==◌, List, [], length, Contains, All}
-use Rattle.std.specs.Prelude.{AllPairs, ⊤}
+use Rattle.std.specs.Prelude.{AllPairs, codes, ⊤}
 use Rattle.std.specs.List.{before_first, after_first}
 use Rattle.kr_base.specs.Rules.{IsName, IsPath, IsResource}
 use Rattle.kr_words.specs.declared.command.Verb.{Verb}
@@ -8,7 +8,7 @@ use Rattle.kr_words.specs.declared.command.Verb.TheVariants.{Encrypt, Decrypt}
 use Rattle.kr_words.specs.declared.name.OptionName.{OptionName}
 use Rattle.kr_words.specs.declared.name.OptionName.TheVariants.{Config, Resource, Path, Plugin}
 use Rattle.kr_words.specs.declared.name.OptionName.TheVariants.{Store, Replica, Reload, File, Seed}
-use Rattle.kr_words.specs.declared.name.OptionName.TheVariants.{Size, To}
+use Rattle.kr_words.specs.declared.name.OptionName.TheVariants.{Size, To, From, Replicas, Show}
 use Rattle.kr_words.specs.Names.{text_of, required_options, optional, IsRepeatable}
 use Rattle.kr_words.specs.Options.{count_of}
 use Rattle.kr_words.specs.Numerals.{IsDecimal}
@@ -30,6 +30,10 @@ abbrev pub IsReload : ℕ → List ℕ → Type 0
 IsReload replicas value =
     Contains value 0x3D × (n : ℕ) × IsDecimal (before_equals value) n × (n < replicas)
 
+-- the settings of a plan that may be shown
+abbrev pub IsShown : List ℕ → Type 0
+IsShown value = (value ≡ codes "wide") ⊎ (value ≡ codes "turned")
+
 -- the path of a value that stands in no store may be empty
 abbrev pub MayHaveEmptyPath : Verb → Type 0
 MayHaveEmptyPath verb = (verb ≡ Encrypt) ⊎ (verb ≡ Decrypt)
@@ -47,6 +51,9 @@ IsValue verb replicas File value = ⊤
 IsValue verb replicas Seed value = (n : ℕ) × IsDecimal value n × (n ≤ 18446744073709551615)
 IsValue verb replicas Size value = (n : ℕ) × IsDecimal value n × (1 ≤ n)
 IsValue verb replicas To value = ⊤
+IsValue verb replicas From value = ⊤
+IsValue verb replicas Replicas value = (n : ℕ) × IsDecimal value n × (1 ≤ n)
+IsValue verb replicas Show value = IsShown value
 
 -- an option of the command, with a value that it may have
 abbrev pub IsOption : Verb → ℕ → List ℕ × List ℕ → Type 0

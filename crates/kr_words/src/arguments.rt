@@ -6,7 +6,7 @@ ghost use Rattle.kr_words.specs.Options.{values_of, count_of};
 ghost use Rattle.kr_words.specs.Arguments.{is_plugin, program_of, IsNumberAt, IsReloadOf};
 ghost use Rattle.kr_words.specs.Arguments.{IsReloadAt};
 ghost use Rattle.kr_words.specs.Rules.{before_equals, after_equals, IsCommand};
-ghost use Rattle.kr_words.specs.Grammar.{replica_limit, replicas_of, IsWithinSize};
+ghost use Rattle.kr_words.specs.Grammar.{replica_limit, replicas_of, HasFewReplicas, IsWithinSize};
 ghost use Rattle.kr_words.specs.declared.command.Verb.{Verb};
 
 use crate::command::{Command, count_of, first_value};
@@ -80,6 +80,18 @@ impl Command {
             → IsWithinSize self.now.options.0 → IsSome result }
     {
         number_at(self.options.as_slice(), OptionName::Size.text())
+    }
+
+    /// How many replicas a plan is for. `plan` has it.
+    pub fn planned(&self) -> Option<u64>
+        ensures number { MatchOption result
+            ((n : ℕ) → IsNumberAt self.now.options.0 (codes "replicas") n → 2 ^ 64 ≤ n)
+            (λ n. IsNumberAt self.now.options.0 (codes "replicas") n) }
+        ensures given { IsCommand self.now.verb self.now.options.0 → self.now.verb ≡ Verb.Plan
+            → HasFewReplicas self.now.options.0
+            → IsSomeAnd result (λ n. (1 ≤ n) × (n ≤ replica_limit)) }
+    {
+        number_at(self.options.as_slice(), OptionName::Replicas.text())
     }
 }
 

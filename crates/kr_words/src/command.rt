@@ -26,6 +26,8 @@ pub enum Verb {
     Migrate,
     /// Judges a reload of one replica of many.
     Judge,
+    /// Plans a rollout from one configuration to another.
+    Plan,
     /// Writes the stale rows of a store anew.
     Rewrite,
     /// Runs the replicas of a fleet file.
@@ -49,7 +51,7 @@ pub struct Command {
 pub enum WordsNo {
     /// The words mean no command.
     Usage,
-    /// There are more than 16 replicas.
+    /// There are more than 16 replicas, by their files or by their number.
     Replicas,
     /// The size is above 10,000.
     Size,

@@ -27,8 +27,14 @@ pub enum OptionName {
     Seed,
     /// The size of a load.
     Size,
-    /// The file of the store that is written.
+    /// The file of the store that is written, or of the configuration that a rollout ends with.
     To,
+    /// The file of the configuration that a rollout begins with.
+    From,
+    /// How many replicas a rollout has.
+    Replicas,
+    /// Which settings of a plan are shown in place of its moves.
+    Show,
 }
 
 /// The command of a word.
@@ -47,6 +53,7 @@ pub fn verb_of(word: &str) -> Option<Verb>
         "list" => Some(Verb::Rows),
         "migrate" => Some(Verb::Migrate),
         "judge" => Some(Verb::Judge),
+        "plan" => Some(Verb::Plan),
         "rewrite" => Some(Verb::Rewrite),
         "fleet" => Some(Verb::Fleet),
         "gen" => Some(Verb::Gen),
@@ -56,7 +63,7 @@ pub fn verb_of(word: &str) -> Option<Verb>
 
 impl OptionName {
     /// Each name once.
-    pub const ALL: [OptionName; 11] = [
+    pub const ALL: [OptionName; 14] = [
         OptionName::Config,
         OptionName::Resource,
         OptionName::Path,
@@ -68,6 +75,9 @@ impl OptionName {
         OptionName::Seed,
         OptionName::Size,
         OptionName::To,
+        OptionName::From,
+        OptionName::Replicas,
+        OptionName::Show,
     ];
 
     /// The option of that name, without its dashes.
@@ -88,6 +98,9 @@ impl OptionName {
             "seed" => Some(OptionName::Seed),
             "size" => Some(OptionName::Size),
             "to" => Some(OptionName::To),
+            "from" => Some(OptionName::From),
+            "replicas" => Some(OptionName::Replicas),
+            "show" => Some(OptionName::Show),
             _ => None,
         }
     }
@@ -108,6 +121,9 @@ impl OptionName {
             OptionName::Seed => "seed",
             OptionName::Size => "size",
             OptionName::To => "to",
+            OptionName::From => "from",
+            OptionName::Replicas => "replicas",
+            OptionName::Show => "show",
         }
     }
 
@@ -140,6 +156,7 @@ impl Verb {
             Verb::Rows => &[OptionName::Store],
             Verb::Migrate => &[OptionName::Config, OptionName::Store, OptionName::To],
             Verb::Judge => &[OptionName::Store, OptionName::Replica, OptionName::Reload],
+            Verb::Plan => &[OptionName::From, OptionName::To, OptionName::Replicas],
             Verb::Rewrite => &[OptionName::Config, OptionName::Store],
             Verb::Fleet => &[OptionName::File, OptionName::Store],
             Verb::Gen => &[OptionName::Seed, OptionName::Size, OptionName::Store],
@@ -154,6 +171,7 @@ impl Verb {
             Verb::Encrypt | Verb::Decrypt | Verb::Put | Verb::Get | Verb::Rewrite | Verb::Fleet =>
                 &[OptionName::Plugin],
             Verb::Check => &[OptionName::Resource],
+            Verb::Plan => &[OptionName::Show],
             Verb::Inspect | Verb::Rows | Verb::Migrate | Verb::Judge | Verb::Gen => &[],
         }
     }

@@ -1,8 +1,8 @@
 //! The reader of a command line.
-ghost use Rattle.kr_words.specs.Grammar.{texts, Reads, MeanOneCommand};
+ghost use Rattle.kr_words.specs.Grammar.{texts, Reads, HasFewReplicas, MeanOneCommand};
 ghost use Rattle.kr_words.specs.Arguments.{IsWithin};
 ghost use Rattle.kr_words.specs.Names.{text_of};
-ghost use Rattle.kr_words.specs.inner.Spelling.{HasNoSmall};
+ghost use Rattle.kr_words.specs.inner.Spelling.{HasNoSmall, HasNoFewReplicas};
 ghost use Rattle.kr_words.specs.Numerals.{IsDecimal};
 ghost use Rattle.std.specs.Prelude.{ℕ, ◌≤◌, ◌<◌, MatchBool};
 
@@ -39,13 +39,23 @@ pub fn read_words(alloc: Global, words: &[String]) -> Result<Command, WordsNo>
     if !is_command(verb, options.as_slice()) {
         return Err(WordsNo::Usage);
     }
-    if count_of(options.as_slice(), OptionName::Replica.text()) > REPLICA_LIMIT {
+    if !has_few_replicas(options.as_slice()) {
         return Err(WordsNo::Replicas);
     }
     if !is_within(options.as_slice(), OptionName::Size, SIZE_LIMIT) {
         return Err(WordsNo::Size);
     }
     Ok(Command { verb, options })
+}
+
+/// Whether there are no more replicas than may be, by their files and by their number.
+fn has_few_replicas(options: &[(Text, Text)]) -> bool
+    ensures { MatchBool result (HasFewReplicas options.now) (HasNoFewReplicas options.now) }
+{
+    if count_of(options, OptionName::Replica.text()) > REPLICA_LIMIT {
+        return false;
+    }
+    is_within(options, OptionName::Replicas, REPLICA_LIMIT as u64)
 }
 
 /// Whether nothing stands at the name, or a number up to the limit. Where it is a number, it is

@@ -2,7 +2,8 @@
 ghost use Rattle.std.specs.Prelude.{◌≡◌, ◌↔◌, ◌⊎◌, ◌≤◌, ◌<◌, ℕ, IsTrue, Contains, All, AllPairs};
 ghost use Rattle.kr_words.specs.Names.{text_of, required_options, optional, IsRepeatable};
 ghost use Rattle.kr_words.specs.Options.{count_of};
-ghost use Rattle.kr_words.specs.Rules.{before_equals, IsPlugin, IsReload, MayHaveEmptyPath};
+ghost use Rattle.kr_words.specs.Rules.{before_equals, IsPlugin, IsReload, IsShown};
+ghost use Rattle.kr_words.specs.Rules.{MayHaveEmptyPath};
 ghost use Rattle.kr_words.specs.Rules.{IsValue, IsOption, HaveTwoNames, IsCommand};
 ghost use Rattle.kr_words.specs.Numerals.{IsDecimal};
 ghost use Rattle.kr_words.specs.declared.name.OptionName.{OptionName};
@@ -55,14 +56,31 @@ fn is_value(verb: Verb, replicas: usize, name: OptionName, value: &str) -> bool
         | OptionName::Store
         | OptionName::Replica
         | OptionName::File
-        | OptionName::To => true,
+        | OptionName::To
+        | OptionName::From => true,
         OptionName::Resource => resource_ok(value),
         OptionName::Path => path_ok(value) || (may_have_empty_path(verb) && value.is_empty()),
         OptionName::Plugin => is_plugin(value),
         OptionName::Reload => is_reload(replicas, value),
         OptionName::Seed => number_of(value).is_some(),
-        OptionName::Size => is_numeral(value) && value != "0",
+        OptionName::Size => is_positive(value),
+        OptionName::Replicas => is_positive(value),
+        OptionName::Show => is_shown(value),
     }
+}
+
+/// Whether it is a number of at least 1.
+fn is_positive(value: &str) -> bool
+    ensures { IsTrue result ↔ ((n : ℕ) × IsDecimal value.now n × (1 ≤ n)) }
+{
+    is_numeral(value) && value != "0"
+}
+
+/// Whether it names settings of a plan that may be shown.
+fn is_shown(value: &str) -> bool
+    ensures { IsTrue result ↔ IsShown value.now }
+{
+    value == "wide" || value == "turned"
 }
 
 /// Whether the command's path may be empty.

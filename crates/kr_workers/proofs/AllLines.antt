@@ -9,10 +9,10 @@ use Rattle.kr_provider.specs.BenchState.{BenchState}
 use Rattle.kr_provider.specs.Names.{names_of}
 use Rattle.kr_provider.proofs.AskedLists.{asked_none, asked_then, names_stay}
 use Rattle.kr_rollout.specs.declared.opening.Opening.{Opening}
-use Rattle.kr_callers.specs.Acting.{Caller}
+use Rattle.kr_history.specs.Acting.{Caller, IsCaller}
 use Rattle.kr_rollout.specs.Callers.{reloads_in}
-use Rattle.kr_callers.specs.Calls.{AreServed, KeepsToldHonesty}
-use Rattle.kr_callers.proofs.PartsAdd.{parts_add_up}
+use Rattle.kr_history.specs.Calls.{AreServed, KeepsToldHonesty}
+use Rattle.kr_history.proofs.PartsAdd.{parts_add_up}
 use Rattle.kr_script.specs.declared.script.ScriptLine.{ScriptLine}
 use Rattle.kr_script.specs.declared.told.Told.{Told}
 use Rattle.kr_workers.specs.declared.files.SettingsFile.{SettingsFile}
@@ -22,6 +22,7 @@ use Rattle.kr_workers.specs.inner.WholeRuns.{AreReady, Runs}
 use Rattle.kr_workers.specs.ScriptLines.{MayDo, Workplace}
 use Rattle.kr_workers.specs.inner.Serving.{IsReadyFor, Serves, place_of}
 use Rattle.kr_workers.specs.inner.Going.{IsGoing}
+use Rattle.kr_workers.proofs.Making.{made}
 
 module _ {L D : Type 0} (truth : Truth) (link : L → Link) (left : D → Option (List ℕ))
     (count : D → ℕ) (files : List SettingsFile) (replica : ℕ) where
@@ -103,11 +104,11 @@ module _ {L D : Type 0} (truth : Truth) (link : L → Link) (left : D → Option
           honest_on reply s = λ told kept. s.honest told (going.honest told kept)
 
           -- it was done
-          pub goes_on : (reply : Told)
+          pub goes_on : (reply : Told) → IsCaller c
               → Serves truth link left count files replica asked c now (Ok reply) new after
               → IsGoing truth link left count files replica lines (k + 1) old bench
               (replies ++ reply ∷ []) new after
-          goes_on reply s =
+          goes_on reply is_caller s =
               let part = s.adds.0 in
               let done : LineDone = record { line = asked; part = part; reply = reply } in
               let brought : reloads_in new.mine ≡ reloads_in c.mine + reloads_in part =
@@ -123,6 +124,10 @@ module _ {L D : Type 0} (truth : Truth) (link : L → Link) (left : D → Option
                     (place_of new after) going.does
                     (record {
                       does = s.does;
+                      known = is_caller;
+                      idle = going.idle;
+                      made = made truth link left count files replica asked reply
+                          (place_of c now) (place_of new after) part is_caller s.adds.1 s.does;
                       adds = s.adds.1;
                       within = s.adds.2;
                       asked_only = s.asked_only;

@@ -21,17 +21,17 @@ use Rattle.kr_rollout.specs.declared.line.Did.{Did}
 use Rattle.kr_rollout.specs.declared.line.Did.TheVariants as did
 use Rattle.kr_rollout.specs.declared.opening.Entry.{Entry}
 use Rattle.kr_rollout.specs.declared.opening.Opening.{Opening}
-use Rattle.kr_callers.specs.Acting.{Caller}
+use Rattle.kr_history.specs.Acting.{Caller}
 use Rattle.kr_rollout.specs.Callers.{holding, reloads_in}
-use Rattle.kr_callers.specs.Calls.{AreServed}
+use Rattle.kr_history.specs.Calls.{AreServed}
 use Rattle.kr_rollout.specs.Entries.{seat_of}
 use Rattle.kr_rollout.specs.Histories.{IsLegal}
-use Rattle.kr_callers.specs.Honesty.{IsHonest, KeepsHonest}
-use Rattle.kr_callers.specs.Parts.{written_puts}
+use Rattle.kr_history.specs.Honesty.{IsHonest, KeepsHonest}
+use Rattle.kr_history.specs.Parts.{written_puts}
 use Rattle.kr_script.specs.declared.script.Part.{Part}
 use Rattle.kr_script.specs.declared.told.Told.{Told}
-use Rattle.kr_seats.specs.Fleets.{AreAdded, HonestIfSeatsAre, IsFleetSeat, caller_of}
-use Rattle.kr_seats.specs.declared.shared_core.SharedCore.{SharedCore}
+use Rattle.kr_fleet.specs.Fleets.{AreAdded, HonestIfSeatsAre, IsFleetSeat, caller_of}
+use Rattle.kr_fleet.specs.declared.shared_core.SharedCore.{SharedCore}
 use Rattle.kr_turn.specs.Keys.{Home}
 use Rattle.kr_turn.specs.Seats.{AreAll, AreFresh, IsFresh, left_of, mine, number_of, lines_seen}
 use Rattle.kr_turn.specs.declared.seat.Place.{Place}

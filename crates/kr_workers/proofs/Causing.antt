@@ -14,21 +14,21 @@ use Rattle.kr_provider.specs.declared.refusal.ValueNo.TheVariants as value
 use Rattle.kr_provider.proofs.AskedLists.{breach_back, had, rose_later}
 use Rattle.kr_rollout.specs.declared.answer.Answer.{Answer}
 use Rattle.kr_rollout.specs.declared.answer.Answer.TheVariants as answer
-use Rattle.kr_callers.specs.declared.call.CallNo.{CallNo}
-use Rattle.kr_callers.specs.declared.call.CallNo.TheVariants as refusal
+use Rattle.kr_history.specs.declared.call.CallNo.{CallNo}
+use Rattle.kr_history.specs.declared.call.CallNo.TheVariants as refusal
 use Rattle.kr_rollout.specs.declared.event.Event.{Event}
 use Rattle.kr_rollout.specs.declared.event.Event.TheVariants as event
 use Rattle.kr_rollout.specs.declared.line.Gave.{Gave}
 use Rattle.kr_rollout.specs.declared.line.Gave.TheVariants as gave
 use Rattle.kr_rollout.specs.declared.opening.Entry.{Entry}
 use Rattle.kr_rollout.specs.declared.opening.Opening.{Opening}
-use Rattle.kr_callers.specs.Acting.{AddsEntry, Caller}
+use Rattle.kr_history.specs.Acting.{AddsEntry, Caller}
 use Rattle.kr_rollout.specs.Callers.{gave_of}
-use Rattle.kr_callers.specs.Calls.{AdoptsNothing, HoldsMeanwhile, LetsGo}
+use Rattle.kr_history.specs.Calls.{AdoptsNothing, HoldsMeanwhile, LetsGo}
 use Rattle.kr_rollout.specs.Histories.{state_of}
-use Rattle.kr_callers.specs.Parts.{Adds}
+use Rattle.kr_history.specs.Parts.{Adds}
 use Rattle.kr_rollout.specs.Writes.{Writes}
-use Rattle.kr_callers.proofs.PartsAdd.{parts_follow}
+use Rattle.kr_history.proofs.PartsAdd.{parts_follow}
 use Rattle.kr_fleet.specs.declared.outcome.Read.{Read}
 use Rattle.kr_fleet.specs.declared.outcome.Read.TheVariants as found
 use Rattle.kr_fleet.specs.SingleCalls.{IsDelete, IsLeave}

@@ -18,9 +18,9 @@ use Rattle.kr_provider.specs.BenchState.{BenchState}
 use Rattle.kr_provider.specs.Names.{AreDistinct, names_of}
 use Rattle.kr_provider.proofs.AskedLists.{distinct_stay}
 use Rattle.kr_rollout.specs.declared.opening.Entry.{Entry}
-use Rattle.kr_callers.specs.Acting.{Caller}
+use Rattle.kr_history.specs.Acting.{Caller}
 use Rattle.kr_rollout.specs.Entries.{seat_of}
-use Rattle.kr_callers.specs.Parts.{Adds}
+use Rattle.kr_history.specs.Parts.{Adds}
 use Rattle.kr_script.specs.declared.script.Part.{Part}
 use Rattle.kr_script.specs.declared.script.ScriptLine.{ScriptLine}
 use Rattle.kr_script.specs.declared.told.Told.{Told}

@@ -15,11 +15,11 @@ use Rattle.kr_provider.specs.declared.refusal.UnsealNo.TheVariants as unsealing
 use Rattle.kr_store.specs.declared.rows.Row.{Row}
 use Rattle.kr_rollout.specs.declared.answer.Answer.{Answer}
 use Rattle.kr_rollout.specs.declared.answer.Answer.TheVariants as answer
-use Rattle.kr_callers.specs.declared.call.CallNo.{CallNo}
-use Rattle.kr_callers.specs.declared.call.CallNo.TheVariants as refusal
+use Rattle.kr_history.specs.declared.call.CallNo.{CallNo}
+use Rattle.kr_history.specs.declared.call.CallNo.TheVariants as refusal
 use Rattle.kr_rollout.specs.declared.event.Event.TheVariants as event
-use Rattle.kr_callers.specs.Acting.{AddsEntry, Caller}
-use Rattle.kr_callers.proofs.PartsAdd.{parts_follow}
+use Rattle.kr_history.specs.Acting.{AddsEntry, Caller}
+use Rattle.kr_history.proofs.PartsAdd.{parts_follow}
 use Rattle.kr_rewrite.specs.declared.outcome.Report.{Report}
 use Rattle.kr_rewrite.specs.declared.outcome.Step.{Step}
 use Rattle.kr_rewrite.specs.declared.outcome.Step.TheVariants as step

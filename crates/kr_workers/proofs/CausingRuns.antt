@@ -14,9 +14,9 @@ use Rattle.kr_provider.specs.BenchState.{BenchState}
 use Rattle.kr_provider.specs.Names.{names_of}
 use Rattle.kr_provider.proofs.AskedLists.{asked_none, asked_then, breach_back, had, names_stay, rose_later}
 use Rattle.kr_rollout.specs.declared.opening.Entry.{Entry}
-use Rattle.kr_callers.specs.Acting.{Caller}
-use Rattle.kr_callers.specs.Parts.{Adds}
-use Rattle.kr_callers.proofs.PartsAdd.{parts_follow}
+use Rattle.kr_history.specs.Acting.{Caller}
+use Rattle.kr_history.specs.Parts.{Adds}
+use Rattle.kr_history.proofs.PartsAdd.{parts_follow}
 use Rattle.kr_fleet.specs.LoadCalls.{AreKeysSame, MayTellKey}
 use Rattle.kr_script.specs.declared.script.Part.{Part}
 use Rattle.kr_script.specs.declared.script.ScriptLine.{ScriptLine}

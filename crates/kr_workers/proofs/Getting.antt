@@ -14,18 +14,18 @@ use Rattle.kr_provider.specs.declared.refusal.ValueNo.{ValueNo}
 use Rattle.kr_store.specs.declared.rows.Row.{Row}
 use Rattle.kr_rollout.specs.declared.answer.Answer.{Answer}
 use Rattle.kr_rollout.specs.declared.answer.Answer.TheVariants as answer
-use Rattle.kr_callers.specs.declared.call.CallNo.{CallNo}
-use Rattle.kr_callers.specs.declared.call.CallNo.TheVariants as refusal
+use Rattle.kr_history.specs.declared.call.CallNo.{CallNo}
+use Rattle.kr_history.specs.declared.call.CallNo.TheVariants as refusal
 use Rattle.kr_rollout.specs.declared.event.Event.TheVariants as event
 use Rattle.kr_rollout.specs.declared.line.Gave.TheVariants as gave
 use Rattle.kr_rollout.specs.declared.opening.Entry.{Entry}
 use Rattle.kr_rollout.specs.declared.opening.Opening.{Opening}
-use Rattle.kr_callers.specs.Acting.{Caller, AddsEntry}
-use Rattle.kr_callers.specs.Calls.{LetsGo}
-use Rattle.kr_callers.specs.Contents.{IsContent}
+use Rattle.kr_history.specs.Acting.{Caller, AddsEntry}
+use Rattle.kr_history.specs.Calls.{LetsGo}
+use Rattle.kr_history.specs.Contents.{IsContent}
 use Rattle.kr_rollout.specs.Entries.{seat_of}
-use Rattle.kr_callers.specs.Parts.{Adds}
-use Rattle.kr_callers.proofs.PartsAdd.{parts_follow}
+use Rattle.kr_history.specs.Parts.{Adds}
+use Rattle.kr_history.proofs.PartsAdd.{parts_follow}
 use Rattle.kr_fleet.specs.declared.outcome.Read.{Read}
 use Rattle.kr_fleet.specs.declared.outcome.Read.TheVariants as found
 use Rattle.kr_fleet.specs.ReadCalls.{Finds, FindsRow, IsRead}
@@ -203,7 +203,9 @@ module _ {L : Type 0} (truth : Truth) (link : L → Link) (path : List ℕ) (old
       (λ front fetch. (fetch.line.gave ≡ gave.Found revision)
       × ReadsContent truth o path (data_of plain) front fetch)
   TellsFound (Err (refusal.Refused why)) =
-      FetchesWhere history seat path ahead part (ReadsContent truth o path (refused why))
+      FetchesWhere history seat path ahead part (λ front fetch. (revision : ℕ)
+      × (fetch.line.gave ≡ gave.Found revision)
+      × ReadsContent truth o path (refused why) front fetch)
   TellsFound (Err why) = ⊤
 
   value_read : (p : Publication) (old new : Caller) (row : Row) (opened : Opened)
@@ -218,6 +220,8 @@ module _ {L : Type 0} (truth : Truth) (link : L → Link) (path : List ℕ) (old
     held = f.named;
     found = f.found.records.shows;
     object = f.unseals.object;
+    seed = f.unseals.published;
+    unsourced = f.unseals.unsourced;
     reads = f.unseals.is.0;
     by_any = f.by_any;
   }
@@ -234,6 +238,8 @@ module _ {L : Type 0} (truth : Truth) (link : L → Link) (path : List ℕ) (old
     held = f.named;
     found = f.found.records.shows;
     object = f.unseals.object;
+    seed = f.unseals.published;
+    unsourced = f.unseals.unsourced;
     reads = f.unseals.is;
     by_any = f.by_any;
   }
@@ -256,8 +262,9 @@ module _ {L : Type 0} (truth : Truth) (link : L → Link) (path : List ℕ) (old
       )
   found_tells p before adopted acted after it (Err (refusal.Refused why)) d =
       fetch_there history o seat ahead part p before adopted acted after path (answer.Found d.0)
-      d.1.found it (λ o front fetch. ReadsContent truth o path (refused why) front fetch)
-      (value_refused p adopted acted d.0 why d.1)
+      d.1.found it (λ o front fetch. (revision : ℕ) × (fetch.line.gave ≡ gave.Found revision)
+      × ReadsContent truth o path (refused why) front fetch)
+      (d.0.revision, d.1.found.records.gave_is, value_refused p adopted acted d.0 why d.1)
   found_tells p before adopted acted after it (Err (refusal.PluginFailed name)) d = tt
   found_tells p before adopted acted after it (Err refusal.DiceFailed) d = tt
   found_tells p before adopted acted after it (Err refusal.StoreFailed) d = tt

@@ -11,40 +11,38 @@ use Rattle.kr_config.specs.declared.who.Who.{Who}
 use Rattle.kr_config.specs.declared.who.Who.TheVariants.{Identity, Aescbc, Aesgcm, Kms}
 use Rattle.kr_envelope.specs.declared.object.EncryptedObject.{EncryptedObject}
 use Rattle.kr_envelope.specs.declared.object.ObjectNo.{ObjectNo}
-use Rattle.kr_envelope.specs.declared.object.ObjectNo.TheVariants as object_no
 use Rattle.kr_kms.specs.Cache.{key_eq}
 use Rattle.kr_kms.specs.Calls.{Link}
 use Rattle.kr_kms.specs.Truth.{OpenAll, Opens, Truth, key_of}
 use Rattle.kr_kms.specs.declared.seeds.SeedRow.{SeedRow}
 use Rattle.kr_kms.proofs.Keys.{same_key}
 use Rattle.kr_provider.specs.Envelopes.{Envelope, HasEnvelope, HasObject, seed_key}
-use Rattle.kr_provider.specs.Publication.{Publication, list_at, seed_of}
+use Rattle.kr_provider.specs.Publication.{Publication, SeedOpens, list_at, seed_of}
 use Rattle.kr_provider.specs.Readers.{reader_in}
-use Rattle.kr_provider.specs.Reading.{Reading, data_of, object_refusal, reader_reading, refused, unopened}
-use Rattle.kr_provider.specs.Unsealing.{IsSeedOf, MayAsk, MayAskFor, TakesSeed}
-use Rattle.kr_starts.specs.declared.generation.Generation.{Generation}
+use Rattle.kr_provider.specs.Unsealing.{HasNoSource, IsSeedOf, MayAsk, MayAskFor, TakesSeed}
+use Rattle.kr_opening.specs.declared.generation.Generation.{Generation}
 use Rattle.kr_rollout.specs.declared.line.Did.{Did}
 use Rattle.kr_rollout.specs.declared.line.Did.TheVariants.{Adopt, Fetch, After, Put, Delete, Replace, LetGo, Reload, Join, Leave}
 use Rattle.kr_rollout.specs.declared.line.Gave.{Gave}
 use Rattle.kr_rollout.specs.declared.line.Gave.TheVariants.{Adopted, Found, Absent, Written, Changed, Released, Reloaded, Joined, Refused, Moved, Present, Departed, Gone, StoreFailed, StoreFull, Nothing}
 use Rattle.kr_rollout.specs.declared.opening.Entry.{Entry}
 use Rattle.kr_rollout.specs.declared.opening.Opening.{Opening}
-use Rattle.kr_callers.specs.Acting.{Caller}
+use Rattle.kr_history.specs.Acting.{Caller}
 use Rattle.kr_rollout.specs.Entries.{generation_named_in, published_at, seat_of}
 use Rattle.kr_rollout.specs.Histories.{IsRun, state_from}
-use Rattle.kr_callers.specs.Honesty.{HonestBy, IsHonestEntry, KeepsData, SeedsOpen}
+use Rattle.kr_history.specs.Honesty.{HonestBy, IsHonestEntry, KeepsData, SeedsOpen}
 use Rattle.kr_rollout.specs.Openings.{start_of}
-use Rattle.kr_starts.specs.Replicas.{generations_from}
-use Rattle.kr_callers.specs.Parts.{Adds}
+use Rattle.kr_opening.specs.Replicas.{generations_from}
+use Rattle.kr_history.specs.Parts.{Adds}
 use Rattle.kr_rollout.specs.States.{State}
 use Rattle.kr_rollout.specs.Steps.{IsStep, after, new_generations}
 use Rattle.kr_rollout.proofs.Appending.{front_law}
-use Rattle.kr_callers.proofs.PartsAdd.{parts_follow}
+use Rattle.kr_history.proofs.PartsAdd.{parts_follow}
 use Rattle.kr_script.specs.declared.script.Part.{Part}
 use Rattle.kr_workers.specs.declared.files.SettingsFile.{SettingsFile}
 use Rattle.kr_workers.specs.declared.worker.Worker.{Worker}
 use Rattle.kr_workers.specs.Histories.{IsOneHistory, first_place}
-use Rattle.kr_workers.specs.Plugins.{HonestOfPlugins, IsReplaced, Reseals, UnwrappedBy}
+use Rattle.kr_workers.specs.Plugins.{HonestOfPlugins, IsReplaced, ReaderOpens, Reseals, UnwrappedBy}
 use Rattle.kr_workers.specs.Runs.{DoesAll, LineDone, entries_in}
 use Rattle.kr_workers.specs.ScriptLines.{Workplace}
 use Rattle.kr_workers.proofs.Resealing.{IsKnown, run_keeps}
@@ -134,22 +132,7 @@ module _ {L D : Type 0} (truth : Truth) (link : L → Link) (left : D → Option
         (step_there o (start_of o) front e rest
         (subst (λ (l : List Entry). IsRun o (start_of o) l) is one.legal.runs)).seat)) path r
 
--- ---- the envelope of a row that was replaced
-
-abbrev is_data : Reading → Bool
-is_data (data_of plain) = true
-is_data (refused why) = false
-is_data unopened = false
-
-no_data : (why : ObjectNo) (plain : List ℕ) → object_refusal why ≡ data_of plain → ⊥
-no_data (object_no.Wire at) plain e = absurd (false≢true (ap is_data e))
-no_data object_no.KeyId plain e = absurd (false≢true (ap is_data e))
-no_data object_no.Source plain e = absurd (false≢true (ap is_data e))
-no_data object_no.Annotations plain e = absurd (false≢true (ap is_data e))
-no_data object_no.SourceType plain e = absurd (false≢true (ap is_data e))
-no_data object_no.NoData plain e = absurd (false≢true (ap is_data e))
-no_data (object_no.NotUtf8 at) plain e = absurd (false≢true (ap is_data e))
-no_data object_no.NoMemory plain e = absurd (false≢true (ap is_data e))
+-- ---- the envelope of a row that was read
 
 seed_opens : (opens : Opens) (name : List ℕ) (seeds : List SeedRow) (row : SeedRow)
     → OpenAll opens seeds → seed_of name seeds ≡ Some row → opens (key_of row) ≡ Some row.seed
@@ -164,56 +147,69 @@ seed_opens opens name (y ∷ ys) row all is = at (bytes_eq y.name name) is
         (same_Some y row is) (all 0 y (omega arith))
     at false is further = further is
 
-module _ (opens : Opens) (seeds : List SeedRow) (all : OpenAll opens seeds) (path bytes : List ℕ)
-  where
-    -- the source opens to what it was unwrapped to, or is a published seed's
-    source_opens : (name : List ℕ) (object : EncryptedObject) (source : Option (List ℕ))
-        → TakesSeed seeds (Some (Kms name)) (record { object = Ok object; source = source })
-        → (MayAskFor seeds name object → source ≡ opens (seed_key name object))
-        → source ≡ opens (seed_key name object)
-    source_opens name object source takes asked = at (seed_of name seeds) refl
-      where
-        by_row : (row : SeedRow) → seed_of name seeds ≡ Some row → (b : Bool)
-            → key_eq (key_of row) (seed_key name object) ≡ b → source ≡ opens (seed_key name object)
-        by_row row is true same =
-            let own : IsSeedOf row name object =
-            (same_key (key_of row) (seed_key name object)).0 same in
-            takes object row refl is own ∙ sym (seed_opens opens name seeds row all is)
-            ∙ ap opens own
-        by_row row is false other = asked (λ q there own. false≢true (sym other
-            ∙ (same_key (key_of row) (seed_key name object)).1
-            (subst (λ (x : SeedRow). IsSeedOf x name object)
-            (same_Some q row (sym there ∙ is)) own)))
+-- where all seeds open, that of each provider does
+who_opens : (opens : Opens) (seeds : List SeedRow) (who : Who) → OpenAll opens seeds
+    → SeedOpens opens seeds who
+who_opens opens seeds Identity all = tt
+who_opens opens seeds (Aescbc name secret) all = tt
+who_opens opens seeds (Aesgcm name secret) all = tt
+who_opens opens seeds (Kms name) all = λ row is. seed_opens opens name seeds row all is
 
-        at : (found : Option SeedRow) → seed_of name seeds ≡ found
-            → source ≡ opens (seed_key name object)
-        at None is = asked (λ row there own. none-some row (sym is ∙ there))
-        at (Some row) is = by_row row is (key_eq (key_of row) (seed_key name object)) refl
+reader_opens : (opens : Opens) (seeds : List SeedRow) (reader : Option Who) → OpenAll opens seeds
+    → ReaderOpens opens seeds reader
+reader_opens opens seeds None all = tt
+reader_opens opens seeds (Some who) all = who_opens opens seeds who all
 
-    envelope_is : (reader : Option Who) (envelope : Envelope) (plain : List ℕ)
+module _ (opens : Opens) (seeds : List SeedRow) where
+  -- the source opens to what it was unwrapped to, or is a published seed's
+  source_opens : (name : List ℕ) (object : EncryptedObject) (source : Option (List ℕ))
+      → SeedOpens opens seeds (Kms name)
+      → TakesSeed seeds (Some (Kms name)) (record { object = Ok object; source = source })
+      → (MayAskFor seeds name object → source ≡ opens (seed_key name object))
+      → source ≡ opens (seed_key name object)
+  source_opens name object source opened takes asked = at (seed_of name seeds) refl
+    where
+      by_row : (row : SeedRow) → seed_of name seeds ≡ Some row → (b : Bool)
+          → key_eq (key_of row) (seed_key name object) ≡ b → source ≡ opens (seed_key name object)
+      by_row row is true same =
+          let own : IsSeedOf row name object =
+          (same_key (key_of row) (seed_key name object)).0 same in
+          takes object row refl is own ∙ sym (opened row is) ∙ ap opens own
+      by_row row is false other = asked (λ q there own. false≢true (sym other
+          ∙ (same_key (key_of row) (seed_key name object)).1
+          (subst (λ (x : SeedRow). IsSeedOf x name object)
+          (same_Some q row (sym there ∙ is)) own)))
+
+      at : (found : Option SeedRow) → seed_of name seeds ≡ found
+          → source ≡ opens (seed_key name object)
+      at None is = asked (λ row there own. none-some row (sym is ∙ there))
+      at (Some row) is = by_row row is (key_eq (key_of row) (seed_key name object)) refl
+
+  module _ (bytes : List ℕ) where
+    -- so the envelope is the one that plugins' sources make, where those that were asked opened so
+    pub envelope_known : (reader : Option Who) (envelope : Envelope)
         → HasObject reader bytes envelope.object → TakesSeed seeds reader envelope
-        → reader_reading envelope reader path bytes ≡ data_of plain
+        → HasNoSource envelope → ReaderOpens opens seeds reader
         → (MayAsk seeds reader envelope.object → HasEnvelope opens reader bytes envelope)
         → HasEnvelope opens reader bytes envelope
-    envelope_is None envelope plain has takes reads asked = tt
-    envelope_is (Some Identity) envelope plain has takes reads asked = tt
-    envelope_is (Some (Aescbc name secret)) envelope plain has takes reads asked = tt
-    envelope_is (Some (Aesgcm name secret)) envelope plain has takes reads asked = tt
-    envelope_is (Some (Kms name)) envelope plain has takes reads asked =
-        at envelope.object envelope.source has takes reads asked
+    envelope_known None envelope has takes none opened asked = tt
+    envelope_known (Some Identity) envelope has takes none opened asked = tt
+    envelope_known (Some (Aescbc name secret)) envelope has takes none opened asked = tt
+    envelope_known (Some (Aesgcm name secret)) envelope has takes none opened asked = tt
+    envelope_known (Some (Kms name)) envelope has takes none opened asked =
+        at envelope.object envelope.source has takes none asked
       where
         at : (object : Result EncryptedObject ObjectNo) (source : Option (List ℕ))
             → HasObject (Some (Kms name)) bytes object
             → TakesSeed seeds (Some (Kms name)) (record { object = object; source = source })
-            → reader_reading (record { object = object; source = source }) (Some (Kms name)) path
-            bytes ≡ data_of plain
+            → HasNoSource (record { object = object; source = source })
             → (MayAsk seeds (Some (Kms name)) object → HasEnvelope opens (Some (Kms name)) bytes
             (record { object = object; source = source }))
             → HasEnvelope opens (Some (Kms name)) bytes
             (record { object = object; source = source })
-        at (Ok object) source has takes reads asked =
-            (has, source_opens name object source takes (λ may. (asked may).1))
-        at (Err why) source has takes reads asked = absurd (no_data why plain reads)
+        at (Ok object) source has takes none asked =
+            (has, source_opens name object source opened takes (λ may. (asked may).1))
+        at (Err why) source has takes none asked = (has, none why refl)
 
 -- ---- each entry
 
@@ -231,9 +227,10 @@ published_opens opens (g ∷ generations) (Some zero) p all is =
 published_opens opens (g ∷ generations) (Some (suc number)) p all is =
     published_opens opens generations (Some number) p (λ k d l. all (suc k) d (omega arith)) is
 
-kept : (opens : Opens) (path : List ℕ) (e : Entry) (r : Reseals path e)
-    → SeedsOpen opens r.p → UnwrappedBy opens r → KeepsData opens path e
-kept opens path e r seeds unwrapped = record {
+abbrev kept : (opens : Opens) (path : List ℕ) (e : Entry) (r : Reseals path e)
+    → ReaderOpens opens r.p.seeds (reader_in (list_at r.p r.old.resource) r.old.stored)
+    → UnwrappedBy opens r → KeepsData opens path e
+kept opens path e r seed unwrapped = record {
   p = r.p;
   old = r.old;
   new = r.new;
@@ -243,9 +240,9 @@ kept opens path e r seeds unwrapped = record {
   written = r.written;
   reads = (
     r.envelope,
-    envelope_is opens r.p.seeds seeds path r.old.stored
-        (reader_in (list_at r.p r.old.resource) r.old.stored) r.envelope r.opened.plain
-        r.object r.published r.is.0 unwrapped,
+    envelope_known opens r.p.seeds r.old.stored
+        (reader_in (list_at r.p r.old.resource) r.old.stored) r.envelope r.object r.published
+        r.unsourced seed unwrapped,
     r.is.0,
   );
   sealing = r.sealing;
@@ -347,9 +344,10 @@ module _ (opens : Opens) (o : Opening)
         gave_is = gave_is;
       } in
       let r = reseals front e rest path is replaced in
-      kept opens path e r
+      kept opens path e r (reader_opens opens r.p.seeds
+      (reader_in (list_at r.p r.old.resource) r.old.stored)
       (published_opens opens (after st e).generations (generation_named_in e.line) r.p now
-      (sym (ap (λ (x : Entry). x.published) runs.0.payload) ∙ r.held))
+      (sym (ap (λ (x : Entry). x.published) runs.0.payload) ∙ r.held)))
       (unwrapped front e rest path is replaced)) in
       rest_honest (after st e) (front ++ e ∷ []) rest
       (is ∙ sym (append_assoc front (e ∷ []) rest)) runs.1 all
@@ -368,4 +366,9 @@ honest_of_plugins T truth link left count files history o parts budgets old new 
         entries = rest_honest opens o history reseals unwrapped (start_of o) [] history
             refl one.legal.runs all (All-nil (IsHonestEntry opens));
       };
+      keeps = λ opens front e rest path is replaced sources.
+          let r = reseals front e rest path is replaced in record {
+            keeps = kept opens path e r sources.read sources.unwrapped;
+            opens_it = sources.sealed;
+          };
     }

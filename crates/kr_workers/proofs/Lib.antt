@@ -3,7 +3,12 @@
 pub mod Telling
 pub mod Cutting
 pub mod OneLine
+pub mod Making
 pub mod AllLines
+pub mod Shaping
+pub mod ShapingLoads
+pub mod ShapingRewrites
+pub mod ShapingLines
 pub mod Getting
 pub mod Causing
 pub mod CausingLoads

@@ -20,12 +20,12 @@ use Rattle.kr_rollout.specs.declared.line.Did.{Did}
 use Rattle.kr_rollout.specs.declared.line.Did.TheVariants as did
 use Rattle.kr_rollout.specs.declared.opening.Entry.{Entry}
 use Rattle.kr_rollout.specs.declared.opening.Opening.{Opening}
-use Rattle.kr_callers.specs.Acting.{Caller}
+use Rattle.kr_history.specs.Acting.{Caller}
 use Rattle.kr_rollout.specs.Histories.{IsLegal, state_of}
-use Rattle.kr_callers.specs.Parts.{written_put, written_puts}
+use Rattle.kr_history.specs.Parts.{written_put, written_puts}
 use Rattle.kr_rollout.proofs.Appending.{front_law}
-use Rattle.kr_callers.proofs.LivePuts.{live_was_put}
-use Rattle.kr_callers.proofs.PartsAdd.{parts_add_up}
+use Rattle.kr_history.proofs.LivePuts.{live_was_put}
+use Rattle.kr_history.proofs.PartsAdd.{parts_add_up}
 use Rattle.kr_rewrite.specs.DriveLaws.{LiveAmong}
 use Rattle.kr_script.specs.declared.script.Part.{Part}
 use Rattle.kr_script.specs.declared.script.ScriptLine.{ScriptLine}

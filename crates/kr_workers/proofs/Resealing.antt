@@ -18,8 +18,8 @@ use Rattle.kr_provider.specs.declared.refusal.ValueNo.TheVariants as value
 use Rattle.kr_store.specs.declared.rows.Row.{Row}
 use Rattle.kr_rollout.specs.declared.answer.Answer.{Answer}
 use Rattle.kr_rollout.specs.declared.answer.Answer.TheVariants as answer
-use Rattle.kr_callers.specs.declared.call.CallNo.{CallNo}
-use Rattle.kr_callers.specs.declared.call.CallNo.TheVariants as refusal
+use Rattle.kr_history.specs.declared.call.CallNo.{CallNo}
+use Rattle.kr_history.specs.declared.call.CallNo.TheVariants as refusal
 use Rattle.kr_rollout.specs.declared.event.Event.{Event}
 use Rattle.kr_rollout.specs.declared.event.Event.TheVariants as event
 use Rattle.kr_rollout.specs.declared.line.Did.{Did}
@@ -27,13 +27,13 @@ use Rattle.kr_rollout.specs.declared.line.Did.TheVariants as did
 use Rattle.kr_rollout.specs.declared.line.Gave.{Gave}
 use Rattle.kr_rollout.specs.declared.line.Gave.TheVariants as gave
 use Rattle.kr_rollout.specs.declared.opening.Entry.{Entry}
-use Rattle.kr_callers.specs.Acting.{AddsEntry, Caller, IsCaller}
+use Rattle.kr_history.specs.Acting.{AddsEntry, Caller, IsCaller}
 use Rattle.kr_rollout.specs.Callers.{did_of, found_in, gave_of, holding}
-use Rattle.kr_callers.specs.Calls.{AddsNothing, AdoptsNothing, HoldsMeanwhile, LetsGo}
-use Rattle.kr_callers.proofs.Following.{adopted_law, next_law, stays_law}
-use Rattle.kr_callers.proofs.FoundRows.{replaced_is_live}
-use Rattle.kr_callers.proofs.HeldFacts.{found_is_named, held_is_named}
-use Rattle.kr_callers.proofs.Nexts.{caller_next, legal_now}
+use Rattle.kr_history.specs.Calls.{AddsNothing, AdoptsNothing, HoldsMeanwhile, LetsGo}
+use Rattle.kr_history.proofs.Following.{adopted_law, next_law, stays_law}
+use Rattle.kr_history.proofs.FoundRows.{replaced_is_live}
+use Rattle.kr_history.proofs.HeldFacts.{found_is_named, held_is_named}
+use Rattle.kr_history.proofs.Nexts.{caller_next, legal_now}
 use Rattle.kr_fleet.specs.declared.outcome.Joining.{Joining}
 use Rattle.kr_fleet.specs.declared.outcome.Joining.TheVariants as joining
 use Rattle.kr_fleet.specs.declared.outcome.Loaded.{Loaded}
@@ -436,6 +436,7 @@ module _ {L D : Type 0} (truth : Truth) (link : L → Link) (left : D → Option
           written = s.written;
           object = unseals.object;
           published = unseals.published;
+          unsourced = unseals.unsourced;
           is = unseals.is;
           sealing = subst (λ v. IsSealing p row.resource row.path opened.plain v) (sym same)
               sealing;

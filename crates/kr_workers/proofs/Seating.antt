@@ -4,7 +4,7 @@ use Rattle.std.specs.Prelude.{All}
 use Rattle.std.proofs.lemmas.List.{append_assoc, length-append, length-map, length-take-le, map-append, take_more}
 use Rattle.kr_rollout.specs.declared.opening.Entry.{Entry}
 use Rattle.kr_rollout.specs.declared.opening.Opening.{Opening}
-use Rattle.kr_seats.specs.declared.shared_core.SharedCore.{SharedCore}
+use Rattle.kr_fleet.specs.declared.shared_core.SharedCore.{SharedCore}
 use Rattle.kr_turn.specs.declared.seat.Place.{Place}
 use Rattle.kr_workers.specs.declared.worker.Worker.{Worker}
 use Rattle.kr_workers.specs.inner.SeatedWorkers.{with_seats, without_seat}

@@ -9,8 +9,8 @@ use Rattle.kr_kms.specs.Calls.{Link}
 use Rattle.kr_kms.specs.Truth.{Truth}
 use Rattle.kr_rollout.specs.declared.opening.Entry.{Entry}
 use Rattle.kr_rollout.specs.declared.opening.Opening.{Opening}
-use Rattle.kr_callers.specs.Honesty.{IsHonest}
-use Rattle.kr_callers.proofs.HonestSeats.{honest_by_entries}
+use Rattle.kr_history.specs.Honesty.{IsHonest}
+use Rattle.kr_history.proofs.HonestSeats.{honest_by_entries}
 use Rattle.kr_script.specs.declared.script.Part.{Part}
 use Rattle.kr_script.specs.declared.script.ScriptLine.{ScriptLine}
 use Rattle.kr_script.specs.declared.told.Told.{Told}

@@ -20,7 +20,7 @@ use Rattle.kr_provider.specs.declared.refusal.ValueNo.TheVariants.{LooksEncrypte
 use Rattle.kr_rollout.specs.declared.line.Gave.{Gave}
 use Rattle.kr_rollout.specs.declared.line.Gave.TheVariants as gave
 use Rattle.kr_rollout.specs.declared.opening.Entry.{Entry}
-use Rattle.kr_callers.specs.Acting.{Caller}
+use Rattle.kr_history.specs.Acting.{Caller}
 use Rattle.kr_rollout.specs.Entries.{seat_of}
 use Rattle.kr_rollout.specs.Histories.{state_of}
 use Rattle.kr_fleet.specs.LoadCalls.{AreKeysSame}

@@ -8,12 +8,13 @@ use Rattle.kr_provider.specs.Envelopes.{Envelope, HasObject}
 use Rattle.kr_provider.specs.Publication.{Publication, list_at}
 use Rattle.kr_provider.specs.Readers.{reader_in}
 use Rattle.kr_provider.specs.Reading.{Reading, data_of, refused, value_reading}
+use Rattle.kr_provider.specs.Unsealing.{HasNoSource, TakesSeed}
 use Rattle.kr_store.specs.declared.rows.Row.{Row}
 use Rattle.kr_rollout.specs.declared.line.Did.TheVariants as did
 use Rattle.kr_rollout.specs.declared.line.Gave.TheVariants as gave
 use Rattle.kr_rollout.specs.declared.opening.Entry.{Entry}
 use Rattle.kr_rollout.specs.declared.opening.Opening.{Opening}
-use Rattle.kr_callers.specs.Contents.{IsContent}
+use Rattle.kr_history.specs.Contents.{IsContent}
 use Rattle.kr_rollout.specs.Entries.{seat_of}
 use Rattle.kr_fleet.specs.ReadCalls.{IsContentByAny, IsKnownContent}
 use Rattle.kr_script.specs.declared.script.Part.{Part}
@@ -46,8 +47,9 @@ pub record FetchesWhere (history : List Entry) (seat : ℕ) (path : List ℕ)
 -- the row that was fetched reads so by the configuration that the seat held, and so does the
 -- content before the fetch: by the truth that is told, where what stands before is honest by it; by
 -- any truth, where no configuration names a plugin; and, whatever they name, by any truth by which
--- what stands before is honest and the value's source is what it was unwrapped to. A value that no
--- plugin reads has no source
+-- what stands at the path before is honest and the value's source is what it was unwrapped to. A
+-- value that no plugin reads has no source, nor has an object that is refused, and a published seed
+-- that is the object's is the source
 pub record ReadsContent (truth : Truth) (o : Opening) (path : List ℕ) (reading : Reading)
     (front : List Entry) (fetch : Entry) : Type 0 where
   pub known : IsKnownContent truth o front path reading
@@ -57,6 +59,8 @@ pub record ReadsContent (truth : Truth) (o : Opening) (path : List ℕ) (reading
   pub held : fetch.published ≡ Some p
   pub found : fetch.row ≡ Some row
   pub object : HasObject (reader_in (list_at p row.resource) row.stored) row.stored envelope.object
+  pub seed : TakesSeed p.seeds (reader_in (list_at p row.resource) row.stored) envelope
+  pub unsourced : HasNoSource envelope
   pub reads : value_reading envelope (list_at p row.resource) path row.stored ≡ reading
   pub by_any : IsContentByAny o front (list_at p row.resource) path row.stored envelope reading
 
@@ -71,7 +75,8 @@ TellsContent truth o history seat path ahead part told.Absent =
     FetchesWhere history seat path ahead part (λ front fetch. (fetch.line.gave ≡ gave.Absent)
     × ((opens : Opens) → IsContent opens o front path None))
 TellsContent truth o history seat path ahead part (told.Value why) =
-    FetchesWhere history seat path ahead part (ReadsContent truth o path (refused why))
+    FetchesWhere history seat path ahead part (λ front fetch. (revision : ℕ)
+    × (fetch.line.gave ≡ gave.Found revision) × ReadsContent truth o path (refused why) front fetch)
 TellsContent truth o history seat path ahead part reply = ⊤
 
 -- so does each reply to a `get` of a seat's run

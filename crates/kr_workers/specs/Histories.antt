@@ -10,7 +10,7 @@ use Rattle.kr_rollout.specs.declared.opening.Entry.{Entry}
 use Rattle.kr_rollout.specs.declared.opening.Opening.{Opening}
 use Rattle.kr_rollout.specs.Entries.{seat_of}
 use Rattle.kr_rollout.specs.Histories.{IsLegal}
-use Rattle.kr_callers.specs.Honesty.{IsHonest}
+use Rattle.kr_history.specs.Honesty.{IsHonest}
 use Rattle.kr_script.specs.declared.script.Part.{Part}
 use Rattle.kr_script.specs.declared.told.Told.{Told}
 use Rattle.kr_workers.specs.declared.files.SettingsFile.{SettingsFile}

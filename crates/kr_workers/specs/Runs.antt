@@ -1,15 +1,19 @@
 -- A worker's run: its lines in order, each once and with one reply.
-use Rattle.std.specs.Prelude.{◌≡◌, ◌≤◌, ◌+◌, ℕ, List, [], ◌∷◌, ◌++◌, length, map, Option, Ok}
+use Rattle.std.specs.Prelude.{◌≡◌, ◌≤◌, ◌+◌, ℕ, List, [], ◌∷◌, ◌++◌, length, map, All, None, Option, Ok}
 use Rattle.kr_kms.specs.Calls.{Link}
 use Rattle.kr_kms.specs.Truth.{Truth}
 use Rattle.kr_provider.specs.AskedLinks.{AskedOnly}
 use Rattle.kr_provider.specs.Names.{names_of}
 use Rattle.kr_rollout.specs.declared.opening.Entry.{Entry}
-use Rattle.kr_callers.specs.Parts.{Adds, IsWithin}
+use Rattle.kr_rollout.specs.Callers.{holding}
+use Rattle.kr_history.specs.Acting.{IsCaller}
+use Rattle.kr_history.specs.Parts.{Adds, IsWithin}
 use Rattle.kr_script.specs.declared.script.ScriptLine.{ScriptLine}
 use Rattle.kr_script.specs.declared.told.Told.{Told}
 use Rattle.kr_workers.specs.declared.files.SettingsFile.{SettingsFile}
 use Rattle.kr_workers.specs.Budgets.{brought_by, entries_of, puts_of}
+use Rattle.kr_workers.specs.Changes.{MayWrite}
+use Rattle.kr_workers.specs.Files.{rows_at}
 use Rattle.kr_workers.specs.ScriptLines.{Does, Workplace}
 
 -- a line that was done, with its part of the history and its reply
@@ -31,10 +35,14 @@ replies_in run = map (λ done. done.reply) run
 
 module _ {L D : Type 0} (truth : Truth) (link : L → Link) (left : D → Option (List ℕ))
     (count : D → ℕ) (files : List SettingsFile) (replica : ℕ) where
-  -- the line was done so; its part is what it added to the history, and no more than it may (of a
-  -- rewrite no bound is said here). Each link stays the same plugin's, and no count of faults falls
+  -- the line was done so, by a seat that held nothing; its part is what it added to the history,
+  -- and no more than it may (of a rewrite no bound is said here), and what that changes is what the
+  -- line asks and its reply tells. Each link stays the same plugin's, and no count of faults falls
   pub record IsDone (old : Workplace L D) (done : LineDone) (new : Workplace L D) : Type 0 where
     pub does : Does truth link left count files replica done.line old (Ok done.reply) new
+    pub known : IsCaller old.caller
+    pub idle : holding old.caller.mine ≡ None
+    pub made : All (MayWrite (rows_at files) replica done.line done.reply) done.part
     pub adds : Adds old.caller done.part new.caller
     pub within : IsWithin (entries_of (length done.part) done.line) (brought_by done.line)
         (puts_of done.line) done.part

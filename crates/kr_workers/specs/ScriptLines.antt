@@ -5,9 +5,9 @@ use Rattle.kr_config.specs.Kept.{Row, plugins_in}
 use Rattle.kr_kms.specs.Calls.{Link}
 use Rattle.kr_kms.specs.Truth.{Truth}
 use Rattle.kr_provider.specs.AskedLinks.{AskedOnly}
-use Rattle.kr_callers.specs.declared.call.CallNo.{CallNo}
+use Rattle.kr_history.specs.declared.call.CallNo.{CallNo}
 use Rattle.kr_rollout.specs.declared.opening.Opening.{Opening}
-use Rattle.kr_callers.specs.Acting.{Caller}
+use Rattle.kr_history.specs.Acting.{Caller}
 use Rattle.kr_rollout.specs.Openings.{NamesAmong}
 use Rattle.kr_fleet.specs.declared.outcome.Joining.{Joining}
 use Rattle.kr_fleet.specs.declared.outcome.Loaded.{Loaded}

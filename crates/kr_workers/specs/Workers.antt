@@ -3,7 +3,7 @@ use Rattle.std.specs.Prelude.{◌≡◌, ◌≤◌, ℕ, List, [], length, None}
 use Rattle.kr_kms.specs.Calls.{Link}
 use Rattle.kr_provider.specs.KeyPages.{size_of}
 use Rattle.kr_provider.specs.Names.{names_of}
-use Rattle.kr_callers.specs.Calls.{AreServed}
+use Rattle.kr_history.specs.Calls.{AreServed}
 use Rattle.kr_script.specs.declared.script.Part.{Part}
 use Rattle.kr_workers.specs.declared.worker.Worker.{Worker}
 

@@ -4,6 +4,7 @@ ghost use Rattle.kr_workers.specs.declared.files.SettingsFile.{SettingsFile};
 ghost use Rattle.kr_workers.specs.Causes.{RepliesHaveCauses};
 ghost use Rattle.kr_workers.specs.Endings.{EndingsAreTold};
 ghost use Rattle.kr_workers.specs.Gets.{GetsTellContent};
+ghost use Rattle.kr_workers.specs.LineParts.{PartsHaveShape};
 ghost use Rattle.kr_workers.specs.Plugins.{HonestOfPlugins};
 ghost use Rattle.kr_workers.specs.Sentences.{HistoriesTell};
 
@@ -24,6 +25,13 @@ pub fn gets_tell_content<L: Kms, D: Dice>()
 pub fn replies_have_causes<L: Kms, D: Dice>()
     ensures { (files : List SettingsFile)
         → RepliesHaveCauses L.truth L.link D.left D.count files }
+{}
+
+/// The part of each line that was done has the shape of its line and reply: which entries it has,
+/// in their order, and by which generation.
+pub fn parts_have_shape<L: Kms, D: Dice>()
+    ensures { (files : List SettingsFile)
+        → PartsHaveShape L.truth L.link D.left D.count files }
 {}
 
 /// Where the workers' lines stand in one history, as `run_fleet` says, each reply tells true: to a

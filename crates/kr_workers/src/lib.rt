@@ -17,7 +17,8 @@ pub use budget::{BudgetNo, Budgets, budgets_of};
 pub use ending::{Ending, ending_of};
 pub use files::{SettingsFile, settings_at};
 pub use laws::{
-    endings_are_told, gets_tell_content, honest_of_plugins, replies_are_true, replies_have_causes,
+    endings_are_told, gets_tell_content, honest_of_plugins, parts_have_shape, replies_are_true,
+    replies_have_causes,
 };
 pub use team::run_fleet;
 pub use worker::Worker;

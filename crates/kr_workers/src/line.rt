@@ -11,9 +11,9 @@ use crate::told::{
     told_of_reload, told_of_write,
 };
 use kr_base::{Bytes, Dice, NoMemory, Shared, Spent, Text};
-use kr_callers::Acts;
 use kr_config::Settings;
 use kr_fleet::{delete, join, leave, read, refresh, reload, write};
+use kr_history::Acts;
 use kr_kms::Kms;
 use kr_provider::Bench;
 use kr_rewrite::drive;

@@ -5,7 +5,7 @@ ghost use Rattle.kr_workers.specs.inner.WholeRuns.{AreReady, Runs};
 use crate::files::SettingsFile;
 use crate::line::serve_line;
 use kr_base::{Dice, List, Spent};
-use kr_callers::Acts;
+use kr_history::Acts;
 use kr_kms::Kms;
 use kr_provider::Bench;
 use kr_script::{ScriptLine, Told};
@@ -31,6 +31,7 @@ pub(crate) fn serve_lines<A: Acts, L: Kms, D: Dice>(
     ensures place { A.place acts.new ≡ A.place acts.old }
 {
     for line in lines {
+        acts.known();
         match serve_line(alloc, acts, bench, files, replica, line) {
             Ok(reply) => told.push_in_room(reply),
             Err(Spent) => return Err(Spent),

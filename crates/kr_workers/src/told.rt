@@ -3,8 +3,8 @@ ghost use Rattle.std.specs.Prelude.{◌≡◌};
 ghost use Rattle.kr_workers.specs.Replies.{told_of_delete, told_of_drive, told_of_join, told_of_leave, told_of_read, told_of_refresh, told_of_refusal, told_of_reload, told_of_write};
 
 use kr_base::Spent;
-use kr_callers::CallNo;
 use kr_fleet::{Joining, Loaded, Read};
+use kr_history::CallNo;
 use kr_rewrite::Report;
 use kr_script::Told;
 

@@ -1,6 +1,6 @@
 //! A worker: a seat of a fleet, a bench, and what it told of its lines.
 ghost use Rattle.std.specs.Prelude.{◌≡◌, ◌≤◌, [], length, IfErr, IfOk, IsSome};
-ghost use Rattle.kr_seats.specs.Fleets.{IsFleetSeat, caller_of};
+ghost use Rattle.kr_fleet.specs.Fleets.{IsFleetSeat, caller_of};
 ghost use Rattle.kr_turn.specs.Seats.{number_of};
 ghost use Rattle.kr_workers.specs.inner.WholeRuns.{AreReady, Runs};
 ghost use Rattle.kr_workers.specs.inner.SeatedWorkers.{IsReadyWorker, HasWorked};
@@ -8,10 +8,10 @@ ghost use Rattle.kr_workers.specs.inner.SeatedWorkers.{IsReadyWorker, HasWorked}
 use crate::files::SettingsFile;
 use crate::lines::serve_lines;
 use kr_base::{Dice, List, NoMemory, Spent, Tape};
+use kr_fleet::{Fleet, Seat};
 use kr_kms::Kms;
 use kr_provider::Bench;
 use kr_script::{Part, Told};
-use kr_seats::{Fleet, Seat};
 use std::alloc::Global;
 use std::mem;
 use std::sync::Wait;

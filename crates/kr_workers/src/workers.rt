@@ -6,9 +6,9 @@ ghost use Rattle.kr_workers.specs.inner.SeatedWorkers.{IsReadyWorker, HasWorked}
 use crate::files::SettingsFile;
 use crate::worker::{Worker, work};
 use kr_base::{Dice, Tape};
+use kr_fleet::Fleet;
 use kr_kms::Kms;
 use kr_script::Part;
-use kr_seats::Fleet;
 use std::alloc::Global;
 use std::sync::Wait;
 use std::thread;

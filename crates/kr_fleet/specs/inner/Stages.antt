@@ -11,7 +11,7 @@ use Rattle.kr_store.specs.declared.rows.Row.{Row}
 use Rattle.kr_rollout.specs.declared.answer.Answer.TheVariants as answer
 use Rattle.kr_rollout.specs.declared.event.Event.TheVariants as event
 use Rattle.kr_rollout.specs.declared.opening.Entry.{Entry}
-use Rattle.kr_callers.specs.Acting.{Caller, AddsEntry}
+use Rattle.kr_history.specs.Acting.{Caller, AddsEntry}
 use Rattle.kr_rollout.specs.Callers.{holding}
 use Rattle.kr_provider.specs.declared.refusal.Opened.{Opened}
 use Rattle.kr_provider.specs.declared.refusal.SealNo.{SealNo}
@@ -21,9 +21,9 @@ use Rattle.kr_provider.specs.declared.refusal.UnsealNo.TheVariants as unsealing
 use Rattle.kr_provider.specs.declared.refusal.ValueNo.TheVariants.{LooksEncrypted, TooLarge}
 use Rattle.kr_fleet.specs.declared.outcome.Read.{Read}
 use Rattle.kr_fleet.specs.declared.outcome.Read.TheVariants.{Value}
-use Rattle.kr_callers.specs.declared.call.CallNo.{CallNo}
-use Rattle.kr_callers.specs.declared.call.CallNo.TheVariants as refusal
-use Rattle.kr_callers.specs.Calls.{AddsNothing}
+use Rattle.kr_history.specs.declared.call.CallNo.{CallNo}
+use Rattle.kr_history.specs.declared.call.CallNo.TheVariants as refusal
+use Rattle.kr_history.specs.Calls.{AddsNothing}
 use Rattle.kr_fleet.specs.LoadCalls.{AreKeysSame, AsksInVain, IsKeyChanged}
 use Rattle.kr_kms.specs.declared.seeds.SeedRow.{SeedRow}
 

@@ -10,11 +10,11 @@ use Rattle.kr_rollout.specs.declared.answer.Answer.{Answer}
 use Rattle.kr_rollout.specs.declared.answer.Answer.TheVariants as answer
 use Rattle.kr_rollout.specs.declared.event.Event.TheVariants as event
 use Rattle.kr_rollout.specs.declared.opening.Entry.{Entry}
-use Rattle.kr_callers.specs.declared.call.CallNo.{CallNo}
-use Rattle.kr_callers.specs.declared.call.CallNo.TheVariants as refusal
-use Rattle.kr_callers.specs.Acting.{Caller, AddsEntry}
+use Rattle.kr_history.specs.declared.call.CallNo.{CallNo}
+use Rattle.kr_history.specs.declared.call.CallNo.TheVariants as refusal
+use Rattle.kr_history.specs.Acting.{Caller, AddsEntry}
 use Rattle.kr_rollout.specs.Callers.{holding}
-use Rattle.kr_callers.specs.Calls.{AddsNothing}
+use Rattle.kr_history.specs.Calls.{AddsNothing}
 use Rattle.kr_rewrite.specs.Drives.{Drives, IsCut}
 use Rattle.kr_rewrite.specs.Rewrites.{CopiesNothing, Reseals}
 use Rattle.kr_rewrite.specs.declared.outcome.Report.{Report}

@@ -1,9 +1,9 @@
 -- When a rollout starts.
 use Rattle.std.specs.Prelude.{◌≡◌, [], Result, Ok, Err}
-use Rattle.kr_starts.specs.declared.opening_board.StartNo.{StartNo}
+use Rattle.kr_opening.specs.declared.opening_board.StartNo.{StartNo}
 use Rattle.kr_rollout.specs.Openings.{start_of}
-use Rattle.kr_starts.specs.Replicas.{settings_of}
-use Rattle.kr_starts.specs.Starts.{IsNoStart, MayStart}
+use Rattle.kr_opening.specs.Replicas.{settings_of}
+use Rattle.kr_opening.specs.Starts.{IsNoStart, MayStart}
 use Rattle.kr_rollout.specs.declared.opening.Opening.{Opening}
 use Rattle.kr_rollout.specs.Histories.{IsLegal}
 use Rattle.kr_rollout.specs.inner.Rollouts.{RolloutState}

@@ -12,7 +12,7 @@ use Rattle.kr_judge.specs.Boards.{BoardState}
 use Rattle.kr_rollout.specs.declared.answer.Answer.{Answer}
 use Rattle.kr_rollout.specs.declared.event.Event.{Event}
 use Rattle.kr_rollout.specs.declared.event.Event.TheVariants as event
-use Rattle.kr_starts.specs.declared.generation.Generation.{Generation}
+use Rattle.kr_opening.specs.declared.generation.Generation.{Generation}
 use Rattle.kr_rollout.specs.declared.line.Did.{Did}
 use Rattle.kr_rollout.specs.declared.line.Gave.{Gave}
 use Rattle.kr_rollout.specs.declared.line.Line.{Line}

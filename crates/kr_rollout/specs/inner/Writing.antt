@@ -10,7 +10,7 @@ use Rattle.kr_provider.specs.Publication.{Publication, list_at}
 use Rattle.kr_provider.specs.Readers.{writer_of}
 use Rattle.kr_judge.specs.declared.need.Need.{Need}
 use Rattle.kr_judge.specs.Boards.{BoardState, set_need, drop_need}
-use Rattle.kr_starts.specs.Checks.{written_check}
+use Rattle.kr_opening.specs.Checks.{written_check}
 use Rattle.kr_rollout.specs.declared.answer.Answer.{Answer}
 use Rattle.kr_rollout.specs.declared.answer.Answer.TheVariants as answer
 

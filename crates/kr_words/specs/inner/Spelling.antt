@@ -1,11 +1,11 @@
 -- What the words behind the command's are read as.
-use Rattle.std.specs.Prelude.{◌≢◌, ℕ, ◌<◌, List, ⊤, IsSomeAnd, Result, Ok, Err}
+use Rattle.std.specs.Prelude.{◌≢◌, ℕ, ◌<◌, ◌⊎◌, List, ⊤, IsSomeAnd, codes, Result, Ok, Err}
 use Rattle.std.specs.List.{AllByRecursion}
 use Rattle.kr_words.specs.declared.spelling.SpellingNo.{SpellingNo}
 use Rattle.kr_words.specs.declared.spelling.SpellingNo.TheVariants.{Usage, NoMemory}
 use Rattle.kr_words.specs.Options.{value_of}
 use Rattle.kr_words.specs.Numerals.{IsDecimal}
-use Rattle.kr_words.specs.Grammar.{Begins, Spells}
+use Rattle.kr_words.specs.Grammar.{Begins, Spells, replica_limit, replicas_of}
 
 -- a name holds no `=`
 abbrev pub IsPlain : List ℕ → Type 0
@@ -31,3 +31,8 @@ ReadsOptions words (Err NoMemory) = ⊤
 abbrev pub HasNoSmall : List (List ℕ × List ℕ) → List ℕ → ℕ → Type 0
 HasNoSmall options name limit =
     IsSomeAnd (value_of options name) (λ text. (n : ℕ) → IsDecimal text n → limit < n)
+
+-- there are more than 16 replicas by their files, or no number up to 16 of them is written
+abbrev pub HasNoFewReplicas : List (List ℕ × List ℕ) → Type 0
+HasNoFewReplicas options = (replica_limit < replicas_of options)
+    ⊎ HasNoSmall options (codes "replicas") replica_limit

@@ -6,9 +6,9 @@ use Rattle.kr_provider.specs.AskedLinks.{AskedOnly}
 use Rattle.kr_provider.specs.BenchState.{BenchState}
 use Rattle.kr_provider.specs.KeyPages.{size_of}
 use Rattle.kr_provider.specs.Names.{names_of}
-use Rattle.kr_callers.specs.Acting.{Caller}
+use Rattle.kr_history.specs.Acting.{Caller}
 use Rattle.kr_rollout.specs.Callers.{holding, reloads_in}
-use Rattle.kr_callers.specs.Calls.{KeepsToldHonesty}
+use Rattle.kr_history.specs.Calls.{KeepsToldHonesty}
 use Rattle.kr_script.specs.declared.script.ScriptLine.{ScriptLine}
 use Rattle.kr_script.specs.declared.told.Told.{Told}
 use Rattle.kr_workers.specs.declared.files.SettingsFile.{SettingsFile}

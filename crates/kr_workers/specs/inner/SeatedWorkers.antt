@@ -6,8 +6,8 @@ use Rattle.kr_kms.specs.Truth.{Truth}
 use Rattle.kr_rollout.specs.declared.opening.Entry.{Entry}
 use Rattle.kr_rollout.specs.declared.opening.Opening.{Opening}
 use Rattle.kr_script.specs.declared.script.Part.{Part}
-use Rattle.kr_seats.specs.Fleets.{IsFleetSeat, caller_of}
-use Rattle.kr_seats.specs.declared.shared_core.SharedCore.{SharedCore}
+use Rattle.kr_fleet.specs.Fleets.{IsFleetSeat, caller_of}
+use Rattle.kr_fleet.specs.declared.shared_core.SharedCore.{SharedCore}
 use Rattle.kr_turn.specs.Keys.{Home}
 use Rattle.kr_turn.specs.Seats.{number_of}
 use Rattle.kr_turn.specs.declared.seat.Place.{Place}

@@ -8,10 +8,10 @@ use Rattle.kr_provider.specs.BenchState.{BenchState}
 use Rattle.kr_provider.specs.KeyPages.{size_of}
 use Rattle.kr_provider.specs.Names.{names_of}
 use Rattle.kr_rollout.specs.declared.opening.Entry.{Entry}
-use Rattle.kr_callers.specs.Acting.{Caller}
+use Rattle.kr_history.specs.Acting.{Caller}
 use Rattle.kr_rollout.specs.Callers.{holding, reloads_in}
-use Rattle.kr_callers.specs.Calls.{AreServed, KeepsToldHonesty}
-use Rattle.kr_callers.specs.Parts.{Adds, IsWithin}
+use Rattle.kr_history.specs.Calls.{AreServed, KeepsToldHonesty}
+use Rattle.kr_history.specs.Parts.{Adds, IsWithin}
 use Rattle.kr_script.specs.declared.script.ScriptLine.{ScriptLine}
 use Rattle.kr_script.specs.declared.told.Told.{Told}
 use Rattle.kr_workers.specs.declared.files.SettingsFile.{SettingsFile}

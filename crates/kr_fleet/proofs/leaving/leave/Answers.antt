@@ -1,9 +1,9 @@
 -- `leave`: what was answered is told, and nothing is held.
 use Rattle.std.proofs.Common.{[]}
-use Rattle.kr_callers.proofs.KeptByEvents.{keeps_leave}
+use Rattle.kr_history.proofs.KeptByEvents.{keeps_leave}
 use Rattle.kr_fleet.proofs.Single.{leave_holds}
 use Rattle.kr_rollout.specs.declared.event.Event.TheVariants as event
-use Rattle.kr_callers.proofs.PartsAdd.{entry_within, same_within}
+use Rattle.kr_history.proofs.PartsAdd.{entry_within, same_within}
 use Rattle.kr_fleet.proofs.leaving.leave.Goals as goal
 
 pub returns-in-Ok-clause-honest : goal.returns-in-Ok-clause-honest

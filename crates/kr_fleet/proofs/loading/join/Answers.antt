@@ -4,9 +4,9 @@ use Rattle.kr_config.specs.Kept.{rows_of}
 use Rattle.kr_provider.specs.Names.{names_of}
 use Rattle.kr_rollout.specs.Openings.{NamesAmong}
 use Rattle.kr_fleet.proofs.Bringing.{join_answered, join_holds, join_in_vain, join_not_shared, keeps_join, seeds_tell}
-use Rattle.kr_callers.proofs.Nexts.{serves}
+use Rattle.kr_history.proofs.Nexts.{serves}
 use Rattle.kr_rollout.specs.declared.event.Event.TheVariants as event
-use Rattle.kr_callers.proofs.PartsAdd.{entry_within, nothing_within, same_within}
+use Rattle.kr_history.proofs.PartsAdd.{entry_within, nothing_within, same_within}
 use Rattle.kr_fleet.proofs.loading.join.Goals as goal
 
 pub publish-requires : goal.publish-requires

@@ -5,9 +5,9 @@ use Rattle.kr_provider.specs.Names.{names_of}
 use Rattle.kr_rollout.specs.Openings.{NamesAmong}
 use Rattle.kr_fleet.specs.LoadCalls.{reload_of}
 use Rattle.kr_fleet.proofs.Bringing.{in_vain, keeps_reload, not_shared, reload_answered, reload_holds, seeds_tell}
-use Rattle.kr_callers.proofs.Nexts.{serves}
+use Rattle.kr_history.proofs.Nexts.{serves}
 use Rattle.kr_rollout.specs.declared.event.Event.TheVariants as event
-use Rattle.kr_callers.proofs.PartsAdd.{entry_within, nothing_within, same_within}
+use Rattle.kr_history.proofs.PartsAdd.{entry_within, nothing_within, same_within}
 use Rattle.kr_fleet.proofs.loading.reload.Goals as goal
 
 pub publish-requires : goal.publish-requires

@@ -1,10 +1,10 @@
 -- `fetch`: the row stands at the path, and isn't too long to be unsealed.
 use Rattle.std.proofs.Common.{[]}
 use Rattle.kr_fleet.proofs.Finding.{fetched_known}
-use Rattle.kr_callers.proofs.KeptByEvents.{keeps_fetch}
+use Rattle.kr_history.proofs.KeptByEvents.{keeps_fetch}
 use Rattle.kr_fleet.proofs.Single.{fetch_holds, fetches}
 use Rattle.kr_rollout.specs.declared.event.Event.TheVariants as event
-use Rattle.kr_callers.proofs.PartsAdd.{entry_within, same_within}
+use Rattle.kr_history.proofs.PartsAdd.{entry_within, same_within}
 use Rattle.kr_fleet.proofs.reading.fetch.Goals as goal
 
 pub returns-in-Ok-clause-fetches : goal.returns-in-Ok-clause-fetches

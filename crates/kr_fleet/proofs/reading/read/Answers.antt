@@ -7,9 +7,9 @@ use Rattle.kr_provider.specs.KeyPages.{size_of}
 use Rattle.kr_provider.specs.Names.{names_of}
 use Rattle.kr_fleet.proofs.Finding.{reads_held}
 use Rattle.kr_fleet.proofs.Single.{some_there}
-use Rattle.kr_callers.proofs.KeptByEvents.{keeps_both}
-use Rattle.kr_callers.proofs.Nexts.{serves}
-use Rattle.kr_callers.proofs.PartsAdd.{held_within, nothing_within, within_more}
+use Rattle.kr_history.proofs.KeptByEvents.{keeps_both}
+use Rattle.kr_history.proofs.Nexts.{serves}
+use Rattle.kr_history.proofs.PartsAdd.{held_within, nothing_within, within_more}
 use Rattle.kr_fleet.proofs.reading.read.Goals as goal
 
 pub returns-in_default-clause-reads : goal.returns-in_default-clause-reads

@@ -8,10 +8,10 @@ use Rattle.kr_rollout.specs.declared.opening.Opening.{Opening}
 use Rattle.kr_rollout.specs.Openings.{NamesAmong}
 use Rattle.kr_provider.proofs.AskedLists.{asked_none}
 use Rattle.kr_fleet.specs.LoadCalls.{plugin_names}
-use Rattle.kr_callers.proofs.AskedReaders.{asked_all}
-use Rattle.kr_callers.proofs.Nexts.{opening_is, serves}
+use Rattle.kr_history.proofs.AskedReaders.{asked_all}
+use Rattle.kr_history.proofs.Nexts.{opening_is, serves}
 use Rattle.kr_fleet.proofs.Spending.{adopted_room}
-use Rattle.kr_callers.proofs.PartsAdd.{held_within, within_more}
+use Rattle.kr_history.proofs.PartsAdd.{held_within, within_more}
 use Rattle.kr_fleet.proofs.refreshing.refresh.Goals as goal
 
 pub returns-in-Err-clause-honest : goal.returns-in-Err-clause-honest

@@ -9,7 +9,7 @@ use Rattle.kr_fleet.specs.LoadCalls.{plugin_names}
 use Rattle.kr_fleet.proofs.Bringing.{keeps_reload, reload_holds, seeds_tell}
 use Rattle.kr_fleet.proofs.Renewed.{compared_asks, published, renewed_asks, unpublished}
 use Rattle.kr_rollout.specs.declared.event.Event.TheVariants as event
-use Rattle.kr_callers.proofs.PartsAdd.{entry_within, nothing_within, same_within}
+use Rattle.kr_history.proofs.PartsAdd.{entry_within, nothing_within, same_within}
 use Rattle.kr_fleet.proofs.refreshing.renew.Goals as goal
 
 pub has_changed-requires : goal.has_changed-requires

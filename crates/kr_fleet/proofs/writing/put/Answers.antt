@@ -2,12 +2,12 @@
 use Rattle.std.proofs.Common.{[], ◌∷◌, refl, subst}
 use Rattle.std.specs.Prelude.{IfSome}
 use Rattle.kr_provider.specs.Sealing.{IsSealing}
-use Rattle.kr_callers.proofs.KeptByEvents.{keeps_put}
+use Rattle.kr_history.proofs.KeptByEvents.{keeps_put}
 use Rattle.kr_fleet.proofs.Putting.{put_done, put_spent, put_stays}
 use Rattle.kr_fleet.proofs.Single.{put_holds, some_there}
 use Rattle.kr_rollout.specs.declared.event.Event.TheVariants as event
 use Rattle.kr_rollout.specs.declared.line.Did.TheVariants.{Put}
-use Rattle.kr_callers.proofs.PartsAdd.{entry_within, nothing_within, same_within}
+use Rattle.kr_history.proofs.PartsAdd.{entry_within, nothing_within, same_within}
 use Rattle.kr_fleet.proofs.writing.put.Goals as goal
 
 pub seal-requires-clause-adopted : goal.seal-requires-clause-adopted

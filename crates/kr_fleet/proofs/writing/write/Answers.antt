@@ -3,13 +3,13 @@ use Rattle.std.proofs.Common.{[], ◌∷◌, arith, ap, inl, refl, subst, sym, �
 use Rattle.kr_base.specs.Rules.{IsPath, IsResource}
 use Rattle.kr_provider.specs.KeyPages.{size_of}
 use Rattle.kr_provider.specs.Names.{names_of}
-use Rattle.kr_callers.proofs.KeptByEvents.{keeps_both}
-use Rattle.kr_callers.proofs.Nexts.{serves}
+use Rattle.kr_history.proofs.KeptByEvents.{keeps_both}
+use Rattle.kr_history.proofs.Nexts.{serves}
 use Rattle.kr_fleet.proofs.Putting.{writes_held}
 use Rattle.kr_fleet.proofs.Single.{some_there}
 use Rattle.kr_rollout.specs.declared.line.Did.TheVariants.{Put}
-use Rattle.kr_callers.specs.Parts.{AddsWithin}
-use Rattle.kr_callers.proofs.PartsAdd.{held_within, nothing_within, within_more}
+use Rattle.kr_history.specs.Parts.{AddsWithin}
+use Rattle.kr_history.proofs.PartsAdd.{held_within, nothing_within, within_more}
 use Rattle.kr_fleet.proofs.writing.write.Goals as goal
 
 pub returns-in_default-clause-writes : goal.returns-in_default-clause-writes

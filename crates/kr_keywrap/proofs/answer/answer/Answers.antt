@@ -1,6 +1,6 @@
 -- The answer is the line of its body.
 use Rattle.std.proofs.Common.{ap, ◌∙◌}
-use Rattle.kr_plugin_lines.specs.Replies.{answer_text}
+use Rattle.kr_kms_wire.specs.Replies.{answer_text}
 use Rattle.kr_keywrap.specs.Answer.{answer}
 use Rattle.kr_keywrap.proofs.answer.answer.Goals as goal
 

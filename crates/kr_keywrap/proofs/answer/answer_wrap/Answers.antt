@@ -1,7 +1,7 @@
 -- What is wrapped under the key, or that it has no length for that.
 use Rattle.std.proofs.Common.{◌≡◌, false, true, refl, ap, ◌∙◌}
-use Rattle.kr_plugin_lines.specs.declared.replies.Answered.TheVariants.{Reply}
-use Rattle.kr_plugin_lines.specs.declared.replies.Reply.TheVariants as reply
+use Rattle.kr_kms_wire.specs.declared.replies.Answered.TheVariants.{Reply}
+use Rattle.kr_kms_wire.specs.declared.replies.Reply.TheVariants as reply
 use Rattle.kr_keywrap.specs.Answer.{Plugin}
 use Rattle.kr_keywrap.proofs.Answering.{same_answer, wraps_none, wraps_some}
 use Rattle.kr_keywrap.proofs.answer.answer_wrap.Goals as goal

@@ -1,6 +1,6 @@
 use Rattle.std.proofs.Common.{◌≡◌, ℕ, ◌+◌, ◌*◌, List, length, drop}
 use Rattle.kr_aes.specs.InverseCipher.{inverse_cipher}
-use Rattle.kr_bitsliced.specs.KeyPlanes.{key_planes}
+use Rattle.kr_aes_bitsliced.specs.KeyPlanes.{key_planes}
 use Rattle.kr_modes.specs.inner.Opened.{opened_from}
 use Rattle.kr_modes.proofs.cbc.decrypt_eight.Given as goal
 

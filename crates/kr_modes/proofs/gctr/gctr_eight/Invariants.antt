@@ -1,6 +1,6 @@
 use Rattle.std.proofs.Common.{◌≡◌, ℕ, ◌+◌, List, length}
 use Rattle.kr_aes.specs.Cipher.{cipher}
-use Rattle.kr_bitsliced.specs.KeyPlanes.{key_planes}
+use Rattle.kr_aes_bitsliced.specs.KeyPlanes.{key_planes}
 use Rattle.kr_modes.specs.inner.Streamed.{IsStreamed}
 use Rattle.kr_modes.proofs.gctr.gctr_eight.Given as goal
 

@@ -5,7 +5,7 @@ use Rattle.kr_provider.specs.AskedLinks.{AskedOnly}
 use Rattle.kr_provider.specs.KeyPages.{size_of}
 use Rattle.kr_provider.specs.Names.{names_of}
 use Rattle.kr_rollout.specs.Callers.{holding}
-use Rattle.kr_callers.specs.Calls.{KeepsToldHonesty}
+use Rattle.kr_history.specs.Calls.{KeepsToldHonesty}
 use Rattle.kr_rewrite.proofs.BetweenSteps.{IsWalked}
 use Rattle.kr_rewrite.proofs.driving.go_on.Given as goal
 

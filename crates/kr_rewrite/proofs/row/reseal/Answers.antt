@@ -2,10 +2,10 @@
 use Rattle.std.proofs.Common.{[], Err, Ok, inr, refl, ◌∙◌}
 use Rattle.kr_provider.specs.Publication.{writer_at}
 use Rattle.kr_provider.specs.Sealing.{IsSealing, Seals}
-use Rattle.kr_callers.specs.declared.call.CallNo.TheVariants as refusal
+use Rattle.kr_history.specs.declared.call.CallNo.TheVariants as refusal
 use Rattle.kr_rollout.specs.declared.event.Event.TheVariants as event
-use Rattle.kr_callers.proofs.KeptByEvents.{holds_still}
-use Rattle.kr_callers.proofs.PartsAdd.{entry_within, nothing_within, same_within}
+use Rattle.kr_history.proofs.KeptByEvents.{holds_still}
+use Rattle.kr_history.proofs.PartsAdd.{entry_within, nothing_within, same_within}
 use Rattle.kr_rewrite.specs.inner.Stages.{ReadsData, ResealsRow}
 use Rattle.kr_rewrite.proofs.Options.{holds_at, holds_of, is_there}
 use Rattle.kr_rewrite.proofs.Replacing.{keeps_replace, may_replace, replaces_to, reseals_done, reseals_in_vain, reseals_nothing, unsealed_to}

@@ -7,8 +7,8 @@ use Rattle.kr_provider.specs.AskedLinks.{AskedOnly}
 use Rattle.kr_provider.specs.Names.{names_of}
 use Rattle.kr_provider.specs.Publication.{list_at}
 use Rattle.kr_provider.specs.Unsealing.{UnsealsBy}
-use Rattle.kr_callers.specs.declared.call.CallNo.TheVariants as refusal
-use Rattle.kr_callers.proofs.PartsAdd.{nothing_within}
+use Rattle.kr_history.specs.declared.call.CallNo.TheVariants as refusal
+use Rattle.kr_history.proofs.PartsAdd.{nothing_within}
 use Rattle.kr_rewrite.specs.declared.outcome.Step.TheVariants as step
 use Rattle.kr_rewrite.specs.Rewrites.{Rewrites}
 use Rattle.kr_rewrite.specs.inner.Stages.{ReadsData, ResealsRow}

@@ -1,8 +1,8 @@
 -- `look_above`: the row was found last, and keeps its rules.
 use Rattle.std.proofs.Common.{[]}
 use Rattle.kr_rollout.specs.declared.event.Event.TheVariants as event
-use Rattle.kr_callers.proofs.KeptByEvents.{holds_still, keeps_quiet}
-use Rattle.kr_callers.proofs.PartsAdd.{entry_within, same_within}
+use Rattle.kr_history.proofs.KeptByEvents.{holds_still, keeps_quiet}
+use Rattle.kr_history.proofs.PartsAdd.{entry_within, same_within}
 use Rattle.kr_rewrite.proofs.Looking.{found_known, looks}
 use Rattle.kr_rewrite.proofs.step.look_above.Goals as goal
 

@@ -5,8 +5,8 @@ use Rattle.kr_provider.proofs.AskedLists.{asked_none}
 use Rattle.kr_provider.specs.AskedLinks.{AskedOnly}
 use Rattle.kr_provider.specs.KeyPages.{size_of}
 use Rattle.kr_provider.specs.Names.{names_of}
-use Rattle.kr_callers.proofs.Nexts.{serves}
-use Rattle.kr_callers.proofs.PartsAdd.{nothing_within, within_behind, within_more}
+use Rattle.kr_history.proofs.Nexts.{serves}
+use Rattle.kr_history.proofs.PartsAdd.{nothing_within, within_behind, within_more}
 use Rattle.kr_rewrite.proofs.Options.{is_there}
 use Rattle.kr_rewrite.proofs.Rewriting.{let_go_to, step_held}
 use Rattle.kr_rewrite.proofs.step.rewrite_next.Goals as goal

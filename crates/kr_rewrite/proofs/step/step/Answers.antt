@@ -4,7 +4,7 @@ use Rattle.kr_provider.proofs.AskedLists.{asked_none}
 use Rattle.kr_provider.specs.Names.{names_of}
 use Rattle.kr_store.specs.Rows.{IsRow}
 use Rattle.kr_store.specs.declared.rows.Row.{Row}
-use Rattle.kr_callers.proofs.PartsAdd.{within_behind, within_more}
+use Rattle.kr_history.proofs.PartsAdd.{within_behind, within_more}
 use Rattle.kr_rewrite.specs.declared.outcome.Step.TheVariants as step
 use Rattle.kr_rewrite.specs.Rewrites.{Rewrites, Steps}
 use Rattle.kr_rewrite.proofs.Looking.{IsFound}

@@ -2,21 +2,21 @@ use Rattle.std.proofs.Common.{◌≡◌, ℕ, List, Option, None, Some, Result, 
 use Rattle.kr_kms.specs.Outside.{Outside}
 use Rattle.kr_kms.specs.Truth.{Truth}
 use Rattle.kr_words.specs.Grammar.{texts}
-use Rattle.kr_steps.specs.Around.{Around, around, with_what_is_said, left_of}
-use Rattle.kr_commands.specs.Command.{Asks}
-use Rattle.kr_steps.specs.Commands.{steps}
-use Rattle.kr_steps.specs.Ran.{Answers, StopsAtOnce, Writes}
-use Rattle.kr_commands.specs.Receipts.{Receipt}
-use Rattle.kr_steps.specs.inner.Phases.{Does}
-use Rattle.kr_commands.specs.inner.Asking.{IsReadAs}
-use Rattle.kr_steps.specs.inner.Reporting.{saying, said_text}
-use Rattle.kr_commands.specs.declared.command.Command.{Command}
-use Rattle.kr_commands.specs.declared.refusal.Done.{Done}
-use Rattle.kr_commands.specs.declared.refusal.Outcome.{Outcome}
-use Rattle.kr_commands.specs.declared.report.Counts.{Counts}
-use Rattle.kr_commands.specs.declared.refusal.Stop.{Stop}
-use Rattle.kr_commands.specs.declared.refusal.Stop.TheVariants.{Words, Refused, Fault, NoMemory}
-use Rattle.kr_steps.proofs.Goes.{stays_refl}
+use Rattle.kr_cmd_steps.specs.Around.{Around, around, with_what_is_said, left_of}
+use Rattle.kr_cmd_messages.specs.Command.{Asks}
+use Rattle.kr_cmd_steps.specs.Commands.{steps}
+use Rattle.kr_cmd_steps.specs.Ran.{Answers, StopsAtOnce, Writes}
+use Rattle.kr_cmd_messages.specs.Receipts.{Receipt}
+use Rattle.kr_cmd_steps.specs.inner.Phases.{Does}
+use Rattle.kr_cmd_messages.specs.inner.Asking.{IsReadAs}
+use Rattle.kr_cmd_steps.specs.inner.Reporting.{saying, said_text}
+use Rattle.kr_cmd_messages.specs.declared.command.Command.{Command}
+use Rattle.kr_cmd_messages.specs.declared.refusal.Done.{Done}
+use Rattle.kr_cmd_messages.specs.declared.refusal.Outcome.{Outcome}
+use Rattle.kr_cmd_messages.specs.declared.report.Counts.{Counts}
+use Rattle.kr_cmd_messages.specs.declared.refusal.Stop.{Stop}
+use Rattle.kr_cmd_messages.specs.declared.refusal.Stop.TheVariants.{Words, Refused, Fault, NoMemory}
+use Rattle.kr_cmd_steps.proofs.Goes.{stays_refl}
 use Rattle.kr_top.proofs.call.answer.Goals as goal
 
 at_once : (words : List (List ℕ)) (stop : Stop) → IsReadAs words (Err stop)

@@ -1,12 +1,9 @@
 -- `other_alone`: another command than a load, or words that mean none.
-use Rattle.std.proofs.Common.{Err, Ok, refl, inl, inr, arith, subst}
+use Rattle.std.proofs.Common.{Ok, refl, inl, inr, subst}
 use Rattle.kr_words.specs.Grammar.{texts}
-use Rattle.kr_steps.specs.Around.{around}
-use Rattle.kr_commands.specs.Receipts.{receipt}
-use Rattle.kr_commands.specs.inner.LoadAnswers.{IsLoadAsked}
-use Rattle.kr_call_laws.proofs.Leaving.{tapes_left}
-use Rattle.kr_load_runs.proofs.LoadRuns.{load_at_once, no_load_or_memory}
-use Rattle.kr_call_laws.proofs.Readings.{readings}
+use Rattle.kr_cmd_messages.specs.inner.LoadAnswers.{IsLoadAsked}
+use Rattle.kr_cmd_gen.proofs.LoadRuns.{load_at_once, no_load_or_memory}
+use Rattle.kr_top.proofs.Promises.{alone_unread}
 use Rattle.kr_top.proofs.call.other_alone.Goals as goal
 
 pub returns-in-Ok-Some : goal.returns-in-Ok-Some
@@ -34,24 +31,11 @@ returns-in-Ok-None g c = (
 
 pub returns-in-Err : goal.returns-in-Err
 returns-in-Err g c =
-    let a = around g.W.Link.Kms.truth (g.W.World.told c.args.world.now)
-    (g.I.Source.left c.args.input.now) (g.I.Source.count c.args.input.now) in
-    let held = g.O.Sink.held c.args.output.now in
-    let count = g.O.Sink.count c.args.output.now in
-    let left_alone = tapes_left (texts c.args.words.now) a a (receipt held held count count) _ _
-    (Err c.in-Err.stop)
-    (inl (load_at_once _ c.in-Err.stop c.in-Err.ensures, (refl, (refl, refl))))
-    c.tell_end.ensures.told in (
-      record {
-        result = Err c.in-Err.stop;
-        answers = inl (load_at_once _ c.in-Err.stop c.in-Err.ensures, (refl, (refl, refl)));
-        tells = c.tell_end.ensures.told;
-        written = omega arith;
-        told = c.tell_end.ensures.later;
-      },
-      readings _ _ _ _ _ _ (Err c.in-Err.stop)
-          (inl (load_at_once _ c.in-Err.stop c.in-Err.ensures, (refl, (refl, refl))))
-          c.tell_end.ensures.told,
-      left_alone,
+    let alone = alone_unread (texts c.args.words.now) _ _ _ _ c.in-Err.stop (refl, refl)
+    c.tell_end.ensures.told c.tell_end.ensures.later
+    (load_at_once _ c.in-Err.stop c.in-Err.ensures) in (
+      alone.ran,
+      alone.readings,
+      alone.tapes,
       no_load_or_memory _ c.requires c.in-Err.stop c.in-Err.ensures _ _ c.tell_end.ensures.told,
     )

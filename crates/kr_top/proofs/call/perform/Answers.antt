@@ -1,14 +1,14 @@
 use Rattle.std.proofs.Common.{◌≡◌, Result, None, Some, refl, sym, ◌∙◌, ap, subst}
-use Rattle.kr_steps.specs.Around.{Around, around}
-use Rattle.kr_steps.specs.Commands.{steps}
-use Rattle.kr_steps.specs.inner.Phases.{Does}
-use Rattle.kr_commands.specs.inner.Asking.{KeepsRules}
-use Rattle.kr_steps.specs.inner.Reporting.{saying}
-use Rattle.kr_commands.specs.declared.command.Command.{Command}
-use Rattle.kr_commands.specs.declared.command.Command.TheVariants.{Check, Rows}
-use Rattle.kr_commands.specs.declared.refusal.Ended.{Ended}
-use Rattle.kr_commands.specs.declared.refusal.Outcome.{Outcome}
-use Rattle.kr_commands.specs.declared.refusal.Stop.{Stop}
+use Rattle.kr_cmd_steps.specs.Around.{Around, around}
+use Rattle.kr_cmd_steps.specs.Commands.{steps}
+use Rattle.kr_cmd_steps.specs.inner.Phases.{Does}
+use Rattle.kr_cmd_messages.specs.inner.Asking.{KeepsRules}
+use Rattle.kr_cmd_steps.specs.inner.Reporting.{saying}
+use Rattle.kr_cmd_messages.specs.declared.command.Command.{Command}
+use Rattle.kr_cmd_messages.specs.declared.command.Command.TheVariants.{Check, Rows}
+use Rattle.kr_cmd_messages.specs.declared.refusal.Ended.{Ended}
+use Rattle.kr_cmd_messages.specs.declared.refusal.Outcome.{Outcome}
+use Rattle.kr_cmd_messages.specs.declared.refusal.Stop.{Stop}
 use Rattle.kr_top.proofs.call.perform.Goals as goal
 
 does_by : {a b : Command} {old new : Around} {result : Result Outcome Stop} → a ≡ b
@@ -91,6 +91,20 @@ pub returns-in-Judge : goal.returns-in-Judge
 returns-in-Judge g c = silently_by c.silent-in-Judge.result (sym c.in-Judge.is)
     c.silent-in-Judge.ensures
     (c.judge.ensures (around g.W.Link.Kms.truth (g.W.World.told c.args.world.now)
+    (g.I.Source.left c.args.input.now) (g.I.Source.count c.args.input.now)))
+
+pub plan-requires-clause-some : goal.plan-requires-clause-some
+plan-requires-clause-some g c = λ κs lives.
+    (subst (λ k. KeepsRules (Some k)) c.in-Plan.is c.requires.path).0
+
+pub plan-requires-clause-few : goal.plan-requires-clause-few
+plan-requires-clause-few g c = λ κs lives.
+    (subst (λ k. KeepsRules (Some k)) c.in-Plan.is c.requires.path).1
+
+pub returns-in-Plan : goal.returns-in-Plan
+returns-in-Plan g c = silently_by c.silent-in-Plan.result (sym c.in-Plan.is)
+    c.silent-in-Plan.ensures
+    (c.plan.ensures (around g.W.Link.Kms.truth (g.W.World.told c.args.world.now)
     (g.I.Source.left c.args.input.now) (g.I.Source.count c.args.input.now)))
 
 pub returns-in-Rewrite : goal.returns-in-Rewrite

@@ -1,12 +1,9 @@
 -- `run_alone`: another command than a fleet, or words that mean none.
-use Rattle.std.proofs.Common.{Err, Ok, refl, inl, arith, subst}
+use Rattle.std.proofs.Common.{Ok, refl, inl, subst}
 use Rattle.kr_words.specs.Grammar.{texts}
-use Rattle.kr_steps.specs.Around.{around}
-use Rattle.kr_commands.specs.Receipts.{receipt}
-use Rattle.kr_commands.specs.inner.FleetAnswers.{IsFleetAsked}
-use Rattle.kr_fleet_runs.proofs.FleetRuns.{alone_or_memory, at_once}
-use Rattle.kr_call_laws.proofs.Leaving.{tapes_left}
-use Rattle.kr_call_laws.proofs.Readings.{readings}
+use Rattle.kr_cmd_messages.specs.inner.FleetAnswers.{IsFleetAsked}
+use Rattle.kr_cmd_fleet.proofs.FleetRuns.{alone_or_memory, at_once}
+use Rattle.kr_top.proofs.Promises.{alone_unread}
 use Rattle.kr_top.proofs.call.run_alone.Goals as goal
 
 pub returns-in-Ok-Some : goal.returns-in-Ok-Some
@@ -38,22 +35,10 @@ returns-in-Ok-None g c = c.other_alone.ensures
 
 pub returns-in-Err : goal.returns-in-Err
 returns-in-Err g c =
-    let a = around g.W.Link.Kms.truth (g.W.World.told c.args.world.now)
-    (g.I.Source.left c.args.input.now) (g.I.Source.count c.args.input.now) in
-    let held = g.O.Sink.held c.args.output.now in
-    let count = g.O.Sink.count c.args.output.now in
-    let left_alone = tapes_left (texts c.args.words.now) a a (receipt held held count count) _ _
-    (Err c.in-Err.stop)
-    (inl (at_once _ c.in-Err.stop c.in-Err.ensures, (refl, (refl, refl)))) c.tell_end.ensures.told in (
-      record {
-        result = Err c.in-Err.stop;
-        answers = inl (at_once _ c.in-Err.stop c.in-Err.ensures, (refl, (refl, refl)));
-        tells = c.tell_end.ensures.told;
-        written = omega arith;
-        told = c.tell_end.ensures.later;
-      },
-      readings _ _ _ _ _ _ (Err c.in-Err.stop)
-          (inl (at_once _ c.in-Err.stop c.in-Err.ensures, (refl, (refl, refl)))) c.tell_end.ensures.told,
-      left_alone,
+    let alone = alone_unread (texts c.args.words.now) _ _ _ _ c.in-Err.stop (refl, refl)
+    c.tell_end.ensures.told c.tell_end.ensures.later (at_once _ c.in-Err.stop c.in-Err.ensures) in (
+      alone.ran,
+      alone.readings,
+      alone.tapes,
       alone_or_memory _ c.in-Err.stop c.in-Err.ensures _ _ c.tell_end.ensures.told,
     )

@@ -1,114 +1,30 @@
 -- `run_other`: a load, or another command, or words that mean none.
-use Rattle.std.proofs.Common.{Err, Ok, refl, inl, arith, subst}
+use Rattle.std.proofs.Common.{Ok, refl, subst}
 use Rattle.kr_words.specs.Grammar.{texts}
-use Rattle.kr_steps.specs.Around.{around}
-use Rattle.kr_commands.specs.Receipts.{receipt}
-use Rattle.kr_commands.specs.inner.LoadAnswers.{IsLoadAsked}
-use Rattle.kr_call_laws.proofs.Leaving.{tapes_left}
-use Rattle.kr_commands.proofs.LoadAsked.{asked_small, one_load}
-use Rattle.kr_fleet_laws.proofs.LoadReadings.{load_readings}
-use Rattle.kr_load_runs.proofs.LoadRuns.{for_load, load_at_once, load_unread}
-use Rattle.kr_call_laws.proofs.Readings.{readings}
+use Rattle.kr_cmd_messages.specs.inner.LoadAnswers.{IsLoadAsked}
+use Rattle.kr_cmd_steps.specs.Around.{around}
+use Rattle.kr_top.proofs.Promises.{load_promised, other_promised, other_unread}
 use Rattle.kr_top.proofs.call.run_other.Goals as goal
 
-pub returns-in-Ok-Some-clause-ran : goal.returns-in-Ok-Some-clause-ran
-returns-in-Ok-Some-clause-ran g c none = absurd (none c.in-Ok-Some.asked
+pub returns-in-Ok-Some : goal.returns-in-Ok-Some
+returns-in-Ok-Some g c =
+    load_promised g.row.W-Tap.Denot g.W.Link.Kms.truth g.W.Link.Kms.link (texts c.args.words.now)
+    _ _ _ _ _ c.in-Ok-Some.asked
     (subst (λ o. IsLoadAsked (texts c.args.words.now) (Ok o)) c.in-Ok-Some.field-0-is
-    c.in-Ok-Some.ensures))
-
-pub returns-in-Ok-Some-clause-readings : goal.returns-in-Ok-Some-clause-readings
-returns-in-Ok-Some-clause-readings g c none = absurd (none c.in-Ok-Some.asked
-    (subst (λ o. IsLoadAsked (texts c.args.words.now) (Ok o)) c.in-Ok-Some.field-0-is
-    c.in-Ok-Some.ensures))
-
-pub returns-in-Ok-Some-clause-tapes : goal.returns-in-Ok-Some-clause-tapes
-returns-in-Ok-Some-clause-tapes g c none = absurd (none c.in-Ok-Some.asked
-    (subst (λ o. IsLoadAsked (texts c.args.words.now) (Ok o)) c.in-Ok-Some.field-0-is
-    c.in-Ok-Some.ensures))
-
-pub returns-in-Ok-Some-clause-load : goal.returns-in-Ok-Some-clause-load
-returns-in-Ok-Some-clause-load g c asked asks =
-    for_load
-    (one_load (texts c.args.words.now) c.in-Ok-Some.asked asked
-    (subst (λ o. IsLoadAsked (texts c.args.words.now) (Ok o)) c.in-Ok-Some.field-0-is
-    c.in-Ok-Some.ensures) asks)
+    c.in-Ok-Some.ensures)
     (c.run_load-status.ensures (around g.W.Link.Kms.truth (g.W.World.told c.args.world.now)
     (g.I.Source.left c.args.input.now) (g.I.Source.count c.args.input.now)) refl)
 
-pub returns-in-Ok-Some-clause-load_readings : goal.returns-in-Ok-Some-clause-load_readings
-returns-in-Ok-Some-clause-load_readings g c asked asks =
-    load_readings g.row.W-Tap.Denot g.W.Link.Kms.truth g.W.Link.Kms.link asked _ _ _ _ _
-    (asked_small asks)
-    (for_load
-    (one_load (texts c.args.words.now) c.in-Ok-Some.asked asked
-    (subst (λ o. IsLoadAsked (texts c.args.words.now) (Ok o)) c.in-Ok-Some.field-0-is
-    c.in-Ok-Some.ensures) asks)
-    (c.run_load-status.ensures (around g.W.Link.Kms.truth (g.W.World.told c.args.world.now)
-    (g.I.Source.left c.args.input.now) (g.I.Source.count c.args.input.now)) refl))
+pub returns-in-Ok-None : goal.returns-in-Ok-None
+returns-in-Ok-None g c =
+    other_promised g.row.W-Tap.Denot g.W.Link.Kms.truth g.W.Link.Kms.link (texts c.args.words.now)
+    _ _ _ _ _
+    (subst (λ o. IsLoadAsked (texts c.args.words.now) (Ok o)) c.in-Ok-None.field-0-is
+    c.in-Ok-None.ensures)
+    c.alone.ensures
 
-pub returns-in-Ok-None-clause-ran : goal.returns-in-Ok-None-clause-ran
-returns-in-Ok-None-clause-ran g c none = c.alone.ensures.ran
-
-pub returns-in-Ok-None-clause-readings : goal.returns-in-Ok-None-clause-readings
-returns-in-Ok-None-clause-readings g c none = c.alone.ensures.readings
-
-pub returns-in-Ok-None-clause-tapes : goal.returns-in-Ok-None-clause-tapes
-returns-in-Ok-None-clause-tapes g c none = c.alone.ensures.tapes
-
-pub returns-in-Ok-None-clause-load : goal.returns-in-Ok-None-clause-load
-returns-in-Ok-None-clause-load g c asked asks =
-    absurd (subst (λ o. IsLoadAsked (texts c.args.words.now) (Ok o)) c.in-Ok-None.field-0-is
-    c.in-Ok-None.ensures asked asks)
-
-pub returns-in-Ok-None-clause-load_readings : goal.returns-in-Ok-None-clause-load_readings
-returns-in-Ok-None-clause-load_readings g c asked asks =
-    absurd (subst (λ o. IsLoadAsked (texts c.args.words.now) (Ok o)) c.in-Ok-None.field-0-is
-    c.in-Ok-None.ensures asked asks)
-
-pub returns-in-Err-clause-ran : goal.returns-in-Err-clause-ran
-returns-in-Err-clause-ran g c none = record {
-  result = Err c.in-Err.stop;
-  answers = inl (load_at_once _ c.in-Err.stop c.in-Err.ensures, (refl, (refl, refl)));
-  tells = c.tell_end.ensures.told;
-  written = omega arith;
-  told = c.tell_end.ensures.later;
-}
-
-pub returns-in-Err-clause-readings : goal.returns-in-Err-clause-readings
-returns-in-Err-clause-readings g c none = readings _ _ _ _ _ _ (Err c.in-Err.stop)
-    (inl (load_at_once _ c.in-Err.stop c.in-Err.ensures, (refl, (refl, refl))))
-    c.tell_end.ensures.told
-
-pub returns-in-Err-clause-tapes : goal.returns-in-Err-clause-tapes
-returns-in-Err-clause-tapes g c none =
-    let a = around g.W.Link.Kms.truth (g.W.World.told c.args.world.now)
-    (g.I.Source.left c.args.input.now) (g.I.Source.count c.args.input.now) in
-    let held = g.O.Sink.held c.args.output.now in
-    let count = g.O.Sink.count c.args.output.now in
-    tapes_left (texts c.args.words.now) a a (receipt held held count count) _ _
-    (Err c.in-Err.stop)
-    (inl (load_at_once _ c.in-Err.stop c.in-Err.ensures, (refl, (refl, refl))))
-    c.tell_end.ensures.told
-
-pub returns-in-Err-clause-load : goal.returns-in-Err-clause-load
-returns-in-Err-clause-load g c asked asks = record {
-  result = Err c.in-Err.stop;
-  did = load_unread g.row.W-Tap.Denot g.W.Link.Kms.truth g.W.Link.Kms.link
-      (texts c.args.words.now) asked asks c.in-Err.stop c.in-Err.ensures _ _ (refl, refl);
-  tells = c.tell_end.ensures.told;
-  written = omega arith;
-  told = c.tell_end.ensures.later;
-}
-
-pub returns-in-Err-clause-load_readings : goal.returns-in-Err-clause-load_readings
-returns-in-Err-clause-load_readings g c asked asks =
-    load_readings g.row.W-Tap.Denot g.W.Link.Kms.truth g.W.Link.Kms.link asked _ _ _ _ _
-    (asked_small asks)
-    (record {
-      result = Err c.in-Err.stop;
-      did = load_unread g.row.W-Tap.Denot g.W.Link.Kms.truth g.W.Link.Kms.link
-          (texts c.args.words.now) asked asks c.in-Err.stop c.in-Err.ensures _ _ (refl, refl);
-      tells = c.tell_end.ensures.told;
-      written = omega arith;
-      told = c.tell_end.ensures.later;
-    })
+pub returns-in-Err : goal.returns-in-Err
+returns-in-Err g c =
+    other_unread (texts c.args.words.now) _ _ _ _ c.in-Err.stop (refl, refl)
+    c.tell_end.ensures.told c.tell_end.ensures.later g.row.W-Tap.Denot g.W.Link.Kms.truth
+    g.W.Link.Kms.link c.in-Err.ensures

@@ -1,12 +1,11 @@
 -- What the tactic leaves open of `read_words`.
-use Rattle.std.proofs.Common.{◌≡◌, ◌∷◌, ap, ◌∙◌, sym, subst, arith}
-use Rattle.kr_words.specs.Grammar.{texts, replicas_of}
+use Rattle.std.proofs.Common.{◌≡◌, ◌∷◌, ap, sym, subst}
+use Rattle.kr_words.specs.Grammar.{texts, HasFewReplicas}
 use Rattle.kr_words.specs.declared.name.OptionName.TheVariants.{Size}
 use Rattle.kr_words.specs.Names.{word_of, text_of}
-use Rattle.kr_words.specs.Options.{count_of}
 use Rattle.kr_words.specs.Rules.{IsCommand}
-use Rattle.kr_words.specs.inner.Spelling.{HasNoSmall}
-use Rattle.kr_words.proofs.Meanings.{unspelled, misruled, above}
+use Rattle.kr_words.specs.inner.Spelling.{HasNoSmall, HasNoFewReplicas}
+use Rattle.kr_words.proofs.Meanings.{unspelled, misruled, above, many}
 use Rattle.kr_words.proofs.read.read_words.Goals as goal
 
 pub returns-in-Err-Usage : goal.returns-in-Err-Usage
@@ -27,6 +26,29 @@ returns-then-not-is_command c =
     (λ m. let is = c.is_command.ensures.1 (subst (IsCommand verb) (sym c.as_slice.ensures) m) in
     let not = c.if-not-is_command.true in cc)
 
+pub returns-then-not-has_few_replicas : goal.returns-then-not-has_few_replicas
+returns-then-not-has_few_replicas c =
+    let verb = c.in-Some-verb_of.verb in
+    let options = c.in-Ok.options.0 in
+    let f = ap texts c.in-Some.ensures.cases.0 in
+    let a = c.as_str.ensures.value in
+    let v = c.in-Some-verb_of.ensures in
+    let front : texts c.args.words.now ≡ word_of verb ∷ texts c.in-Some.rest.now = cc in
+    let is : IsCommand verb options =
+    subst (IsCommand verb) c.as_slice.ensures
+    (c.is_command.ensures.0 c.if-not-is_command.false) in (
+      verb,
+      options,
+      record {
+        rest = texts c.in-Some.rest.now;
+        word = front;
+        spelled =
+            c.in-Ok.ensures.1;
+        command = is;
+      },
+      many is (subst HasNoFewReplicas c.as_slice-2.ensures c.if-not-has_few_replicas.ensures),
+    )
+
 pub returns-then-not-is_within : goal.returns-then-not-is_within
 returns-then-not-is_within c =
     let verb = c.in-Some-verb_of.verb in
@@ -37,10 +59,7 @@ returns-then-not-is_within c =
     let front : texts c.args.words.now ≡ word_of verb ∷ texts c.in-Some.rest.now = cc in
     let is : IsCommand verb options =
     subst (IsCommand verb) c.as_slice.ensures
-    (c.is_command.ensures.0 c.if-not-is_command.false) in
-    let counted : c.count_of.result ≡ replicas_of options =
-    c.count_of.ensures ∙ ap (λ o. count_of o c.text.result.now) c.as_slice-2.ensures
-    ∙ ap (count_of options) c.text.ensures in (
+    (c.is_command.ensures.0 c.if-not-is_command.false) in (
       verb,
       options,
       record {
@@ -50,7 +69,7 @@ returns-then-not-is_within c =
             c.in-Ok.ensures.1;
         command = is;
       },
-      omega (arith, counted),
+      subst HasFewReplicas c.as_slice-2.ensures c.if-not-has_few_replicas.ensures,
       above is (subst (λ o. HasNoSmall o (text_of Size) 10000) c.as_slice-3.ensures
           c.if-not-is_within.ensures),
     )

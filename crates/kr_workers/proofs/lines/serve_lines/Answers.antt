@@ -41,7 +41,7 @@ loop-line-preserved g c = (
       c.requires.ready c.line-item.result c.loop-line.line-index c.loop-line-test.true
       c.line-item.is c.loop-line.told.0 (g.A.Acts.caller c.loop-line.acts) c.loop-line.bench
       c.loop-line.invariant.0 (g.A.Acts.caller c.serve_line.new.acts) c.serve_line.new.bench
-      c.in-Ok.reply c.in-Ok.ensures.serves),
+      c.in-Ok.reply c.known.ensures c.in-Ok.ensures.serves),
   omega (arith, c.loop-line.invariant.1, c.push_in_room.ensures.room),
   c.in-Ok.ensures.place ∙ c.loop-line.invariant.2,
 )

@@ -1,6 +1,6 @@
 use Rattle.std.proofs.Common.{◌≡◌, ◌<◌, List, length, Some, sym, ap, subst, ◌∙◌, arith}
 use Rattle.kr_rollout.specs.declared.event.Event.TheVariants as event
-use Rattle.kr_starts.specs.declared.generation.Generation.{Generation}
+use Rattle.kr_opening.specs.declared.generation.Generation.{Generation}
 use Rattle.kr_rollout.specs.Entries.{published_at}
 use Rattle.kr_rollout.specs.States.{number_at}
 use Rattle.kr_rollout.specs.inner.Rollouts.{RolloutState, MayServe}

@@ -4,8 +4,8 @@ use Rattle.kr_store.specs.Stores.{Puts}
 use Rattle.kr_provider.specs.Publication.{Publication, IsPublished, list_at}
 use Rattle.kr_provider.specs.Readers.{writer_of}
 use Rattle.kr_rollout.specs.declared.event.Event.TheVariants as event
-use Rattle.kr_starts.specs.Checks.{store_check, written_check}
-use Rattle.kr_starts.specs.declared.generation.Generation.{Generation}
+use Rattle.kr_opening.specs.Checks.{store_check, written_check}
+use Rattle.kr_opening.specs.declared.generation.Generation.{Generation}
 use Rattle.kr_rollout.specs.Entries.{published_at}
 use Rattle.kr_rollout.specs.States.{number_at}
 use Rattle.kr_rollout.specs.Callers.{gave_of}

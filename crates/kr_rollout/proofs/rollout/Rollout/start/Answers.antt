@@ -1,8 +1,8 @@
 use Rattle.std.proofs.Common.{ℕ, ◌+◌, List, length, replicate, Option, None, Ok, IfSome, refl, sym, inl, ap, subst, ◌∙◌, arith}
 use Rattle.std.specs.Prelude.{sum, All}
 use Rattle.kr_provider.specs.Publication.{Publication, IsPublished}
-use Rattle.kr_starts.specs.Replicas.{generations_from, current_from, settings_of}
-use Rattle.kr_starts.specs.Starts.{Boards}
+use Rattle.kr_opening.specs.Replicas.{generations_from, current_from, settings_of}
+use Rattle.kr_opening.specs.Starts.{Boards}
 use Rattle.kr_rollout.proofs.Beginning.{opened, opened_rollout, opened_legal}
 use Rattle.kr_rollout.proofs.rollout.Rollout.start.Goals as goal
 

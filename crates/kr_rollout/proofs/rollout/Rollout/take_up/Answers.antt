@@ -1,7 +1,7 @@
 use Rattle.std.proofs.Common.{◌≡◌, ◌<◌, ◌+◌, ◌++◌, ◌∷◌, [], List, length, Some, sym, ap, subst, ◌∙◌, arith, length-append}
 use Rattle.std.specs.Prelude.{sum, true, slice_set}
 use Rattle.kr_judge.specs.Boards.{BoardState, without_current}
-use Rattle.kr_starts.specs.declared.generation.Generation.{Generation}
+use Rattle.kr_opening.specs.declared.generation.Generation.{Generation}
 use Rattle.kr_rollout.specs.Openings.{room_of}
 use Rattle.kr_rollout.specs.inner.Rollouts.{RolloutState, IsRollout, opening_of, state_with}
 use Rattle.kr_rollout.proofs.Changing.{board_long, board_room, rollout_grown, taken_view}

@@ -1,0 +1,1 @@
+"""What protoc makes of bridges/proto; tools/generate-proto writes it."""

@@ -1,5 +1,0 @@
-use Rattle.std.proofs.Common.{length}
-use Rattle.kr_acceptance.proofs.tests.pages.close.Given as goal
-
-abbrev pub decreases-loop : goal.decreases-loop
-decreases-loop l = length l.links

@@ -1,0 +1,19 @@
+-- The lemmas that the answers cite.
+pub mod ByteBits
+pub mod EightBlocks
+pub mod Exchange
+pub mod ForwardMixing
+pub mod ForwardRounds
+pub mod Gates
+pub mod HalfProducts
+pub mod InverseByPairs
+pub mod InverseMixing
+pub mod InverseRounds
+pub mod KeyBytes
+pub mod NibbleGates
+pub mod PlaneDoubles
+pub mod PlaneMoves
+pub mod PlaneSums
+pub mod SlicedBlocks
+pub mod Transposed
+pub mod TransposedBlocks

@@ -1,5 +1,0 @@
-use Rattle.kr_callers.proofs.FoundRows as proved
-use Rattle.kr_callers.proofs.laws_content.absent_is_nothing.Goals as goal
-
-pub returns : goal.returns
-returns c = proved.absent_is_nothing

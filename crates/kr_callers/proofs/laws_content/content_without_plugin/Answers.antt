@@ -1,5 +1,0 @@
-use Rattle.kr_callers.proofs.WithoutPlugin as proved
-use Rattle.kr_callers.proofs.laws_content.content_without_plugin.Goals as goal
-
-pub returns : goal.returns
-returns c = proved.content_without_plugin

@@ -1,5 +1,0 @@
-use Rattle.kr_callers.proofs.HonestSeats as proved
-use Rattle.kr_callers.proofs.laws_content.honest_by_seats.Goals as goal
-
-pub returns : goal.returns
-returns c = proved.honest_by_seats

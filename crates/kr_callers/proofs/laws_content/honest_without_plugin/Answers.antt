@@ -1,5 +1,0 @@
-use Rattle.kr_callers.proofs.WithoutPlugin as proved
-use Rattle.kr_callers.proofs.laws_content.honest_without_plugin.Goals as goal
-
-pub returns : goal.returns
-returns c = proved.honest_without_plugin

@@ -1,5 +1,0 @@
-use Rattle.kr_callers.proofs.ContentReads as proved
-use Rattle.kr_callers.proofs.laws_content.live_reads.Goals as goal
-
-pub returns : goal.returns
-returns c = proved.live_reads

@@ -1,5 +1,0 @@
-use Rattle.kr_callers.proofs.ContentSteps as proved
-use Rattle.kr_callers.proofs.laws_content.nothing_is_absent.Goals as goal
-
-pub returns : goal.returns
-returns c = proved.nothing_is_absent

@@ -1,5 +1,0 @@
-use Rattle.kr_callers.proofs.FoundRows as proved
-use Rattle.kr_callers.proofs.laws_content.replaced_is_live.Goals as goal
-
-pub returns : goal.returns
-returns c = proved.replaced_is_live

@@ -1,5 +1,0 @@
-use Rattle.kr_callers.proofs.Judging as proved
-use Rattle.kr_callers.proofs.laws_fit.judged_by_fit.Goals as goal
-
-pub returns : goal.returns
-returns c = proved.judged_by_fit

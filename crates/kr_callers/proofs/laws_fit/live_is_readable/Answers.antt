@@ -1,5 +1,0 @@
-use Rattle.kr_callers.proofs.NeedsLive as proved
-use Rattle.kr_callers.proofs.laws_fit.live_is_readable.Goals as goal
-
-pub returns : goal.returns
-returns c = proved.live_is_readable

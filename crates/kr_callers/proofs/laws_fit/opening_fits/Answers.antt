@@ -1,5 +1,0 @@
-use Rattle.kr_callers.proofs.Judging as proved
-use Rattle.kr_callers.proofs.laws_fit.opening_fits.Goals as goal
-
-pub returns : goal.returns
-returns c = proved.opening_fits

@@ -1,5 +1,0 @@
-use Rattle.kr_callers.proofs.Judging as proved
-use Rattle.kr_callers.proofs.laws_fit.refresh_is_not_refused.Goals as goal
-
-pub returns : goal.returns
-returns c = proved.refresh_is_not_refused

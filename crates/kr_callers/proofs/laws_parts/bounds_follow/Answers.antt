@@ -1,5 +1,0 @@
-use Rattle.kr_callers.proofs.PartsAdd as proved
-use Rattle.kr_callers.proofs.laws_parts.bounds_follow.Goals as goal
-
-pub returns : goal.returns
-returns c = proved.bounds_follow

@@ -1,5 +1,0 @@
-use Rattle.kr_callers.proofs.FullExact as proved
-use Rattle.kr_callers.proofs.laws_size.full_is_exact.Goals as goal
-
-pub returns : goal.returns
-returns c = proved.full_is_exact

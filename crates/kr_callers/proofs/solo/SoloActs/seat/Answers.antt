@@ -1,6 +1,0 @@
-use Rattle.std.proofs.Common.{ap}
-use Rattle.kr_callers.specs.Acting.{Caller}
-use Rattle.kr_callers.proofs.solo.SoloActs.seat.Goals as goal
-
-pub returns : goal.returns
-returns g c = ap (λ (x : Caller). x.seat) c.self.view_is

@@ -1,3 +1,0 @@
--- The lemmas that the answers cite.
-mod Lists
-mod Beginning

@@ -1,0 +1,325 @@
+-- How a fleet goes on from its plan, and how a call ends that a fleet was asked of.
+use Rattle.kr_cmd_messages.specs.Message.{line_of, status_of as stop_status}
+use Rattle.std.proofs.Common.{◌≡◌, ℕ, ◌+◌, ◌<◌, ◌≤◌, ◌⊎◌, List, [], ◌∷◌, map, codes, Option, Some, Result, Ok, Err, refl, sym, ◌∙◌, ap, subst, inl, inr, arith}
+use Rattle.std.specs.Prelude.{true, sum, count_by}
+use Rattle.std.proofs.lemmas.List.Sums.{sum_by-cons}
+use Rattle.kr_kms.specs.Outside.{Outside}
+use Rattle.kr_kms.specs.Calls.{Link}
+use Rattle.kr_kms.specs.Truth.{Truth}
+use Rattle.kr_rollout.specs.declared.opening.Entry.{Entry}
+use Rattle.kr_script.specs.Fleets.{worker_of}
+use Rattle.kr_script.specs.Output.{fleet_output}
+use Rattle.kr_script.specs.declared.script.Part.{Part}
+use Rattle.kr_store.specs.Stores.{IsLiveCount}
+use Rattle.kr_store.specs.declared.rows.LogRow.{LogRow}
+use Rattle.kr_words.specs.declared.command.Verb.TheVariants as verbs
+use Rattle.kr_words.proofs.Meanings.{mean_one}
+use Rattle.kr_words.specs.Options.{value_of}
+use Rattle.kr_base.specs.Limits.{journal_limit}
+use Rattle.kr_workers.specs.Budgets.{AreBudgets, all_reloads, budget_of, budgets_of, is_put, put_lines}
+use Rattle.kr_workers.specs.Endings.{ending_of}
+use Rattle.kr_workers.specs.declared.budget.BudgetNo.{BudgetNo}
+use Rattle.kr_workers.specs.declared.budget.BudgetNo.TheVariants as budget
+use Rattle.kr_workers.specs.declared.ending.Ending.{Ending}
+use Rattle.kr_workers.specs.declared.worker.Worker as fleet_worker
+use Rattle.kr_workers.proofs.Summing.{parts_fit}
+use Rattle.kr_cmd_steps.specs.Around.{Around, left_of, with_world}
+use Rattle.kr_cmd_steps.specs.Commands.{tape_for}
+use Rattle.kr_cmd_messages.specs.FleetAsked.{AskAlone, AsksFleet}
+use Rattle.kr_cmd_fleet.specs.FleetFiles.{FleetPlan, planning}
+use Rattle.kr_cmd_fleet.specs.Fleets.{Begun, DidFleet, RanFleet, WritesFleet, budgeting, over_store, parts_of}
+use Rattle.kr_cmd_steps.specs.Ran.{IsIdle, StopsAtOnce}
+use Rattle.kr_cmd_messages.specs.Receipts.{Receipt, Tells}
+use Rattle.kr_cmd_steps.specs.Steps.{Steps, and_then}
+use Rattle.kr_cmd_fleet.specs.declared.fleet.Record.{Record}
+use Rattle.kr_cmd_messages.specs.declared.fleet_words.FleetWords.{FleetWords}
+use Rattle.kr_cmd_messages.specs.declared.refusal.Limit.TheVariants as limit
+use Rattle.kr_cmd_messages.specs.declared.refusal.Refusal.TheVariants.{Limit}
+use Rattle.kr_cmd_messages.specs.declared.refusal.Stop.{Stop}
+use Rattle.kr_cmd_messages.specs.declared.refusal.Stop.TheVariants.{Words, Refused, Fault, NoMemory}
+use Rattle.kr_cmd_messages.specs.inner.FleetAnswers.{IsFleetAsked}
+use Rattle.kr_cmd_fleet.specs.inner.FleetOutcomes.{LacksWorkers, LeavesRecord, RunsBy, budget_stop}
+use Rattle.kr_cmd_steps.specs.inner.Lent.{with_lent_tape}
+use Rattle.kr_cmd_steps.specs.inner.Phases.{Does}
+use Rattle.kr_cmd_steps.specs.inner.Tapes.{LentTape, ReturnedTape}
+use Rattle.kr_cmd_fleet.specs.inner.Workings.{Outfits, RunsWith}
+use Rattle.kr_cmd_steps.proofs.Goes.{goes_on, home_refl, home_trans, reach, stays_refl, stops}
+use Rattle.kr_cmd_steps.proofs.Tapes.{came_back, lent, nothing}
+
+module _ (T : Type 0) {L D : Type 0} (truth : Truth) (link : L → Link)
+    (left : D → Option (List ℕ)) (count : D → ℕ) (words : FleetWords) where
+  -- the plan wasn't made
+  pub unplanned : (old new : Around) (file : List ℕ) → file ≡ words.file → (stop : Stop)
+      (output : Receipt) → Does (planning file words.options) old new (Err stop)
+      → IsIdle output
+      → DidFleet T truth link left count words old new output (Err stop)
+  unplanned old new file is stop output d idle =
+      let all = stops (planning words.file words.options) (over_store words.store) stop
+      (subst (λ f. Does (planning f words.options) old new (Err stop)) is d) in
+      record {
+        home = all.home;
+        did = inl (inl (all.ends (left_of old) (stays_refl old)), idle);
+      }
+
+  module _ (plan : FleetPlan) (old now new : Around) (file : List ℕ) (is : file ≡ words.file)
+      (planned : Does (planning file words.options) old now (Ok plan)) (store : List ℕ)
+      (is_store : store ≡ words.store) where
+    d : Does (planning words.file words.options) old now (Ok plan)
+    d = subst (λ f. Does (planning f words.options) old now (Ok plan)) is planned
+
+    -- the steps behind it ended the command, or want of memory did
+    pub stopped : (stop : Stop) (output : Receipt)
+        → Does (over_store store plan) now new (Err stop)
+        ⊎ LacksWorkers T truth link left count (over_store store plan) store now new stop
+        → IsIdle output → DidFleet T truth link left count words old new output (Err stop)
+    stopped stop output (inl e) idle =
+        let all = goes_on (planning words.file words.options) (over_store words.store) plan d
+        (subst (λ s. Does (over_store s plan) now new (Err stop)) is_store e) in
+        record {
+          home = all.home;
+          did = inl (inl (all.ends (left_of old) (stays_refl old)), idle);
+        }
+    stopped stop output (inr lacking) idle =
+        let l = subst (λ s. LacksWorkers T truth link left count (over_store s plan) s now new
+        stop) is_store lacking in
+        let all =
+        goes_on (planning words.file words.options) (over_store words.store) plan d l.does in
+        record {
+          home = home_trans d.home l.home;
+          did = inl (
+            inr (
+              l.stops,
+              (l.mid, l.begun, all.ends (left_of old) (stays_refl old), l.none, all.home),
+            ),
+            idle,
+          );
+        }
+
+    -- the workers ran
+    pub ran : (made : Record) (output : Receipt) (result : Result Ending Stop)
+        → LeavesRecord T truth link left count (over_store store plan) store plan now new made
+        → WritesFleet (fleet_output plan.fleet made.lines.0 made.replies.0)
+        (ending_of made.replies.0) output result
+        → DidFleet T truth link left count words old new output result
+    ran made output result left_so w =
+        let l = subst (λ s. LeavesRecord T truth link left count (over_store s plan) s plan now
+        new made) is_store left_so in
+        let all =
+        goes_on (planning words.file words.options) (over_store words.store) plan d l.does in
+        let journal = map (λ (e : Entry). e.line) l.history in
+        let told = map (λ (worker : fleet_worker.Worker T L D). worker.told) l.ended in
+        let by_lines = subst (λ lines. WritesFleet (fleet_output plan.fleet lines made.replies.0)
+        (ending_of made.replies.0) output result) l.lines w in
+        let by_replies = subst (λ replies. WritesFleet (fleet_output plan.fleet journal replies)
+        (ending_of replies) output result) l.replies by_lines in
+        record {
+          home = home_trans d.home l.home;
+          did = inr (record {
+            begun = l.begun;
+            mid = l.mid;
+            reaches = all.ends (left_of old) (stays_refl old);
+            since = all.home;
+            history = l.history;
+            ended = l.ended;
+            runs = l.runs;
+            writes = subst (λ p. WritesFleet (fleet_output p.fleet journal told)
+                (ending_of told) output result) (sym l.plan_is) by_replies;
+          });
+        }
+
+-- ---- phases up to the workers
+
+module _ (T : Type 0) {L D : Type 0} (truth : Truth) (link : L → Link)
+    (left : D → Option (List ℕ)) (count : D → ℕ) (store : List ℕ) (plan : FleetPlan) where
+  abbrev pub Runs : Steps Begun → (old new : Around) → Result Record Stop → Type 0
+  Runs steps old new result = RunsBy T truth link left count steps store plan old new result
+
+  module _ {A : Type 0} (first : Steps A) (others : A → Steps Begun) where
+    -- the first steps gave something, and the fleet ran by the others
+    unfoldable pub before : (x : A) (new : Around) {old mid : Around} → Does first old mid (Ok x)
+        → (result : Result Record Stop) → Runs (others x) mid new result
+        → Runs (and_then first others) old new result
+    before x new d (Ok made) l = record {
+      begun = l.begun;
+      plan_is = l.plan_is;
+      mid = l.mid;
+      does = goes_on first others x d l.does;
+      history = l.history;
+      ended = l.ended;
+      runs = l.runs;
+      lines = l.lines;
+      replies = l.replies;
+      home = home_trans d.home l.home;
+    }
+    before x new d (Err stop) (inl e) = inl (goes_on first others x d e)
+    before x new d (Err stop) (inr l) = inr (record {
+      stops = l.stops;
+      begun = l.begun;
+      mid = l.mid;
+      does = goes_on first others x d l.does;
+      none = l.none;
+      home = home_trans d.home l.home;
+    })
+
+    pub ends_before : {old new : Around} (stop : Stop) → Does first old new (Err stop)
+        → Runs (and_then first others) old new (Err stop)
+    ends_before stop d = inl (stops first others stop d)
+
+  module _ (steps : Steps Begun) (a : Around) where
+    -- the store's tape, closed, tells what the store told
+    pub runs_closed : (old : Around) {told back : Option (List ℕ)} {n last : ℕ}
+        (result : Result Record Stop) → back ≡ told → last ≡ n
+        → Runs steps old (with_lent_tape store told n a) result
+        → Runs steps old (with_lent_tape store back last a) result
+    runs_closed old {told} {last = last} result t e r =
+        subst (λ b. Runs steps old (with_lent_tape store b last a) result) (sym t)
+        (subst (λ m. Runs steps old (with_lent_tape store told m a) result) (sym e) r)
+
+    -- the tape is borrowed for it, and comes back
+    pub over_tape : {old out mid new : Outside} {given back : Option (List ℕ)} {first n : ℕ}
+        (result : Result Record Stop) → LentTape store true old out given first
+        → ReturnedTape store mid new back n
+        → Runs steps (with_lent_tape store given first (with_world out a))
+        (with_lent_tape store back n (with_world mid a)) result
+        → Runs (tape_for store true steps) (with_world old a) (with_world new a) result
+    over_tape {out = out} {new = new} {given = given} {first = first} result h returned r =
+        before (tape_for store true nothing) (λ u. steps) tt (with_world new a)
+        (lent store true _ h a) result
+        (subst (λ b. Runs steps (with_lent_tape store given first (with_world out a)) b result)
+        (came_back store returned a) r)
+
+-- what is known of the workers beside, left out
+pub runs_with : (T : Type 0) {L D : Type 0} (truth : Truth) (link : L → Link)
+    (left : D → Option (List ℕ)) (count : D → ℕ) (store : List ℕ) (plan : FleetPlan)
+    (steps : Steps Begun) (outfits : Outfits L D) (old new : Around) (result : Result Record Stop)
+    → RunsWith link left count T truth steps store plan outfits old new result
+    → RunsBy T truth link left count steps store plan old new result
+runs_with T truth link left count store plan steps outfits old new (Ok made) r = r.leaves
+runs_with T truth link left count store plan steps outfits old new (Err stop) r = r
+
+-- ---- budgets
+
+-- the parts, made again of the workers of a fleet
+abbrev pub parts_again : List Part → List Part
+parts_again parts = parts_of (record { replicas = []; workers = map worker_of parts })
+
+same_budgets : (paths : ℕ) (parts : List Part)
+    → budgets_of paths (parts_again parts) ≡ budgets_of paths parts
+same_budgets paths [] = refl
+same_budgets paths (part ∷ parts) =
+    ap (λ rest. budget_of paths part.lines.0 ∷ rest) (same_budgets paths parts)
+
+-- how many lines of each part put an object
+abbrev puts_in : List Part → List ℕ
+puts_in parts = map (λ (part : Part). count_by is_put part.lines.0) parts
+
+same_puts : (parts : List Part) → put_lines (parts_again parts) ≡ put_lines parts
+same_puts [] = refl
+same_puts (part ∷ parts) =
+    sum_by-cons (λ x. x) (count_by is_put part.lines.0) (puts_in (parts_again parts))
+    ∙ ap (λ rest. count_by is_put part.lines.0 + rest) (same_puts parts)
+    ∙ sym (sum_by-cons (λ x. x) (count_by is_put part.lines.0) (puts_in parts))
+
+module _ (rows : List LogRow) (parts : List Part) (live : ℕ) (is : IsLiveCount rows live) where
+  abbrev pub Needed : List ℕ
+  Needed = budgets_of (live + put_lines parts) parts
+
+  pub are_budgets : (budgets : List ℕ) → budgets ≡ Needed → AreBudgets rows parts budgets
+  are_budgets budgets e = (live, is, e)
+
+  are_again : (budgets : List ℕ) → budgets ≡ Needed → AreBudgets rows (parts_again parts) budgets
+  are_again budgets e = (
+    live,
+    is,
+    e ∙ sym (same_budgets (live + put_lines parts) parts)
+        ∙ ap (λ n. budgets_of (live + n) (parts_again parts)) (sym (same_puts parts)),
+  )
+
+  pub budgeted : (budgets : List ℕ) → budgets ≡ Needed → sum budgets ≤ journal_limit
+      → (a : Around) → Does (budgeting rows (parts_again parts)) a a (Ok budgets)
+  budgeted budgets e few a = record {
+    home = home_refl a;
+    ends = λ l s. reach l (inr (Ok budgets, (are_again budgets e, few), (refl, refl))) s;
+  }
+
+  pub not_budgeted : (why : BudgetNo) → (why ≡ budget.TooMany → journal_limit < sum Needed)
+      → (a : Around) → Does (budgeting rows (parts_again parts)) a a (Err (budget_stop why))
+  not_budgeted budget.TooMany many a = record {
+    home = home_refl a;
+    ends = λ l s. reach l
+        (inr (
+          Err (Limit limit.Journal),
+          (refl, (Needed, are_again Needed refl, many refl)),
+          (refl, refl),
+        ))
+        s;
+  }
+  not_budgeted budget.NoMemory many a =
+      record { home = home_refl a; ends = λ l s. inr (reach l (inl (refl, refl)) s) }
+
+pub budgets_fit : (paths : ℕ) (parts : List Part) (entries reloads : List ℕ)
+    → entries ≡ budgets_of paths parts → reloads ≡ all_reloads parts
+    → sum reloads ≤ sum entries
+budgets_fit paths parts entries reloads e r =
+    let fits = parts_fit paths parts in
+    let same : sum entries ≡ sum (budgets_of paths parts) = ap sum e in
+    let all : sum reloads ≡ sum (all_reloads parts) = ap sum r in
+    omega (arith, fits, same, all)
+
+-- ---- what the words ask for
+
+abbrev pub fleet_words : (file store : List ℕ) → List (List ℕ × List ℕ) → FleetWords
+fleet_words file store options = record { file = file; store = store; options = options }
+
+inside : {A : Type 0} {x y : A} → Some x ≡ Some y → x ≡ y
+inside e = cc
+
+pub one_fleet : (words : List (List ℕ)) (a b : FleetWords) → AsksFleet words a
+    → AsksFleet words b → a ≡ b
+one_fleet words a b p q =
+    let same = (mean_one words verbs.Fleet verbs.Fleet a.options b.options p.means q.means).1 in
+    let file = sym p.file ∙ ap (λ o. value_of o (codes "file")) same ∙ q.file in
+    let store = sym p.store ∙ ap (λ o. value_of o (codes "store")) same ∙ q.store in
+    ap (λ f. fleet_words f a.store a.options) (inside file)
+    ∙ ap (λ s. fleet_words b.file s a.options) (inside store)
+    ∙ ap (fleet_words b.file b.store) same
+
+pub for_asked : {T L D : Type 0} {truth : Truth} {link : L → Link} {left : D → Option (List ℕ)}
+    {count : D → ℕ} {a b : FleetWords} {old new : Around} {output errors : Receipt} {status : ℕ}
+    → a ≡ b → RanFleet T truth link left count a old new output errors status
+    → RanFleet T truth link left count b old new output errors status
+for_asked {T} {truth = truth} {link = link} {left = left} {count = count} {old = old} {new = new}
+    {output = output} {errors = errors} {status = status} e r =
+    subst (λ w. RanFleet T truth link left count w old new output errors status) e r
+
+-- ---- the words stop the call
+
+pub at_once : (words : List (List ℕ)) (stop : Stop) → IsFleetAsked words (Err stop)
+    → StopsAtOnce words (Err stop)
+at_once words (Words why) h = h.0
+at_once words (Refused why) h = absurd h
+at_once words (Fault object count) h = absurd h
+at_once words NoMemory h = tt
+
+-- they ask for no fleet, but where memory lacked
+pub alone_or_memory : (words : List (List ℕ)) (stop : Stop) → IsFleetAsked words (Err stop)
+    → (errors : Receipt) (status : ℕ)
+    → Tells (line_of (Err stop)) (stop_status (Err stop)) errors status → AskAlone words
+    ⊎ Tells (line_of (Err NoMemory)) (stop_status (Err NoMemory)) errors status
+alone_or_memory words (Words why) h errors status t = inl (h.1, h.2)
+alone_or_memory words (Refused why) h errors status t = absurd h
+alone_or_memory words (Fault object count) h errors status t = absurd h
+alone_or_memory words NoMemory h errors status t = inr t
+
+module _ (T : Type 0) {L D : Type 0} (truth : Truth) (link : L → Link)
+    (left : D → Option (List ℕ)) (count : D → ℕ) where
+  pub unread : (words : List (List ℕ)) (asked : FleetWords) → AsksFleet words asked
+      → (stop : Stop) → IsFleetAsked words (Err stop) → (a : Around) (output : Receipt)
+      → IsIdle output → DidFleet T truth link left count asked a a output (Err stop)
+  unread words asked asks (Words why) h a output idle = absurd (h.1 asked asks)
+  unread words asked asks (Refused why) h a output idle = absurd h
+  unread words asked asks (Fault object n) h a output idle = absurd h
+  unread words asked asks NoMemory h a output idle = record {
+    home = home_refl a;
+    did = inl (inl (inr (reach (left_of a) (inl (refl, refl)) (stays_refl a))), idle);
+  }

@@ -1,0 +1,11 @@
+-- So many were gone through.
+use Rattle.std.proofs.Common.{Ok, take}
+use Rattle.std.specs.List.{flat_map}
+use Rattle.kr_cmd_fleet.specs.FleetFiles.{file_in}
+use Rattle.kr_cmd_fleet.specs.inner.Plans.{GoesThrough, named}
+use Rattle.kr_cmd_fleet.proofs.fleet_file.load_lines.Given as goal
+
+abbrev pub invariant-loop-line : goal.invariant-loop-line
+invariant-loop-line g l = GoesThrough (named l.initial.files.0) (named l.files.0)
+    (flat_map file_in (take l.line-index l.lines)) (g.W.World.told l.initial.world)
+    (g.W.World.told l.world) (Ok tt)

@@ -1,0 +1,96 @@
+-- `load_plan`: one phase behind another.
+use Rattle.std.proofs.Common.{◌≡◌, List, ℕ, [], Err, Ok, subst}
+use Rattle.kr_provider.specs.PluginOrder.{plugin_order}
+use Rattle.kr_script.specs.Fleets.{Fleet, fleet_of}
+use Rattle.kr_cmd_fleet.specs.FleetFiles.{FleetPlan, NamedRows, all_rows, files_in, fleet_in, all_files, programs_in}
+use Rattle.kr_cmd_steps.specs.Steps.{Steps, and_then, give}
+use Rattle.kr_cmd_steps.specs.declared.programs.Program.{Program}
+use Rattle.kr_cmd_steps.specs.Around.{with_world}
+use Rattle.kr_cmd_fleet.specs.inner.Plans.{named}
+use Rattle.kr_cmd_steps.specs.inner.ProgramNames.{names_in}
+use Rattle.kr_cmd_steps.specs.inner.Phases.{Does}
+use Rattle.kr_cmd_fleet.proofs.FleetLoads.{all_read, all_through, not_through, through_from}
+use Rattle.kr_cmd_steps.proofs.Goes.{given, goes_on, stops}
+use Rattle.kr_cmd_fleet.proofs.fleet_file.load_plan.Goals as goal
+
+-- what comes behind each phase
+abbrev with_programs : Fleet → List NamedRows → List Program → Steps FleetPlan
+with_programs fleet files programs =
+    give (record { fleet = fleet; files = files; programs = programs })
+
+abbrev with_files : (options : List (List ℕ × List ℕ)) → Fleet → List NamedRows
+    → Steps FleetPlan
+with_files options fleet files =
+    and_then (programs_in options files) (with_programs fleet files)
+
+abbrev with_fleet : (options : List (List ℕ × List ℕ)) → Fleet → Steps FleetPlan
+with_fleet options fleet =
+    and_then (files_in [] (all_files fleet)) (with_files options fleet)
+
+pub returns-in-Err-clause-does : goal.returns-in-Err-clause-does
+returns-in-Err-clause-does g c a = stops (fleet_in c.args.name.now) (with_fleet c.args.options.now)
+    c.in-Err.stop (c.in-Err.ensures.does a)
+
+pub returns-in-Err-load_files-clause-does : goal.returns-in-Err-load_files-clause-does
+returns-in-Err-load_files-clause-does g c a =
+    let fleet = fleet_of c.in-Ok.script in
+    let options = c.args.options.now in
+    let stop = c.in-Err-load_files.stop in
+    goes_on (fleet_in c.args.name.now) (with_fleet options) fleet (c.in-Ok.ensures.does a)
+    (stops (files_in [] (all_files fleet)) (with_files options fleet) stop
+    (not_through [] (all_files fleet) stop
+    (through_from c.new-files.result.0 (named c.load_files.new.files.0) (all_files fleet)
+    (g.W.World.told c.load_fleet.new.world) (g.W.World.told c.load_files.new.world) (Err stop)
+    c.new-files.ensures c.in-Err-load_files.ensures) a))
+
+pub returns-in-Err-programs_in-clause-does : goal.returns-in-Err-programs_in-clause-does
+returns-in-Err-programs_in-clause-does g c a =
+    let fleet = fleet_of c.in-Ok.script in
+    let options = c.args.options.now in
+    let files = named c.load_files.new.files.0 in
+    let stop = c.in-Err-programs_in.stop in
+    let now = with_world (g.W.World.told c.load_files.new.world) a in
+    goes_on (fleet_in c.args.name.now) (with_fleet options) fleet (c.in-Ok.ensures.does a)
+    (goes_on (files_in [] (all_files fleet)) (with_files options fleet) files
+    (all_through files (all_files fleet)
+    (through_from c.new-files.result.0 files (all_files fleet)
+    (g.W.World.told c.load_fleet.new.world) (g.W.World.told c.load_files.new.world) (Ok tt)
+    c.new-files.ensures c.in-Ok-load_files.ensures) a)
+    (stops (programs_in options files) (with_programs fleet files) stop
+    (subst (λ fs. Does (programs_in options (named fs)) now now (Err stop)) c.as_slice.ensures
+    (c.in-Err-programs_in.ensures.does now))))
+
+pub returns-clause-does : goal.returns-clause-does
+returns-clause-does g c a =
+    let fleet = fleet_of c.in-Ok.script in
+    let options = c.args.options.now in
+    let files = named c.load_files.new.files.0 in
+    let programs = c.in-Ok-programs_in.programs in
+    let now = with_world (g.W.World.told c.load_files.new.world) a in
+    goes_on (fleet_in c.args.name.now) (with_fleet options) fleet (c.in-Ok.ensures.does a)
+    (goes_on (files_in [] (all_files fleet)) (with_files options fleet) files
+    (all_through files (all_files fleet)
+    (through_from c.new-files.result.0 files (all_files fleet)
+    (g.W.World.told c.load_fleet.new.world) (g.W.World.told c.load_files.new.world) (Ok tt)
+    c.new-files.ensures c.in-Ok-load_files.ensures) a)
+    (goes_on (programs_in options files) (with_programs fleet files) programs
+    (subst (λ fs. Does (programs_in options (named fs)) now now (Ok programs)) c.as_slice.ensures
+    (c.in-Ok-programs_in.ensures.does now))
+    (given (record { fleet = fleet; files = files; programs = programs }) now)))
+
+pub returns-clause-whole : goal.returns-clause-whole
+returns-clause-whole g c =
+    let fleet = fleet_of c.in-Ok.script in
+    let files = named c.load_files.new.files.0 in
+    let programs = c.in-Ok-programs_in.programs in
+    record {
+      rules = c.in-Ok.ensures.rules.0;
+      whole = c.in-Ok.ensures.rules.1;
+      within = c.in-Ok.ensures.rules.2;
+      read = all_read files (all_files fleet)
+          (through_from c.new-files.result.0 files (all_files fleet)
+          (g.W.World.told c.load_fleet.new.world) (g.W.World.told c.load_files.new.world) (Ok tt)
+          c.new-files.ensures c.in-Ok-load_files.ensures);
+      programs = subst (λ fs. names_in programs ≡ plugin_order (all_rows (named fs)))
+          c.as_slice.ensures c.in-Ok-programs_in.ensures.names;
+    }

@@ -1,0 +1,125 @@
+-- `open_links`: each turn borrows one more link.
+use Rattle.std.proofs.Common.{◌∙◌, ap, subst, sym}
+use Rattle.std.specs.Prelude.{◌<◌}
+use Rattle.kr_cmd_fleet.proofs.Outfitting.{all_named, all_opened, is_out, lacked_link, new_name, no_link, one_link, others_linked, others_same, others_trans, others_unlinked, refused_link, still_out}
+use Rattle.kr_cmd_fleet.proofs.outfit.open_links.Goals as goal
+
+pub loop-program-init : goal.loop-program-init
+loop-program-init g c = no_link g.W.Link.Kms.link g.W.Rand.Dice.left g.W.Rand.Dice.count
+    c.args.seat c.args.programs.now (g.W.World.told c.args.world.now) c.args.links.now
+    c.requires.none
+
+pub returns-in-Err-clause-does : goal.returns-in-Err-clause-does
+returns-in-Err-clause-does g c = refused_link g.W.Link.Kms.link g.W.Rand.Dice.left
+    g.W.Rand.Dice.count c.args.seat c.args.programs.now (g.W.World.told c.args.world.now)
+    c.requires.programs.0 c.requires.programs.1 c.loop-program.program-index
+    (g.W.World.told c.loop-program.world) c.loop-program.links c.loop-program.invariant
+    c.program-item.result c.loop-program-test.true c.program-item.is c.as_str.result.now
+    c.as_str-in-loop-program.result.now c.as_str.ensures c.as_str-in-loop-program.ensures
+    (g.W.World.told c.open_link.new.world) c.in-Err.ensures.files c.in-Err.ensures.objects
+    c.in-Err.stop c.in-Err.ensures.why c.in-Err.ensures.asked
+
+pub returns-in-Err-clause-tapes : goal.returns-in-Err-clause-tapes
+returns-in-Err-clause-tapes g c = c.in-Err.ensures.objects.tapes ∙ c.loop-program.invariant.tapes
+
+pub returns-in-Err-clause-dice : goal.returns-in-Err-clause-dice
+returns-in-Err-clause-dice g c = c.in-Err.ensures.objects.dice ∙ c.loop-program.invariant.dice
+
+pub returns-in-Err-clause-out : goal.returns-in-Err-clause-out
+returns-in-Err-clause-out g c = λ name there.
+    subst (λ o. 0 < o.out (c.args.seat, name)) (sym c.in-Err.ensures.objects.links)
+    (c.loop-program.invariant.out name there)
+
+pub returns-in-Err-clause-others : goal.returns-in-Err-clause-others
+returns-in-Err-clause-others g c =
+    others_trans c.loop-program.invariant.others (others_same c.in-Err.ensures.objects)
+
+pub add-requires : goal.add-requires
+add-requires g c = new_name g.W.Link.Kms.link g.W.Rand.Dice.left
+    g.W.Rand.Dice.count c.args.seat c.args.programs.now (g.W.World.told c.args.world.now)
+    c.requires.programs.0 c.requires.programs.1 c.loop-program.program-index
+    (g.W.World.told c.loop-program.world) c.loop-program.links c.loop-program.invariant
+    c.program-item.result c.loop-program-test.true c.program-item.is c.as_str.result.now
+    c.as_str-in-loop-program.result.now c.as_str.ensures c.as_str-in-loop-program.ensures
+    c.in-Ok.link (g.W.World.told c.open_link.new.world) c.in-Ok.ensures.lent
+
+pub close_link-requires-clause-out : goal.close_link-requires-clause-out
+close_link-requires-clause-out g c = λ κs within. is_out g.W.Link.Kms.link g.W.Rand.Dice.left
+    g.W.Rand.Dice.count c.args.seat c.args.programs.now (g.W.World.told c.args.world.now)
+    c.requires.programs.0 c.requires.programs.1 c.loop-program.program-index
+    (g.W.World.told c.loop-program.world) c.loop-program.links c.loop-program.invariant
+    c.program-item.result c.loop-program-test.true c.program-item.is c.as_str.result.now
+    c.as_str-in-loop-program.result.now c.as_str.ensures c.as_str-in-loop-program.ensures
+    c.in-Ok.link (g.W.World.told c.open_link.new.world) c.in-Ok.ensures.lent
+    (g.W.Link.Kms.link c.in-Err-add.link).name
+    (ap (λ l. (g.W.Link.Kms.link l).name) c.in-Err-add.ensures.returned)
+
+pub returns-in-Err-add-clause-does : goal.returns-in-Err-add-clause-does
+returns-in-Err-add-clause-does g c = lacked_link g.W.Link.Kms.link g.W.Rand.Dice.left
+    g.W.Rand.Dice.count c.args.seat c.args.programs.now (g.W.World.told c.args.world.now)
+    c.requires.programs.0 c.requires.programs.1 c.loop-program.program-index
+    (g.W.World.told c.loop-program.world) c.loop-program.links c.loop-program.invariant
+    c.program-item.result c.loop-program-test.true c.program-item.is c.as_str.result.now
+    c.as_str-in-loop-program.result.now c.as_str.ensures c.as_str-in-loop-program.ensures
+    c.in-Ok.link (g.W.World.told c.open_link.new.world) c.in-Ok.ensures.lent
+    c.in-Err-add.link (g.W.World.told c.close_link.new.world) c.close_link.ensures
+    c.in-Err-add.ensures.returned
+    c.add.new.self c.in-Err-add.ensures.err
+
+pub returns-in-Err-add-clause-tapes : goal.returns-in-Err-add-clause-tapes
+returns-in-Err-add-clause-tapes g c = c.close_link.ensures.tapes ∙ c.in-Ok.ensures.lent.tapes
+    ∙ c.loop-program.invariant.tapes
+
+pub returns-in-Err-add-clause-dice : goal.returns-in-Err-add-clause-dice
+returns-in-Err-add-clause-dice g c = c.close_link.ensures.dice ∙ c.in-Ok.ensures.lent.dice
+    ∙ c.loop-program.invariant.dice
+
+pub returns-in-Err-add-clause-out : goal.returns-in-Err-add-clause-out
+returns-in-Err-add-clause-out g c = still_out g.W.Link.Kms.link g.W.Rand.Dice.left
+    g.W.Rand.Dice.count c.args.seat c.args.programs.now (g.W.World.told c.args.world.now)
+    c.requires.programs.0 c.requires.programs.1 c.loop-program.program-index
+    (g.W.World.told c.loop-program.world) c.loop-program.links c.loop-program.invariant
+    c.program-item.result c.loop-program-test.true c.program-item.is c.as_str.result.now
+    c.as_str-in-loop-program.result.now c.as_str.ensures c.as_str-in-loop-program.ensures
+    c.in-Ok.link (g.W.World.told c.open_link.new.world) c.in-Ok.ensures.lent
+    c.in-Err-add.link (g.W.World.told c.close_link.new.world) c.close_link.ensures
+    c.in-Err-add.ensures.returned
+    c.add.new.self c.in-Err-add.ensures.err
+
+pub returns-in-Err-add-clause-others : goal.returns-in-Err-add-clause-others
+returns-in-Err-add-clause-others g c = others_trans c.loop-program.invariant.others
+    (others_trans (others_linked c.in-Ok.ensures.lent) (others_unlinked c.close_link.ensures))
+
+pub loop-program-preserved : goal.loop-program-preserved
+loop-program-preserved g c = one_link g.W.Link.Kms.link g.W.Rand.Dice.left
+    g.W.Rand.Dice.count c.args.seat c.args.programs.now (g.W.World.told c.args.world.now)
+    c.requires.programs.0 c.requires.programs.1 c.loop-program.program-index
+    (g.W.World.told c.loop-program.world) c.loop-program.links c.loop-program.invariant
+    c.program-item.result c.loop-program-test.true c.program-item.is c.as_str.result.now
+    c.as_str-in-loop-program.result.now c.as_str.ensures c.as_str-in-loop-program.ensures
+    c.in-Ok.link (g.W.World.told c.open_link.new.world) c.in-Ok.ensures.lent
+    c.add.new.self c.in-Ok-add.ensures.ok
+
+pub returns-clause-does : goal.returns-clause-does
+returns-clause-does g c = all_opened g.W.Link.Kms.link g.W.Rand.Dice.left g.W.Rand.Dice.count
+    c.args.seat c.args.programs.now (g.W.World.told c.args.world.now)
+    c.loop-program.program-index (g.W.World.told c.loop-program.world) c.loop-program.links
+    c.loop-program.invariant c.loop-program-test.false
+
+pub returns-clause-named : goal.returns-clause-named
+returns-clause-named g c = all_named g.W.Link.Kms.link g.W.Rand.Dice.left g.W.Rand.Dice.count
+    c.args.seat c.args.programs.now (g.W.World.told c.args.world.now)
+    c.loop-program.program-index (g.W.World.told c.loop-program.world) c.loop-program.links
+    c.loop-program.invariant c.loop-program-test.false
+
+pub returns-clause-tapes : goal.returns-clause-tapes
+returns-clause-tapes g c = c.loop-program.invariant.tapes
+
+pub returns-clause-dice : goal.returns-clause-dice
+returns-clause-dice g c = c.loop-program.invariant.dice
+
+pub returns-clause-out : goal.returns-clause-out
+returns-clause-out g c = c.loop-program.invariant.out
+
+pub returns-clause-others : goal.returns-clause-others
+returns-clause-others g c = c.loop-program.invariant.others

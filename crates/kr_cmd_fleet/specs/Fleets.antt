@@ -1,0 +1,328 @@
+-- `fleet`: the steps up to its workers, and what a call did once they were started.
+use Rattle.std.specs.Prelude.{◌≡◌, ◌≢◌, ℕ, suc, zero, ◌+◌, ◌<◌, ◌≤◌, ◌⊎◌, true, false, List, [], ◌∷◌, ◌++◌, length, map, sum, get_or, All, Option, None, Some, Result, Ok, Err, ⊤, if◌then◌else◌}
+use Rattle.std.specs.Io.KnownBytes.{Appends}
+use Rattle.std.specs.Str.{bytes_eq}
+use Rattle.kr_base.specs.Faults.{Rose}
+use Rattle.kr_base.specs.Limits.{store_limit, journal_limit}
+use Rattle.kr_base.specs.Streams.{AppendsFront}
+use Rattle.kr_config.specs.Kept.{Row}
+use Rattle.kr_kms.specs.Calls.{Link}
+use Rattle.kr_kms.specs.Outside.{link_at}
+use Rattle.kr_kms.specs.Truth.{Opens, Truth}
+use Rattle.kr_provider.specs.Names.{names_of}
+use Rattle.kr_provider.specs.PluginOrder.{plugin_order}
+use Rattle.kr_provider.specs.Publication.{Publication}
+use Rattle.kr_rollout.specs.Histories.{state_of}
+use Rattle.kr_history.specs.Honesty.{IsHonest}
+use Rattle.kr_opening.specs.Replicas.{settings_of}
+use Rattle.kr_opening.specs.Starts.{IsNoStart, MayStart}
+use Rattle.kr_rollout.specs.declared.opening.Entry.{Entry}
+use Rattle.kr_rollout.specs.declared.opening.Opening.{Opening}
+use Rattle.kr_opening.specs.declared.opening_board.StartNo.{StartNo}
+use Rattle.kr_script.specs.Fleets.{Fleet, Worker, worker_of}
+use Rattle.kr_script.specs.Output.{fleet_output}
+use Rattle.kr_script.specs.declared.script.Part.{Part}
+use Rattle.kr_store.specs.File.{IsFile}
+use Rattle.kr_store.specs.declared.rows.LogRow.{LogRow}
+use Rattle.kr_workers.specs.Budgets.{AreBudgets, all_reloads}
+use Rattle.kr_workers.specs.Endings.{ending_of, status_of}
+use Rattle.kr_workers.specs.Histories.{IsOneHistory}
+use Rattle.kr_workers.specs.declared.ending.Ending.{Ending}
+use Rattle.kr_workers.specs.declared.files.SettingsFile.{SettingsFile}
+use Rattle.kr_workers.specs.declared.worker.Worker as fleet_worker
+use Rattle.kr_cmd_steps.specs.Afterwards.{AreLeft}
+use Rattle.kr_cmd_steps.specs.Around.{Around, Ends, IsHome, Reaches, left_of}
+use Rattle.kr_cmd_steps.specs.Commands.{by_result, stored_on, tape_for, with_memory}
+use Rattle.kr_cmd_messages.specs.FleetAsked.{AskAlone, AsksFleet}
+use Rattle.kr_cmd_fleet.specs.FleetFiles.{FleetPlan, NamedRows, named_rows, no_file, planning, rows_at}
+use Rattle.kr_cmd_steps.specs.Judgements.{start_refusal}
+use Rattle.kr_cmd_messages.specs.LoadAsked.{AsksLoad}
+use Rattle.kr_cmd_steps.specs.Plugins.{borrow_links_of, make_seeds}
+use Rattle.kr_cmd_steps.specs.Ran.{IsIdle, IsUntouched, Ran, Readings}
+use Rattle.kr_cmd_messages.specs.Receipts.{Receipt, Tells}
+use Rattle.kr_cmd_messages.specs.Message.{line_of, status_of as stop_status}
+use Rattle.kr_cmd_steps.specs.Steps.{Steps, borrow_dice, find, gives, give, and_then}
+use Rattle.kr_cmd_steps.specs.StoreFiles.{Stored}
+use Rattle.kr_cmd_messages.specs.declared.fleet_words.FleetWords.{FleetWords}
+use Rattle.kr_cmd_messages.specs.declared.load_words.LoadWords.{LoadWords}
+use Rattle.kr_cmd_steps.specs.declared.programs.Program.{Program}
+use Rattle.kr_cmd_messages.specs.declared.refusal.Limit.TheVariants as limit
+use Rattle.kr_cmd_messages.specs.declared.refusal.Object.TheVariants.{Output, Store}
+use Rattle.kr_cmd_messages.specs.declared.refusal.Refusal.{Refusal}
+use Rattle.kr_cmd_messages.specs.declared.refusal.Refusal.TheVariants.{Limit}
+use Rattle.kr_cmd_messages.specs.declared.refusal.Stop.{Stop}
+use Rattle.kr_cmd_messages.specs.declared.refusal.Stop.TheVariants.{Fault, NoMemory}
+
+-- ---- budgets
+
+-- the workers of a fleet as parts
+abbrev pub parts_of : Fleet → List Part
+parts_of fleet = map (λ (worker : Worker). record {
+  name = worker.name;
+  replica = worker.replica;
+  lines = (worker.lines, 0);
+}) fleet.workers
+
+-- what the workers may add to the journal, or that it is more than a journal may have
+abbrev pub AreWithin : List LogRow → List Part → Result (List ℕ) Refusal → Type 0
+AreWithin rows parts (Ok budgets) =
+    AreBudgets rows parts budgets × (sum budgets ≤ journal_limit)
+AreWithin rows parts (Err why) = (why ≡ Limit limit.Journal)
+    × ((budgets : List ℕ) × AreBudgets rows parts budgets × (journal_limit < sum budgets))
+
+abbrev pub budgeting : List LogRow → List Part → Steps (List ℕ)
+budgeting rows parts = find (Result (List ℕ) Refusal) (AreWithin rows parts) by_result
+
+-- ---- what each worker has of the world
+
+-- a random source and a link to each plugin for each of so many seats, from this one on
+abbrev pub equipping : {A : Type 0} → List Program → (seat seats : ℕ) → Steps A → Steps A
+equipping programs seat zero next = next
+equipping programs seat (suc more) next = borrow_dice seat
+    (borrow_links_of seat programs (equipping programs (seat + 1) more next))
+
+-- ---- what the replicas publish, with what the first worker has
+
+abbrev pub Replicas : Type 0
+Replicas = List (Option Publication)
+
+-- the configuration of a replica; none where it isn't in
+abbrev pub rows_of_replica : List NamedRows → List ℕ × List ℕ → Option (List Row)
+rows_of_replica files replica =
+    if bytes_eq replica.1 no_file then None else rows_at files replica.1
+
+-- it is published with a seed of each plugin, and the others go on
+abbrev pub publishes : Option (List Row) → Replicas → (Replicas → Steps Replicas)
+    → Steps Replicas
+publishes None made next = next (made ++ None ∷ [])
+publishes (Some rows) made next = and_then (with_memory (make_seeds (plugin_order rows)))
+    (λ seeds. next (made ++ Some (record { rows = rows; seeds = seeds }) ∷ []))
+
+abbrev pub publishing : List NamedRows → (made : Replicas) → List (List ℕ × List ℕ)
+    → Steps Replicas
+publishing files made [] = with_memory (give made)
+publishing files made (replica ∷ replicas) = publishes (rows_of_replica files replica) made
+    (λ more. publishing files more replicas)
+
+-- the core starts where what is stored and the replicas' configurations go together
+abbrev pub IsStart : List LogRow → Replicas → Result (Unit {0}) Refusal → Type 0
+IsStart rows replicas (Ok done) = MayStart rows (settings_of replicas)
+IsStart rows replicas (Err why) = (cause : StartNo)
+    × IsNoStart rows (settings_of replicas) cause × (start_refusal cause ≡ Some why)
+
+-- ---- up to the workers
+
+-- what the workers begin with
+pub record Begun : Type 0 where
+  pub plan : FleetPlan
+  pub stored : Stored
+  pub budgets : List ℕ
+  pub replicas : Replicas
+
+abbrev pub starting : FleetPlan → Stored → List ℕ → Replicas → Steps Begun
+starting plan stored budgets replicas =
+    and_then (find (Result (Unit {0}) Refusal) (IsStart stored.rows replicas) by_result)
+    (λ done. with_memory (give (record {
+      plan = plan;
+      stored = stored;
+      budgets = budgets;
+      replicas = replicas;
+    })))
+
+-- once each worker has an outfit, and with one for each
+abbrev pub launching : FleetPlan → Stored → List ℕ → Steps Begun
+launching plan stored budgets =
+    and_then (publishing plan.files [] plan.fleet.replicas) (starting plan stored budgets)
+
+abbrev pub equipping_all : FleetPlan → Stored → List ℕ → Steps Begun
+equipping_all plan stored budgets = equipping plan.programs 0 (length plan.fleet.workers)
+    (launching plan stored budgets)
+
+abbrev pub beginning : FleetPlan → Stored → Steps Begun
+beginning plan stored =
+    and_then (budgeting stored.rows (parts_of plan.fleet)) (equipping_all plan stored)
+
+-- a fleet by its plan, over the store of this name
+abbrev pub over_store : (store : List ℕ) → FleetPlan → Steps Begun
+over_store store plan = tape_for store true (and_then (stored_on Store store) (beginning plan))
+
+abbrev pub fleet_steps : FleetWords → Steps Begun
+fleet_steps words = and_then (planning words.file words.options) (over_store words.store)
+
+-- ---- once the workers were started
+
+-- what the core begins with: the rows of the store's file and what the replicas published, a gap
+-- for one that isn't in; a configuration may name the plugins of all that the fleet file names
+abbrev pub opening_of : (store : List ℕ) → Begun → Around → Opening
+opening_of store begun mid = record {
+  format = begun.stored.format;
+  rows = begun.stored.rows;
+  replicas = begun.replicas;
+  names = map (λ (program : Program). program.plugin) begun.plan.programs;
+  reloads = all_reloads (parts_of begun.plan.fleet);
+  limit = store_limit;
+  count = mid.world.tapes.faults store;
+  torn = false;
+}
+
+-- a worker has the random source of its seat, and the seat's link to each plugin
+pub record IsEquipped {L D : Type 0} (link : L → Link) (left : D → Option (List ℕ))
+    (count : D → ℕ) (programs : List Program) (seat : ℕ) (around : Around) (links : List L)
+    (dice : D) : Type 0 where
+  pub names : names_of link links ≡ map (λ (program : Program). program.plugin) programs
+  pub links_are : All (λ l. link l ≡ link_at around.world.links seat (link l).name) links
+  pub left_is : left dice ≡ around.world.dice.told seat
+  pub count_is : count dice ≡ around.world.dice.faults seat
+
+abbrev pub AreEquipped : {T L D : Type 0} → (link : L → Link) → (left : D → Option (List ℕ))
+    → (count : D → ℕ) → List Program → Around → List (fleet_worker.Worker T L D) → Type 0
+AreEquipped {T} {L} {D} link left count programs around workers = (seat : ℕ)
+    (d : fleet_worker.Worker T L D) → seat < length workers
+    → IsEquipped link left count programs seat around (get_or workers seat d).bench.links
+    (get_or workers seat d).bench.dice
+
+-- the tape begins with the file of the store's rows, if it tells, and is no more than that where
+-- its count of faults didn't rise
+abbrev pub HasRows : Option (Option (List ℕ)) → Begun → List LogRow → (before now : ℕ) → Type 0
+HasRows (Some (Some bytes)) begun rows before now = (file : List ℕ) × (rest : List ℕ)
+    × IsFile begun.stored.format rows file × (bytes ≡ file ++ rest)
+    × ((rest ≡ []) ⊎ Rose before now)
+HasRows (Some None) begun rows before now = ⊥
+HasRows None begun rows before now = ⊤
+
+-- beside the links and random sources of so many seats and the store's tape all is as it was when
+-- the workers started
+pub record LeavesRest (store : List ℕ) (seats : ℕ) (mid new : Around) : Type 0 where
+  pub truth : new.truth ≡ mid.truth
+  pub file : new.world.file ≡ mid.world.file
+  pub tapes : (other : List ℕ) → other ≢ store
+      → new.world.tapes.told other ≡ mid.world.tapes.told other
+  pub dice : (seat : ℕ) → seats ≤ seat
+      → new.world.dice.told seat ≡ mid.world.dice.told seat
+  pub links : (seat : ℕ) (plugin : List ℕ) → seats ≤ seat
+      → new.world.links.told (seat, plugin) ≡ mid.world.links.told (seat, plugin)
+  pub faults : new.world.faults ≡ mid.world.faults
+  pub asked : new.world.asked ≡ mid.world.asked
+  pub input : new.input ≡ mid.input
+  pub said : new.said ≡ mid.said
+
+-- One history: that of a core which began with the store's rows and what the replicas published,
+-- in order the settings of their files, a gap for one that isn't in. It is legal, honest (without a
+-- program for a plugin whatever sources open to), with the lines of each worker and nothing else.
+-- What it says of the replies follows: the headline, and the law `replies_are_true` of kr_workers.
+-- The store has the opening's rows and the written entries', and its count is that of the last
+-- line; what the workers had is back.
+pub record RunsFleet {T L D : Type 0} (truth : Truth) (link : L → Link)
+    (left : D → Option (List ℕ)) (count : D → ℕ) (store : List ℕ) (begun : Begun)
+    (mid new : Around) (history : List Entry) (ended : List (fleet_worker.Worker T L D))
+    : Type 0 where
+  pub published : settings_of begun.replicas
+      ≡ map (rows_of_replica begun.plan.files) begun.plan.fleet.replicas
+  pub parts : List Part
+  pub parts_are : map worker_of parts ≡ begun.plan.fleet.workers
+  pub files : List SettingsFile
+  pub files_are : map named_rows files ≡ begun.plan.files
+  pub workers : List (fleet_worker.Worker T L D)
+  pub many : length workers ≡ length parts
+  pub before : AreEquipped link left count begun.plan.programs mid workers
+  pub one : IsOneHistory truth link left count files history (opening_of store begun mid) parts
+      begun.budgets workers ended
+  pub opens : truth.told ≡ true → IsHonest truth.opens (opening_of store begun mid) []
+  pub bare : begun.plan.programs ≡ [] → (any : Opens)
+      → IsHonest any (opening_of store begun mid) history
+  pub after : AreEquipped link left count begun.plan.programs new ended
+  pub stored : HasRows (new.world.tapes.told store) begun
+      (state_of (opening_of store begun mid) history).rows (mid.world.tapes.faults store)
+      (new.world.tapes.faults store)
+  pub counted : new.world.tapes.faults store
+      ≡ (state_of (opening_of store begun mid) history).count
+  pub rest : LeavesRest store (length begun.plan.fleet.workers) mid new
+
+-- no worker was started: the store has its rows, and what the workers would have had is as it was
+pub record StartsNone (store : List ℕ) (begun : Begun) (mid new : Around) : Type 0 where
+  pub stored : HasRows (new.world.tapes.told store) begun begun.stored.rows
+      (mid.world.tapes.faults store) (new.world.tapes.faults store)
+  pub links : new.world.links.told ≡ mid.world.links.told
+  pub dice : new.world.dice.told ≡ mid.world.dice.told
+  pub rest : LeavesRest store (length begun.plan.fleet.workers) mid new
+
+-- the steps up to the workers ended the command, or want of memory did before they started
+abbrev pub StopsBefore : Steps Begun → (store : List ℕ) → (old new : Around) → Receipt
+    → Result Ending Stop → Type 0
+StopsBefore steps store old new output (Ok ending) = ⊥
+StopsBefore steps store old new output (Err stop) =
+    (Ends steps (left_of old) old new (Err stop)
+    ⊎ ((stop ≡ NoMemory) × ((mid : Around) × (begun : Begun)
+    × Reaches steps (left_of old) mid (gives begun)
+    × StartsNone store begun mid new × IsHome old mid)))
+    × IsIdle output
+
+-- the journal and the replies
+abbrev pub text_of : {T L D : Type 0} → Fleet → List Entry → List (fleet_worker.Worker T L D)
+    → List ℕ
+text_of fleet history ended = fleet_output fleet (map (λ (e : Entry). e.line) history)
+    (map (λ w. w.told) ended)
+
+-- they were written, and the replies decide the status; or the output failed, or memory lacked for
+-- a line, behind a prefix of them
+abbrev pub WritesFleet : (text : List ℕ) → Ending → Receipt → Result Ending Stop → Type 0
+WritesFleet text ending output (Ok told) =
+    (told ≡ ending) × Appends output.old output.new text
+WritesFleet text ending output (Err (Fault object n)) =
+    AppendsFront output.old output.new text × (object ≡ Output)
+    × Rose output.old_faults output.new_faults × (n ≡ output.new_faults)
+WritesFleet text ending output (Err NoMemory) = AppendsFront output.old output.new text
+WritesFleet text ending output (Err why) = ⊥
+
+module _ (T : Type 0) {L D : Type 0} (truth : Truth) (link : L → Link)
+    (left : D → Option (List ℕ)) (count : D → ℕ) where
+  -- the workers were started
+  pub record Starts (words : FleetWords) (old new : Around) (output : Receipt)
+      (result : Result Ending Stop) : Type 0 where
+    pub begun : Begun
+    pub mid : Around
+    pub reaches : Reaches (fleet_steps words) (left_of old) mid (gives begun)
+    pub since : IsHome old mid
+    pub history : List Entry
+    pub ended : List (fleet_worker.Worker T L D)
+    pub runs : RunsFleet truth link left count words.store begun mid new history ended
+    pub writes : WritesFleet (text_of begun.plan.fleet history ended)
+        (ending_of (map (λ (w : fleet_worker.Worker T L D). w.told) ended)) output result
+
+  -- all that was handed out is back
+  pub record DidFleet (words : FleetWords) (old new : Around) (output : Receipt)
+      (result : Result Ending Stop) : Type 0 where
+    pub home : IsHome old new
+    pub did : StopsBefore (fleet_steps words) words.store old new output result
+        ⊎ Starts words old new output result
+
+-- ---- the status
+
+-- the replies decide the status, and nothing is said beside the output; else the line of what
+-- ended the command is
+abbrev pub TellsFleet : Result Ending Stop → Receipt → ℕ → Type 0
+TellsFleet (Ok ending) errors status = (status ≡ status_of ending) × IsIdle errors
+TellsFleet (Err stop) errors status = Tells (line_of (Err stop)) (stop_status (Err stop)) errors
+    status
+
+-- what a call of `run` did for a fleet
+pub record RanFleet (T : Type 0) {L D : Type 0} (truth : Truth) (link : L → Link)
+    (left : D → Option (List ℕ)) (count : D → ℕ) (words : FleetWords) (old new : Around)
+    (output errors : Receipt) (status : ℕ) : Type 0 where
+  pub result : Result Ending Stop
+  pub did : DidFleet T truth link left count words old new output result
+  pub tells : TellsFleet result errors status
+  pub written : output.old_faults ≤ output.new_faults
+  pub told : errors.old_faults ≤ errors.new_faults
+
+-- what a call did where no one may wait: for a fleet and for a load nothing, unless memory lacked
+-- to read its words
+abbrev pub RanAlone : (words : List (List ℕ)) → (old new : Around) → (output errors : Receipt)
+    → Option ℕ → Type 0
+RanAlone words old new output errors (Some status) =
+    Ran words old new output errors status × Readings words old new output errors status
+    × AreLeft words old new status × (AskAlone words
+    ⊎ Tells (line_of (Err NoMemory)) (stop_status (Err NoMemory)) errors status)
+RanAlone words old new output errors None =
+    (((asked : FleetWords) × AsksFleet words asked) ⊎ ((asked : LoadWords) × AsksLoad words asked))
+    × IsUntouched old new output × IsIdle errors

@@ -1,0 +1,7 @@
+-- The definitions that contracts cite.
+pub mod Causes
+pub mod FleetFiles
+pub mod FleetReadings
+pub mod FleetReady
+pub mod Fleets
+pub mod inner

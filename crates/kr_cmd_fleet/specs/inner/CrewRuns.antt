@@ -1,0 +1,55 @@
+-- What the workers of a crew did, as a fleet says it.
+use Rattle.std.specs.Prelude.{◌≡◌, true, ◌⊎◌, ◌≤◌, ℕ, List, map, Option, Result, Ok, Err}
+use Rattle.kr_base.specs.Faults.{Rose}
+use Rattle.kr_kms.specs.Calls.{Link}
+use Rattle.kr_kms.specs.Truth.{Truth}
+use Rattle.kr_rollout.specs.Histories.{state_of}
+use Rattle.kr_rollout.specs.declared.opening.Entry.{Entry}
+use Rattle.kr_rollout.specs.declared.opening.Opening.{Opening}
+use Rattle.kr_store.specs.Stores.{Holds, Kept}
+use Rattle.kr_store.specs.declared.rows.LogRow.{LogRow}
+use Rattle.kr_workers.specs.Histories.{IsOneHistory}
+use Rattle.kr_workers.specs.declared.worker.Worker.{Worker}
+use Rattle.kr_cmd_fleet.specs.declared.fleet.Record.{Record}
+use Rattle.kr_cmd_fleet.specs.declared.fleet_file.Plan.{Plan}
+use Rattle.kr_cmd_fleet.specs.declared.outfit.Outfit.{Outfit}
+use Rattle.kr_cmd_messages.specs.declared.refusal.Stop.{Stop}
+use Rattle.kr_cmd_messages.specs.declared.refusal.Stop.TheVariants.{NoMemory}
+use Rattle.kr_cmd_fleet.specs.inner.Outfits.{AreLater}
+use Rattle.kr_cmd_fleet.specs.inner.Crews.{outfits_of}
+
+-- the store's file is one of these rows, in the opening's format; no count fell, and it is torn
+-- only where it was so or its count rose
+pub record KeepsStore (o : Opening) (rows : List LogRow) (store : Kept) : Type 0 where
+  pub rows_are : store.rows ≡ rows
+  pub format : store.format ≡ o.format
+  pub later : o.count ≤ store.count
+  pub torn : store.torn ≡ true → (o.torn ≡ true) ⊎ Rose o.count store.count
+  pub holds : Holds store
+
+module _ {T L D : Type 0} (truth : Truth) (link : L → Link) (left : D → Option (List ℕ))
+    (count : D → ℕ) (plan : Plan) (budgets : List ℕ) (o : Opening)
+    (workers : List (Worker T L D)) where
+  -- the workers did their lines in one history
+  pub record WorkersRan (made : Record) (store : Kept) (outfits : List (Outfit L D))
+      : Type 0 where
+    pub history : List Entry
+    pub ended : List (Worker T L D)
+    pub one : IsOneHistory truth link left count plan.files.0 history o plan.script.workers.0
+        budgets workers ended
+    pub lines_are : made.lines.0 ≡ map (λ (e : Entry). e.line) history
+    pub replies_are : made.replies.0 ≡ map (λ (w : Worker T L D). w.told) ended
+    pub outfits_are : outfits ≡ outfits_of ended
+    pub later : AreLater link count (outfits_of workers) outfits
+    pub kept : KeepsStore o (state_of o history).rows store
+    pub counted : store.count ≡ (state_of o history).count
+
+  -- none was started
+  pub record NoneRan (stop : Stop) (store : Kept) (outfits : List (Outfit L D)) : Type 0 where
+    pub stops : stop ≡ NoMemory
+    pub outfits_are : outfits ≡ outfits_of workers
+    pub kept : KeepsStore o o.rows store
+
+  abbrev pub RunsCrew : Result Record Stop → Kept → List (Outfit L D) → Type 0
+  RunsCrew (Ok made) store outfits = WorkersRan made store outfits
+  RunsCrew (Err stop) store outfits = NoneRan stop store outfits

@@ -1,0 +1,78 @@
+-- What a fleet over a store gives: it ended up to its workers, or they ran.
+use Rattle.std.specs.Prelude.{◌≡◌, ℕ, ◌⊎◌, List, [], ◌∷◌, map, All, IfSome, Option, Result, Ok, Err, ⊤}
+use Rattle.kr_kms.specs.Calls.{Link}
+use Rattle.std.specs.Option.{option_map}
+use Rattle.kr_kms.specs.Truth.{TellsOf, Truth, key_of}
+use Rattle.kr_provider.specs.Publication.{Publication}
+use Rattle.kr_rollout.specs.declared.opening.Entry.{Entry}
+use Rattle.kr_workers.specs.declared.budget.BudgetNo.{BudgetNo}
+use Rattle.kr_workers.specs.declared.budget.BudgetNo.TheVariants as budget
+use Rattle.kr_workers.specs.declared.worker.Worker as fleet_worker
+use Rattle.kr_cmd_steps.specs.Around.{Around, IsHome}
+use Rattle.kr_cmd_fleet.specs.FleetFiles.{FleetPlan, NamedRows}
+use Rattle.kr_cmd_fleet.specs.Fleets.{Begun, Replicas, RunsFleet, StartsNone, rows_of_replica}
+use Rattle.kr_cmd_steps.specs.Steps.{Steps}
+use Rattle.kr_cmd_fleet.specs.declared.fleet.Record.{Record}
+use Rattle.kr_cmd_messages.specs.declared.refusal.Limit.TheVariants as limit
+use Rattle.kr_cmd_messages.specs.declared.refusal.Refusal.TheVariants.{Limit}
+use Rattle.kr_cmd_messages.specs.declared.refusal.Stop.{Stop}
+use Rattle.kr_cmd_messages.specs.declared.refusal.Stop.TheVariants.{Refused, NoMemory}
+use Rattle.kr_cmd_steps.specs.inner.Phases.{Does}
+
+module _ (T : Type 0) {L D : Type 0} (truth : Truth) (link : L → Link)
+    (left : D → Option (List ℕ)) (count : D → ℕ) where
+  -- the workers ran, and left this record
+  pub record LeavesRecord (steps : Steps Begun) (store : List ℕ) (plan : FleetPlan)
+      (old new : Around) (made : Record) : Type 0 where
+    pub begun : Begun
+    pub plan_is : begun.plan ≡ plan
+    pub mid : Around
+    pub does : Does steps old mid (Ok begun)
+    pub history : List Entry
+    pub ended : List (fleet_worker.Worker T L D)
+    pub runs : RunsFleet truth link left count store begun mid new history ended
+    pub lines : made.lines.0 ≡ map (λ (e : Entry). e.line) history
+    pub replies : made.replies.0 ≡ map (λ (w : fleet_worker.Worker T L D). w.told) ended
+    pub home : IsHome old new
+
+  -- memory lacked for the workers
+  pub record LacksWorkers (steps : Steps Begun) (store : List ℕ) (old new : Around)
+      (stop : Stop) : Type 0 where
+    pub stops : stop ≡ NoMemory
+    pub begun : Begun
+    pub mid : Around
+    pub does : Does steps old mid (Ok begun)
+    pub none : StartsNone store begun mid new
+    pub home : IsHome old new
+
+  -- what these steps up to the workers give
+  abbrev pub RunsBy : Steps Begun → (store : List ℕ) → FleetPlan → (old new : Around)
+      → Result Record Stop → Type 0
+  RunsBy steps store plan old new (Ok made) = LeavesRecord steps store plan old new made
+  RunsBy steps store plan old new (Err stop) =
+      Does steps old new (Err stop) ⊎ LacksWorkers steps store old new stop
+
+-- why there are no budgets, as a command says it
+abbrev pub budget_stop : BudgetNo → Stop
+budget_stop budget.TooMany = Refused (Limit limit.Journal)
+budget_stop budget.NoMemory = NoMemory
+
+-- ---- what the replicas publish
+
+abbrev pub published_in : Result (List (Option Publication) × ℕ) Stop → Result Replicas Stop
+published_in (Ok made) = Ok made.0
+published_in (Err stop) = Err stop
+
+-- a replica that is in published the configuration of its file, with seeds that were told
+abbrev pub IsPublishedBy : Truth → List NamedRows → (List ℕ × List ℕ) → Option Publication
+    → Type 0
+IsPublishedBy truth files replica published =
+    (option_map (λ p. p.rows) published ≡ rows_of_replica files replica)
+    × IfSome published (λ p. All (λ row. TellsOf truth (key_of row) row.seed) p.seeds)
+
+abbrev pub ArePublished : Truth → List NamedRows → List (List ℕ × List ℕ) → Replicas → Type 0
+ArePublished truth files [] [] = ⊤
+ArePublished truth files [] (p ∷ published) = ⊥
+ArePublished truth files (replica ∷ replicas) [] = ⊥
+ArePublished truth files (replica ∷ replicas) (p ∷ published) =
+    IsPublishedBy truth files replica p × ArePublished truth files replicas published

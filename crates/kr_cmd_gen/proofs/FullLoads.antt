@@ -1,0 +1,360 @@
+-- A load over a store without rows ends with its whole summary, or memory lacked.
+use Rattle.std.proofs.Common.{◌≡◌, ℕ, zero, suc, ◌+◌, ◌*◌, ◌≤◌, ◌⊎◌, Bool, true, false, List, [], ◌∷◌, codes, map, sum, Contains, Option, Some, Result, Ok, Err, refl, sym, ◌∙◌, ap, subst, inl, inr, arith}
+use Rattle.std.specs.Prelude.{if◌then◌else◌}
+use Rattle.std.specs.List.{list_any}
+use Rattle.std.proofs.lemmas.List.Sums.{sum_by-cons}
+use Rattle.std.proofs.lemmas.Option.{get_or_from_slice_get, none-some, slice_get_within}
+use Rattle.kr_base.specs.Faults.{Rose}
+use Rattle.kr_base.proofs.Counting.{Rose-later}
+use Rattle.kr_config.specs.Kept.{Row}
+use Rattle.kr_config.specs.Lists.{class_list, first_list}
+use Rattle.kr_config.specs.Patterns.{covers_group, covers_rest, matches}
+use Rattle.kr_config.specs.declared.class.Class.{Class}
+use Rattle.kr_config.specs.declared.class.Class.TheVariants as classes
+use Rattle.kr_config.specs.declared.pattern.Pattern.{Pattern}
+use Rattle.kr_config.specs.declared.pattern.Pattern.TheVariants.{Exact}
+use Rattle.kr_config.specs.declared.who.Who.TheVariants.{Identity}
+use Rattle.kr_kms.specs.Calls.{Link}
+use Rattle.kr_kms.specs.Outside.{same_seat}
+use Rattle.kr_kms.specs.Truth.{Truth}
+use Rattle.kr_workload.specs.Endings.{ending_of_load}
+use Rattle.kr_workload.specs.FullLoads.{AreFull, IsBlankRun}
+use Rattle.kr_workload.specs.LoadRuns.{IsLoadRun, opening_rows}
+use Rattle.kr_workload.specs.Loads.{g1, lines_of, load_fleet}
+use Rattle.kr_workload.specs.Summaries.{IsDigest, Replies, objects_of, text_of}
+use Rattle.kr_workload.proofs.FullRuns.{loads_are_full}
+use Rattle.kr_workload.proofs.KeptPuts.{puts_are_kept}
+use Rattle.kr_workload.proofs.LoadLines.{budget_few}
+use Rattle.kr_provider.specs.Names.{names_of}
+use Rattle.kr_provider.specs.Readers.{writer_of}
+use Rattle.kr_opening.specs.Replicas.{settings_of}
+use Rattle.kr_opening.specs.Starts.{MayStart}
+use Rattle.kr_opening.specs.declared.opening_board.StartNo.TheVariants as no
+use Rattle.kr_history.proofs.Judging.{refusal_is_exact}
+use Rattle.kr_store.specs.Rows.{live}
+use Rattle.kr_workers.specs.Budgets.{budget_of, budgets_of, put_lines}
+use Rattle.kr_workers.specs.Endings.{status_of}
+use Rattle.kr_workers.specs.declared.ending.Ending.{Ending}
+use Rattle.kr_workers.specs.declared.ending.Ending.TheVariants as ending
+use Rattle.kr_workers.specs.declared.worker.Worker as fleet_worker
+use Rattle.kr_base.specs.declared.seeded_dice.SeededDice.{SeededDice}
+use Rattle.rand_chacha.specs.ChaCha.{ChaCha}
+use Rattle.kr_cmd_steps.specs.Around.{Around, faults_at, left_of}
+use Rattle.kr_cmd_fleet.specs.Causes.{NoneRose}
+use Rattle.kr_cmd_steps.specs.Commands.{by_result, with_memory}
+use Rattle.kr_cmd_fleet.specs.FleetFiles.{FleetPlan}
+use Rattle.kr_cmd_fleet.specs.Fleets.{AreWithin, Begun, IsStart, Replicas, StopsBefore, TellsFleet, launching, opening_of, parts_of, rows_of_replica, starting}
+use Rattle.kr_cmd_gen.specs.FullLoads.{IsBlank, IsFullLoad, KeepsPuts}
+use Rattle.kr_cmd_gen.specs.GeneratedLoads.{RanLoad, StartsLoad, load_beginning, load_plan, load_steps, no_faults, nothing_told, with_streams}
+use Rattle.kr_cmd_steps.specs.Judgements.{start_refusal}
+use Rattle.kr_cmd_messages.specs.Message.{status_of as stop_status}
+use Rattle.kr_cmd_steps.specs.Ran.{IsIdle}
+use Rattle.kr_cmd_messages.specs.Receipts.{Receipt}
+use Rattle.kr_cmd_steps.specs.Steps.{Left, and_then, give, gives, or_empty, refuses, tapes_with, Call, asking, drawing, lending, linking, loading, opening, reading, scanning, writing}
+use Rattle.kr_cmd_steps.specs.StoreFiles.{IsStored, Stored}
+use Rattle.kr_cmd_messages.specs.declared.load_words.LoadWords.{LoadWords}
+use Rattle.kr_cmd_steps.specs.declared.programs.Program.{Program}
+use Rattle.kr_cmd_messages.specs.declared.refusal.Object.TheVariants.{Store}
+use Rattle.kr_cmd_messages.specs.declared.refusal.Refusal.{Refusal}
+use Rattle.kr_cmd_messages.specs.declared.refusal.Stop.{Stop}
+use Rattle.kr_cmd_messages.specs.declared.refusal.Stop.TheVariants.{Words, Refused, Fault, NoMemory}
+use Rattle.kr_cmd_laws.proofs.FleetWalk.{is_told, some_same}
+use Rattle.kr_cmd_steps.proofs.GivesOnly.{GivesOnly, allowed}
+use Rattle.kr_cmd_laws.proofs.Listed.{one_stored}
+use Rattle.kr_cmd_steps.proofs.Tapes.{own_name}
+
+-- ---- the start
+
+first_writer : (test : Pattern → Bool) (seed : ℕ)
+    → Contains (first_list test (opening_rows seed))
+    (writer_of (first_list test (opening_rows seed)))
+first_writer test seed = by (list_any test (Exact (codes "secrets") ∷ []))
+  where
+    by : (b : Bool) → Contains (if b then g1 seed ∷ (Identity ∷ []) else Identity ∷ [])
+        (writer_of (if b then g1 seed ∷ (Identity ∷ []) else Identity ∷ []))
+    by true = (0, omega arith, refl)
+    by false = (0, omega arith, refl)
+
+class_writer : (seed : ℕ) (class : Class) → Contains (class_list (opening_rows seed) class)
+    (writer_of (class_list (opening_rows seed) class))
+class_writer seed (classes.Exact text) = first_writer (λ pattern. matches pattern text) seed
+class_writer seed (classes.Group group) =
+    first_writer (λ pattern. covers_group pattern group) seed
+class_writer seed classes.Rest = first_writer covers_rest seed
+
+rows_there : (seed : ℕ) (rows : List Row)
+    → Contains (Some (opening_rows seed) ∷ (Some (opening_rows seed) ∷ [])) (Some rows)
+    → opening_rows seed ≡ rows
+rows_there seed rows (zero, below, is) = some_same is
+rows_there seed rows (suc zero, below, is) = some_same is
+rows_there seed rows (suc (suc k), below, is) = absurd (omega (arith, below))
+
+-- both replicas begin with one configuration, over no rows
+may_start : (seed : ℕ)
+    → MayStart [] (Some (opening_rows seed) ∷ (Some (opening_rows seed) ∷ []))
+may_start seed = record {
+  readable = λ path row is. absurd (none-some row is);
+  secrets = λ path other. none-some other.0 other.2;
+  fit = record {
+    writers = λ rows other class here there.
+        subst (λ r. Contains (class_list r class) (writer_of (class_list other class)))
+        (rows_there seed rows here)
+        (subst (λ r. Contains (class_list (opening_rows seed) class)
+        (writer_of (class_list r class))) (rows_there seed other there)
+        (class_writer seed class));
+    stored = λ rows need here c. absurd (omega (arith, c.1));
+  };
+}
+
+no_refusal : (seed : ℕ) (replicas : Replicas) (why : Refusal)
+    → settings_of replicas ≡ Some (opening_rows seed) ∷ (Some (opening_rows seed) ∷ [])
+    → IsStart [] replicas (Err why) → ⊥
+no_refusal seed replicas why settings (cause, is, e) =
+    let may = subst (λ s. MayStart [] s) (sym settings) (may_start seed) in
+    let none : cause ≡ no.NoMemory =
+    refusal_is_exact [] (settings_of replicas) cause is may in
+    none-some why (sym (ap start_refusal none) ∙ e)
+
+-- ---- the budgets
+
+four_few : (a b c d n : ℕ) → a ≤ n → b ≤ n → c ≤ n → d ≤ n
+    → sum (a ∷ (b ∷ (c ∷ (d ∷ [])))) ≤ 4 * n
+four_few a b c d n la lb lc ld = omega (
+  arith,
+  la,
+  lb,
+  lc,
+  ld,
+  sum_by-cons (λ x. x) a (b ∷ (c ∷ (d ∷ []))),
+  sum_by-cons (λ x. x) b (c ∷ (d ∷ [])),
+  sum_by-cons (λ x. x) c (d ∷ []),
+  sum_by-cons (λ x. x) d [],
+)
+
+within_journal : (seed size paths : ℕ) → size ≤ 10000
+    → sum (budgets_of paths (parts_of (load_fleet seed size))) ≤ 4000000
+within_journal seed size paths small =
+    let few = four_few (budget_of paths (lines_of seed size 0))
+    (budget_of paths (lines_of seed size 1)) (budget_of paths (lines_of seed size 2))
+    (budget_of paths (lines_of seed size 3)) (3 * (2 * size + 4)) (budget_few seed size 0 paths)
+    (budget_few seed size 1 paths) (budget_few seed size 2 paths)
+    (budget_few seed size 3 paths) in omega (arith, few, small)
+
+-- ---- the steps
+
+abbrev BeginsBlank : Begun → Left → Type 0
+BeginsBlank begun left = begun.stored.rows ≡ []
+
+module _ (words : LoadWords) (small : words.size ≤ 10000) (stored : Stored)
+    (empty : stored.rows ≡ []) where
+  starts_blank : (budgets : List ℕ) (replicas : Replicas) (left : Left)
+      → settings_of replicas
+      ≡ Some (opening_rows words.seed) ∷ (Some (opening_rows words.seed) ∷ [])
+      → GivesOnly BeginsBlank (starting (load_plan words) stored budgets replicas) left
+  starts_blank budgets replicas left settings = by
+    where
+      by : (r : Result (Unit {0}) Refusal) → IsStart stored.rows replicas r
+          → GivesOnly BeginsBlank (and_then (by_result r) (λ done. with_memory (give (record {
+            plan = load_plan words;
+            stored = stored;
+            budgets = budgets;
+            replicas = replicas;
+          })))) left
+      by (Ok done) is = λ u t. empty
+      by (Err why) is = absurd (no_refusal words.seed replicas why settings
+          (subst (λ rows. IsStart rows replicas (Err why)) empty is))
+
+  launches_blank : (budgets : List ℕ) (left : Left)
+      → GivesOnly BeginsBlank (launching (load_plan words) stored budgets) left
+  launches_blank budgets left = λ u t v s x y. starts_blank budgets _ left refl
+
+  begins_blank : (left : Left)
+      → GivesOnly BeginsBlank (load_beginning (load_plan words) stored) left
+  begins_blank left = by
+    where
+      by : (r : Result (List ℕ) Refusal)
+          → AreWithin stored.rows (parts_of (load_plan words).fleet) r
+          → GivesOnly BeginsBlank
+          (and_then (by_result r) (launching (load_plan words) stored)) left
+      by (Ok budgets) is = launches_blank budgets left
+      by (Err why) (e, (budgets, (count, live, are), many)) =
+          let few = within_journal words.seed words.size
+          (count + put_lines (parts_of (load_plan words).fleet)) small in
+          let same = ap sum are in absurd (omega (arith, few, many, same))
+
+  known_blank : (r : Result Stored Refusal) (left : Left) → Ok stored ≡ r
+      → GivesOnly BeginsBlank (and_then (by_result r) (load_beginning (load_plan words))) left
+  known_blank r left e = subst (λ k. GivesOnly BeginsBlank
+      (and_then (by_result k) (load_beginning (load_plan words))) left) e (begins_blank left)
+
+walks_blank : (words : LoadWords) → words.size ≤ 10000 → (old : Around) → IsBlank words old
+    → GivesOnly BeginsBlank (load_steps words) (left_of (with_streams old))
+walks_blank words small old (stored, (file, told, holds), empty) = (
+  refl,
+  λ bytes agrees r is.
+      let held : file ≡ bytes = some_same (is_told
+      (tapes_with true words.store old.world.tapes.told words.store) (Some file) (Some bytes)
+      (ap {B = Option (Option (List ℕ))}
+      (λ b. if b then or_empty (old.world.tapes.told words.store)
+      else old.world.tapes.told words.store) (own_name words.store) ∙ told) agrees) in
+      known_blank words small stored empty r _
+      (one_stored bytes (Ok stored) r (subst (λ b. IsStored b (Ok stored)) held holds) is),
+)
+
+-- ---- counts
+
+never_rose : Rose 0 0 → ⊥
+never_rose (inl l) = omega (arith, l)
+never_rose (inr e) = let is = e.0 in omega (arith, is)
+
+beside_streams : (a b c d : Bool) (before now : ℕ)
+    → Rose (if a then 0 else if b then 0 else if c then 0 else if d then 0 else before)
+    (if a then 0 else if b then 0 else if c then 0 else if d then 0 else now) → Rose before now
+beside_streams true b c d before now rose = absurd (never_rose rose)
+beside_streams false true c d before now rose = absurd (never_rose rose)
+beside_streams false false true d before now rose = absurd (never_rose rose)
+beside_streams false false false true before now rose = absurd (never_rose rose)
+beside_streams false false false false before now rose = rose
+
+-- ---- the workers
+
+abbrev Source : Type 0
+Source = SeededDice ChaCha
+
+-- they are those of the load
+pub load_run : (T : Type 0) → {L : Type 0} → (truth : Truth) (link : L → Link)
+    (words : LoadWords) (old new : Around) (output : Receipt) (result : Result Ending Stop)
+    → (s : StartsLoad T truth link words old new output result)
+    → IsLoadRun truth link nothing_told no_faults words.seed words.size s.runs.files s.history
+    (opening_of words.store s.begun s.mid) s.runs.parts s.begun.budgets s.runs.workers s.ended
+load_run T truth link words old new output result s = record {
+  parts_are = s.runs.parts_are ∙ ap (λ (p : FleetPlan). p.fleet.workers) s.plan_is;
+  files_are = s.runs.files_are ∙ ap (λ (p : FleetPlan). p.files) s.plan_is;
+  opens = s.runs.published
+      ∙ ap (λ (p : FleetPlan). map (rows_of_replica p.files) p.fleet.replicas) s.plan_is;
+  one = s.runs.one;
+}
+
+-- so each put that was done has its row
+pub keeps_puts : (T : Type 0) → {L : Type 0} → (truth : Truth) (link : L → Link)
+    (words : LoadWords) (old new : Around) (output : Receipt) (result : Result Ending Stop)
+    → (s : StartsLoad T truth link words old new output result)
+    → KeepsPuts T truth link words old new output result s
+keeps_puts T truth link words old new output result s = puts_are_kept T truth link nothing_told
+    no_faults words.seed words.size s.runs.files s.history (opening_of words.store s.begun s.mid)
+    s.runs.parts s.begun.budgets s.runs.workers s.ended
+    (load_run T truth link words old new output result s)
+
+module _ (T : Type 0) {L : Type 0} (truth : Truth) (link : L → Link) (words : LoadWords)
+    (old new : Around) (output errors : Receipt) (small : words.size ≤ 10000)
+    (blank : IsBlank words old)
+    (none : NoneRose old new output errors) where
+  -- so none rose with the workers' streams in place of random sources either
+  calls : (call : Call)
+      → Rose (faults_at call (with_streams old)) (faults_at call (with_streams new)) → ⊥
+  calls (loading name) rose = none.calls (loading name) rose
+  calls reading rose = none.calls reading rose
+  calls (opening seat) rose = none.calls (opening seat) rose
+  calls (lending name) rose = none.calls (lending name) rose
+  calls (scanning object name) rose = none.calls (scanning object name) rose
+  calls (writing object name) rose = none.calls (writing object name) rose
+  calls (drawing seat) rose = none.calls (drawing seat)
+      (beside_streams (same_seat 0 seat) (same_seat 1 seat) (same_seat 2 seat)
+      (same_seat 3 seat) (old.world.dice.faults seat) (new.world.dice.faults seat) rose)
+  calls (linking seat plugin) rose = none.calls (linking seat plugin) rose
+  calls (asking seat plugin) rose = none.calls (asking seat plugin) rose
+
+  module _ (result : Result Ending Stop)
+      (s : StartsLoad T truth link words old new output result) where
+    rows_none : s.begun.stored.rows ≡ []
+    rows_none = allowed BeginsBlank (gives s.begun) s.reaches.end (load_steps words)
+        (left_of (with_streams old)) (walks_blank words small old blank) s.reaches.goes
+
+    no_programs : s.begun.plan.programs ≡ []
+    no_programs = ap (λ (p : FleetPlan). p.programs) s.plan_is
+
+    blank_run : IsBlankRun link no_faults words.size s.history
+        (opening_of words.store s.begun s.mid) s.runs.workers s.ended
+    blank_run = record {
+      few = small;
+      blank = rows_none;
+      bare = ap (map (λ (program : Program). program.plugin)) no_programs;
+      limit = refl;
+      links = λ number worker is.
+          let had = s.runs.before number worker
+          (slice_get_within s.runs.workers number worker is) in
+          let own = get_or_from_slice_get s.runs.workers number worker worker is in
+          ap (λ (w : fleet_worker.Worker T L Source). names_of link w.bench.links) (sym own)
+          ∙ had.names ∙ ap (map (λ (program : Program). program.plugin)) no_programs;
+      stored = λ rose. calls (scanning Store words.store)
+          (Rose-later _ _ _ (s.since.tapes.later words.store)
+          (subst (λ n. Rose (s.mid.world.tapes.faults words.store) n) (sym s.runs.counted) rose));
+      drawn = λ number before after was now rose. never_rose rose;
+    }
+
+    abbrev told_by : Replies
+    told_by = map (λ (w : fleet_worker.Worker T L Source). w.told) s.ended
+
+    full_run : (ending_of_load told_by ≡ ending.Memory)
+        ⊎ AreFull words.seed words.size told_by
+    full_run = loads_are_full T truth link nothing_told no_faults words.seed words.size
+        s.runs.files s.history (opening_of words.store s.begun s.mid) s.runs.parts
+        s.begun.budgets s.runs.workers s.ended
+        (load_run T truth link words old new output result s) blank_run
+
+  abbrev Ends : ℕ → Type 0
+  Ends status = IsFullLoad words output errors status
+
+  ended_so : (status : ℕ) (e : Ending)
+      → (s : StartsLoad T truth link words old new output (Ok e)) → IsIdle errors
+      → status ≡ status_of e → Ends status
+  ended_so status e s idle is = by (full_run (Ok e) s)
+    where
+      by : (ending_of_load (told_by (Ok e) s) ≡ ending.Memory)
+          ⊎ AreFull words.seed words.size (told_by (Ok e) s) → Ends status
+      by (inl lacks) = inr (is ∙ ap status_of (s.writes.0 ∙ lacks))
+      by (inr full) =
+          let text = s.writes.1.0 in
+          let made = s.writes.1.1 in
+          let workers = ap (λ (p : FleetPlan). p.fleet.workers) s.plan_is in
+          let over = subst (λ g. IsDigest g made.digest)
+          (ap (λ ws. objects_of ws (told_by (Ok e) s)) workers ∙ full.objects) made.over in
+          let is_text = made.text_is
+          ∙ (λ i. text_of words.seed words.size (full.puts i) (full.gets i) made.digest) in
+          inl (
+            is ∙ ap status_of (s.writes.0 ∙ full.ended),
+            idle,
+            text,
+            (made.digest, over, is_text),
+            s.writes.1.2,
+          )
+
+  stopped_so : (status : ℕ) (stop : Stop) → status ≡ stop_status (Err stop)
+      → StopsBefore (load_steps words) words.store (with_streams old) (with_streams new) output
+      (Err stop) ⊎ StartsLoad T truth link words old new output (Err stop) → Ends status
+  stopped_so status (Words why) is (inl (inl ends, idle)) = absurd ends
+  stopped_so status (Words why) is (inl (inr (e, lacking), idle)) = absurd cc
+  stopped_so status (Words why) is (inr s) = absurd s.writes
+  stopped_so status (Refused why) is (inl (inl ends, idle)) =
+      absurd (allowed BeginsBlank (refuses why) ends.end (load_steps words)
+      (left_of (with_streams old)) (walks_blank words small old blank) ends.goes)
+  stopped_so status (Refused why) is (inl (inr (e, lacking), idle)) = absurd cc
+  stopped_so status (Refused why) is (inr s) = absurd s.writes
+  stopped_so status (Fault object n) is (inl (inl (call, reaches, fault), idle)) =
+      absurd (calls call fault.1)
+  stopped_so status (Fault object n) is (inl (inr (e, lacking), idle)) = absurd cc
+  stopped_so status (Fault object n) is (inr s) = absurd (none.written s.writes.2)
+  stopped_so status NoMemory is did = inr is
+
+  by_result_so : (status : ℕ) (result : Result Ending Stop)
+      → StopsBefore (load_steps words) words.store (with_streams old) (with_streams new) output
+      result ⊎ StartsLoad T truth link words old new output result
+      → TellsFleet result errors status → Ends status
+  by_result_so status (Ok e) (inl stops) tells = absurd stops
+  by_result_so status (Ok e) (inr s) tells = ended_so status e s tells.1 tells.0
+  by_result_so status (Err stop) did (inl tells) = stopped_so status stop tells.0 did
+  by_result_so status (Err stop) did (inr tells) = absurd (none.told tells.1)
+
+  pub full_load : (status : ℕ) → RanLoad T truth link words old new output errors status
+      → IsFullLoad words output errors status
+  full_load status ran = by_result_so status ran.result ran.did.did ran.tells

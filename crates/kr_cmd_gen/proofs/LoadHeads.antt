@@ -1,0 +1,76 @@
+-- The headline of a call, from the relation of a load.
+use Rattle.std.specs.Prelude.{◌⊎◌, map}
+use Rattle.std.proofs.Common.{ℕ, List, Result, Ok, Err, inl, inr, ap, ◌∙◌}
+use Rattle.kr_base.specs.declared.seeded_dice.SeededDice.{SeededDice}
+use Rattle.kr_kms.specs.Calls.{Link}
+use Rattle.kr_kms.specs.Truth.{Truth}
+use Rattle.kr_script.specs.Fleets.{Worker}
+use Rattle.kr_workers.specs.Endings.{status_of as status_of_replies}
+use Rattle.kr_workers.specs.declared.ending.Ending.{Ending}
+use Rattle.kr_workers.specs.declared.worker.Worker as fleet_worker
+use Rattle.kr_workload.specs.Summaries.{Replies}
+use Rattle.rand_chacha.specs.ChaCha.{ChaCha}
+use Rattle.kr_cmd_messages.specs.Receipts.{Receipt}
+use Rattle.kr_cmd_messages.specs.declared.load_words.LoadWords.{LoadWords}
+use Rattle.kr_cmd_messages.specs.declared.refusal.Stop.{Stop}
+use Rattle.kr_cmd_messages.specs.declared.refusal.Stop.TheVariants.{Words, Refused, Fault, NoMemory}
+use Rattle.kr_cmd_steps.specs.Around.{Around}
+use Rattle.kr_cmd_fleet.specs.Fleets.{StopsBefore, TellsFleet}
+use Rattle.kr_cmd_laws.proofs.RunHeads.{tells_output, workers_headline}
+use Rattle.kr_cmd_gen.specs.GeneratedLoads.{StartsLoad, WritesLoad, load_steps, no_faults, nothing_told, with_streams}
+use Rattle.kr_cmd_gen.specs.Laws.{LoadsHaveHeadlines}
+use Rattle.kr_cmd_gen.specs.LoadHeadlines.{LoadHeadline, PrintsSummary, StartsLoadWorkers}
+
+prints : (words : LoadWords) (workers : List Worker) (replies : Replies)
+    (output errors : Receipt) (status : ℕ) (result : Result Ending Stop)
+    → WritesLoad words workers replies output result → TellsFleet result errors status
+    → PrintsSummary words workers replies output errors status
+prints words workers replies output errors status (Ok told) w t = inl (
+  w.1.0,
+  w.1.1,
+  inl (w.1.2, t.1, t.0 ∙ ap status_of_replies w.0),
+)
+prints words workers replies output errors status (Err (Fault object n)) w t = inl (
+  w.0.0,
+  w.0.1,
+  inr (w.0.2, w.2, tells_output object n errors status output.new_faults w.1 w.3 t),
+)
+prints words workers replies output errors status (Err NoMemory) w t = inr (w, t)
+prints words workers replies output errors status (Err (Words why)) w t = absurd w
+prints words workers replies output errors status (Err (Refused why)) w t = absurd w
+
+module _ (T : Type 0) {L : Type 0} (truth : Truth) (link : L → Link) (words : LoadWords)
+    (old new : Around) (output errors : Receipt) (status : ℕ) where
+  started : (result : Result Ending Stop) → StartsLoad T truth link words old new output result
+      → TellsFleet result errors status
+      → StartsLoadWorkers T truth link words old new output errors status
+  started result s tells = record {
+    begun = s.begun;
+    plan_is = s.plan_is;
+    mid = s.mid;
+    reaches = s.reaches;
+    since = s.since;
+    history = s.history;
+    ended = s.ended;
+    has = workers_headline truth link nothing_told no_faults words.store s.begun s.mid
+        (with_streams new) s.history s.ended s.runs;
+    prints = prints words s.begun.plan.fleet.workers
+        (map (λ (w : fleet_worker.Worker T L (SeededDice ChaCha)). w.told) s.ended) output errors
+        status result s.writes tells;
+  }
+
+  either : (result : Result Ending Stop)
+      → StopsBefore (load_steps words) words.store (with_streams old) (with_streams new) output
+      result
+      ⊎ StartsLoad T truth link words old new output result
+      → TellsFleet result errors status
+      → LoadHeadline T truth link words old new output errors status
+  either (Ok ending) (inl stops) tells = absurd stops
+  either (Err stop) (inl stops) tells =
+      inl (record { stop = stop; stops = stops; tells = tells })
+  either result (inr began) tells = inr (started result began tells)
+
+pub load_headline : (T : Type 0) → {L : Type 0} → (truth : Truth) (link : L → Link)
+    → LoadsHaveHeadlines T truth link
+load_headline T truth link words old new output errors status ran =
+    either T truth link words old new output errors status ran.result ran.did.did ran.tells

@@ -1,0 +1,158 @@
+-- How a call of `run` goes by what `gen` did.
+use Rattle.std.proofs.Common.{◌≡◌, ℕ, List, map, Result, Ok, Err, refl, sym, ◌∙◌, subst, inl, inr}
+use Rattle.std.specs.Prelude.{◌⊎◌}
+use Rattle.kr_base.specs.declared.seeded_dice.SeededDice.{SeededDice}
+use Rattle.kr_kms.specs.Calls.{Link}
+use Rattle.kr_kms.specs.Truth.{Truth}
+use Rattle.kr_workers.specs.declared.ending.Ending.{Ending}
+use Rattle.kr_workers.specs.declared.worker.Worker as fleet_worker
+use Rattle.rand_chacha.specs.ChaCha.{ChaCha}
+use Rattle.kr_cmd_steps.specs.Around.{Around, left_of}
+use Rattle.kr_cmd_messages.specs.FleetAsked.{AskAlone, AskNoFleet}
+use Rattle.kr_cmd_fleet.specs.FleetFiles.{FleetPlan}
+use Rattle.kr_cmd_gen.specs.GeneratedLoads.{DidLoad, LeavesOthers, RanLoad, WritesLoad, load_over, load_plan, with_streams}
+use Rattle.kr_cmd_messages.specs.LoadAsked.{AsksLoad}
+use Rattle.kr_cmd_messages.specs.Message.{line_of, status_of as stop_status}
+use Rattle.kr_cmd_steps.specs.Ran.{IsIdle, StopsAtOnce}
+use Rattle.kr_cmd_messages.specs.Receipts.{Receipt, Tells}
+use Rattle.kr_cmd_fleet.specs.declared.fleet.Record.{Record}
+use Rattle.kr_cmd_messages.specs.declared.load_words.LoadWords.{LoadWords}
+use Rattle.kr_cmd_messages.specs.declared.refusal.Stop.{Stop}
+use Rattle.kr_cmd_messages.specs.declared.refusal.Stop.TheVariants.{Words, Refused, Fault, NoMemory}
+use Rattle.kr_cmd_messages.specs.inner.FleetAnswers.{IsFleetAsked}
+use Rattle.kr_cmd_gen.specs.inner.LoadOutcomes.{RunsLoad}
+use Rattle.kr_cmd_messages.specs.inner.LoadAnswers.{IsLoadAsked}
+use Rattle.kr_cmd_steps.specs.inner.Phases.{Does}
+use Rattle.kr_cmd_gen.proofs.Generating.{home_unseeded}
+use Rattle.kr_cmd_steps.proofs.Goes.{home_refl, reach, stays_refl}
+
+-- ---- the words stop the call
+
+pub load_at_once : (words : List (List ℕ)) (stop : Stop) → IsLoadAsked words (Err stop)
+    → StopsAtOnce words (Err stop)
+load_at_once words (Words why) h = h.0
+load_at_once words (Refused why) h = absurd h
+load_at_once words (Fault object count) h = absurd h
+load_at_once words NoMemory h = tt
+
+-- they ask for no load, but where memory lacked
+pub no_load_or_memory : (words : List (List ℕ)) → AskNoFleet words → (stop : Stop)
+    → IsLoadAsked words (Err stop) → (errors : Receipt) (status : ℕ)
+    → Tells (line_of (Err stop)) (stop_status (Err stop)) errors status → AskAlone words
+    ⊎ Tells (line_of (Err NoMemory)) (stop_status (Err NoMemory)) errors status
+no_load_or_memory words none (Words why) h errors status t = inl (none, h.1)
+no_load_or_memory words none (Refused why) h errors status t = absurd h
+no_load_or_memory words none (Fault object count) h errors status t = absurd h
+no_load_or_memory words none NoMemory h errors status t = inr t
+
+-- ---- a load
+
+pub for_load : {T L : Type 0} {truth : Truth} {link : L → Link} {a b : LoadWords}
+    {old new : Around} {output errors : Receipt} {status : ℕ} → a ≡ b
+    → RanLoad T truth link a old new output errors status
+    → RanLoad T truth link b old new output errors status
+for_load {T} {truth = truth} {link = link} {old = old} {new = new} {output = output}
+    {errors = errors} {status = status} e r =
+    subst (λ w. RanLoad T truth link w old new output errors status) e r
+
+module _ (T : Type 0) {L : Type 0} (truth : Truth) (link : L → Link) where
+  -- memory lacked before anything was done
+  pub unbegun : (asked : LoadWords) (a : Around) (output : Receipt) → IsIdle output
+      → DidLoad T truth link asked a a output (Err NoMemory)
+  unbegun asked a output idle = record {
+    home = home_refl a;
+    others = record { dice = refl; links = refl };
+    did = inl (
+      inl (inr (reach (left_of (with_streams a)) (inl (refl, refl))
+          (stays_refl (with_streams a)))),
+      idle,
+    );
+  }
+
+  pub load_unread : (words : List (List ℕ)) (asked : LoadWords) → AsksLoad words asked
+      → (stop : Stop) → IsLoadAsked words (Err stop) → (a : Around) (output : Receipt)
+      → IsIdle output → DidLoad T truth link asked a a output (Err stop)
+  load_unread words asked asks (Words why) h a output idle = absurd (h.1 asked asks)
+  load_unread words asked asks (Refused why) h a output idle = absurd h
+  load_unread words asked asks (Fault object n) h a output idle = absurd h
+  load_unread words asked asks NoMemory h a output idle = unbegun asked a output idle
+
+  -- the same where the words were read as a fleet's
+  pub fleet_unread : (words : List (List ℕ)) (asked : LoadWords) → AsksLoad words asked
+      → (stop : Stop) → IsFleetAsked words (Err stop) → (a : Around) (output : Receipt)
+      → IsIdle output → DidLoad T truth link asked a a output (Err stop)
+  fleet_unread words asked asks (Words why) h a output idle = absurd (h.2 asked asks)
+  fleet_unread words asked asks (Refused why) h a output idle = absurd h
+  fleet_unread words asked asks (Fault object n) h a output idle = absurd h
+  fleet_unread words asked asks NoMemory h a output idle = unbegun asked a output idle
+
+  module _ (asked : LoadWords) (plan : FleetPlan) (is : plan ≡ load_plan asked)
+      (old new : Around) where
+    -- the steps behind the plan ended the command, or want of memory did
+    pub load_stopped : (stop : Stop) (output : Receipt) → LeavesOthers old.world new.world
+        → RunsLoad T truth link asked.seed (load_over asked.store plan) asked.store plan
+        (with_streams old) (with_streams new) (Err stop)
+        → IsIdle output → DidLoad T truth link asked old new output (Err stop)
+    load_stopped stop output others (inl e) idle =
+        let d = subst (λ p. Does (load_over asked.store p) (with_streams old) (with_streams new)
+        (Err stop)) is e in
+        record {
+          home = home_unseeded old new others d.home;
+          others = others;
+          did = inl (
+            inl (d.ends (left_of (with_streams old)) (stays_refl (with_streams old))),
+            idle,
+          );
+        }
+    load_stopped stop output others (inr l) idle =
+        let d = subst (λ p. Does (load_over asked.store p) (with_streams old) l.mid (Ok l.begun)) is
+        l.does in
+        record {
+          home = home_unseeded old new others l.home;
+          others = others;
+          did = inl (
+            inr (
+              l.stops,
+              (
+                l.mid,
+                l.begun,
+                d.ends (left_of (with_streams old)) (stays_refl (with_streams old)),
+                l.none,
+                d.home,
+              ),
+            ),
+            idle,
+          );
+        }
+
+    -- the workers ran
+    pub load_ran : (made : Record) (output : Receipt) (result : Result Ending Stop)
+        → LeavesOthers old.world new.world
+        → RunsLoad T truth link asked.seed (load_over asked.store plan) asked.store plan
+        (with_streams old) (with_streams new) (Ok made)
+        → WritesLoad asked plan.fleet.workers made.replies.0 output result
+        → DidLoad T truth link asked old new output result
+    load_ran made output result others r w =
+        let l = r.leaves in
+        let d = subst (λ p. Does (load_over asked.store p) (with_streams old) l.mid (Ok l.begun)) is
+        l.does in
+        let told = map (λ (worker : fleet_worker.Worker T L (SeededDice ChaCha)). worker.told)
+        l.ended in
+        let by_replies = subst (λ replies. WritesLoad asked plan.fleet.workers replies output
+        result) l.replies w in
+        record {
+          home = home_unseeded old new others l.home;
+          others = others;
+          did = inr (record {
+            begun = l.begun;
+            plan_is = l.plan_is ∙ is;
+            mid = l.mid;
+            reaches = d.ends (left_of (with_streams old)) (stays_refl (with_streams old));
+            since = d.home;
+            history = l.history;
+            ended = l.ended;
+            runs = l.runs;
+            writes = subst (λ p. WritesLoad asked p.fleet.workers told output result)
+                (sym l.plan_is) by_replies;
+          });
+        }

@@ -1,0 +1,130 @@
+-- `gen`: the steps up to its workers, and what a call did once they were started.
+use Rattle.std.specs.Prelude.{◌≡◌, ℕ, suc, zero, ◌+◌, ◌≤◌, ◌⊎◌, true, List, [], map, Option, None, Result, Ok, Err}
+use Rattle.std.specs.Io.KnownBytes.{Appends, Keeps}
+use Rattle.kr_base.specs.Faults.{Rose}
+use Rattle.kr_base.specs.Streams.{AppendsFront}
+use Rattle.kr_base.specs.declared.seeded_dice.SeededDice.{SeededDice}
+use Rattle.kr_kms.specs.Calls.{Link}
+use Rattle.kr_kms.specs.Outside.{Objects, Outside, same_seat}
+use Rattle.kr_kms.specs.Truth.{Truth}
+use Rattle.kr_workload.specs.Endings.{ending_of_load}
+use Rattle.kr_workload.specs.Loads.{configurations, load_fleet}
+use Rattle.kr_workload.specs.Summaries.{IsSummary, Replies}
+use Rattle.kr_rollout.specs.declared.opening.Entry.{Entry}
+use Rattle.kr_script.specs.Fleets.{Worker}
+use Rattle.kr_workers.specs.declared.ending.Ending.{Ending}
+use Rattle.kr_workers.specs.declared.worker.Worker as fleet_worker
+use Rattle.rand_chacha.specs.ChaCha.{ChaCha}
+use Rattle.kr_cmd_steps.specs.Around.{Around, IsHome, Reaches, left_of, with_lent, with_world}
+use Rattle.kr_cmd_steps.specs.Commands.{stored_on, tape_for}
+use Rattle.kr_cmd_fleet.specs.FleetFiles.{FleetPlan}
+use Rattle.kr_cmd_fleet.specs.Fleets.{Begun, RunsFleet, StopsBefore, TellsFleet, budgeting, launching, parts_of}
+use Rattle.kr_cmd_messages.specs.Receipts.{Receipt}
+use Rattle.kr_cmd_steps.specs.Steps.{Steps, and_then, gives}
+use Rattle.kr_cmd_steps.specs.StoreFiles.{Stored}
+use Rattle.kr_cmd_messages.specs.declared.load_words.LoadWords.{LoadWords}
+use Rattle.kr_cmd_messages.specs.declared.refusal.Object.TheVariants.{Output, Store}
+use Rattle.kr_cmd_messages.specs.declared.refusal.Stop.{Stop}
+use Rattle.kr_cmd_messages.specs.declared.refusal.Stop.TheVariants.{Fault, NoMemory}
+
+-- ---- up to the workers
+
+-- what the load works by: its fleet and configurations, which name no plugin
+abbrev pub load_plan : LoadWords → FleetPlan
+load_plan words = record {
+  fleet = load_fleet words.seed words.size;
+  files = configurations words.seed;
+  programs = [];
+}
+
+abbrev pub load_beginning : FleetPlan → Stored → Steps Begun
+load_beginning plan stored =
+    and_then (budgeting stored.rows (parts_of plan.fleet)) (launching plan stored)
+
+abbrev pub load_over : (store : List ℕ) → FleetPlan → Steps Begun
+load_over store plan =
+    tape_for store true (and_then (stored_on Store store) (load_beginning plan))
+
+-- of the world just the store's tape is borrowed
+abbrev pub load_steps : LoadWords → Steps Begun
+load_steps words = load_over words.store (load_plan words)
+
+-- ---- the workers' random sources
+
+-- those of so many seats from this one on tell nothing of what they will give, and never failed
+abbrev pub seeded_dice : (seat seats : ℕ) → Objects ℕ (Option (List ℕ))
+    → Objects ℕ (Option (List ℕ))
+seeded_dice seat zero dice = dice
+seeded_dice seat (suc more) dice =
+    with_lent same_seat seat None 0 (seeded_dice (seat + 1) more dice)
+
+-- the world, as if the sources of the load's workers were those of their seats
+abbrev pub seeded_world : Outside → Outside
+seeded_world world = record world { dice = seeded_dice 0 4 world.dice }
+
+abbrev pub with_streams : Around → Around
+with_streams a = with_world (seeded_world a.world) a
+
+-- ---- once the workers were started
+
+-- the summary was written, and the replies decide the status; or the output failed behind a prefix
+-- of it, or memory lacked to make it
+abbrev pub WritesLoad : LoadWords → List Worker → Replies → Receipt → Result Ending Stop → Type 0
+WritesLoad words workers replies output (Ok told) = (told ≡ ending_of_load replies)
+    × ((text : List ℕ)
+    × IsSummary words.seed words.size workers replies text
+    × Appends output.old output.new text)
+WritesLoad words workers replies output (Err (Fault object n)) =
+    ((text : List ℕ) × IsSummary words.seed words.size workers replies text
+    × AppendsFront output.old output.new text)
+    × (object ≡ Output) × Rose output.old_faults output.new_faults × (n ≡ output.new_faults)
+WritesLoad words workers replies output (Err NoMemory) = Keeps output.old output.new
+WritesLoad words workers replies output (Err why) = ⊥
+
+-- nothing of the world was used but the store's tape
+pub record LeavesOthers (old new : Outside) : Type 0 where
+  pub dice : new.dice ≡ old.dice
+  pub links : new.links ≡ old.links
+
+-- a worker's source tells nothing of what it will give, and never fails
+abbrev pub nothing_told : SeededDice ChaCha → Option (List ℕ)
+nothing_told dice = None
+
+abbrev pub no_faults : SeededDice ChaCha → ℕ
+no_faults dice = 0
+
+module _ (T : Type 0) {L : Type 0} (truth : Truth) (link : L → Link) where
+  -- the workers were started; from what each of them draws isn't said here, since its source tells
+  -- nothing
+  pub record StartsLoad (words : LoadWords) (old new : Around) (output : Receipt)
+      (result : Result Ending Stop) : Type 0 where
+    pub begun : Begun
+    pub plan_is : begun.plan ≡ load_plan words
+    pub mid : Around
+    pub reaches : Reaches (load_steps words) (left_of (with_streams old)) mid (gives begun)
+    pub since : IsHome (with_streams old) mid
+    pub history : List Entry
+    pub ended : List (fleet_worker.Worker T L (SeededDice ChaCha))
+    pub runs : RunsFleet truth link nothing_told no_faults words.store begun mid
+        (with_streams new) history ended
+    pub writes : WritesLoad words begun.plan.fleet.workers
+        (map (λ (w : fleet_worker.Worker T L (SeededDice ChaCha)). w.told) ended) output result
+
+  -- all that was handed out is back
+  pub record DidLoad (words : LoadWords) (old new : Around) (output : Receipt)
+      (result : Result Ending Stop) : Type 0 where
+    pub home : IsHome old new
+    pub others : LeavesOthers old.world new.world
+    pub did : StopsBefore (load_steps words) words.store (with_streams old) (with_streams new)
+        output result
+        ⊎ StartsLoad words old new output result
+
+-- what a call of `run` did for a load
+pub record RanLoad (T : Type 0) {L : Type 0} (truth : Truth) (link : L → Link)
+    (words : LoadWords) (old new : Around) (output errors : Receipt) (status : ℕ)
+    : Type 0 where
+  pub result : Result Ending Stop
+  pub did : DidLoad T truth link words old new output result
+  pub tells : TellsFleet result errors status
+  pub written : output.old_faults ≤ output.new_faults
+  pub told : errors.old_faults ≤ errors.new_faults

@@ -1,0 +1,14 @@
+//! Laws of a load's relation, for a reader and for callers' proofs. The functions do nothing.
+ghost use Rattle.kr_cmd_gen.specs.Laws.{LoadsAreRead, LoadsHaveHeadlines};
+
+use kr_kms::World;
+
+/// What readers take from the relation of a load.
+pub fn loads_are_read<W: World>()
+    ensures { LoadsAreRead W.Tap W.Link.truth W.Link.link }
+{}
+
+/// What a load did has the headline.
+pub fn loads_have_headlines<W: World>()
+    ensures { LoadsHaveHeadlines W.Tap W.Link.truth W.Link.link }
+{}

@@ -1,0 +1,27 @@
+-- The last step of a command over what is told decides its status.
+use Rattle.std.proofs.Common.{◌≡◌, ℕ, List, Some, Result, subst}
+use Rattle.kr_cmd_steps.specs.Around.{Around, left_of}
+use Rattle.kr_cmd_messages.specs.Command.{Asks}
+use Rattle.kr_cmd_steps.specs.Commands.{steps}
+use Rattle.kr_cmd_steps.specs.Steps.{Point, Goes}
+use Rattle.kr_cmd_steps.specs.Ran.{Comes, IsTelling, WouldCome, end_at}
+use Rattle.kr_cmd_messages.specs.declared.command.Command.{Command}
+use Rattle.kr_cmd_messages.specs.declared.refusal.Stop.{Stop}
+use Rattle.kr_cmd_messages.specs.declared.refusal.Done.{Done}
+use Rattle.kr_cmd_messages.specs.declared.refusal.Outcome.{Outcome}
+use Rattle.kr_cmd_laws.proofs.OnePoint.{one_point}
+use Rattle.kr_cmd_laws.proofs.SettledCommands.{settled}
+use Rattle.kr_cmd_messages.proofs.OneCommand.{one_command}
+
+-- ---- words ask for one command
+
+-- a command that came to a point ended as another that would come to one
+pub same_end : {words : List (List ℕ)} {old new : Around} {command : Command} {q : Point Outcome}
+    (point : Point Outcome) (m n : Result Done Stop)
+    → Asks words command → IsTelling command old → WouldCome command old point
+    → Comes words old new q → end_at point ≡ Some m → end_at q ≡ Some n → m ≡ n
+same_end {words} {old} {new} {command} {q} point m n asks tells would (said, comes) =
+    let goes = subst (λ c. Goes q comes.reaches.end (steps c) (left_of old))
+    (one_command comes.asks asks) comes.reaches.goes in
+    one_point point q would.0 comes.reaches.end (steps command) (steps command) (left_of old)
+    (left_of old) (settled command old tells) would.1 goes m n

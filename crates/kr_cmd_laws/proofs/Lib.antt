@@ -1,0 +1,24 @@
+-- The lemmas that the answers cite.
+pub mod Causes
+pub mod Copied
+pub mod Decided
+pub mod EquallyLong
+pub mod FleetEndings
+pub mod FleetReadings
+pub mod FleetSettled
+pub mod FleetWalk
+pub mod KeptRows
+pub mod Leaving
+pub mod Listed
+pub mod OneBeginning
+pub mod OnePoint
+pub mod OneTape
+pub mod Parts
+pub mod Planned
+pub mod ReadOnly
+pub mod Readings
+pub mod RunHeads
+pub mod Settled
+pub mod SettledCommands
+pub mod SettledMigrations
+pub mod SettledRewrites

@@ -1,0 +1,374 @@
+-- Steps that write no tape leave all tapes, and steps that write one leave every other.
+use Rattle.std.proofs.Common.{◌≡◌, ℕ, zero, suc, List, [], ◌∷◌, ◌++◌, Bool, true, false, Option, None, Some, Result, Ok, Err, refl, ◌∙◌, ap, inl, inr}
+use Rattle.kr_config.specs.Kept.{Row}
+use Rattle.kr_config.specs.Lists.{list_of}
+use Rattle.kr_store.specs.Rows.{live}
+use Rattle.kr_store.specs.declared.rows.LogRow.{LogRow}
+use Rattle.kr_config.specs.declared.who.Who.{Who}
+use Rattle.kr_envelope.specs.declared.object.EncryptedObject.{EncryptedObject}
+use Rattle.kr_envelope.specs.declared.object.ObjectNo.{ObjectNo}
+use Rattle.kr_config.specs.declared.who.Who.TheVariants.{Identity, Aescbc, Aesgcm, Kms}
+use Rattle.kr_kms.specs.Health.{breach_in}
+use Rattle.kr_kms.specs.declared.health.Field.{Field}
+use Rattle.kr_kms.specs.declared.plugin.Status.{Status}
+use Rattle.kr_kms.specs.declared.plugin.Wrapped.{Wrapped}
+use Rattle.kr_kms.specs.declared.seeds.SeedKey.{SeedKey}
+use Rattle.kr_kms.specs.declared.seeds.SeedRow.{SeedRow}
+use Rattle.kr_provider.specs.Envelopes.{seed_key}
+use Rattle.kr_provider.specs.PluginOrder.{plugin_order}
+use Rattle.kr_provider.specs.Publication.{seed_of}
+use Rattle.kr_provider.specs.Reading.{Reading, data_of, refused, unopened, value_reading, is_stale}
+use Rattle.kr_provider.specs.Readers.{reader_in, writer_of}
+use Rattle.kr_provider.specs.Sealing.{draw_size, sealed_by}
+use Rattle.kr_provider.specs.declared.refusal.Opened.{Opened}
+use Rattle.kr_provider.specs.declared.refusal.ValueNo.{ValueNo}
+use Rattle.std.specs.Prelude.{if◌then◌else◌}
+use Rattle.std.specs.Option.{option_map}
+use Rattle.kr_kms.specs.Outside.{same_name}
+use Rattle.kr_cmd_steps.specs.Afterwards.{OthersStay}
+use Rattle.kr_cmd_steps.specs.Check.{listing}
+use Rattle.kr_cmd_steps.specs.Commands.{by_result, configuration, configurations, judgement_on, judging_at, judging_by, telling, bench_steps, draw_some, input_of, linking_programs, opening, published_source, reading_given, data_steps, value_read, value_sealed, value_with, row_found, row_on, show, silently, source_steps, steps, stored_on, tape_for, value_steps, with_memory, working, working_by}
+use Rattle.kr_cmd_messages.specs.Command.{replica_names, reload_in, reload_number, reload_file}
+use Rattle.kr_cmd_steps.specs.Inspect.{Inspects}
+use Rattle.kr_cmd_steps.specs.PlanLines.{ShowsPlan}
+use Rattle.kr_cmd_steps.specs.RowLines.{ShowsRows}
+use Rattle.kr_cmd_steps.specs.Plugins.{borrow_links, make_seed, make_seeds, programs_of, unless_breach, wrap_seed}
+use Rattle.kr_cmd_steps.specs.Steps.{Steps, load, take_input, borrow_dice, borrow_tape, read_tape, write_row, keep_rows, draw, borrow_link, ask_status, wrap, unwrap, note, find, refuse, give, and_then, Point, Left, Goes}
+use Rattle.kr_cmd_steps.specs.StoreFiles.{Stored}
+use Rattle.kr_cmd_messages.specs.declared.refusal.Object.TheVariants.{Store}
+use Rattle.kr_cmd_messages.specs.declared.command.Command.{Command}
+use Rattle.kr_cmd_messages.specs.declared.command.Command.TheVariants.{Convert, Check, Inspect, Put, Get, Migrate, Rows, Judge, Plan, Rewrite}
+use Rattle.kr_cmd_messages.specs.declared.command.Direction.{Direction}
+use Rattle.kr_cmd_messages.specs.declared.command.Direction.TheVariants.{Encrypt, Decrypt}
+use Rattle.kr_cmd_steps.specs.declared.programs.Program.{Program}
+use Rattle.kr_cmd_messages.specs.declared.refusal.Outcome.{Outcome}
+use Rattle.kr_cmd_messages.specs.declared.refusal.Refusal.{Refusal}
+
+-- no tape is made, and only tapes of these names are written
+abbrev pub Writes : {A : Type 0} → (May : List ℕ → Type 0) → Steps A → Type 0
+Writes May (load name next) = (bytes : Option (List ℕ)) → Writes May (next bytes)
+Writes May (take_input limit long next) = (bytes : List ℕ) → Writes May (next bytes)
+Writes May (borrow_dice seat next) = Writes May next
+Writes May (borrow_tape name make absent next) = (make ≡ false) × Writes May next
+Writes May (read_tape object name next) = (bytes : List ℕ) → Writes May (next bytes)
+Writes May (write_row object name store row next) = May name × Writes May next
+Writes May (keep_rows name store next) = May name × Writes May next
+Writes May (draw seat size next) = (bytes : List ℕ) → Writes May (next bytes)
+Writes May (borrow_link seat plugin program next) = Writes May next
+Writes May (ask_status seat plugin next) = (status : Status) → Writes May (next status)
+Writes May (wrap seat plugin plain next) = (wrapped : Wrapped) → Writes May (next wrapped)
+Writes May (unwrap seat key next) = (bytes : List ℕ) → Writes May (next bytes)
+Writes May (note text next) = Writes May next
+Writes May (find B P next) = (b : B) → Writes May (next b)
+Writes May (refuse why) = Unit {0}
+Writes May (give x) = Unit {0}
+
+-- no tape is made or written
+abbrev pub IsReadOnly : {A : Type 0} → Steps A → Type 0
+IsReadOnly next = Writes (λ name. ⊥) next
+
+-- no tape is made, and no other is written
+abbrev pub IsOnTape : {A : Type 0} → (tape : List ℕ) → Steps A → Type 0
+IsOnTape tape next = Writes (λ name. name ≡ tape) next
+
+-- ---- a tape of another name stays
+
+module _ {A : Type 0} (May : List ℕ → Type 0) (p : Point A) (end : Left) (other : List ℕ)
+    (apart : (name : List ℕ) → May name → same_name name other ≡ false) where
+  abbrev Stays : Left → Type 0
+  Stays left = end.tapes other ≡ left.tapes other
+
+  at_end : {left : Left} {here : Point A} → (p ≡ here) × (end ≡ left) → Stays left
+  at_end at = ap (λ l. l.tapes other) at.1
+
+  behind : (name : List ℕ) (told : Option (List ℕ)) (left : Left) → May name
+      → end.tapes other ≡ (if same_name name other then option_map Some told else left.tapes other)
+      → Stays left
+  behind name told left may s =
+      s ∙ ap (λ q. if q then option_map Some told else left.tapes other) (apart name may)
+
+  stays : (next : Steps A) (left : Left) → Writes May next → Goes p end next left → Stays left
+  stays (load name next) left r (inl at) = at_end at
+  stays (load name next) left r (inr (inl at)) = at_end at
+  stays (load name next) left r (inr (inr (bytes, agrees, goes))) =
+      stays (next bytes) _ (r bytes) goes
+  stays (take_input limit long next) left r (bytes, rest, c, inl (short, at)) = at_end at
+  stays (take_input limit long next) left r (bytes, rest, c, inr (inl (more, at))) = at_end at
+  stays (take_input limit long next) left r (bytes, rest, c, inr (inr (short, e, goes))) =
+      stays (next bytes) _ (r bytes) goes
+  stays (borrow_dice seat next) left r (inl at) = at_end at
+  stays (borrow_dice seat next) left r (inr (inl at)) = at_end at
+  stays (borrow_dice seat next) left r (inr (inr goes)) = stays next _ r goes
+  stays (borrow_tape name make absent next) left r (inl at) = at_end at
+  stays (borrow_tape name make absent next) left r (inr (inl at)) = at_end at
+  stays (borrow_tape name make absent next) left r (inr (inr (inl (may, agrees, at)))) = at_end at
+  stays (borrow_tape name true absent next) left r (inr (inr (inr (may, goes)))) =
+      absurd (let t : true ≡ false = r.0 in cc)
+  stays (borrow_tape name false absent next) left r (inr (inr (inr (may, goes)))) =
+      stays next _ r.1 goes
+  stays (read_tape object name next) left r (inl at) = at_end at
+  stays (read_tape object name next) left r (inr (bytes, agrees, goes)) =
+      stays (next bytes) left (r bytes) goes
+  stays (write_row object name store row next) left r (inl (told, begins, at)) =
+      behind name told left r.0 (ap (λ l. l.tapes other) at.1)
+  stays (write_row object name store row next) left r (inr (told, holds, goes)) =
+      behind name told left r.0 (stays next _ r.1 goes)
+  stays (keep_rows name store next) left r (told, count, later, holds, goes) =
+      behind name told left r.0 (stays next _ r.1 goes)
+  stays (draw seat size next) left r (inl at) = at_end at
+  stays (draw seat size next) left r (inr (bytes, rest, c, fits, goes)) =
+      stays (next bytes) _ (r bytes) goes
+  stays (borrow_link seat plugin program next) left r (inl at) = at_end at
+  stays (borrow_link seat plugin program next) left r (inr (inl at)) = at_end at
+  stays (borrow_link seat plugin program next) left r (inr (inr goes)) = stays next _ r goes
+  stays (ask_status seat plugin next) left r (inl at) = at_end at
+  stays (ask_status seat plugin next) left r (inr (status, agrees, goes)) =
+      stays (next status) left (r status) goes
+  stays (wrap seat plugin plain next) left r (inl at) = at_end at
+  stays (wrap seat plugin plain next) left r (inr (wrapped, tells, within, goes)) =
+      stays (next wrapped) left (r wrapped) goes
+  stays (unwrap seat key next) left r (inl at) = at_end at
+  stays (unwrap seat key next) left r (inr (bytes, tells, goes)) =
+      stays (next bytes) left (r bytes) goes
+  stays (note text next) left r goes = stays next _ r goes
+  stays (find B P next) left r (inl at) = at_end at
+  stays (find B P next) left r (inr (b, is, goes)) = stays (next b) _ (r b) goes
+  stays (refuse why) left r at = at_end at
+  stays (give x) left r at = at_end at
+
+module _ {A : Type 0} (p : Point A) (end : Left) (next : Steps A) (left : Left) where
+  pub leaves_tapes : IsReadOnly next → Goes p end next left → end.tapes ≡ left.tapes
+  leaves_tapes r goes = λ i other.
+      stays (λ name. ⊥) p end other (λ name none. absurd none) next left r goes i
+
+  pub others_stay : (tape : List ℕ) → IsOnTape tape next → Goes p end next left
+      → OthersStay tape left.tapes end.tapes
+  others_stay tape r goes = λ other f. stays (λ name. name ≡ tape) p end other
+      (λ name is. ap (λ n. same_name n other) is ∙ f) next left r goes
+
+-- ---- steps one behind another
+
+-- those behind may write more
+module _ (May More : List ℕ → Type 0) (wider : (name : List ℕ) → May name → More name)
+    {A B : Type 0} (others : A → Steps B) (o : (x : A) → Writes More (others x)) where
+  both_write : (first : Steps A) → Writes May first → Writes More (and_then first others)
+  both_write (load name next) r = λ bytes. both_write (next bytes) (r bytes)
+  both_write (take_input limit long next) r = λ bytes. both_write (next bytes) (r bytes)
+  both_write (borrow_dice seat next) r = both_write next r
+  both_write (borrow_tape name make absent next) r = (r.0, both_write next r.1)
+  both_write (read_tape object name next) r = λ bytes. both_write (next bytes) (r bytes)
+  both_write (write_row object name store row next) r = (wider name r.0, both_write next r.1)
+  both_write (keep_rows name store next) r = (wider name r.0, both_write next r.1)
+  both_write (draw seat size next) r = λ bytes. both_write (next bytes) (r bytes)
+  both_write (borrow_link seat plugin program next) r = both_write next r
+  both_write (ask_status seat plugin next) r = λ status. both_write (next status) (r status)
+  both_write (wrap seat plugin plain next) r = λ wrapped. both_write (next wrapped) (r wrapped)
+  both_write (unwrap seat key next) r = λ bytes. both_write (next bytes) (r bytes)
+  both_write (note text next) r = both_write next r
+  both_write (find D P next) r = λ d. both_write (next d) (r d)
+  both_write (refuse why) r = tt
+  both_write (give x) r = o x
+
+pub both_read : {A B : Type 0} (others : A → Steps B) → ((x : A) → IsReadOnly (others x))
+    → (first : Steps A) → IsReadOnly first → IsReadOnly (and_then first others)
+both_read others o first r = both_write (λ name. ⊥) (λ name. ⊥) (λ name none. none) others o first r
+
+module _ (tape : List ℕ) {A B : Type 0} (others : A → Steps B)
+    (o : (x : A) → IsOnTape tape (others x)) (first : Steps A) where
+  pub read_then : IsReadOnly first → IsOnTape tape (and_then first others)
+  read_then r = both_write (λ name. ⊥) (λ name. name ≡ tape) (λ name none. absurd none) others o
+      first r
+
+  pub on_then : IsOnTape tape first → IsOnTape tape (and_then first others)
+  on_then r = both_write (λ name. name ≡ tape) (λ name. name ≡ tape) (λ name is. is) others o
+      first r
+
+-- ---- phases
+
+pub result_reads : {A : Type 0} (r : Result A Refusal) → IsReadOnly (by_result r)
+result_reads (Ok x) = tt
+result_reads (Err why) = tt
+
+pub configuration_reads : (name : List ℕ) → IsReadOnly (configuration name)
+configuration_reads name = λ bytes read. result_reads read
+
+shows_read : (Is : Result (List ℕ) Refusal → Type 0) → IsReadOnly (show Is)
+shows_read Is = λ shown. both_read (λ text. give (silently text)) (λ text. tt) (by_result shown)
+    (result_reads shown)
+
+pub draws_read : {A : Type 0} (size : ℕ) (next : List ℕ → Steps A)
+    → ((drawn : List ℕ) → IsReadOnly (next drawn)) → IsReadOnly (draw_some size next)
+draws_read zero next r = r []
+draws_read (suc more) next r = r
+
+pub sealed_reads : (seeds : List SeedRow) (who : Who) (path plain : List ℕ)
+    → IsReadOnly (value_sealed seeds who path plain)
+sealed_reads seeds who path plain = λ u. draws_read (draw_size who)
+    (λ drawn. give (sealed_by seeds who path plain drawn)) (λ drawn. tt)
+
+shown_reads : (value : Option (List ℕ)) → IsReadOnly (value_steps value)
+shown_reads None = tt
+shown_reads (Some value) = tt
+
+given_reads : (reading : Reading) (stale : Bool) → IsReadOnly (reading_given reading stale)
+given_reads (data_of plain) stale = tt
+given_reads (refused why) stale = tt
+given_reads unopened stale = λ none. absurd none
+
+source_reads : {A : Type 0} (source : Option (List ℕ)) (key : SeedKey)
+    (next : Option (List ℕ) → Steps A) → ((o : Option (List ℕ)) → IsReadOnly (next o))
+    → IsReadOnly (source_steps source key next)
+source_reads (Some seed) key next r = r (Some seed)
+source_reads None key next r = λ bytes. r (Some bytes)
+
+opening_reads : {A : Type 0} (seeds : List SeedRow) (reader : Option Who)
+    (object : Result EncryptedObject ObjectNo) (next : Option (List ℕ) → Steps A)
+    → ((o : Option (List ℕ)) → IsReadOnly (next o)) → IsReadOnly (opening seeds reader object next)
+opening_reads seeds None object next r = r None
+opening_reads seeds (Some Identity) object next r = r None
+opening_reads seeds (Some (Aescbc name secret)) object next r = r None
+opening_reads seeds (Some (Aesgcm name secret)) object next r = r None
+opening_reads seeds (Some (Kms name)) (Err why) next r = r None
+opening_reads seeds (Some (Kms name)) (Ok object) next r = source_reads
+    (published_source (seed_of name seeds) (seed_key name object)) (seed_key name object) next r
+
+pub value_reads : (seeds : List SeedRow) (list : List Who) (path bytes : List ℕ)
+    → IsReadOnly (value_read seeds list path bytes)
+value_reads seeds list path bytes = λ object. opening_reads seeds (reader_in list bytes) object
+    (value_with seeds list path bytes object) (λ source. given_reads
+    (value_reading (record { object = object; source = source }) list path bytes)
+    (is_stale (record { object = object; source = source }) seeds list bytes))
+
+data_reads : (read : Result Opened ValueNo) → IsReadOnly (data_steps read)
+data_reads (Ok opened) = tt
+data_reads (Err why) = tt
+
+seed_reads : (plugin : List ℕ) (breach : Option (Field × List ℕ))
+    → IsReadOnly (unless_breach plugin breach (wrap_seed plugin))
+seed_reads plugin None = λ seed wrapped. tt
+seed_reads plugin (Some breach) = tt
+
+pub seeds_read : (plugins : List (List ℕ)) → IsReadOnly (make_seeds plugins)
+seeds_read [] = tt
+seeds_read (plugin ∷ plugins) = both_read
+    (λ row. and_then (make_seeds plugins) (λ rows. give (row ∷ rows)))
+    (λ row. both_read (λ rows. give (row ∷ rows)) (λ rows. tt) (make_seeds plugins)
+    (seeds_read plugins))
+    (make_seed plugin) (λ status. seed_reads plugin (breach_in status))
+
+bench_reads : (direction : Direction) (resource path : List ℕ) (rows : List Row) (bytes : List ℕ)
+    (seeds : List SeedRow) → IsReadOnly (working_by direction resource path rows bytes seeds)
+bench_reads Encrypt resource path rows bytes seeds =
+    let writer = writer_of (list_of rows resource) in
+    both_read value_steps shown_reads (value_sealed seeds writer path bytes)
+    (sealed_reads seeds writer path bytes)
+bench_reads Decrypt resource path rows bytes seeds =
+    let list = list_of rows resource in
+    both_read data_steps data_reads (value_read seeds list path bytes)
+    (value_reads seeds list path bytes)
+
+pub links_write : {A : Type 0} (May : List ℕ → Type 0) (programs : List Program) (next : Steps A)
+    → Writes May next → Writes May (borrow_links programs next)
+links_write May [] next r = r
+links_write May (program ∷ programs) next r = links_write May programs next r
+
+pub work_reads : (programs : List Program) (direction : Direction) (resource path : List ℕ)
+    (rows : List Row) (bytes : List ℕ)
+    → IsReadOnly (bench_steps programs direction resource path rows bytes)
+work_reads programs direction resource path rows bytes =
+    links_write (λ name. ⊥) programs (working direction resource path rows bytes)
+    (λ u. both_read (working_by direction resource path rows bytes)
+    (bench_reads direction resource path rows bytes) (make_seeds (plugin_order rows))
+    (seeds_read (plugin_order rows)))
+
+-- ---- commands
+
+-- each command but `put`, `migrate` and `rewrite`
+abbrev pub IsReader : Command → Type 0
+IsReader (Put words store) = ⊥
+IsReader (Migrate words) = ⊥
+IsReader (Rewrite words) = ⊥
+IsReader command = Unit {0}
+
+programs_read : (options : List (List ℕ × List ℕ)) (rows : List Row)
+    → IsReadOnly (linking_programs options rows)
+programs_read options rows = λ u. result_reads (programs_of options (plugin_order rows))
+
+row_reads : (store path : List ℕ) → IsReadOnly (row_on store path)
+row_reads store path = λ bytes read. both_read
+    (λ held. with_memory (by_result (row_found path (live held.rows path))))
+    (λ held. λ u. result_reads (row_found path (live held.rows path))) (by_result read)
+    (result_reads read)
+
+configurations_read : (read : List (Option (List Row))) (names : List (List ℕ))
+    → IsReadOnly (configurations read names)
+configurations_read read [] = λ u. tt
+configurations_read read (name ∷ names) = both_read
+    (λ rows. configurations (read ++ Some rows ∷ []) names)
+    (λ rows. configurations_read (read ++ Some rows ∷ []) names)
+    (configuration name) (configuration_reads name)
+
+judgement_reads : (stored : List LogRow) (replicas : List (Option (List Row))) (replica : ℕ)
+    (rows : List Row) → IsReadOnly (judging_at stored replicas replica rows)
+judgement_reads stored replicas replica rows = both_read telling (λ verdict u. tt)
+    (judgement_on stored replicas replica rows) (λ read. result_reads read)
+
+judging_reads : (options : List (List ℕ × List ℕ)) (stored : List LogRow)
+    → IsReadOnly (judging_by options stored)
+judging_reads options stored =
+    let file = reload_file (reload_in options) in
+    let replica = reload_number (reload_in options) in
+    both_read (λ replicas. and_then (configuration file) (judging_at stored replicas replica))
+    (λ replicas. both_read (judging_at stored replicas replica)
+    (judgement_reads stored replicas replica) (configuration file) (configuration_reads file))
+    (configurations [] (replica_names options))
+    (configurations_read [] (replica_names options))
+
+store_reads : (store : List ℕ) (next : Stored → Steps Outcome)
+    → ((held : Stored) → IsReadOnly (next held))
+    → IsReadOnly (tape_for store false (and_then (stored_on Store store) next))
+store_reads store next r =
+    (refl, λ bytes read. both_read next r (by_result read) (result_reads read))
+
+pub command_reads : (command : Command) → IsReader command → IsReadOnly (steps command)
+command_reads (Convert words) r = both_read
+    (λ rows. and_then (linking_programs words.options rows) (λ programs.
+    and_then (input_of words.direction) (λ bytes.
+    bench_steps programs words.direction words.resource words.path rows bytes)))
+    (λ rows. both_read (λ programs. and_then (input_of words.direction) (λ bytes.
+    bench_steps programs words.direction words.resource words.path rows bytes))
+    (λ programs. λ bytes. work_reads programs words.direction words.resource words.path rows bytes)
+    (linking_programs words.options rows) (programs_read words.options rows))
+    (configuration words.config) (configuration_reads words.config)
+command_reads (Check config resource) r = both_read
+    (λ rows. show (λ shown. shown ≡ Ok (listing rows resource)))
+    (λ rows. shows_read (λ shown. shown ≡ Ok (listing rows resource))) (configuration config)
+    (configuration_reads config)
+command_reads (Plan words) r = both_read
+    (λ from. and_then (configuration words.to) (λ to. show (ShowsPlan words from to)))
+    (λ from. both_read (λ to. show (ShowsPlan words from to))
+    (λ to. shows_read (ShowsPlan words from to)) (configuration words.to)
+    (configuration_reads words.to))
+    (configuration words.from) (configuration_reads words.from)
+command_reads Inspect r = λ bytes. shows_read (Inspects bytes)
+command_reads (Put words store) r = absurd r
+command_reads (Migrate words) r = absurd r
+command_reads (Rewrite words) r = absurd r
+command_reads (Get words) r = both_read
+    (λ rows. and_then (linking_programs words.options rows) (λ programs.
+    and_then (tape_for words.store false (row_on words.store words.path)) (λ row.
+    bench_steps programs Decrypt row.resource words.path rows row.stored)))
+    (λ rows. both_read (λ programs.
+    and_then (tape_for words.store false (row_on words.store words.path)) (λ row.
+    bench_steps programs Decrypt row.resource words.path rows row.stored))
+    (λ programs. both_read (λ row.
+    bench_steps programs Decrypt row.resource words.path rows row.stored)
+    (λ row. work_reads programs Decrypt row.resource words.path rows row.stored)
+    (tape_for words.store false (row_on words.store words.path))
+    (refl, row_reads words.store words.path))
+    (linking_programs words.options rows) (programs_read words.options rows))
+    (configuration words.config) (configuration_reads words.config)
+command_reads (Rows store) r = store_reads store (λ held. show (ShowsRows held.rows))
+    (λ held. shows_read (ShowsRows held.rows))
+command_reads (Judge words) r = store_reads words.store
+    (λ held. judging_by words.options held.rows) (λ held. judging_reads words.options held.rows)

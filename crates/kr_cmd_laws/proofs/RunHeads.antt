@@ -1,0 +1,133 @@
+-- The headline of a call, from the relation of a fleet.
+use Rattle.std.specs.Prelude.{◌⊎◌, true, All, IfSome, map}
+use Rattle.std.proofs.Common.{◌≡◌, ℕ, List, [], Option, Result, Ok, Err, inl, inr, ap, refl, sym, subst, ◌∙◌}
+use Rattle.kr_kms.specs.Calls.{Link}
+use Rattle.kr_kms.specs.Truth.{Opens, Truth}
+use Rattle.kr_history.specs.Honesty.{SeedsOpen}
+use Rattle.kr_rollout.specs.Histories.{state_of}
+use Rattle.kr_rollout.specs.Openings.{start_of}
+use Rattle.kr_rollout.specs.declared.opening.Entry.{Entry}
+use Rattle.kr_store.specs.Rows.{live}
+use Rattle.kr_workers.specs.Endings.{ending_of, status_of as status_of_replies}
+use Rattle.kr_workers.specs.declared.ending.Ending.{Ending}
+use Rattle.kr_workers.specs.declared.worker.Worker as fleet_worker
+use Rattle.kr_headline.specs.Fleets.{AreKnown}
+use Rattle.kr_headline.proofs.Answering.{start_alike}
+use Rattle.kr_headline.proofs.Contents.{object_of}
+use Rattle.kr_headline.proofs.Headlines.{fleet_headline}
+use Rattle.kr_headline.proofs.Standing.{faults_are, latest_is, stands_alike}
+use Rattle.kr_cmd_messages.specs.Receipts.{Receipt}
+use Rattle.kr_cmd_messages.specs.declared.fleet_words.FleetWords.{FleetWords}
+use Rattle.kr_cmd_messages.specs.declared.refusal.Object.{Object}
+use Rattle.kr_cmd_messages.specs.declared.refusal.Object.TheVariants.{Output}
+use Rattle.kr_cmd_messages.specs.declared.refusal.Stop.{Stop}
+use Rattle.kr_cmd_messages.specs.declared.refusal.Stop.TheVariants.{Words, Refused, Fault, NoMemory}
+use Rattle.kr_cmd_steps.specs.Around.{Around}
+use Rattle.kr_cmd_steps.specs.declared.programs.Program.{Program}
+use Rattle.kr_cmd_fleet.specs.Fleets.{Begun, RunsFleet, Starts, StopsBefore, TellsFleet, WritesFleet, fleet_steps, opening_of, text_of}
+use Rattle.kr_cmd_laws.specs.HeadlineLaws.{RunsHaveHeadlines}
+use Rattle.kr_cmd_laws.specs.RunHeadlines.{LeavesStore, Prints, RunHeadline, StartsWorkers, TellsStop, WorkersHeadline}
+
+-- ---- the workers
+
+module _ {T L D : Type 0} (truth : Truth) (link : L → Link) (left : D → Option (List ℕ))
+    (count : D → ℕ) (store : List ℕ) (begun : Begun) (mid new : Around) (history : List Entry)
+    (ended : List (fleet_worker.Worker T L D))
+    (r : RunsFleet truth link left count store begun mid new history ended) where
+  left_so : LeavesStore store begun mid new history
+  left_so = let o = opening_of store begun mid in record {
+    rows = (state_of o history).rows;
+    rows_are = refl;
+    file = r.stored;
+    live_are = λ path. sym (stands_alike o history r.one.legal path
+        (object_of (live o.rows path)) (start_alike (live o.rows path)));
+    latest = sym (latest_is o history r.one.legal);
+    failed = r.counted ∙ sym (faults_are (start_of o) history);
+  }
+
+  known : (opens : Opens)
+      → (begun.plan.programs ≡ []) ⊎ ((truth.told ≡ true) × (truth.opens ≡ opens))
+      → AreKnown truth opens (opening_of store begun mid)
+  known opens (inl none) =
+      inl (ap (λ ps. map (λ (program : Program). program.plugin) ps) none)
+  known opens (inr (told, is)) = inr (
+    told,
+    is,
+    subst (λ (os : Opens). All (λ replica. IfSome replica (SeedsOpen os)) begun.replicas) is
+        (r.opens told).opening,
+  )
+
+  pub workers_headline : WorkersHeadline truth link left count store begun mid new history ended
+  workers_headline = record {
+    parts = r.parts;
+    parts_are = r.parts_are;
+    files = r.files;
+    files_are = r.files_are;
+    workers = r.workers;
+    before = r.before;
+    after = r.after;
+    headline = fleet_headline T truth link left count r.files history
+        (opening_of store begun mid) r.parts begun.budgets r.workers ended r.one;
+    known = known;
+    stored = left_so;
+  }
+
+-- ---- how the call ended
+
+pub tells_output : (object : Object) (n : ℕ) (errors : Receipt) (status many : ℕ)
+    → object ≡ Output → n ≡ many → TellsStop (Fault object n) errors status
+    → TellsStop (Fault Output many) errors status
+tells_output object n errors status many is same tells =
+    subst (λ m. TellsStop (Fault Output m) errors status) same
+    (subst (λ o. TellsStop (Fault o n) errors status) is tells)
+
+prints : (text : List ℕ) (ending : Ending) (output errors : Receipt) (status : ℕ)
+    (result : Result Ending Stop) → WritesFleet text ending output result
+    → TellsFleet result errors status → Prints text ending output errors status
+prints text ending output errors status (Ok told) w t =
+    inl (w.1, t.1, t.0 ∙ ap status_of_replies w.0)
+prints text ending output errors status (Err (Fault object n)) w t = inr (inl (
+  w.0,
+  w.2,
+  tells_output object n errors status output.new_faults w.1 w.3 t,
+))
+prints text ending output errors status (Err NoMemory) w t = inr (inr (w, t))
+prints text ending output errors status (Err (Words why)) w t = absurd w
+prints text ending output errors status (Err (Refused why)) w t = absurd w
+
+module _ (T : Type 0) {L D : Type 0} (truth : Truth) (link : L → Link)
+    (left : D → Option (List ℕ)) (count : D → ℕ) (words : FleetWords) (old new : Around)
+    (output errors : Receipt) (status : ℕ) where
+  started : (result : Result Ending Stop)
+      → Starts T truth link left count words old new output result
+      → TellsFleet result errors status
+      → StartsWorkers T truth link left count words old new output errors status
+  started result s tells = record {
+    begun = s.begun;
+    mid = s.mid;
+    reaches = s.reaches;
+    since = s.since;
+    history = s.history;
+    ended = s.ended;
+    has = workers_headline truth link left count words.store s.begun s.mid new s.history s.ended
+        s.runs;
+    prints = prints (text_of s.begun.plan.fleet s.history s.ended)
+        (ending_of (map (λ (w : fleet_worker.Worker T L D). w.told) s.ended)) output errors status
+        result s.writes tells;
+  }
+
+  either : (result : Result Ending Stop)
+      → StopsBefore (fleet_steps words) words.store old new output result
+      ⊎ Starts T truth link left count words old new output result
+      → TellsFleet result errors status
+      → RunHeadline T truth link left count words old new output errors status
+  either (Ok ending) (inl stops) tells = absurd stops
+  either (Err stop) (inl stops) tells =
+      inl (record { stop = stop; stops = stops; tells = tells })
+  either result (inr began) tells = inr (started result began tells)
+
+pub runs_have_headlines : (T : Type 0) → {L D : Type 0} → (truth : Truth) (link : L → Link)
+    (left : D → Option (List ℕ)) (count : D → ℕ) → RunsHaveHeadlines T truth link left count
+runs_have_headlines T truth link left count words old new output errors status ran =
+    either T truth link left count words old new output errors status ran.result ran.did.did
+    ran.tells

@@ -1,0 +1,126 @@
+-- What a call of `run` says of a fleet, for its operator: the headline, over just what was printed.
+-- Begin at `RunHeadline`, the last definition of this page; the sentence itself is `Headline` of
+-- kr_headline.
+use Rattle.std.specs.Prelude.{◌≡◌, ◌⊎◌, ℕ, true, List, [], length, map, Option, None, Err}
+use Rattle.std.specs.Io.KnownBytes.{Appends}
+use Rattle.std.specs.Option.{option_map}
+use Rattle.kr_base.specs.Faults.{Rose}
+use Rattle.kr_base.specs.Streams.{AppendsFront}
+use Rattle.kr_kms.specs.Calls.{Link}
+use Rattle.kr_kms.specs.Truth.{Opens, Truth}
+use Rattle.kr_rollout.specs.Histories.{state_of}
+use Rattle.kr_rollout.specs.declared.opening.Entry.{Entry}
+use Rattle.kr_script.specs.Fleets.{worker_of}
+use Rattle.kr_script.specs.declared.script.Part.{Part}
+use Rattle.kr_store.specs.Rows.{live}
+use Rattle.kr_store.specs.declared.rows.LogRow.{LogRow}
+use Rattle.kr_store.specs.declared.rows.Row.{Row}
+use Rattle.kr_workers.specs.Endings.{ending_of, status_of as status_of_replies}
+use Rattle.kr_workers.specs.declared.ending.Ending.{Ending}
+use Rattle.kr_workers.specs.declared.files.SettingsFile.{SettingsFile}
+use Rattle.kr_workers.specs.declared.worker.Worker as fleet_worker
+use Rattle.kr_headline.specs.Fleets.{AreKnown, FleetHeadline}
+use Rattle.kr_headline.specs.Headline.{Object, faults_from, object_from, revision_from}
+use Rattle.kr_cmd_messages.specs.Message.{line_of, status_of}
+use Rattle.kr_cmd_messages.specs.Receipts.{Receipt, Tells}
+use Rattle.kr_cmd_messages.specs.declared.fleet_words.FleetWords.{FleetWords}
+use Rattle.kr_cmd_messages.specs.declared.refusal.Object.TheVariants.{Output}
+use Rattle.kr_cmd_messages.specs.declared.refusal.Stop.{Stop}
+use Rattle.kr_cmd_messages.specs.declared.refusal.Stop.TheVariants.{Fault, NoMemory}
+use Rattle.kr_cmd_steps.specs.Around.{Around, IsHome, Reaches, left_of}
+use Rattle.kr_cmd_steps.specs.Ran.{IsIdle}
+use Rattle.kr_cmd_steps.specs.Steps.{Steps, gives}
+use Rattle.kr_cmd_fleet.specs.FleetFiles.{named_rows}
+use Rattle.kr_cmd_fleet.specs.Fleets.{AreEquipped, Begun, HasRows, StopsBefore, fleet_steps, opening_of, text_of}
+
+-- ---- what is left in the store
+
+-- the revision of what stands at a path behind a history over these rows
+abbrev pub revision_behind : List LogRow → List Entry → (path : List ℕ) → Option ℕ
+revision_behind rows history path = option_map (λ (it : Object). it.revision) (object_from path
+    (option_map (λ revision. record { revision = revision; data_put = None })
+    (option_map (λ (row : Row). row.revision) (live rows path))) history)
+
+-- The file has the rows of the store with those that the history wrote behind them, sealed values
+-- and all. A row lives at a path exactly where something stands there behind the history, and has
+-- its revision: so the next call begins with what this one ends with. The store's count of faults
+-- is that of the last step
+pub record LeavesStore (store : List ℕ) (begun : Begun) (mid new : Around) (history : List Entry)
+    : Type 0 where
+  pub rows : List LogRow
+  pub rows_are : rows ≡ (state_of (opening_of store begun mid) history).rows
+  pub file : HasRows (new.world.tapes.told store) begun rows (mid.world.tapes.faults store)
+      (new.world.tapes.faults store)
+  pub live_are : (path : List ℕ) → option_map (λ (row : Row). row.revision) (live rows path)
+      ≡ revision_behind begun.stored.rows history path
+  pub latest : length rows ≡ revision_from (length begun.stored.rows) history
+  pub failed : new.world.tapes.faults store
+      ≡ faults_from (mid.world.tapes.faults store) history
+
+-- ---- what the workers did
+
+-- Their run has the headline, from the store's rows and the replicas' configurations on. Each
+-- worker had the random source and the links of its seat, and these are back: so a count that rose
+-- while a line was done is the world's. Of plugins nothing is supposed where none has a program,
+-- nor where the links tell their truth. And the store is left so
+pub record WorkersHeadline {T L D : Type 0} (truth : Truth) (link : L → Link)
+    (left : D → Option (List ℕ)) (count : D → ℕ) (store : List ℕ) (begun : Begun)
+    (mid new : Around) (history : List Entry) (ended : List (fleet_worker.Worker T L D))
+    : Type 0 where
+  pub parts : List Part
+  pub parts_are : map worker_of parts ≡ begun.plan.fleet.workers
+  pub files : List SettingsFile
+  pub files_are : map named_rows files ≡ begun.plan.files
+  pub workers : List (fleet_worker.Worker T L D)
+  pub before : AreEquipped link left count begun.plan.programs mid workers
+  pub after : AreEquipped link left count begun.plan.programs new ended
+  pub headline : FleetHeadline link count workers ended truth files (opening_of store begun mid)
+      parts history
+  pub known : (opens : Opens)
+      → (begun.plan.programs ≡ []) ⊎ ((truth.told ≡ true) × (truth.opens ≡ opens))
+      → AreKnown truth opens (opening_of store begun mid)
+  pub stored : LeavesStore store begun mid new history
+
+-- ---- the call
+
+-- the line on standard error tells why, and so does the status
+abbrev pub TellsStop : Stop → (errors : Receipt) → (status : ℕ) → Type 0
+TellsStop stop errors status = Tells (line_of (Err stop)) (status_of (Err stop)) errors status
+
+-- the whole text was printed and nothing else, and the replies decide the status; or a prefix of it
+-- was, since the output failed, and its count rose; or since memory lacked for a line of it
+abbrev pub Prints : (text : List ℕ) → Ending → (output errors : Receipt) → (status : ℕ) → Type 0
+Prints text ending output errors status =
+    (Appends output.old output.new text × IsIdle errors × (status ≡ status_of_replies ending))
+    ⊎ (AppendsFront output.old output.new text × Rose output.old_faults output.new_faults
+    × TellsStop (Fault Output output.new_faults) errors status)
+    ⊎ (AppendsFront output.old output.new text × TellsStop NoMemory errors status)
+
+-- no worker was started, since the steps up to them or want of memory ended the call: nothing was
+-- printed, and the line on standard error tells why
+pub record StartsNobody (steps : Steps Begun) (store : List ℕ) (old new : Around)
+    (output errors : Receipt) (status : ℕ) : Type 0 where
+  pub stop : Stop
+  pub stops : StopsBefore steps store old new output (Err stop)
+  pub tells : TellsStop stop errors status
+
+module _ (T : Type 0) {L D : Type 0} (truth : Truth) (link : L → Link)
+    (left : D → Option (List ℕ)) (count : D → ℕ) (words : FleetWords) (old new : Around)
+    (output errors : Receipt) (status : ℕ) where
+  -- the workers were started, from what the steps up to them came to; the journal and the replies
+  -- that were printed are theirs
+  pub record StartsWorkers : Type 0 where
+    pub begun : Begun
+    pub mid : Around
+    pub reaches : Reaches (fleet_steps words) (left_of old) mid (gives begun)
+    pub since : IsHome old mid
+    pub history : List Entry
+    pub ended : List (fleet_worker.Worker T L D)
+    pub has : WorkersHeadline truth link left count words.store begun mid new history ended
+    pub prints : Prints (text_of begun.plan.fleet history ended)
+        (ending_of (map (λ (w : fleet_worker.Worker T L D). w.told) ended)) output errors status
+
+  -- no worker was started, or the run of those that were has the headline
+  abbrev pub RunHeadline : Type 0
+  RunHeadline = StartsNobody (fleet_steps words) words.store old new output errors status
+      ⊎ StartsWorkers

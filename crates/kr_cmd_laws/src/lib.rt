@@ -1,0 +1,11 @@
+//! What readers take from the relation of a command that was done alone, what it leaves of the
+//! tapes, what readers take from the relation of a fleet, and its headline.
+#![tactic(auto)]
+
+mod commands;
+mod fleets;
+mod headlines;
+
+pub use commands::{commands_are_read, tapes_are_left};
+pub use fleets::fleets_are_read;
+pub use headlines::runs_have_headlines;

@@ -1,0 +1,23 @@
+//! The command that words ask for, how it ends, and what is said of that.
+#![tactic(auto)]
+
+mod command;
+mod fleet_words;
+mod load_words;
+mod message;
+mod options;
+mod refusal;
+mod report;
+mod text;
+
+pub use command::{
+    Command, Conversion, Direction, Judgement, Lookup, Migration, Planning, Rewriting, Shown,
+    read_command,
+};
+pub use fleet_words::{FleetWords, read_fleet};
+pub use load_words::{LoadWords, read_load};
+pub use message::tell;
+pub use options::Options;
+pub use refusal::{BadWords, Breach, Done, Ended, Limit, Object, Outcome, Refusal, Stop};
+pub use report::{Counts, report_text, write_report};
+pub use text::{add, add_number, add_pair, visible};

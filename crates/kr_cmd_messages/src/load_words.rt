@@ -1,0 +1,89 @@
+//! The words of `gen`.
+ghost use Rattle.std.specs.Prelude.{◌≡◌, IfOk, codes};
+ghost use Rattle.kr_words.specs.Arguments.{IsNumberAt};
+ghost use Rattle.kr_words.specs.Grammar.{IsWithinSize, texts};
+ghost use Rattle.kr_words.specs.Rules.{IsCommand};
+ghost use Rattle.kr_words.specs.declared.command.Verb.{Verb};
+ghost use Rattle.kr_cmd_messages.specs.inner.LoadAnswers.{IsLoadAsked, IsLoadOf};
+
+use crate::refusal::{BadWords, Stop};
+use kr_base::{NoMemory, Text};
+use kr_words::{Command, Verb, WordsNo, read_words};
+use std::alloc::Global;
+
+/// Which load is to be generated.
+#[derive(Debug, Drop)]
+pub struct LoadWords {
+    /// What all its random bytes come of.
+    pub seed: u64,
+    /// How many objects each worker puts and gets.
+    pub size: u32,
+    /// The name of the store's file.
+    pub store: Text,
+}
+
+/// The load that the words ask for, if they ask for one.
+pub fn read_load(alloc: Global, words: &[String]) -> Result<Option<LoadWords>, Stop>
+    ensures { IsLoadAsked (texts words.now) result }
+{
+    let Some(first) = words.first() else {
+        return Ok(None);
+    };
+    if first.as_str() != "gen" {
+        return Ok(None);
+    }
+    let words = match read_words(alloc, words) {
+        Ok(words) => words,
+        Err(WordsNo::Usage) => return Err(Stop::Words(BadWords::Usage)),
+        Err(WordsNo::Replicas) => return Err(Stop::Words(BadWords::Replicas)),
+        Err(WordsNo::Size) => return Err(Stop::Words(BadWords::Size)),
+        Err(WordsNo::NoMemory) => return Err(Stop::NoMemory),
+    };
+    match load_asked(alloc, &words) {
+        Ok(asked) => Ok(asked),
+        Err(NoMemory) => Err(Stop::NoMemory),
+    }
+}
+
+/// The words of `gen`, if they are its.
+fn load_asked(alloc: Global, words: &Command) -> Result<Option<LoadWords>, NoMemory>
+    requires command { IsCommand words.now.verb words.now.options.0 }
+    requires small { IsWithinSize words.now.options.0 }
+    ensures { IfOk result (λ asked. IsLoadOf words.now.verb words.now.options.0 asked) }
+{
+    let Verb::Gen = words.verb else {
+        return Ok(None);
+    };
+    let Some(store) = words.value("store") else {
+        return Ok(None);
+    };
+    let store = Text::copy(alloc, store)?;
+    Ok(Some(LoadWords {
+        seed: seed_of(words),
+        size: size_of(words),
+        store,
+    }))
+}
+
+fn seed_of(words: &Command) -> u64
+    requires command { IsCommand words.now.verb words.now.options.0 }
+    requires verb { words.now.verb ≡ Verb.Gen }
+    ensures { IsNumberAt words.now.options.0 (codes "seed") result }
+{
+    let Some(seed) = words.seed() else {
+        unreachable!();
+    };
+    seed
+}
+
+fn size_of(words: &Command) -> u32
+    requires command { IsCommand words.now.verb words.now.options.0 }
+    requires verb { words.now.verb ≡ Verb.Gen }
+    requires small { IsWithinSize words.now.options.0 }
+    ensures { IsNumberAt words.now.options.0 (codes "size") result }
+{
+    let Some(size) = words.size() else {
+        unreachable!();
+    };
+    size as u32
+}

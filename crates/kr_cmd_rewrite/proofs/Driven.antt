@@ -1,0 +1,463 @@
+-- A whole drive over a caller that is alone: its steps one behind another, beside the live rows.
+use Rattle.std.proofs.Common.{◌≡◌, ℕ, ◌+◌, ◌*◌, ◌^◌, ◌<◌, ◌≤◌, List, [], ◌∷◌, ◌++◌, length, count_by, Bool, true, false, cond, Option, None, Some, Result, Ok, Err, refl, sym, ◌∙◌, ap, subst, inl, inr, arith}
+use Rattle.std.specs.Prelude.{All, IfSome, ◌⊎◌}
+use Rattle.std.proofs.Math.Nat.{min-eq_left}
+use Rattle.std.proofs.lemmas.List.Recursion.{is_count_by}
+use Rattle.std.proofs.lemmas.List.Sums.{count_by-le-length}
+use Rattle.std.proofs.KnownBytes.{Keeps-refl}
+use Rattle.kr_base.specs.Faults.{Rose}
+use Rattle.kr_base.specs.Limits.{store_limit}
+use Rattle.kr_kms.specs.Calls.{Link}
+use Rattle.kr_kms.specs.Truth.{Truth, TellsOf, key_of}
+use Rattle.kr_provider.specs.Publication.{Publication}
+use Rattle.kr_provider.proofs.AskedLists.{asked_none}
+use Rattle.kr_store.specs.File.{IsFile}
+use Rattle.kr_store.specs.Stores.{Holds, Kept}
+use Rattle.kr_store.specs.declared.rows.Row.{Row}
+use Rattle.kr_history.specs.declared.call.CallNo.{CallNo}
+use Rattle.kr_history.specs.declared.call.CallNo.TheVariants as no
+use Rattle.kr_rollout.specs.declared.event.Event.TheVariants as event
+use Rattle.kr_rollout.specs.declared.answer.Answer.TheVariants as answer
+use Rattle.kr_rollout.specs.declared.opening.Opening.{Opening}
+use Rattle.kr_history.specs.Acting.{Caller}
+use Rattle.kr_rollout.specs.Histories.{IsRun, state_of}
+use Rattle.kr_rollout.specs.Openings.{start_of}
+use Rattle.kr_history.specs.Parts.{AddsWithin}
+use Rattle.kr_rewrite.specs.Drives as drives
+use Rattle.kr_rewrite.specs.Drives.{CopiesNoPath, Drives, EndsBy, IsCut, Walks, count_of, is_changed, is_fresh, is_left, is_rewritten, last_of, path_of}
+use Rattle.kr_rewrite.specs.declared.outcome.Report.{Report}
+use Rattle.kr_rewrite.specs.declared.outcome.Step.{Step}
+use Rattle.kr_rewrite.specs.declared.outcome.Step.TheVariants as step
+use Rattle.kr_cmd_steps.specs.Around.{Around, with_what_is_said}
+use Rattle.kr_cmd_steps.specs.Commands.{Progress, driving, row_steps, with_memory}
+use Rattle.kr_cmd_messages.specs.Reports.{report_outcome, report_text}
+use Rattle.kr_cmd_steps.specs.Steps.{Steps, and_then, give}
+use Rattle.kr_cmd_steps.specs.StoreFiles.{Stored, StillHolds}
+use Rattle.kr_cmd_messages.specs.declared.refusal.Outcome.{Outcome}
+use Rattle.kr_cmd_messages.specs.declared.refusal.Stop.{Stop}
+use Rattle.kr_cmd_messages.specs.declared.refusal.Stop.TheVariants.{NoMemory}
+use Rattle.kr_cmd_messages.specs.declared.report.Counts.{Counts}
+use Rattle.kr_cmd_steps.specs.inner.Lent.{with_lent_tape}
+use Rattle.kr_cmd_steps.specs.inner.Phases.{Does}
+use Rattle.kr_cmd_rewrite.specs.inner.Rewriting.{IsDriveStop, counts_of}
+use Rattle.kr_cmd_steps.proofs.RisingCounts.{counted as counted_on}
+use Rattle.kr_cmd_rewrite.proofs.DriveEnds.{Cuts, CutsRow, closes, cut_keeps, cuts}
+use Rattle.kr_cmd_rewrite.proofs.DriveSteps.{IsDriven, acted_lone, acts_so, passes}
+use Rattle.kr_cmd_steps.proofs.Frames.{home, kept}
+use Rattle.kr_cmd_steps.proofs.Goes.{given, goes_on, home_refl, nothing, reach, stops}
+use Rattle.kr_cmd_rewrite.proofs.LoneCallers.{IsLone, count_later}
+use Rattle.kr_cmd_steps.proofs.Made.{remembers}
+use Rattle.kr_cmd_rewrite.proofs.Reported.{begins_so, held_by, reported}
+use Rattle.kr_cmd_rewrite.proofs.RowCuts.{count_by as tape_by, drawn_by, row_cut, told_by}
+use Rattle.kr_cmd_rewrite.proofs.RowDrives.{Becomes}
+use Rattle.kr_cmd_rewrite.proofs.Said.{All_lent}
+use Rattle.kr_cmd_steps.proofs.Works.{lacks}
+
+-- ---- the counts of some steps
+
+abbrev pub one_more : Step → Counts → Counts
+one_more step.End c = c
+one_more (step.Rewritten path) c = record c { rewritten = c.rewritten + 1 }
+one_more (step.Fresh path) c = record c { fresh = c.fresh + 1 }
+one_more (step.Changed path) c = record c { changed = c.changed + 1 }
+one_more (step.Left path) c = record c { left = c.left + 1 }
+
+abbrev pub tallied : Counts → List Step → Counts
+tallied c [] = c
+tallied c (taken ∷ steps) = tallied (one_more taken c) steps
+
+abbrev number : (Step → Bool) → List Step → ℕ
+number is [] = 0
+number is (x ∷ xs) = cond (is x) (1 + number is xs) (number is xs)
+
+pick : (b : Bool) (n : ℕ) → cond b (1 + n) n ≡ cond b 1 0 + n
+pick true n = omega arith
+pick false n = omega arith
+
+module _ (field : Counts → ℕ) (is : Step → Bool)
+    (adds : (x : Step) (c : Counts) → field (one_more x c) ≡ field c + cond (is x) 1 0) where
+  tally_is : (c : Counts) (steps : List Step) → field (tallied c steps) ≡ field c + number is steps
+  tally_is c [] = omega arith
+  tally_is c (x ∷ steps) =
+      let e = tally_is (one_more x c) steps in
+      let f = adds x c in
+      let g = pick (is x) (number is steps) in omega (arith, e, f, g)
+
+  counted_is : (c : Counts) (steps : List Step) → field c ≡ 0 → length steps ≤ 1000000
+      → field (tallied c steps) ≡ count_of (count_by is steps)
+  counted_is c steps none few =
+      let n : number is steps ≡ count_by is steps =
+      is_count_by (number is) is refl (λ x xs. refl) steps in
+      let most = count_by-le-length is steps in
+      let e = tally_is c steps in
+      let all : field (tallied c steps) ≡ count_by is steps = omega (arith, e, n, none) in
+      all ∙ sym (min-eq_left (omega (arith, most, few)))
+
+-- what a step adds to each count
+all_added : (x : Step) (c : Counts)
+    → ((one_more x c).rewritten ≡ c.rewritten + cond (is_rewritten x) 1 0)
+    × ((one_more x c).fresh ≡ c.fresh + cond (is_fresh x) 1 0)
+    × ((one_more x c).changed ≡ c.changed + cond (is_changed x) 1 0)
+    × ((one_more x c).left ≡ c.left + cond (is_left x) 1 0)
+all_added step.End c = (omega arith, omega arith, omega arith, omega arith)
+all_added (step.Rewritten path) c = (omega arith, omega arith, omega arith, omega arith)
+all_added (step.Fresh path) c = (omega arith, omega arith, omega arith, omega arith)
+all_added (step.Changed path) c = (omega arith, omega arith, omega arith, omega arith)
+all_added (step.Left path) c = (omega arith, omega arith, omega arith, omega arith)
+
+abbrev pub no_counts : Counts
+no_counts = record { rewritten = 0; fresh = 0; changed = 0; left = 0 }
+
+-- they are those of the report
+pub counts_are : (above : List ℕ) (steps : List Step) (report : Report) → length steps ≤ 1000000
+    → drives.Counts above steps report → tallied no_counts steps ≡ counts_of report
+counts_are above steps report few r = λ i. record {
+  rewritten = (counted_is (λ c. c.rewritten) is_rewritten (λ x c. (all_added x c).0) no_counts steps
+      refl few ∙ sym r.rewritten) i;
+  fresh = (counted_is (λ c. c.fresh) is_fresh (λ x c. (all_added x c).1) no_counts steps refl few
+      ∙ sym r.fresh) i;
+  changed = (counted_is (λ c. c.changed) is_changed (λ x c. (all_added x c).2) no_counts steps refl
+      few ∙ sym r.changed) i;
+  left = (counted_is (λ c. c.left) is_left (λ x c. (all_added x c).3) no_counts steps refl few
+      ∙ sym r.left) i;
+}
+
+next_counts : (p : Publication) (row : Row) (at next : Progress) (taken : Step)
+    → Becomes p row at next taken → next.counts ≡ one_more taken at.counts
+next_counts p row at next step.End b = absurd b
+next_counts p row at next (step.Rewritten path) b = ap (λ (n : Progress). n.counts) b.2
+next_counts p row at next (step.Fresh path) b = ap (λ (n : Progress). n.counts) b.1
+next_counts p row at next (step.Changed path) b = absurd b
+next_counts p row at next (step.Left path) b = ap (λ (n : Progress). n.counts) b.1
+
+-- ---- the tape in the end
+
+held_at : (st : Stored) (file : List ℕ) (torn : Bool) (told : Option (List ℕ)) (before now : ℕ)
+    → IsFile st.format st.rows file → (torn ≡ true → Rose before now)
+    → IfSome told (λ bytes. (rest : List ℕ) × (bytes ≡ file ++ rest)
+    × (torn ≡ false → rest ≡ []))
+    → StillHolds st told before now
+held_at st file torn None before now is rose h = tt
+held_at st file false (Some bytes) before now is rose h = (file, h.0, is, h.1, inl (h.2 refl))
+held_at st file true (Some bytes) before now is rose h = (file, h.0, is, h.1, inr (rose refl))
+
+pub still_holds : (st : Stored) (store : Kept) (before : ℕ) → store.rows ≡ st.rows
+    → store.format ≡ st.format → (store.torn ≡ true → Rose before store.count) → Holds store
+    → StillHolds st store.told before store.count
+still_holds st store before rows format rose h = held_at st h.0 store.torn store.told before
+    store.count (subst (λ r. IsFile st.format r h.0) rows
+    (subst (λ f. IsFile f store.rows h.0) format h.1)) rose h.4
+
+-- the count of a caller that is alone is no less than at the opening
+pub since_opening : (o : Opening) (p : Publication) (c : Caller) → IsLone o p c
+    → o.count ≤ (state_of o c.seen).count
+since_opening o p c lone = counted_on o (start_of o) c.seen
+    (subst (λ (x : Opening). IsRun x (start_of x) c.seen) lone.opening lone.caller.legal.runs)
+
+-- ---- the walk
+
+module _ {L D : Type 0} (truth : Truth) (link : L → Link) (left : D → Option (List ℕ))
+    (count : D → ℕ) (o : Opening) (p : Publication) (one : o.reloads ≡ 0 ∷ [])
+    (limit_is : o.limit ≡ store_limit)
+    (opens : All (λ row. TellsOf truth (key_of row) row.seed) p.seeds) (name : List ℕ)
+    (a : Around) (truth_is : a.truth ≡ truth) where
+  abbrev pub At : (said : List ℕ) → List L → D → (drawn : ℕ) → Option (List ℕ) → ℕ → Around
+  At said links dice drawn told m =
+      All_lent link links (left dice) drawn name told m (with_what_is_said said a)
+
+  module _ (drawn m : ℕ) (final : Around) (made : Result Outcome Stop) where
+    -- from here the rest ends so, whatever the tape tells and was said
+    abbrev Ends_from : List Row → Progress → List L → D → Type 0
+    Ends_from rest at links dice = (said : List ℕ) (told : Option (List ℕ))
+        → Does (driving name p rest at) (At said links dice drawn told m) final made
+
+    abbrev Behind : List ℕ → List Step → List Row → Counts → Caller → List L → D → Type 0
+    Behind above steps rows counts mid mids between = (rest : List Row) (at : Progress)
+        → IsDriven link o p (last_of above steps) rest at mid mids
+        → length rows ≡ length steps + length rest → at.counts ≡ tallied counts steps
+        → Ends_from rest at mids between
+
+    walks_on : (steps : List Step) (above : List ℕ) (rows : List Row) (at : Progress)
+        (old mid : Caller) (olds mids : List L) (dice between : D)
+        → IsDriven link o p above rows at old olds
+        → Walks truth link left count 0 above steps old olds dice mid mids between
+        → Behind above steps rows at.counts mid mids between → Ends_from rows at olds dice
+    walks_on [] above rows at old mid olds mids dice between driven w behind said told =
+        let last = subst (λ c. IsDriven link o p above rows at c mids) (sym w.0)
+        (subst (λ l. IsDriven link o p above rows at old l) (sym w.1) driven) in
+        subst (λ l. Does (driving name p rows at) (At said l dice drawn told m) final made) w.1
+        (subst (λ d. Does (driving name p rows at) (At said mids d drawn told m) final made) w.2
+        (behind rows at last (omega arith) refl said told))
+    walks_on (taken ∷ steps) above rows at old mid olds mids dice between driven w behind said told
+        =
+        let text = report_text at.counts in
+        let s = passes truth link left count o p one limit_is opens name
+        (with_what_is_said text a) truth_is drawn m above rows at old w.middle olds w.mids dice
+        w.between driven taken w.finds w.goes in
+        let more = ap length s.rows_are in
+        subst (λ r. Does (driving name p r at) (At said olds dice drawn told m) final made)
+        (sym s.rows_are)
+        (reported link olds (left dice) drawn name at told None m m (omega arith) tt
+        (with_what_is_said said a)
+        (goes_on (row_steps name p s.row at) (driving name p s.rest) s.next s.does
+        (walks_on steps (path_of above taken) s.rest s.next w.middle mid w.mids mids w.between
+        between s.onward w.behind
+        (λ rest then d many counts. behind rest then d (omega (arith, many, more))
+        (counts ∙ ap (λ c. tallied c steps) (next_counts p s.row at s.next taken s.becomes)))
+        text None)))
+
+  -- the count of the random source is raised
+  raises : {A : Type 0} {next : Steps A} {final : Around} {made : Result A Stop} (said : List ℕ)
+      (links : List L) (dice : D) (before drawn : ℕ) (told : Option (List ℕ)) (m : ℕ)
+      → before ≤ drawn → Does next (At said links dice drawn told m) final made
+      → Does next (At said links dice before told m) final made
+  raises {next = next} said links dice before drawn told m later d =
+      let b = with_lent_tape name told m (with_what_is_said said a) in
+      goes_on nothing (λ u. next) tt (record {
+        home = home link b [] links links (asked_none link [] links) (left dice) (left dice) before
+            drawn later;
+        ends = λ l s. reach l (refl, refl) (kept link b [] links links (asked_none link [] links)
+            (left dice) (left dice) before drawn (Keeps-refl (left dice)) l s);
+      }) d
+
+  -- ---- the end
+
+  module _ (store : Kept) (m : ℕ) (later : m ≤ store.count) (at : Progress)
+      (holds : StillHolds at.store store.told m store.count) (links : List L) (dice : D)
+      (drawn : ℕ) (said : List ℕ) (told : Option (List ℕ)) where
+    abbrev Last : Around
+    Last = At (report_text at.counts) links dice drawn store.told store.count
+
+    -- no row is left
+    last_report : (made : Result Outcome Stop)
+        → (made ≡ Ok (report_outcome at.counts)) ⊎ (made ≡ Err NoMemory)
+        → Does (driving name p [] at) (At said links dice drawn told m) Last made
+    last_report made is = reported link links (left dice) drawn name at told store.told m
+        store.count later holds (with_what_is_said said a) (by is)
+      where
+        by : (made ≡ Ok (report_outcome at.counts)) ⊎ (made ≡ Err NoMemory)
+            → Does (with_memory (give (report_outcome at.counts))) Last Last made
+        by (inl e) = subst (λ r. Does (with_memory (give (report_outcome at.counts))) Last Last r)
+            (sym e) (remembers (given (report_outcome at.counts) Last))
+        by (inr e) = subst (λ r. Does (with_memory (give (report_outcome at.counts))) Last Last r)
+            (sym e) (lacks (give (report_outcome at.counts)) Last)
+
+    -- memory lacked before the next row was looked at
+    amid : (rest : List Row)
+        → Does (driving name p rest at) (At said links dice drawn told m) Last (Err NoMemory)
+    amid [] = last_report (Err NoMemory) (inr refl)
+    amid (row ∷ more) = reported link links (left dice) drawn name at told store.told m store.count
+        later holds (with_what_is_said said a) {next = and_then (row_steps name p row at)
+        (driving name p more)} (record {
+          home = home_refl Last;
+          ends = λ l s. inr (reach l (inl (refl, refl)) s);
+        })
+
+  module _ (store : Kept) (rows : List Row) (at : Progress) (old new : Caller)
+      (olds news : List L) (dice after : D) (report : Report)
+      (none : at.counts ≡ no_counts) (format_is : store.format ≡ o.format)
+      (rows_are : store.rows ≡ (state_of o new.seen).rows)
+      (count_is : store.count ≡ (state_of o new.seen).count)
+      (later : o.count ≤ store.count) (bounded : store.count < 2 ^ 64)
+      (rose : store.torn ≡ true → Rose o.count store.count) (store_holds : Holds store)
+      (driven : IsDriven link o p [] rows at old olds) (few : length rows ≤ 1000000)
+      (room : 4 * length rows + 3 ≤ old.left) (told : Option (List ℕ)) where
+    abbrev Begin : Around
+    Begin = At a.said olds dice (count dice) told o.count
+
+    abbrev End : Around
+    End = At (report_text (counts_of report)) news after (count after) store.told store.count
+
+    holds_now : (then : Progress) → (state_of o new.seen).rows ≡ then.store.rows
+        → then.store.format ≡ o.format → StillHolds then.store store.told o.count store.count
+    holds_now then same format = still_holds then.store store o.count (rows_are ∙ same)
+        (format_is ∙ sym format) rose store_holds
+
+    -- what may still be added behind some steps
+    room_then : (steps : List Step) (mid : Caller) (rest : List Row)
+        → AddsWithin (4 * length steps) 0 [] old mid → length rows ≡ length steps + length rest
+        → 4 * length rest + 3 ≤ mid.left
+    room_then steps mid rest (part, adds, within) many =
+        let e = adds.left_is in
+        let f = within.few in omega (arith, e, f, many, room)
+
+    counts_then : (steps : List Step) (rest : List Row) (then : Progress)
+        → drives.Counts [] steps report → length rows ≡ length steps + length rest
+        → then.counts ≡ tallied at.counts steps → then.counts ≡ counts_of report
+    counts_then steps rest then r many counts = counts
+        ∙ ap (λ c. tallied c steps) none
+        ∙ counts_are [] steps report (omega (arith, many, few)) r
+
+    -- it came to the end
+    pub drives_all : (made : Result Outcome Stop) → count dice ≤ count after
+        → Drives truth link left count 0 [] old olds dice report new news after
+        → (made ≡ Ok (report_outcome (counts_of report))) ⊎ (made ≡ Err NoMemory)
+        → Does (driving name p rows at) Begin End made
+    drives_all made drawn d is = raises a.said olds dice (count dice) (count after) told o.count
+        drawn (walks_on (count after) o.count End made d.steps [] rows at old e.middle olds e.mids
+        dice e.between driven e.walks behind a.said told)
+      where
+        e : EndsBy truth link left count 0 [] d.steps old olds dice (Ok step.End) report new news
+            after
+        e = d.ends
+
+        behind : Behind (count after) o.count End made [] d.steps rows at.counts e.middle e.mids
+            e.between
+        behind rest then there many counts said last_told =
+            let c = closes truth link left count o p one (last_of [] d.steps) rest then e.middle
+            new e.mids news e.between after there (room_then d.steps e.middle rest e.walks_few many)
+            limit_is opens a truth_is e.ends in
+            let same = counts_then d.steps rest then e.counts many counts in
+            let may = subst (λ n. (made ≡ Ok (report_outcome n)) ⊎ (made ≡ Err NoMemory))
+            (sym same) is in
+            subst (λ r. Does (driving name p r then)
+            (At said e.mids e.between (count after) last_told o.count) End made) (sym c.none)
+            (subst (λ n. Does (driving name p [] then)
+            (At said e.mids e.between (count after) last_told o.count)
+            (At (report_text n) news after (count after) store.told store.count) made) same
+            (subst (λ l. Does (driving name p [] then)
+            (At said e.mids e.between (count after) last_told o.count)
+            (At (report_text then.counts) l after (count after) store.told store.count) made)
+            (sym c.news_are)
+            (subst (λ x. Does (driving name p [] then)
+            (At said e.mids e.between (count after) last_told o.count)
+            (At (report_text then.counts) e.mids x (count after) store.told store.count) made)
+            (sym c.after_is)
+            (last_report store o.count later then
+            (holds_now then c.rows_stay there.format_is) e.mids e.between (count after) said
+            last_told made may))))
+
+    -- ---- it was cut short
+
+    module _ (why : CallNo) (stop : Stop)
+        (stops_so : IsDriveStop link store news (count after) why stop) where
+      cut_amid : (then : Progress) (rest : List Row) (mids : List L) (between : D)
+          (said : List ℕ) (last_told : Option (List ℕ)) → why ≡ no.NoMemory → news ≡ mids
+          → after ≡ between → StillHolds then.store store.told o.count store.count
+          → Does (driving name p rest then)
+          (At said mids between (drawn_by (count between) (count after) why) last_told o.count)
+          (At (report_text then.counts) news after (count after) store.told store.count) (Err stop)
+      cut_amid then rest mids between said last_told is l d holds =
+          let stop_is : stop ≡ NoMemory =
+          subst (λ w. IsDriveStop link store news (count after) w stop) is stops_so in
+          subst (λ w. Does (driving name p rest then)
+          (At said mids between (drawn_by (count between) (count after) w) last_told o.count)
+          (At (report_text then.counts) news after (count after) store.told store.count) (Err stop))
+          (sym is)
+          (subst (λ x. Does (driving name p rest then)
+          (At said mids between (count after) last_told o.count)
+          (At (report_text then.counts) news after (count after) store.told store.count) (Err x))
+          (sym stop_is)
+          (subst (λ n. Does (driving name p rest then)
+          (At said mids between (count after) last_told o.count)
+          (At (report_text then.counts) n after (count after) store.told store.count)
+          (Err NoMemory)) (sym l)
+          (subst (λ x. Does (driving name p rest then)
+          (At said mids between (count after) last_told o.count)
+          (At (report_text then.counts) mids x (count after) store.told store.count)
+          (Err NoMemory)) (sym d)
+          (amid store o.count later then holds mids between (count after) said last_told rest))))
+
+      module _ (above : List ℕ) (then : Progress) (rest : List Row) (mid : Caller)
+          (mids : List L) (between : D) (there : IsDriven link o p above rest then mid mids)
+          (enough : 4 * length rest + 3 ≤ mid.left) where
+        cut_at_row : (said : List ℕ) (last_told : Option (List ℕ))
+            → StillHolds then.store store.told o.count store.count
+            → CutsRow truth link left count o p one above rest then mid new mids news between after
+            there enough why
+            → Does (driving name p rest then)
+            (At said mids between (drawn_by (count between) (count after) why) last_told o.count)
+            (At (report_text then.counts) news after (count after) store.told store.count)
+            (Err stop)
+        cut_at_row said last_told holds r =
+            let text = report_text then.counts in
+            let so = acts_so truth link left count p r.row r.found r.acted mids news between after
+            (Err why) r.rewrites in
+            let acted = acted_lone o p one r.row r.found r.acted (Err why) r.lone so in
+            let further = count_later o p one r.acted new event.LetGo answer.Released acted r.lets
+            in
+            let h = held_by then.store store.told o.count store.count why later holds in
+            let cut = row_cut truth link left count o p one limit_is opens name
+            (with_what_is_said text a) truth_is r.row then r.found r.number r.lone r.holds
+            r.same_rows r.is_next.1 there.format_is mids news between after r.acted there.distinct
+            store o.count (since_opening o p r.found r.lone) (omega (arith, further, count_is))
+            bounded (begins_so then.store store.told o.count store.count holds) r.unspent why stop
+            stops_so r.rewrites in
+            subst (λ l. Does (driving name p l then)
+            (At said mids between (drawn_by (count between) (count after) why) last_told o.count)
+            (At text news after (count after) store.told store.count) (Err stop)) (sym r.rows_are)
+            (reported link mids (left between) (drawn_by (count between) (count after) why) name
+            then last_told (told_by store.told why) o.count (tape_by o.count store.count why) h.0
+            h.1 (with_what_is_said said a)
+            (stops (row_steps name p r.row then) (driving name p r.rest) stop cut))
+
+        cut_at : (said : List ℕ) (last_told : Option (List ℕ))
+            → Cuts truth link left count o p one above rest then mid new mids news between after
+            there enough why
+            → Does (driving name p rest then)
+            (At said mids between (drawn_by (count between) (count after) why) last_told o.count)
+            (At (report_text then.counts) news after (count after) store.told store.count)
+            (Err stop)
+        cut_at said last_told (inl n) = cut_amid then rest mids between said last_told n.why_is
+            n.news_are n.after_is (holds_now then n.rows_stay there.format_is)
+        cut_at said last_told (inr r) = cut_at_row said last_told
+            (holds_now then (cut_keeps truth link left count o p one above rest then mid new mids
+            news between after there enough why (inr r)) there.format_is) r
+
+      -- what the count was along the way is no less than at the begin
+      drawn_later : (between : D) → count dice ≤ count between → count dice ≤ count after
+          → (cause : CallNo) → count dice ≤ drawn_by (count between) (count after) cause
+      drawn_later between walked all no.DiceFailed = walked
+      drawn_later between walked all no.StoreFailed = all
+      drawn_later between walked all (no.Refused reason) = all
+      drawn_later between walked all (no.PluginFailed plugin) = all
+      drawn_later between walked all (no.StoreFull needed) = all
+      drawn_later between walked all (no.Unhealthy plugin field text) = all
+      drawn_later between walked all no.Gone = all
+      drawn_later between walked all no.Spent = all
+      drawn_later between walked all no.NoMemory = all
+
+      pub cut_short : count dice ≤ count after
+          → IsCut truth link left count 0 [] old olds dice why report new news after
+          → Does (driving name p rows at) Begin End (Err stop)
+      cut_short all d = raises a.said olds dice (count dice) drawn told o.count
+          (drawn_later e.between e.walks_later all why)
+          (walks_on drawn o.count End (Err stop) d.steps [] rows at old e.middle olds e.mids dice
+          e.between driven e.walks behind a.said told)
+        where
+          e : EndsBy truth link left count 0 [] d.steps old olds dice (Err why) report new news
+              after
+          e = d.ends
+
+          drawn : ℕ
+          drawn = drawn_by (count e.between) (count after) why
+
+          behind : Behind drawn o.count End (Err stop) [] d.steps rows at.counts e.middle e.mids
+              e.between
+          behind rest then there many counts said last_told =
+              let enough = room_then d.steps e.middle rest e.walks_few many in
+              let same = counts_then d.steps rest then e.counts many counts in
+              subst (λ n. Does (driving name p rest then)
+              (At said e.mids e.between drawn last_told o.count)
+              (At (report_text n) news after (count after) store.told store.count) (Err stop)) same
+              (cut_at (last_of [] d.steps) then rest e.middle e.mids e.between there enough said
+              last_told
+              (cuts truth link left count o p one (last_of [] d.steps) rest then e.middle new e.mids
+              news e.between after there enough why e.ends))
+
+      pub copied_none : CopiesNoPath old olds dice why report new news after
+          → Does (driving name p rows at) Begin End (Err stop)
+      copied_none n =
+          let same : at.counts ≡ counts_of report =
+          none ∙ sym (ap counts_of n.report_is) in
+          let stay = ap (λ (c : Caller). (state_of o c.seen).rows) n.same ∙ driven.rows_are in
+          let e = ap count n.dice_is in
+          let all : count dice ≤ count after = omega (arith, e) in
+          let begun = cut_amid at rows olds dice a.said told n.why_is n.links n.dice_is
+          (holds_now at stay driven.format_is) in
+          raises a.said olds dice (count dice) (drawn_by (count dice) (count after) why) told
+          o.count (drawn_later dice (omega arith) all why)
+          (subst (λ c. Does (driving name p rows at)
+          (At a.said olds dice (drawn_by (count dice) (count after) why) told o.count)
+          (At (report_text c) news after (count after) store.told store.count) (Err stop)) same
+          begun)

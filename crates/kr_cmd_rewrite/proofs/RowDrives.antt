@@ -1,0 +1,335 @@
+-- How the steps of a row end, by what a rewrite of it did over a caller that is alone.
+use Rattle.std.proofs.Common.{◌≡◌, ℕ, ◌≤◌, List, [], ◌∷◌, ◌++◌, length, Bool, true, false, Option, None, Some, Result, Ok, Err, refl, sym, ◌∙◌, ap, subst, inl, inr, arith}
+use Rattle.std.specs.Prelude.{All, nat_lt, if◌then◌else◌}
+use Rattle.std.proofs.lemmas.Bool.{le-ltb, lt-ltb}
+use Rattle.kr_base.specs.Limits.{data_limit, store_limit}
+use Rattle.kr_config.specs.Lists.{list_of}
+use Rattle.kr_config.specs.declared.who.Who.{Who}
+use Rattle.kr_kms.specs.Calls.{Link}
+use Rattle.kr_kms.specs.Truth.{Truth, TellsOf, key_of}
+use Rattle.kr_provider.specs.Names.{AreDistinct}
+use Rattle.kr_provider.specs.Publication.{Publication, list_at, writer_at}
+use Rattle.kr_provider.specs.Reading.{HasSomeReading, data_of}
+use Rattle.kr_provider.specs.Sealing.{IsSealing, Seals, value_by}
+use Rattle.kr_provider.specs.Unsealing.{UnsealsBy}
+use Rattle.kr_provider.specs.declared.refusal.Opened.{Opened}
+use Rattle.kr_provider.specs.declared.refusal.SealNo.{SealNo}
+use Rattle.kr_provider.specs.declared.refusal.SealNo.TheVariants as seal
+use Rattle.kr_provider.specs.declared.refusal.UnsealNo.{UnsealNo}
+use Rattle.kr_provider.specs.declared.refusal.UnsealNo.TheVariants as unseal
+use Rattle.kr_store.specs.File.{file_bytes}
+use Rattle.kr_store.specs.Rows.{live}
+use Rattle.kr_store.specs.declared.rows.Row.{Row}
+use Rattle.kr_rollout.specs.declared.answer.Answer.{Answer}
+use Rattle.kr_rollout.specs.declared.answer.Answer.TheVariants as answer
+use Rattle.kr_history.specs.declared.call.CallNo.{CallNo}
+use Rattle.kr_history.specs.declared.call.CallNo.TheVariants as no
+use Rattle.kr_rollout.specs.declared.event.Event.TheVariants as event
+use Rattle.kr_rollout.specs.declared.opening.Opening.{Opening}
+use Rattle.kr_history.specs.Acting.{Caller, AddsEntry}
+use Rattle.kr_rollout.specs.Callers.{holding}
+use Rattle.kr_rollout.specs.Histories.{state_of}
+use Rattle.kr_rollout.specs.Writes.{file_size}
+use Rattle.kr_rewrite.specs.Rewrites.{ReplacesBy, ResealsBy, Rewrites, RewritesBy, RewritesData, unread_step, unsealed_step}
+use Rattle.kr_rewrite.specs.declared.outcome.Step.{Step}
+use Rattle.kr_rewrite.specs.declared.outcome.Step.TheVariants as step
+use Rattle.kr_cmd_steps.specs.Around.{Around}
+use Rattle.kr_cmd_steps.specs.Commands.{Progress, adding, one_fresh, one_left, one_rewritten, replacing, resealing, row_anew, row_by, row_data, row_steps, value_read, value_sealed, with_memory}
+use Rattle.kr_cmd_steps.specs.Steps.{Steps, give}
+use Rattle.kr_cmd_steps.specs.StoreFiles.{Stored, with_row}
+use Rattle.kr_cmd_messages.specs.declared.refusal.Object.TheVariants.{Store}
+use Rattle.kr_cmd_steps.specs.inner.Lent.{with_lent_dice, with_lent_links, with_lent_tape}
+use Rattle.kr_cmd_steps.specs.inner.Phases.{Does}
+use Rattle.kr_cmd_steps.proofs.AddedRows.{row_is_added}
+use Rattle.kr_cmd_steps.proofs.Goes.{given, goes_on}
+use Rattle.kr_cmd_rewrite.proofs.LoneCallers.{IsLone, not_changed, replaces, tells}
+use Rattle.kr_cmd_steps.proofs.Made.{remembers}
+use Rattle.kr_cmd_rewrite.proofs.Said.{All_lent}
+use Rattle.kr_cmd_steps.proofs.ValueRead.{sealed_does, value_does}
+
+-- what a step at the row makes of the store and the counts
+abbrev pub Becomes : Publication → Row → Progress → Progress → Step → Type 0
+Becomes p row at next (step.Rewritten path) = (path ≡ row.path) × (stored : List ℕ)
+    × (next ≡ one_rewritten (row_anew at.store.format p row stored) at)
+Becomes p row at next (step.Fresh path) = (path ≡ row.path) × (next ≡ one_fresh at)
+Becomes p row at next (step.Left path) = (path ≡ row.path) × (next ≡ one_left at)
+Becomes p row at next taken = ⊥
+
+-- a result isn't both
+pub not_err : {A : Type 0} (taken : Step) (why : CallNo)
+    → ◌≡◌ {A = Result Step CallNo} (Ok taken) (Err why) → A
+not_err taken why e = absurd (cc)
+
+abbrev step_of : Step → Result Step CallNo → Step
+step_of other (Ok taken) = taken
+step_of other (Err why) = other
+
+same_step : (taken own : Step) → ◌≡◌ {A = Result Step CallNo} (Ok taken) (Ok own) → own ≡ taken
+same_step taken own e = sym (ap (step_of taken) e)
+
+abbrev why_of : CallNo → Result Step CallNo → CallNo
+why_of other (Ok taken) = other
+why_of other (Err why) = why
+
+pub same_why : (why own : CallNo) → ◌≡◌ {A = Result Step CallNo} (Err why) (Err own) → own ≡ why
+same_why why own e = sym (ap (why_of why) e)
+
+-- a value that was sealed was within the limit
+pub short_by : (long : Bool) (size : ℕ) → nat_lt data_limit size ≡ long → long ≡ false
+    → size ≤ data_limit
+short_by long size e none = not_lt (nat_lt data_limit size) refl (e ∙ none)
+  where
+    not_lt : (b : Bool) → nat_lt data_limit size ≡ b → b ≡ false → size ≤ data_limit
+    not_lt b e f = grind arith
+
+pub was_short : (long : Bool) (value : Option (List ℕ)) (stored : List ℕ)
+    → (if long then None else value) ≡ Some stored → long ≡ false
+was_short true value stored e = absurd (cc)
+was_short false value stored e = refl
+
+module _ {L D : Type 0} (truth : Truth) (link : L → Link) (left : D → Option (List ℕ))
+    (count : D → ℕ) (o : Opening) (p : Publication) (one : o.reloads ≡ 0 ∷ [])
+    (limit_is : o.limit ≡ store_limit)
+    (opens : All (λ row. TellsOf truth (key_of row) row.seed) p.seeds) (name : List ℕ)
+    (a : Around) (truth_is : a.truth ≡ truth) (drawn : ℕ) where
+  -- what is around, with this count of the random source
+  abbrev pub Out : List L → D → Option (List ℕ) → ℕ → Around
+  Out links dice told faults = All_lent link links (left dice) drawn name told faults a
+
+  -- what is around but for the tape
+  abbrev pub Beside : List L → D → Around
+  Beside links dice = with_lent_links link 0 links (with_lent_dice 0 (left dice) drawn a)
+
+  module _ (row : Row) (at : Progress) (found : Caller) (number : ℕ) (lone : IsLone o p found)
+      (holds : holding found.mine ≡ Some (number, p))
+      (rows_are : (state_of o found.seen).rows ≡ at.store.rows)
+      (is_live : live at.store.rows row.path ≡ Some row) (format_is : at.store.format ≡ o.format)
+      (olds news : List L) (dice after : D) (acted : Caller) (distinct : AreDistinct link olds)
+    where
+      abbrev pub lived : live (state_of o found.seen).rows row.path ≡ Some row
+      lived = ap (λ rows. live rows row.path) rows_are ∙ is_live
+
+      abbrev pub who : Who
+      who = writer_at p row.resource
+
+      -- the size of the file with the row
+      pub size_is : (stored : List ℕ)
+          → file_size o.format (state_of o found.seen).rows (row_anew o.format p row stored)
+          ≡ length (file_bytes at.store.format
+          (at.store.rows ++ row_anew at.store.format p row stored ∷ []))
+      size_is stored = λ i. length (file_bytes (sym format_is i)
+          (rows_are i ++ row_anew (sym format_is i) p row stored ∷ []))
+
+      -- ---- the row is passed
+
+      module _ (m : ℕ) where
+        abbrev Done : Steps Progress → List L → D → Step → Type 0
+        Done steps links from taken = (next : Progress) × Becomes p row at next taken
+            × Does steps (Out links from None m) (Out news after None m) (Ok next)
+            × ((state_of o acted.seen).rows ≡ next.store.rows)
+
+        -- it is as it was
+        abbrev stays_so : (next : Progress) (taken : Step) → next.store ≡ at.store → acted ≡ found
+            → after ≡ dice → Becomes p row at next taken → Done (give next) news dice taken
+        stays_so next taken store same kept becomes = (
+          next,
+          becomes,
+          subst (λ d. Does (give next) (Out news dice None m) (Out news d None m) (Ok next))
+              (sym kept)
+              (given next (Out news dice None m)),
+          ap (λ (c : Caller). (state_of o c.seen).rows) same ∙ rows_are
+              ∙ sym (ap (λ (s : Stored). s.rows) store),
+        )
+
+        in_memory : (steps : Steps Progress) (links : List L) (from : D) (taken : Step)
+            → Done steps links from taken → Done (with_memory steps) links from taken
+        in_memory steps links from taken (next, becomes, does, rows) =
+            (next, becomes, remembers does, rows)
+
+        module _ (plain : List ℕ)
+            (reads : HasSomeReading (list_at p row.resource) row.path row.stored (data_of plain))
+          where
+            written : (stored : List ℕ) (n : ℕ) → IsSealing p row.resource row.path plain stored
+                → Seals left count p.seeds who row.path plain dice after (Ok stored)
+                → AddsEntry found (event.Replace row.path row.revision stored) (answer.Written n)
+                acted
+                → Done (resealing (nat_lt data_limit (length plain)) name p row plain at) news dice
+                (step.Rewritten row.path)
+            written stored n sealing s replace =
+                let given_to = answer.Written n in
+                let new = row_anew at.store.format p row stored in
+                let long : nat_lt data_limit (length plain) ≡ false =
+                was_short (nat_lt data_limit (length plain))
+                (value_by p.seeds who row.path plain s.0) stored s.2 in
+                let fits = subst (λ n. n ≤ store_limit) (size_is stored)
+                (subst (λ l. file_size o.format (state_of o found.seen).rows
+                (row_anew o.format p row stored) ≤ l) limit_is
+                (tells o p one found acted row plain stored number lone holds lived reads sealing
+                given_to
+                replace)) in
+                let rows = replaces o p one found acted row plain stored number lone holds lived
+                reads
+                sealing n replace in (
+                  one_rewritten new at,
+                  (refl, stored, refl),
+                  subst (λ b. Does (resealing b name p row plain at) (Out news dice None m)
+                      (Out news after None m) (Ok (one_rewritten new at))) (sym long)
+                      (goes_on (value_sealed p.seeds who row.path plain) (replacing name p row at)
+                      (Some stored)
+                      (sealed_does link left count news dice after drawn drawn
+                      (with_lent_tape name None m a) who
+                      p.seeds row.path plain (Ok stored) (omega arith)
+                      (short_by (nat_lt data_limit (length plain)) (length plain) refl long) tt s)
+                      (goes_on (adding Store name at.store new)
+                      (λ grown. give (one_rewritten new at))
+                      (with_row new at.store)
+                      (row_is_added Store name at.store new None None m m (omega arith)
+                      (Beside news after) tt fits)
+                      (given (one_rewritten new at) (Out news after None m)))),
+                  rows ∙ (λ i. rows_are i ++ row_anew (sym format_is i) p row stored ∷ []),
+                )
+
+            replaced : (stored : List ℕ) (given_to : Answer) (taken : Step)
+                → IsSealing p row.resource row.path plain stored
+                → Seals left count p.seeds who row.path plain dice after (Ok stored)
+                → AddsEntry found (event.Replace row.path row.revision stored) given_to acted
+                → ReplacesBy row.path given_to (Ok taken)
+                → Done (resealing (nat_lt data_limit (length plain)) name p row plain at) news dice
+                taken
+            replaced stored (answer.Written n) taken sealing s r d =
+                subst (λ t. Done (resealing (nat_lt data_limit (length plain)) name p row plain at)
+                news
+                dice t) (same_step taken (step.Rewritten row.path) d) (written stored n sealing s r)
+            replaced stored (answer.Changed last) taken sealing s r d =
+                absurd (not_changed o p one found acted row plain stored number lone holds lived
+                reads
+                sealing last r)
+            replaced stored answer.StoreFailed taken sealing s r d = not_err taken no.StoreFailed d
+            replaced stored (answer.StoreFull needed) taken sealing s r d =
+                not_err taken (no.StoreFull needed) d
+            replaced stored answer.NoMemory taken sealing s r d = not_err taken no.NoMemory d
+            replaced stored (answer.Adopted n q) taken sealing s r d = absurd d
+            replaced stored (answer.Gone other) taken sealing s r d = absurd d
+            replaced stored (answer.Found other) taken sealing s r d = absurd d
+            replaced stored answer.Absent taken sealing s r d = absurd d
+            replaced stored answer.Released taken sealing s r d = absurd d
+            replaced stored (answer.Reloaded n) taken sealing s r d = absurd d
+            replaced stored (answer.Joined n) taken sealing s r d = absurd d
+            replaced stored (answer.Refused verdict) taken sealing s r d = absurd d
+            replaced stored (answer.Moved n) taken sealing s r d = absurd d
+            replaced stored (answer.Present n) taken sealing s r d = absurd d
+            replaced stored (answer.Departed n) taken sealing s r d = absurd d
+
+            -- data that can't be sealed leave the row
+            unsealed : (why : SealNo) (taken : Step) → acted ≡ found
+                → Seals left count p.seeds who row.path plain dice after (Err why)
+                → ◌≡◌ {A = Result Step CallNo} (Ok taken) (unsealed_step row.path why)
+                → Done (resealing (nat_lt data_limit (length plain)) name p row plain at) news dice
+                taken
+            unsealed seal.LooksEncrypted taken same s e =
+                let long = le-ltb data_limit (length plain) s.0 in
+                let rest = stays_so (one_left at) (step.Left row.path) refl same s.3 (refl, refl) in
+                subst (λ t. Done (resealing (nat_lt data_limit (length plain)) name p row plain at)
+                news
+                dice t) (same_step taken (step.Left row.path) e) (
+                  rest.0,
+                  rest.1,
+                  subst (λ b. Does (resealing b name p row plain at) (Out news dice None m)
+                      (Out news after None m) (Ok (one_left at))) (sym long)
+                      (goes_on (value_sealed p.seeds who row.path plain) (replacing name p row at)
+                      None
+                      (sealed_does link left count news dice after drawn drawn
+                      (with_lent_tape name None m a) who
+                      p.seeds row.path plain (Err seal.LooksEncrypted) (omega arith) s.0 tt s)
+                      (given (one_left at) (Out news after None m))),
+                  rest.3,
+                )
+            unsealed (seal.TooLarge size) taken same s e =
+                let long = lt-ltb data_limit (length plain) s.1 in
+                let rest = stays_so (one_left at) (step.Left row.path) refl same s.2 (refl, refl) in
+                subst (λ t. Done (resealing (nat_lt data_limit (length plain)) name p row plain at)
+                news
+                dice t) (same_step taken (step.Left row.path) e) (
+                  rest.0,
+                  rest.1,
+                  subst (λ b. Does (resealing b name p row plain at) (Out news dice None m)
+                      (Out news after None m) (Ok (one_left at))) (sym long) rest.2,
+                  rest.3,
+                )
+            unsealed seal.DiceFailed taken same s e = not_err taken no.DiceFailed e
+            unsealed seal.NoMemory taken same s e = not_err taken no.NoMemory e
+
+            resealed : (sealed : Result (List ℕ) SealNo) (taken : Step)
+                → Seals left count p.seeds who row.path plain dice after sealed
+                → ResealsBy p row plain sealed found (Ok taken) acted
+                → Done (resealing (nat_lt data_limit (length plain)) name p row plain at) news dice
+                taken
+            resealed (Ok stored) taken s (inl r) =
+                replaced stored r.given taken r.sealing s r.replaces r.answers
+            resealed (Ok stored) taken s (inr n) = not_err taken no.Spent n.1
+            resealed (Err why) taken s r = unsealed why taken r.1 s r.0
+
+            data_done : (stale : Bool) (taken : Step)
+                → RewritesData left count p row plain stale found dice (Ok taken) acted after
+                → Done (row_data name p row at plain stale) news dice taken
+            data_done false taken r =
+                subst (λ t. Done (give (one_fresh at)) news dice t)
+                (same_step taken (step.Fresh row.path) r.0)
+                (stays_so (one_fresh at) (step.Fresh row.path) refl r.1 r.2 (refl, refl))
+            data_done true taken (inl r) = in_memory
+                (resealing (nat_lt data_limit (length plain)) name p row plain at) news dice taken
+                (resealed r.sealed taken r.seals r.reseals)
+            data_done true taken (inr r) = not_err taken no.NoMemory r.0
+
+        -- a value that isn't read leaves the row
+        unread : (why : UnsealNo) (taken : Step)
+            → UnsealsBy truth link p.seeds (list_at p row.resource) row.path row.stored olds
+            (Err why)
+            news
+            → acted ≡ found → after ≡ dice
+            → ◌≡◌ {A = Result Step CallNo} (Ok taken) (unread_step row.path why)
+            → Done (row_steps name p row at) olds dice taken
+        unread (unseal.Refused why) taken u same kept e =
+            let rest = stays_so (one_left at) (step.Left row.path) refl same kept (refl, refl) in
+            subst (λ t. Done (row_steps name p row at) olds dice t)
+            (same_step taken (step.Left row.path) e) (
+              rest.0,
+              rest.1,
+              goes_on (value_read p.seeds (list_of p.rows row.resource) row.path row.stored)
+                  (row_by name p row at) (Err why)
+                  (value_does truth link p.seeds opens (list_at p row.resource) row.path row.stored
+                  olds
+                  news distinct (left dice) drawn (with_lent_tape name None m a) truth_is
+                  (Err (unseal.Refused why)) (Ok (Err why)) u refl)
+                  rest.2,
+              rest.3,
+            )
+        unread (unseal.PluginFailed n) taken u same kept e = not_err taken (no.PluginFailed n) e
+        unread unseal.NoMemory taken u same kept e = not_err taken no.NoMemory e
+
+        opened_done : (opened : Result Opened UnsealNo) (taken : Step)
+            → UnsealsBy truth link p.seeds (list_at p row.resource) row.path row.stored olds opened
+            news
+            → RewritesBy left count p row opened found dice (Ok taken) acted after
+            → Done (row_steps name p row at) olds dice taken
+        opened_done (Ok opened) taken u r =
+            let rest = data_done opened.plain (u.envelope, u.object, u.is.0) opened.stale taken r
+            in (
+              rest.0,
+              rest.1,
+              goes_on (value_read p.seeds (list_of p.rows row.resource) row.path row.stored)
+                  (row_by name p row at) (Ok opened)
+                  (value_does truth link p.seeds opens (list_at p row.resource) row.path row.stored
+                  olds
+                  news distinct (left dice) drawn (with_lent_tape name None m a) truth_is
+                  (Ok opened) (Ok (Ok opened)) u refl)
+                  rest.2,
+              rest.3,
+            )
+        opened_done (Err why) taken u r = unread why taken u r.1 r.2 r.0
+
+        pub row_done : (taken : Step)
+            → Rewrites truth link left count p row found olds dice (Ok taken) acted news after
+            → Done (row_steps name p row at) olds dice taken
+        row_done taken (inl r) = opened_done r.opened taken r.unseals r.rewrites
+        row_done taken (inr n) = not_err taken no.NoMemory n.0.0

@@ -1,0 +1,123 @@
+-- A command that reports: what is said at its end, whatever is lent meanwhile.
+use Rattle.std.proofs.Common.{◌≡◌, ℕ, ◌+◌, ◌*◌, ◌<◌, ◌≤◌, List, length, Option, None, Some, Result, Ok, Err, refl, sym, ap, subst, inl, inr, arith}
+use Rattle.std.specs.Prelude.{Bool, if◌then◌else◌}
+use Rattle.std.specs.Option.{option_map}
+use Rattle.std.proofs.lemmas.Bool.{le-ltb, lt-ltb}
+use Rattle.kr_config.specs.Kept.{Row}
+use Rattle.kr_kms.specs.Calls.{Link}
+use Rattle.kr_kms.specs.Outside.{Outside, same_name}
+use Rattle.kr_store.specs.Stores.{IsListing}
+use Rattle.kr_store.specs.declared.rows.Row as stored
+use Rattle.kr_base.specs.Limits.{journal_limit}
+use Rattle.kr_cmd_steps.specs.Around.{Around, with_world, with_lent}
+use Rattle.kr_cmd_steps.specs.Commands.{by_result, rewriting_by, rewriting_live, within_journal}
+use Rattle.kr_cmd_steps.specs.Plugins.{borrow_links}
+use Rattle.kr_cmd_steps.specs.Steps.{Steps, borrow_dice, find, give, and_then, refuses, Goes}
+use Rattle.kr_cmd_steps.specs.StoreFiles.{Stored}
+use Rattle.kr_cmd_steps.specs.declared.programs.Program.{Program}
+use Rattle.kr_cmd_messages.specs.declared.refusal.Ended.{Ended}
+use Rattle.kr_cmd_messages.specs.declared.refusal.Limit.TheVariants as limit
+use Rattle.kr_cmd_messages.specs.declared.refusal.Outcome.{Outcome}
+use Rattle.kr_cmd_messages.specs.declared.refusal.Refusal.TheVariants.{Limit}
+use Rattle.kr_cmd_messages.specs.declared.refusal.Stop.{Stop}
+use Rattle.kr_cmd_messages.specs.declared.refusal.Stop.TheVariants.{Refused, NoMemory}
+use Rattle.kr_cmd_messages.specs.declared.report.Counts.{Counts}
+use Rattle.kr_cmd_steps.specs.inner.Lent.{Tapes, with_tapes, with_lent_dice, with_lent_links, with_lent_tape}
+use Rattle.kr_cmd_steps.specs.inner.Phases.{Does}
+use Rattle.kr_cmd_steps.specs.inner.Reporting.{saying}
+use Rattle.kr_cmd_rewrite.specs.inner.Rewriting.{LacksRoom}
+use Rattle.kr_cmd_steps.proofs.Frames.{Seen}
+use Rattle.kr_cmd_steps.proofs.Goes.{goes_on, home_refl, reach}
+
+-- ---- what is said stands beside what is lent
+
+pub saying_world : (said : Option Counts) (world : Outside) (a : Around)
+    → saying said (with_world world a) ≡ with_world world (saying said a)
+saying_world None world a = refl
+saying_world (Some counts) world a = refl
+
+pub saying_tape : (said : Option Counts) (name : List ℕ) (told : Option (List ℕ)) (count : ℕ)
+    (world : Outside) (a : Around)
+    → saying said (with_lent_tape name told count (with_world world a))
+    ≡ with_lent_tape name told count (with_world world (saying said a))
+saying_tape None name told count world a = refl
+saying_tape (Some counts) name told count world a = refl
+
+-- the tapes where this one is out
+abbrev pub tapes_lent : (name : List ℕ) (told : Option (List ℕ)) (count : ℕ) → Tapes → Tapes
+tapes_lent name told count tapes = with_lent same_name name (option_map Some told) count tapes
+
+module _ {L : Type 0} (link : L → Link) where
+  -- what is around while a tape, links and a random source are out
+  abbrev pub All_lent : List L → (left : Option (List ℕ)) → (faults : ℕ) → (name : List ℕ)
+      → (told : Option (List ℕ)) → (count : ℕ) → Around → Around
+  All_lent links left faults name told count a =
+      with_lent_links link 0 links (with_lent_dice 0 left faults (with_lent_tape name told count a))
+
+  pub saying_seen : (said : Option Counts) (links : List L) (left : Option (List ℕ)) (faults : ℕ)
+      (name : List ℕ) (told : Option (List ℕ)) (count : ℕ) (tapes : Tapes) (world : Outside)
+      (a : Around)
+      → saying said (All_lent links left faults name told count
+      (with_world (with_tapes tapes world) a))
+      ≡ Seen link (with_world (with_tapes (tapes_lent name told count tapes) world)
+      (saying said a)) links left faults
+  saying_seen None links left faults name told count tapes world a = refl
+  saying_seen (Some counts) links left faults name told count tapes world a = refl
+
+-- ---- a command that stopped before it reported
+
+pub stopped_by : {next : Steps Outcome} {old new : Around} (stop : Stop) (ended : Ended)
+    → ended ≡ record { made = Err stop; said = None } → Does next old new (Err stop)
+    → Does next old (saying ended.said new) ended.made
+stopped_by {next} {old} {new} stop ended is d =
+    subst (λ (e : Ended). Does next old (saying e.said new) e.made) (sym is) d
+
+-- ---- room
+
+within_ok : (live : List stored.Row) → (4 * length live + 3) ≤ journal_limit
+    → within_journal live ≡ Ok tt
+within_ok live short = ap (λ (q : Bool). if q then Err (Limit limit.Journal) else Ok tt)
+    (le-ltb journal_limit (4 * length live + 3) (omega (arith, short)))
+
+within_not : (live : List stored.Row) → journal_limit < 4 * length live + 3
+    → within_journal live ≡ Err (Limit limit.Journal)
+within_not live long = ap (λ (q : Bool). if q then Err (Limit limit.Journal) else Ok tt)
+    (lt-ltb journal_limit (4 * length live + 3) (omega (arith, long)))
+
+module _ (name : List ℕ) (rows : List Row) (programs : List Program) (store : Stored) where
+  abbrev pub Finding : Steps Outcome
+  Finding = find (List stored.Row) (IsListing store.rows) (rewriting_live name rows programs store)
+
+  pub room_lacking : (a : Around) → LacksRoom store.rows
+      → Does Finding a a (Err (Refused (Limit limit.Journal)))
+  room_lacking a (live, is, long) = record {
+    home = home_refl a;
+    ends = λ left s. reach left (inr (
+      live,
+      is,
+      subst (λ r. Goes (refuses (Limit limit.Journal)) left (and_then (by_result r) (λ u.
+          borrow_dice 0 (borrow_links programs (rewriting_by name rows store live)))) left)
+          (sym (within_not live long)) (refl, refl),
+    )) s;
+  }
+
+  pub listing_lacking : (a : Around) → Does Finding a a (Err NoMemory)
+  listing_lacking a =
+      record { home = home_refl a; ends = λ left s. inr (reach left (inl (refl, refl)) s) }
+
+  -- with room for its live rows the rewrite goes on
+  pub room_there : {old new : Around} {result : Result Outcome Stop} (live : List stored.Row)
+      → IsListing store.rows live → (4 * length live + 3) ≤ journal_limit
+      → Does (borrow_dice 0 (borrow_links programs (rewriting_by name rows store live))) old new
+      result
+      → Does Finding old new result
+  room_there {old} {new} {result} live is short d =
+      let next = borrow_dice 0 (borrow_links programs (rewriting_by name rows store live)) in
+      goes_on (find (List stored.Row) (IsListing store.rows) give)
+      (rewriting_live name rows programs store) live
+      (record {
+        home = home_refl old;
+        ends = λ left s. reach left (inr (live, is, (refl, refl))) s;
+      })
+      (subst (λ r. Does (and_then (by_result r) (λ u. next)) old new result)
+      (sym (within_ok live short)) d)

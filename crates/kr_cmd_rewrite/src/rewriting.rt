@@ -1,0 +1,420 @@
+//! `rewrite`: configuration, programs of its plugins, store, random source, links, publish, start,
+//! drive, the report.
+ghost use Rattle.std.specs.Prelude.{◌≡◌, ◌++◌, ◌≤◌, ◌∷◌, ℕ, [], false, None, Some, Ok, Err, All, IfOk, IfErr, IfSome, MatchOption, map};
+ghost use Rattle.kr_base.specs.Limits.{store_limit};
+ghost use Rattle.kr_config.specs.Kept.{plugins_in, rows_of};
+ghost use Rattle.kr_kms.specs.Truth.{TellsOf, key_of};
+ghost use Rattle.kr_provider.specs.KeyPages.{size_of};
+ghost use Rattle.kr_provider.specs.Names.{AreDistinct, names_of};
+ghost use Rattle.kr_provider.specs.PluginOrder.{plugin_order};
+ghost use Rattle.kr_provider.specs.Publication.{Publication};
+ghost use Rattle.kr_history.specs.Calls.{AreServed};
+ghost use Rattle.kr_store.specs.Stores.{IsListing};
+ghost use Rattle.kr_cmd_steps.specs.Around.{Around, with_world};
+ghost use Rattle.kr_cmd_steps.specs.Commands.{nothing_done, driving, rewriting, rewriting_on, rewriting_by};
+ghost use Rattle.kr_cmd_steps.specs.Plugins.{borrow_links};
+ghost use Rattle.kr_cmd_messages.specs.Reports.{report_done};
+ghost use Rattle.kr_cmd_steps.specs.inner.Lent.{Name, Tapes, with_tapes, with_lent_dice, with_lent_links, with_lent_tape};
+ghost use Rattle.kr_cmd_steps.specs.inner.Phases.{Does};
+ghost use Rattle.kr_cmd_steps.specs.inner.Reporting.{saying};
+ghost use Rattle.kr_cmd_rewrite.specs.inner.Rewriting.{HasRoom, LacksRoom, LiveRows, Told, IsAlone, IsDriveStop, IsReported, MayCutShort, StartsAlone, counts_of, opened_store};
+ghost use Rattle.kr_cmd_steps.specs.inner.Tapes.{stored_of};
+
+use kr_base::{Dice, JOURNAL_LIMIT, List, NoMemory, Shared, Tape, Text};
+use kr_cmd_messages::{
+    Counts, Done, Ended, Limit, Object, Outcome, Refusal, Rewriting, Stop, report_text,
+};
+use kr_cmd_steps::{
+    Program, close_dice, close_link, close_tape, configure, first_of, load_store, names_of,
+    open_dice, open_link, open_tape, programs_of, publish_by, start_stop, take_last,
+};
+use kr_config::Settings;
+use kr_history::{Acts, CallNo, Solo};
+use kr_kms::{Kms, World};
+use kr_provider::{Bench, Links, Published};
+use kr_rewrite::{Report, drive};
+use kr_rollout::Core;
+use kr_store::Store;
+use std::alloc::Global;
+
+/// How many keys the bench holds expanded, and how many unwrapped seeds.
+const PAGES: u32 = 64;
+
+const CACHE: u32 = 64;
+
+/// Writes the stale rows of a store anew.
+pub fn rewrite<W: World>(alloc: Global, words: &Rewriting, world: &mut W) -> Ended
+    ensures { (a : Around) → a.truth ≡ W.Link.truth → Does (rewriting words.now)
+        (with_world (W.told world.old) a)
+        (saying result.said (with_world (W.told world.new) a)) result.made }
+{
+    let settings = match configure(alloc, world, words.config.as_str()) {
+        Ok(settings) => settings,
+        Err(stop) => return stopped(stop),
+    };
+    let programs = match programs_of(alloc, &words.options, &settings) {
+        Ok(programs) => programs,
+        Err(stop) => return stopped(stop),
+    };
+    let name = words.store.as_str();
+    let tape = match open_tape(alloc, world, name, false) {
+        Ok(tape) => tape,
+        Err(stop) => return stopped(stop),
+    };
+    let (ended, tape) = rewrite_on(alloc, settings, programs.as_slice(), world, tape);
+    close_tape(world, name, tape);
+    ended
+}
+
+/// Rewrites the store on a tape, which comes back.
+fn rewrite_on<W: World>(
+    alloc: Global,
+    settings: Settings,
+    programs: &[Program],
+    world: &mut W,
+    tape: W::Tap,
+) -> (Ended, W::Tap)
+    requires programs { map (λ program. program.plugin) programs.now
+        ≡ plugin_order (rows_of settings.entries.0) }
+    ensures ended { (name : Name) (a : Around) → a.truth ≡ W.Link.truth → Does
+        (rewriting_on name (rows_of settings.entries.0) programs.now)
+        (with_lent_tape name (W.Tap.told tape) (W.Tap.count tape) (with_world (W.told world.old) a))
+        (saying result.0.said (with_lent_tape name (W.Tap.told result.1) (W.Tap.count result.1)
+        (with_world (W.told world.new) a))) result.0.made }
+    ensures tapes { (W.told world.new).tapes ≡ (W.told world.old).tapes }
+{
+    let store = match load_store(alloc, tape, Object::Store) {
+        Ok(store) => store,
+        Err((stop, tape)) => return (stopped(stop), tape),
+    };
+    let Some(room) = room_of(&store) else {
+        let limit = Stop::Refused(Refusal::Limit(Limit::Journal));
+        return (stopped(limit), store.close());
+    };
+    let names = match names_of(alloc, programs) {
+        Ok(names) => names,
+        Err(NoMemory) => return (stopped(Stop::NoMemory), store.close()),
+    };
+    let dice = match open_dice(alloc, world, 0) {
+        Ok(dice) => dice,
+        Err(stop) => return (stopped(stop), store.close()),
+    };
+    let links = Links::<W::Link>::new(alloc);
+    let rollout = Rollout { store, names, room };
+    let (ended, store, links, dice) = rewrite_linked(
+        alloc, settings, programs, world, rollout, links, dice,
+    );
+    links.end();
+    close_dice(world, 0, dice);
+    (ended, store.close())
+}
+
+/// How many entries the rewrite may make, where the journal has room for them.
+fn room_of<T: Tape>(store: &Store<T>) -> Option<u64>
+    ensures { MatchOption result (LacksRoom store.now.rows) (HasRoom store.now.rows) }
+{
+    let live = store.live_count();
+    if live > (JOURNAL_LIMIT - 3) / 4 {
+        return None;
+    }
+    Some(4 * live + 3)
+}
+
+/// What a core of one replica is started with.
+struct Rollout<T: Tape> {
+    store: Store<T>,
+    /// The plugins that its configuration may name.
+    names: List<Text>,
+    /// How many entries it may make.
+    room: u64,
+}
+
+impl<T: Tape> Rollout<T> {
+    /// Gives the store up.
+    fn into_store(self) -> Store<T>
+        ensures { result ≡ self.store }
+    {
+        let Rollout {
+            store,
+            names: _,
+            room: _,
+        } = self;
+        store
+    }
+}
+
+/// Borrows a link to each of the plugins, behind the links that are there, and gives it back.
+fn rewrite_linked<W: World, T: Tape>(
+    alloc: Global,
+    settings: Settings,
+    programs: &[Program],
+    world: &mut W,
+    rollout: Rollout<T>,
+    mut links: Links<W::Link>,
+    dice: W::Rand,
+) -> (Ended, Store<T>, Links<W::Link>, W::Rand)
+    requires programs { names_of W.Link.link links
+        ++ map (λ program. program.plugin) programs.now
+        ≡ plugin_order (rows_of settings.entries.0) }
+    requires names { rollout.names.0 ≡ plugin_order (rows_of settings.entries.0) }
+    requires room { HasRoom rollout.store.rows rollout.room }
+    requires within { rollout.store.limit ≡ store_limit }
+    requires whole { rollout.store.torn ≡ false }
+    ensures ended { (name : Name) (tapes : Tapes) (a : Around) (live : LiveRows)
+        → a.truth ≡ W.Link.truth → IsListing rollout.store.rows live → Does
+        (borrow_links programs.now (rewriting_by name (rows_of settings.entries.0)
+        (stored_of rollout.store) live))
+        (with_lent_links W.Link.link 0 links
+        (with_lent_dice 0 (W.Rand.left dice) (W.Rand.count dice)
+        (with_lent_tape name rollout.store.told rollout.store.count
+        (with_world (with_tapes tapes (W.told world.old)) a))))
+        (saying result.0.said
+        (with_lent_links W.Link.link 0 result.2
+        (with_lent_dice 0 (W.Rand.left result.3) (W.Rand.count result.3)
+        (with_lent_tape name result.1.told result.1.count
+        (with_world (with_tapes tapes (W.told world.new)) a)))))
+        result.0.made }
+    ensures tapes { (W.told world.new).tapes ≡ (W.told world.old).tapes }
+    ensures names { names_of W.Link.link result.2 ≡ names_of W.Link.link links }
+    ensures dice { (W.told world.new).dice ≡ (W.told world.old).dice }
+    ensures out { (key : ℕ × Name)
+        → (W.told world.new).links.out key ≡ (W.told world.old).links.out key }
+{
+    let Some((program, more)) = first_of(programs) else {
+        return rewrite_by(alloc, settings, rollout, links, dice);
+    };
+    let link = match open_link(
+        alloc,
+        world,
+        0,
+        program.plugin.as_str(),
+        program.file.as_str(),
+    ) {
+        Ok(link) => link,
+        Err(stop) => return (stopped(stop), rollout.into_store(), links, dice),
+    };
+    match links.add(link) {
+        Ok(()) => {}
+        Err((_, link)) => {
+            close_link(world, 0, link);
+            return (stopped(Stop::NoMemory), rollout.into_store(), links, dice);
+        }
+    }
+    let (ended, store, mut links, dice) = rewrite_linked(
+        alloc, settings, more, world, rollout, links, dice,
+    );
+    let link = take_last(&mut links);
+    close_link(world, 0, link);
+    (ended, store, links, dice)
+}
+
+/// Publishes the settings, starts a core of one replica with them, and drives.
+fn rewrite_by<T: Tape, L: Kms, D: Dice>(
+    alloc: Global,
+    settings: Settings,
+    rollout: Rollout<T>,
+    mut links: Links<L>,
+    mut dice: D,
+) -> (Ended, Store<T>, Links<L>, D)
+    requires links { names_of L.link links ≡ plugin_order (rows_of settings.entries.0) }
+    requires names { rollout.names.0 ≡ plugin_order (rows_of settings.entries.0) }
+    requires room { HasRoom rollout.store.rows rollout.room }
+    requires within { rollout.store.limit ≡ store_limit }
+    requires whole { rollout.store.torn ≡ false }
+    ensures ended { (name : Name) (a : Around) (live : LiveRows)
+        → a.truth ≡ L.truth → IsListing rollout.store.rows live → Does
+        (rewriting_by name (rows_of settings.entries.0) (stored_of rollout.store) live)
+        (with_lent_links L.link 0 links (with_lent_dice 0 (D.left dice) (D.count dice)
+        (with_lent_tape name rollout.store.told rollout.store.count a)))
+        (saying result.0.said
+        (with_lent_links L.link 0 result.2 (with_lent_dice 0 (D.left result.3) (D.count result.3)
+        (with_lent_tape name result.1.told result.1.count a))))
+        result.0.made }
+    ensures names { names_of L.link result.2 ≡ names_of L.link links }
+{
+    let settings = match Shared::new(alloc, settings) {
+        Ok(settings) => settings,
+        Err(_) => return (stopped(Stop::NoMemory), rollout.into_store(), links, dice),
+    };
+    let published = match publish_by(alloc, settings, &mut links, &mut dice) {
+        Ok(published) => published,
+        Err(stop) => return (stopped(stop), rollout.into_store(), links, dice),
+    };
+    links.known();
+    let bench = match Bench::new(alloc, links, dice, PAGES, CACHE) {
+        Ok(bench) => bench,
+        Err((_, links, dice)) => return (
+            stopped(Stop::NoMemory),
+            rollout.into_store(),
+            links,
+            dice,
+        ),
+    };
+    let core = match start(alloc, rollout, published) {
+        Ok(core) => core,
+        Err((stop, store)) => {
+            let (links, dice) = bench.close();
+            return (stopped(stop), store, links, dice);
+        }
+    };
+    drive_all(alloc, core, bench)
+}
+
+/// The core at its opening. A refusal gives the store back.
+fn start<T: Tape>(
+    alloc: Global,
+    rollout: Rollout<T>,
+    published: Published,
+) -> Result<Core<T>, (Stop, Store<T>)>
+    requires names { AreServed (plugins_in published.rows) rollout.names.0 }
+    requires room { HasRoom rollout.store.rows rollout.room }
+    ensures starts { StartsAlone rollout.store published rollout.names.0 rollout.room result }
+    ensures back { IfErr result (λ refused. refused.1 ≡ rollout.store) }
+{
+    let Rollout { store, names, room } = rollout;
+    let replicas = match alone(alloc, published) {
+        Ok(replicas) => replicas,
+        Err(NoMemory) => return Err((Stop::NoMemory, store)),
+    };
+    match Core::start(alloc, store, replicas, names, 1, room, &[0]) {
+        Ok(core) => Ok(core),
+        Err((why, store)) => Err((start_stop(why), store)),
+    }
+}
+
+/// One replica, which is in.
+fn alone(alloc: Global, published: Published) -> Result<List<Option<Shared<Published>>>, NoMemory>
+    ensures { IfOk result (λ replicas. replicas.0 ≡ Some published ∷ []) }
+{
+    let Ok(published) = Shared::new(alloc, published) else {
+        return Err(NoMemory);
+    };
+    let mut replicas = List::new(alloc);
+    match replicas.push(Some(published)) {
+        Ok(()) => Ok(replicas),
+        Err(_) => Err(NoMemory),
+    }
+}
+
+/// Drives over all rows of the core. What the core and the bench were made of comes back.
+fn drive_all<T: Tape, L: Kms, D: Dice>(
+    alloc: Global,
+    core: Core<T>,
+    mut bench: Bench<L, D>,
+) -> (Ended, Store<T>, Links<L>, D)
+    requires alone { IsAlone core }
+    requires names { core.opening.names ≡ names_of L.link bench.links }
+    requires distinct { AreDistinct L.link bench.links }
+    requires opens { All (λ replica. IfSome replica
+        (λ p. All (λ row. TellsOf L.truth (key_of row) row.seed) p.seeds)) core.opening.replicas }
+    requires pages { 64 ≤ size_of bench.pages }
+    requires unadopted { bench.published ≡ None }
+    ensures ended { (name : Name) (a : Around) (live : LiveRows) (told : Told)
+        (p : Publication) → a.truth ≡ L.truth → IsListing core.opening.rows live
+        → core.opening.replicas ≡ Some p ∷ [] → Does
+        (driving name p live (nothing_done (opened_store core)))
+        (with_lent_links L.link 0 bench.links
+        (with_lent_dice 0 (D.left bench.dice) (D.count bench.dice)
+        (with_lent_tape name told core.opening.count a)))
+        (saying result.0.said
+        (with_lent_links L.link 0 result.2 (with_lent_dice 0 (D.left result.3) (D.count result.3)
+        (with_lent_tape name result.1.told result.1.count a))))
+        result.0.made }
+    ensures names { names_of L.link result.2 ≡ names_of L.link bench.links }
+{
+    let mut solo = Solo::new(core);
+    solo.known();
+    let driven = drive(alloc, &mut solo, 0, &mut bench, "");
+    solo.known();
+    let (store, _lines) = solo.into_core().close();
+    store.known();
+    let _faults = store.faults();
+    let (links, dice) = bench.close();
+    match driven {
+        Ok(report) => (reported(alloc, counts_of(&report)), store, links, dice),
+        Err((report, why)) => {
+            let stop = drive_stop(why, &store, &links, &dice);
+            (cut_short(counts_of(&report), stop), store, links, dice)
+        }
+    }
+}
+
+fn counts_of(report: &Report) -> Counts
+    ensures { result ≡ counts_of report.now }
+{
+    Counts {
+        rewritten: report.rewritten,
+        fresh: report.fresh,
+        changed: report.changed,
+        left: report.left,
+    }
+}
+
+/// Why a drive was cut short, as a command says it.
+fn drive_stop<T: Tape, L: Kms, D: Dice>(
+    why: CallNo,
+    store: &Store<T>,
+    links: &Links<L>,
+    dice: &D,
+) -> Stop
+    requires { MayCutShort (names_of L.link links.now) why }
+    ensures { IsDriveStop L.link store.now links.now (D.count dice.now) why result }
+{
+    match why {
+        CallNo::PluginFailed { name } => {
+            let count = links.faults(name.as_str());
+            Stop::Fault(Object::Plugin(name), count)
+        }
+        CallNo::DiceFailed => Stop::Fault(Object::Dice(0), dice.faults()),
+        CallNo::StoreFailed => Stop::Fault(Object::Store, store.faults()),
+        CallNo::StoreFull { needed: _needed } => Stop::Refused(Refusal::Limit(Limit::Store)),
+        CallNo::NoMemory => Stop::NoMemory,
+        _ => unreachable!(),
+    }
+}
+
+/// The report of a drive that came to the end.
+fn reported(alloc: Global, counts: Counts) -> Ended
+    ensures { IsReported counts result }
+{
+    match report_text(alloc, counts) {
+        Ok(bytes) => Ended {
+            made: Ok(Outcome {
+                bytes,
+                done: report_done(counts),
+            }),
+            said: Some(counts),
+        },
+        Err(NoMemory) => cut_short(counts, Stop::NoMemory),
+    }
+}
+
+fn report_done(counts: Counts) -> Done
+    ensures { result ≡ report_done counts }
+{
+    if counts.left == 0 {
+        Done::Silent
+    } else {
+        Done::Blocked
+    }
+}
+
+/// A command that was stopped, with what it reports before.
+fn cut_short(counts: Counts, stop: Stop) -> Ended
+    ensures { result ≡ record { made = Err stop; said = Some counts } }
+{
+    Ended {
+        made: Err(stop),
+        said: Some(counts),
+    }
+}
+
+/// A command that was stopped, and says nothing else.
+fn stopped(stop: Stop) -> Ended
+    ensures { result ≡ record { made = Err stop; said = None } }
+{
+    Ended {
+        made: Err(stop),
+        said: None,
+    }
+}

@@ -1,0 +1,241 @@
+-- What a call of `run` did: one relation for all commands, and what follows from it for readers.
+use Rattle.std.specs.Prelude.{◌≡◌, ℕ, ◌≤◌, ◌⊎◌, false, List, [], ◌∷◌, Contains, Option, None, Some, IsSome, Result, Ok, Err, ⊤}
+use Rattle.std.specs.Io.KnownBytes.{Appends}
+use Rattle.kr_base.specs.Faults.{Rose}
+use Rattle.kr_base.specs.Streams.{AppendsFront}
+use Rattle.kr_base.specs.Told.{Agrees}
+use Rattle.kr_config.specs.Kept.{Row}
+use Rattle.kr_provider.specs.PluginOrder.{plugin_order}
+use Rattle.kr_provider.specs.Publication.{names_plugin}
+use Rattle.kr_cmd_steps.specs.Around.{Around, with_what_is_said, left_of, faults_at, count_at, Reaches, IsHome, Ends}
+use Rattle.kr_cmd_messages.specs.Command.{replica_names, reload_in, reload_file, Asks, AskNothing, AskReplicas, AskSize, AskBadly}
+use Rattle.kr_cmd_steps.specs.Commands.{steps}
+use Rattle.kr_cmd_steps.specs.Configuration.{IsConfiguration}
+use Rattle.kr_cmd_messages.specs.Message.{status_of, status_of_done, status_of_refusal, line_of, refusal_line, fault_line, done_line}
+use Rattle.kr_cmd_steps.specs.Steps.{Call, object_of, Point, awaits, refuses, gives, Left, Goes}
+use Rattle.kr_cmd_messages.specs.declared.command.Command.{Command}
+use Rattle.kr_cmd_messages.specs.declared.command.Command.TheVariants.{Convert, Check, Inspect, Put, Get, Migrate, Rows, Judge, Plan, Rewrite}
+use Rattle.kr_cmd_messages.specs.declared.command.Direction.{Direction}
+use Rattle.kr_cmd_messages.specs.declared.command.Direction.TheVariants.{Encrypt, Decrypt}
+use Rattle.kr_cmd_messages.specs.declared.refusal.Object.TheVariants.{Output}
+use Rattle.kr_cmd_messages.specs.declared.refusal.Refusal.{Refusal}
+use Rattle.kr_cmd_messages.specs.declared.refusal.Stop.{Stop}
+use Rattle.kr_cmd_messages.specs.declared.refusal.Stop.TheVariants.{Words, Refused, Fault, NoMemory}
+use Rattle.kr_cmd_messages.specs.declared.refusal.Done.{Done}
+use Rattle.kr_cmd_messages.specs.declared.refusal.Outcome.{Outcome}
+use Rattle.kr_cmd_messages.specs.Receipts.{Receipt, Tells}
+
+-- nothing was written
+abbrev pub IsIdle : Receipt → Type 0
+IsIdle sink = (sink.new ≡ sink.old) × (sink.new_faults ≡ sink.old_faults)
+
+-- just what was said was written, or a prefix of it before the output failed
+abbrev pub Reports : List ℕ → Receipt → Type 0
+Reports [] output = IsIdle output
+Reports (byte ∷ bytes) output = Appends output.old output.new (byte ∷ bytes)
+    ⊎ (AppendsFront output.old output.new (byte ∷ bytes)
+    × Rose output.old_faults output.new_faults)
+
+-- nothing around was touched
+abbrev pub IsUntouched : Around → Around → Receipt → Type 0
+IsUntouched old new output = (new ≡ old) × IsIdle output
+
+-- ---- what a call did
+
+-- the words ask for a command, and its steps ended so
+pub record Did (words : List (List ℕ)) (old new : Around) (made : Result Outcome Stop)
+    : Type 0 where
+  pub command : Command
+  pub asks : Asks words command
+  pub home : IsHome old new
+  pub ends : Ends (steps command) (left_of old) old new made
+
+-- the value of a command was written; where the output fails, a prefix of it; where a step ended
+-- the command, that stands, and what was said was written
+abbrev pub Writes : List ℕ → Receipt → Result Outcome Stop → Result Done Stop → Type 0
+Writes said output (Ok made) (Ok done) =
+    (done ≡ made.done) × Appends output.old output.new made.bytes
+Writes said output (Ok made) (Err (Fault object count)) =
+    AppendsFront output.old output.new made.bytes × (object ≡ Output)
+    × Rose output.old_faults output.new_faults × (count ≡ output.new_faults)
+Writes said output (Ok made) (Err stop) = ⊥
+Writes said output (Err stop) result = (result ≡ Err stop) × Reports said output
+
+-- the words stop the call before anything is done, or there is no memory to read them
+abbrev pub StopsAtOnce : List (List ℕ) → Result Done Stop → Type 0
+StopsAtOnce words (Err (Words why)) = AskBadly why words
+StopsAtOnce words (Err NoMemory) = ⊤
+StopsAtOnce words result = ⊥
+
+abbrev pub Answers : List (List ℕ) → Around → Around → Receipt → Result Done Stop → Type 0
+Answers words old new output result =
+    (StopsAtOnce words result × IsUntouched old new output)
+    ⊎ ((said : List ℕ) × (made : Result Outcome Stop)
+    × Did words old (with_what_is_said said new) made × Writes said output made result)
+
+pub record Ran (words : List (List ℕ)) (old new : Around) (output errors : Receipt)
+    (status : ℕ) : Type 0 where
+  pub result : Result Done Stop
+  pub answers : Answers words old new output result
+  pub tells : Tells (line_of result) (status_of result) errors status
+  pub written : output.old_faults ≤ output.new_faults
+  pub told : errors.old_faults ≤ errors.new_faults
+
+-- ---- what follows from it, for readers
+
+-- the words ask for a command whose steps come to this point, where this was said
+pub record ComesSaying (words : List (List ℕ)) (old new : Around) (said : List ℕ)
+    (point : Point Outcome) : Type 0 where
+  pub command : Command
+  pub asks : Asks words command
+  pub reaches : Reaches (steps command) (left_of old) (with_what_is_said said new) point
+  pub home : IsHome old new
+
+-- whatever was said
+abbrev pub Comes : List (List ℕ) → (old new : Around) → Point Outcome → Type 0
+Comes words old new point = (said : List ℕ) × ComesSaying words old new said point
+
+-- and nothing else was written
+abbrev pub ComesReporting : List (List ℕ) → (old new : Around) → Receipt → Point Outcome → Type 0
+ComesReporting words old new output point =
+    (said : List ℕ) × ComesSaying words old new said point × Reports said output
+
+-- status 2 comes only where the words ask for nothing; and where they do, 2 comes, but for a limit
+-- that they pass, want of memory, and a line that couldn't be written
+abbrev pub IsUsage : List (List ℕ) → Receipt → ℕ → Type 0
+IsUsage words errors status =
+    (status ≡ 2 → AskNothing words)
+    × (AskNothing words →
+    (status ≡ 2)
+    ⊎ (status ≡ 5)
+    ⊎ ((status ≡ 6) × (AskReplicas words ⊎ AskSize words))
+    ⊎ ((status ≡ 4) × Rose errors.old_faults errors.new_faults))
+
+-- the steps come to a call that failed, so that its count and its object's rose; nothing was
+-- written but what was said, and the line, which has the object and its count
+abbrev pub FailsAt : List (List ℕ) → Around → Around → Receipt → Receipt → Call → Type 0
+FailsAt words old new output errors call =
+    ComesReporting words old new output (awaits call)
+    × Rose (faults_at call old) (faults_at call new)
+    × Rose (count_at call old) (count_at call new)
+    × Appends errors.old errors.new (fault_line (object_of call) (count_at call new))
+
+-- the steps come to a value, of which a prefix was written before the output failed; the line has
+-- the output's count
+abbrev pub FailsToWrite : List (List ℕ) → Around → Around → Receipt → Receipt → Outcome → Type 0
+FailsToWrite words old new output errors made =
+    Comes words old new (gives made) × AppendsFront output.old output.new made.bytes
+    × Rose output.old_faults output.new_faults
+    × Appends errors.old errors.new (fault_line Output output.new_faults)
+
+-- status 4 comes only where a call, the output or the line failed
+abbrev pub IsCaused : List (List ℕ) → Around → Around → Receipt → Receipt → ℕ → Type 0
+IsCaused words old new output errors status =
+    status ≡ 4
+    → ((call : Call) × FailsAt words old new output errors call)
+    ⊎ ((made : Outcome) × FailsToWrite words old new output errors made)
+    ⊎ Rose errors.old_faults errors.new_faults
+
+-- the steps refuse so, with this status, and nothing was written but what was said, and the line
+abbrev pub RefusesWith : List (List ℕ) → Around → Around → Receipt → Receipt → ℕ → Type 0
+RefusesWith words old new output errors status =
+    (why : Refusal) × ComesReporting words old new output (refuses why)
+    × (status_of_refusal why ≡ status) × Appends errors.old errors.new (refusal_line why)
+
+-- the steps give a value with this status, and just that was written, and its line
+abbrev pub GivesWith : List (List ℕ) → Around → Around → Receipt → Receipt → ℕ → Type 0
+GivesWith words old new output errors status =
+    (made : Outcome) × Comes words old new (gives made) × (status_of_done made.done ≡ status)
+    × Appends output.old output.new made.bytes
+    × Appends errors.old errors.new (done_line made.done)
+
+-- status 1, 3 or 6 comes only where a step refuses so or a value has this status of its own; or,
+-- status 6, where the words pass a limit
+abbrev pub IsRefused : List (List ℕ) → Around → Around → Receipt → Receipt → ℕ → Type 0
+IsRefused words old new output errors status =
+    (status ≡ 1) ⊎ (status ≡ 3) ⊎ (status ≡ 6)
+    → RefusesWith words old new output errors status
+    ⊎ GivesWith words old new output errors status
+    ⊎ ((status ≡ 6) × (AskReplicas words ⊎ AskSize words) × IsUntouched old new output)
+
+-- what a conversion touches of the plugins that these entries name is told: their statuses; as the
+-- key id is told nowhere that a seed is wrapped with, `decrypt` touches none
+abbrev pub ArePluginsTold : Direction → Around → List Row → Type 0
+ArePluginsTold Encrypt old rows = (plugin : List ℕ) → Contains (plugin_order rows) plugin
+    → IsSome (old.world.links.told (0, plugin))
+ArePluginsTold Decrypt old rows = names_plugin rows ≡ false
+
+-- each of the files is told
+abbrev pub AreTold : (List ℕ → Option (Option (List ℕ))) → (names : List (List ℕ)) → Type 0
+AreTold file [] = ⊤
+AreTold file (name ∷ names) = IsSome (file name) × AreTold file names
+
+-- what the command touches of the files, the tapes, the input and the plugins is told
+abbrev pub IsTelling : Command → Around → Type 0
+IsTelling (Convert words) old = IsSome (old.world.file words.config) × IsSome old.input
+    × ((file : Option (List ℕ)) (rows : List Row) → IsConfiguration words.config file (Ok rows)
+    → Agrees (old.world.file words.config) file → ArePluginsTold words.direction old rows)
+IsTelling (Check config resource) old = IsSome (old.world.file config)
+IsTelling Inspect old = IsSome old.input
+IsTelling (Put words store) old = IsSome (old.world.file words.config)
+    × IsSome (old.world.tapes.told store) × IsSome old.input
+    × ((file : Option (List ℕ)) (rows : List Row) → IsConfiguration words.config file (Ok rows)
+    → Agrees (old.world.file words.config) file → names_plugin rows ≡ false)
+IsTelling (Get words) old = IsSome (old.world.file words.config)
+    × IsSome (old.world.tapes.told words.store)
+    × ((file : Option (List ℕ)) (rows : List Row) → IsConfiguration words.config file (Ok rows)
+    → Agrees (old.world.file words.config) file → ArePluginsTold Decrypt old rows)
+IsTelling (Migrate words) old = IsSome (old.world.file words.config)
+    × IsSome (old.world.tapes.told words.store) × IsSome (old.world.tapes.told words.to)
+IsTelling (Rows store) old = IsSome (old.world.tapes.told store)
+IsTelling (Judge words) old =
+    IsSome (old.world.tapes.told words.store)
+    × AreTold old.world.file (replica_names words.options)
+    × IsSome (old.world.file (reload_file (reload_in words.options)))
+IsTelling (Plan words) old =
+    IsSome (old.world.file words.from) × IsSome (old.world.file words.to)
+IsTelling (Rewrite words) old = IsSome (old.world.file words.config)
+    × IsSome (old.world.tapes.told words.store)
+    × ((file : Option (List ℕ)) (rows : List Row) → IsConfiguration words.config file (Ok rows)
+    → Agrees (old.world.file words.config) file → names_plugin rows ≡ false)
+
+-- the steps of a command over the told files, tapes and input, and some drawn bytes, come to this
+-- point
+abbrev pub WouldCome : Command → Around → Point Outcome → Type 0
+WouldCome command old point = (end : Left) × Goes point end (steps command) (left_of old)
+
+-- how the last step of a command ends it, whatever its value is
+abbrev pub end_at : Point Outcome → Option (Result Done Stop)
+end_at (refuses why) = Some (Err (Refused why))
+end_at (gives made) = Some (Ok made.done)
+end_at point = None
+
+-- where what the command touches is told, the last step that it comes to decides the status and the
+-- line; only a fault, 4, and want of memory, 5, stand in its place. So 1, 3 and 6 come exactly
+-- where that step refuses so
+abbrev pub IsDecided : List (List ℕ) → Around → Receipt → ℕ → Type 0
+IsDecided words old errors status =
+    (command : Command) (point : Point Outcome) (end : Result Done Stop) → Asks words command
+    → IsTelling command old → WouldCome command old point → end_at point ≡ Some end
+    → ((status ≡ status_of end) × Appends errors.old errors.new (line_of end))
+    ⊎ (status ≡ 4) ⊎ (status ≡ 5)
+
+-- whatever the status is, the output has what it had, and behind it just what was said, or at most
+-- a prefix of the value that the steps give; at status 2 nothing was touched
+pub record IsWritten (words : List (List ℕ)) (old new : Around) (output : Receipt)
+    (status : ℕ) : Type 0 where
+  pub front : IsIdle output
+      ⊎ ((point : Point Outcome) × ComesReporting words old new output point)
+      ⊎ ((made : Outcome) × Comes words old new (gives made)
+      × AppendsFront output.old output.new made.bytes)
+  pub usage : status ≡ 2 → IsUntouched old new output
+
+pub record Readings (words : List (List ℕ)) (old new : Around) (output errors : Receipt)
+    (status : ℕ) : Type 0 where
+  pub usage : IsUsage words errors status
+  pub caused : IsCaused words old new output errors status
+  pub refused : IsRefused words old new output errors status
+  pub decided : IsDecided words old errors status
+  -- status 0 comes only where the steps give a value, and then just that was written, and its line
+  pub done : status ≡ 0 → GivesWith words old new output errors 0
+  pub written : IsWritten words old new output status

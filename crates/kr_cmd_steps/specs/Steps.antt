@@ -1,0 +1,237 @@
+-- What a command asks of the outside, step by step, and how it goes on by what it saw.
+use Rattle.std.specs.Prelude.{◌≡◌, ℕ, ◌+◌, ◌≤◌, ◌==◌, ◌⊎◌, Bool, true, false, List, [], length, Option, None, Some, if◌then◌else◌}
+use Rattle.std.specs.Io.KnownBytes.{Consumes, IsAtEnd}
+use Rattle.std.specs.Option.{option_map}
+use Rattle.kr_base.specs.Told.{Agrees}
+use Rattle.kr_kms.specs.Outside.{with_call, same_name}
+use Rattle.kr_kms.specs.Calls.{key_in}
+use Rattle.kr_kms.specs.Limits.{IsWithinLimits}
+use Rattle.kr_kms.specs.Truth.{Truth, TellsOf}
+use Rattle.kr_kms.specs.declared.plugin.Status.{Status}
+use Rattle.kr_kms.specs.declared.plugin.Wrapped.{Wrapped}
+use Rattle.kr_kms.specs.declared.seeds.SeedKey.{SeedKey}
+use Rattle.kr_kms.specs.declared.world.WorldCall.{WorldCall}
+use Rattle.kr_kms.specs.declared.world.WorldCall.TheVariants.{File, Tape, RandomSource, Link}
+use Rattle.kr_store.specs.declared.rows.LogRow.{LogRow}
+use Rattle.kr_cmd_steps.specs.StoreFiles.{Stored, with_row, HoldsRows, BeginsWith, StillHolds}
+use Rattle.kr_cmd_messages.specs.declared.refusal.Object.{Object}
+use Rattle.kr_cmd_messages.specs.declared.refusal.Object.TheVariants.{Input, Files, Dice, Plugin}
+use Rattle.kr_cmd_messages.specs.declared.refusal.Refusal.{Refusal}
+
+-- steps that give an A
+pub data Steps (A : Type 0) : Type 1 where
+  -- a file by its name: absent, or its bytes
+  load : List ℕ → (Option (List ℕ) → Steps A) → Steps A
+  -- the whole input of at most so many bytes; more are refused so
+  take_input : ℕ → Refusal → (List ℕ → Steps A) → Steps A
+  -- the random source of a seat
+  borrow_dice : ℕ → Steps A → Steps A
+  -- the tape of a name, which is made where it is absent, if so; one that is absent is refused so
+  borrow_tape : (name : List ℕ) (make : Bool) → Refusal → Steps A → Steps A
+  -- all bytes of a tape that is lent; a fault's line names the object
+  read_tape : Object → (name : List ℕ) → (List ℕ → Steps A) → Steps A
+  -- a row behind the rows of a store, on a tape that is lent; a fault's line names the object
+  write_row : Object → (name : List ℕ) → Stored → LogRow → Steps A → Steps A
+  -- nothing is asked: the tape that is lent begins with the file of these rows, and is no more than
+  -- that where its count of faults didn't rise
+  keep_rows : (name : List ℕ) → Stored → Steps A → Steps A
+  -- so many bytes of the random source of a seat
+  draw : (seat size : ℕ) → (List ℕ → Steps A) → Steps A
+  -- the link of a seat to a plugin, which a program is
+  borrow_link : (seat : ℕ) → (plugin program : List ℕ) → Steps A → Steps A
+  -- the status of the plugin
+  ask_status : (seat : ℕ) → (plugin : List ℕ) → (Status → Steps A) → Steps A
+  -- what the plugin makes of these bytes
+  wrap : (seat : ℕ) → (plugin plain : List ℕ) → (Wrapped → Steps A) → Steps A
+  -- what the plugin unwraps a source to
+  unwrap : (seat : ℕ) → SeedKey → (List ℕ → Steps A) → Steps A
+  -- nothing is asked: where a later step ends the command, this is written in place of a value
+  note : List ℕ → Steps A → Steps A
+  -- nothing is asked: a thing of which this holds, where there is memory for it
+  find : (B : Type 0) → (B → Type 0) → (B → Steps A) → Steps A
+  refuse : Refusal → Steps A
+  give : A → Steps A
+
+-- what the first steps give, the others go on from
+abbrev pub and_then : {A B : Type 0} → Steps A → (A → Steps B) → Steps B
+and_then (load name next) others = load name (λ bytes. and_then (next bytes) others)
+and_then (take_input limit long next) others =
+    take_input limit long (λ bytes. and_then (next bytes) others)
+and_then (borrow_dice seat next) others = borrow_dice seat (and_then next others)
+and_then (borrow_tape name make absent next) others =
+    borrow_tape name make absent (and_then next others)
+and_then (read_tape object name next) others =
+    read_tape object name (λ bytes. and_then (next bytes) others)
+and_then (write_row object name store row next) others =
+    write_row object name store row (and_then next others)
+and_then (keep_rows name store next) others = keep_rows name store (and_then next others)
+and_then (draw seat size next) others = draw seat size (λ bytes. and_then (next bytes) others)
+and_then (borrow_link seat plugin program next) others =
+    borrow_link seat plugin program (and_then next others)
+and_then (ask_status seat plugin next) others =
+    ask_status seat plugin (λ status. and_then (next status) others)
+and_then (wrap seat plugin plain next) others =
+    wrap seat plugin plain (λ wrapped. and_then (next wrapped) others)
+and_then (unwrap seat key next) others =
+    unwrap seat key (λ bytes. and_then (next bytes) others)
+and_then (note text next) others = note text (and_then next others)
+and_then (find B P next) others = find B P (λ b. and_then (next b) others)
+and_then (refuse why) others = refuse why
+and_then (give x) others = others x
+
+-- the calls on the world, the input and what is lent; each kind has a count of faults
+pub data Call : Type 0 where
+  loading : (name : List ℕ) → Call
+  reading : Call
+  opening : (seat : ℕ) → Call
+  lending : (name : List ℕ) → Call
+  scanning : Object → (name : List ℕ) → Call
+  writing : Object → (name : List ℕ) → Call
+  drawing : (seat : ℕ) → Call
+  linking : (seat : ℕ) → (plugin : List ℕ) → Call
+  asking : (seat : ℕ) → (plugin : List ℕ) → Call
+
+-- the object that a call is made on
+abbrev pub object_of : Call → Object
+object_of (loading name) = Files
+object_of reading = Input
+object_of (opening seat) = Files
+object_of (lending name) = Files
+object_of (scanning object name) = object
+object_of (writing object name) = object
+object_of (drawing seat) = Dice seat
+object_of (linking seat plugin) = Files
+object_of (asking seat plugin) = Plugin plugin
+
+-- where steps may end: at a call that was made, between two of them, or at their last
+pub data Point (A : Type 0) : Type 0 where
+  awaits : Call → Point A
+  amid : Point A
+  refuses : Refusal → Point A
+  gives : A → Point A
+
+-- x at the number, what f says at each other
+abbrev pub instead : {A : Type 0} → ℕ → A → (ℕ → A) → ℕ → A
+instead number x f other = if number == other then x else f other
+
+-- a tape that was absent and is made is empty
+abbrev pub or_empty : Option (Option (List ℕ)) → Option (Option (List ℕ))
+or_empty None = None
+or_empty (Some None) = Some (Some [])
+or_empty (Some (Some bytes)) = Some (Some bytes)
+
+-- all tapes, where this one was borrowed
+abbrev pub tapes_with : (make : Bool) (name : List ℕ) → (List ℕ → Option (Option (List ℕ)))
+    → List ℕ → Option (Option (List ℕ))
+tapes_with false name tapes = tapes
+tapes_with true name tapes =
+    λ other. if same_name name other then or_empty (tapes name) else tapes other
+
+-- a tape is there, or may be made
+abbrev pub MayBorrow : Option (Option (List ℕ)) → (make : Bool) → Type 0
+MayBorrow tape make = tape ≡ Some None → make ≡ true
+
+-- the truth of plugins, the files by their names and the statuses of links, which stay; what the
+-- steps so far left of the tapes, of the input and of the random source of each seat, and the calls
+-- that they made on the world, all this where it is told; what they said last; and the tapes'
+-- counts of faults, which are no less in the end
+pub record Left : Type 0 where
+  pub truth : Truth
+  pub file : List ℕ → Option (Option (List ℕ))
+  pub tapes : List ℕ → Option (Option (List ℕ))
+  pub links : ℕ × List ℕ → Option Status
+  pub input : Option (List ℕ)
+  pub dice : ℕ → Option (List ℕ)
+  pub asked : Option (List WorldCall)
+  pub said : List ℕ
+  pub counts : List ℕ → ℕ
+
+abbrev pub with_input : Option (List ℕ) → Left → Left
+with_input rest left = record left { input = rest }
+
+abbrev pub with_dice : ℕ → Option (List ℕ) → Left → Left
+with_dice seat rest left = record left { dice = instead seat rest left.dice }
+
+abbrev pub with_tape : (make : Bool) (name : List ℕ) → Left → Left
+with_tape make name left = record left { tapes = tapes_with make name left.tapes }
+
+-- a tape that is lent tells this
+abbrev pub with_told : (name : List ℕ) → Option (List ℕ) → Left → Left
+with_told name told left = record left {
+  tapes = λ other. if same_name name other then option_map Some told else left.tapes other;
+}
+
+-- a tape that is lent has this count of faults
+abbrev pub with_count : (name : List ℕ) → ℕ → Left → Left
+with_count name count left = record left {
+  counts = λ other. if same_name name other then count else left.counts other;
+}
+
+abbrev pub with_asked : WorldCall → Left → Left
+with_asked call left = record left { asked = with_call call left.asked }
+
+abbrev pub with_said : List ℕ → Left → Left
+with_said text left = record left { said = text }
+
+-- from what is left the steps went to this point, and left this
+module _ {A : Type 0} (point : Point A) (end : Left) where
+  abbrev pub IsAt : Point A → Left → Type 0
+  IsAt here left = (point ≡ here) × (end ≡ left)
+
+  abbrev pub Goes : Steps A → Left → Type 0
+  Goes (load name next) left =
+      IsAt amid left
+      ⊎ IsAt (awaits (loading name)) (with_asked (File name) left)
+      ⊎ ((bytes : Option (List ℕ)) × Agrees (left.file name) bytes
+      × Goes (next bytes) (with_asked (File name) left))
+  Goes (take_input limit long next) left =
+      (bytes : List ℕ) × (rest : Option (List ℕ)) × Consumes left.input rest bytes × (
+      ((length bytes ≤ limit) × IsAt (awaits reading) (with_input rest left))
+      ⊎ ((length bytes ≡ limit + 1) × IsAt (refuses long) (with_input rest left))
+      ⊎ ((length bytes ≤ limit) × IsAtEnd rest × Goes (next bytes) (with_input rest left))
+      )
+  Goes (borrow_dice seat next) left =
+      IsAt amid left
+      ⊎ IsAt (awaits (opening seat)) (with_asked (RandomSource seat) left)
+      ⊎ Goes next (with_asked (RandomSource seat) left)
+  Goes (borrow_tape name make absent next) left =
+      IsAt amid left
+      ⊎ IsAt (awaits (lending name)) (with_asked (Tape name make) left)
+      ⊎ ((make ≡ false) × Agrees (left.tapes name) None
+      × IsAt (refuses absent) (with_asked (Tape name make) left))
+      ⊎ (MayBorrow (left.tapes name) make
+      × Goes next (with_tape make name (with_asked (Tape name make) left)))
+  Goes (read_tape object name next) left =
+      IsAt (awaits (scanning object name)) left
+      ⊎ ((bytes : List ℕ) × Agrees (left.tapes name) (Some bytes) × Goes (next bytes) left)
+  Goes (write_row object name store row next) left =
+      ((told : Option (List ℕ)) × BeginsWith store told
+      × IsAt (awaits (writing object name)) (with_told name told left))
+      ⊎ ((told : Option (List ℕ)) × HoldsRows (with_row row store) told
+      × Goes next (with_told name told left))
+  Goes (keep_rows name store next) left =
+      (told : Option (List ℕ)) × (count : ℕ) × (left.counts name ≤ count)
+      × StillHolds store told (left.counts name) count
+      × Goes next (with_count name count (with_told name told left))
+  Goes (draw seat size next) left =
+      IsAt (awaits (drawing seat)) left
+      ⊎ ((bytes : List ℕ) × (rest : Option (List ℕ)) × Consumes (left.dice seat) rest bytes
+      × (length bytes ≡ size) × Goes (next bytes) (with_dice seat rest left))
+  Goes (borrow_link seat plugin program next) left =
+      IsAt amid left
+      ⊎ IsAt (awaits (linking seat plugin)) (with_asked (Link seat plugin program) left)
+      ⊎ Goes next (with_asked (Link seat plugin program) left)
+  Goes (ask_status seat plugin next) left =
+      IsAt (awaits (asking seat plugin)) left
+      ⊎ ((status : Status) × Agrees (left.links (seat, plugin)) status × Goes (next status) left)
+  Goes (wrap seat plugin plain next) left =
+      IsAt (awaits (asking seat plugin)) left
+      ⊎ ((wrapped : Wrapped) × TellsOf left.truth (key_in plugin wrapped) plain
+      × IsWithinLimits wrapped × Goes (next wrapped) left)
+  Goes (unwrap seat key next) left =
+      IsAt (awaits (asking seat key.name)) left
+      ⊎ ((bytes : List ℕ) × TellsOf left.truth key bytes × Goes (next bytes) left)
+  Goes (note text next) left = Goes next (with_said text left)
+  Goes (find B P next) left = IsAt amid left ⊎ ((b : B) × P b × Goes (next b) left)
+  Goes (refuse why) left = IsAt (refuses why) left
+  Goes (give x) left = IsAt (gives x) left

@@ -1,0 +1,127 @@
+//! The programs of the plugins that a configuration names.
+ghost use Rattle.std.specs.Prelude.{◌≡◌, ◌⊎◌, [], ◌∷◌, ◌++◌, map, IfOk, OnOk, OnErr};
+ghost use Rattle.kr_config.specs.Kept.{rows_of};
+ghost use Rattle.kr_provider.specs.PluginOrder.{plugin_order};
+ghost use Rattle.kr_cmd_steps.specs.Around.{Around};
+ghost use Rattle.kr_cmd_steps.specs.Commands.{linking_programs};
+ghost use Rattle.kr_cmd_messages.specs.declared.refusal.Refusal.{Refusal};
+ghost use Rattle.kr_cmd_messages.specs.declared.refusal.Stop.{Stop};
+ghost use Rattle.kr_cmd_steps.specs.inner.ProgramNames.{names_in};
+ghost use Rattle.kr_cmd_steps.specs.inner.Phases.{Does};
+
+use kr_base::{List, NoMemory, Text, tell_text};
+use kr_cmd_messages::{Options, Refusal, Stop};
+use kr_config::Settings;
+use std::alloc::Global;
+use std::marker::Model;
+
+/// The program that a plugin is.
+#[derive(Debug, Drop)]
+pub struct Program {
+    /// The plugin's name.
+    pub plugin: Text,
+    /// The program's file.
+    pub file: Text,
+}
+
+/// Programs, of which contracts see the list.
+#[derive(Debug, Drop)]
+pub struct Programs {
+    items: Vec<Program>,
+}
+
+impl Model for Programs {
+    ghost use Rattle.std.specs.Prelude.{List};
+    ghost use Rattle.kr_cmd_steps.specs.declared.programs.Program.{Program};
+
+    ghost Value = { List Program };
+
+    ghost view = { λ programs. programs.items.items };
+}
+
+impl Programs {
+    ghost use Rattle.kr_cmd_steps.specs.declared.programs.Program.{Program};
+
+    /// None, and no memory yet.
+    pub fn new(alloc: Global) -> Programs
+        ensures { result ≡ [] }
+    {
+        Programs {
+            items: Vec::new(alloc),
+        }
+    }
+
+    /// Puts a copy of the program of a plugin at the end.
+    pub fn add(&mut self, alloc: Global, plugin: &str, file: &str) -> Result<(), NoMemory>
+        ensures added { OnOk result
+            (self.new ≡ self.old ++ record { plugin = plugin.now; file = file.now } ∷ []) }
+        ensures kept { OnErr result (self.new ≡ self.old) }
+    {
+        let program = Program {
+            plugin: Text::copy(alloc, plugin)?,
+            file: Text::copy(alloc, file)?,
+        };
+        match self.items.push(program) {
+            Ok(()) => Ok(()),
+            Err(_) => Err(NoMemory),
+        }
+    }
+
+    /// All of them.
+    pub fn as_slice(&self) -> &[Program]
+        ensures { result.now ≡ self.now }
+    {
+        self.items.as_slice()
+    }
+}
+
+/// The program of each plugin that the settings name, in the order of the names' bytes. The first
+/// name for which the options give no program is refused.
+pub fn programs_of(alloc: Global, options: &Options, settings: &Settings) -> Result<Programs, Stop>
+    ensures does { (a : Around) → Does
+        (linking_programs options.now (rows_of settings.now.entries.0)) a a result }
+    ensures names { IfOk result (λ programs. map (λ program. program.plugin) programs
+        ≡ plugin_order (rows_of settings.now.entries.0)) }
+{
+    let mut programs = Programs::new(alloc);
+    let mut after = "";
+    while let Some(plugin) = settings.next_plugin(after) {
+        let Some(file) = options.program(plugin) else {
+            return Err(without_program(alloc, plugin));
+        };
+        match programs.add(alloc, plugin, file) {
+            Ok(()) => {}
+            Err(_) => return Err(Stop::NoMemory),
+        }
+        tell_text(plugin);
+        after = plugin;
+    }
+    Ok(programs)
+}
+
+/// The refusal of a plugin without a program, or that there is no memory for it.
+pub fn without_program(alloc: Global, plugin: &str) -> Stop
+    ensures { (result ≡ Stop.Refused (Refusal.NoPlugin plugin.now)) ⊎ (result ≡ Stop.NoMemory) }
+{
+    match Text::copy(alloc, plugin) {
+        Ok(name) => Stop::Refused(Refusal::NoPlugin(name)),
+        Err(_) => Stop::NoMemory,
+    }
+}
+
+/// The names of the programs' plugins.
+pub fn names_of(alloc: Global, programs: &[Program]) -> Result<List<Text>, NoMemory>
+    ensures { IfOk result (λ names. names.0 ≡ names_in programs.now) }
+{
+    let mut names = List::new(alloc);
+    for program in programs {
+        let Ok(name) = Text::copy(alloc, program.plugin.as_str()) else {
+            return Err(NoMemory);
+        };
+        match names.push(name) {
+            Ok(()) => {}
+            Err(_) => return Err(NoMemory),
+        }
+    }
+    Ok(names)
+}

@@ -1,0 +1,161 @@
+//! The phases over tapes and the stores that they hold.
+ghost use Rattle.std.specs.Prelude.{◌≡◌, ◌<◌, ◌≤◌, List, ℕ, Ok, Err, IfOk, IfErr, OnErr, IsSome, false, length};
+ghost use Rattle.kr_base.specs.Limits.{store_limit, value_limit};
+ghost use Rattle.kr_base.specs.Rules.{IsPath, IsResource};
+ghost use Rattle.kr_store.specs.Rows.{check_in, delete_of, live, put_of};
+ghost use Rattle.kr_kms.specs.Outside.{KeepsFiles, KeepsObjects};
+ghost use Rattle.kr_kms.specs.declared.world.WorldCall.{WorldCall};
+ghost use Rattle.kr_cmd_steps.specs.Around.{Around};
+ghost use Rattle.kr_cmd_steps.specs.Commands.{adding, stored_on};
+ghost use Rattle.kr_cmd_steps.specs.inner.Lent.{with_lent_tape};
+ghost use Rattle.kr_cmd_steps.specs.inner.Phases.{Does, AskedFor};
+ghost use Rattle.kr_cmd_steps.specs.inner.Tapes.{HasOneMore, IsLoaded, LentTape, ReturnedTape, NoTape, grown_by, load_stop, stored_of};
+
+use kr_base::{Bytes, STORE_LIMIT, Tape};
+use kr_cmd_messages::{Breach, Limit, Object, Refusal, Stop, visible};
+use kr_kms::{FileNo, World};
+use kr_store::{Check, PutNo, Store, StoreNo};
+use std::alloc::Global;
+
+/// Asks the world for the tape of the name. What is printed where it is absent is made first, so
+/// that this refusal needs no memory.
+pub fn open_tape<W: World>(
+    alloc: Global,
+    world: &mut W,
+    name: &str,
+    make: bool,
+) -> Result<W::Tap, Stop>
+    ensures lent { IfOk result (λ tape. LentTape name.now make (W.told world.old)
+        (W.told world.new) (W.Tap.told tape) (W.Tap.count tape)) }
+    ensures objects { OnErr result (KeepsObjects (W.told world.old) (W.told world.new)) }
+    ensures why { IfErr result (NoTape (W.told world.old) (W.told world.new) name.now make) }
+    ensures asked { AskedFor (W.told world.old).asked (W.told world.new).asked
+        (WorldCall.Tape name.now make) result }
+    ensures files { KeepsFiles (W.told world.old) (W.told world.new) }
+{
+    let absent = match visible(alloc, name) {
+        Ok(text) => text,
+        Err(_) => return Err(Stop::NoMemory),
+    };
+    match world.tape(alloc, name, make) {
+        Ok(tape) => Ok(tape),
+        Err(FileNo::Absent) => Err(Stop::Refused(Refusal::Absent(absent))),
+        Err(FileNo::Failed) => Err(Stop::Fault(Object::Files, world.faults())),
+        Err(FileNo::NoMemory) => Err(Stop::NoMemory),
+        Err(FileNo::TooLong) => unreachable!(),
+    }
+}
+
+/// Gives the tape of the name back.
+pub fn close_tape<W: World>(world: &mut W, name: &str, tape: W::Tap)
+    requires out { 0 < (W.told world.old).tapes.out name.now }
+    ensures { ReturnedTape name.now (W.told world.old) (W.told world.new) (W.Tap.told tape)
+        (W.Tap.count tape) }
+{
+    world.back_tape(name, tape);
+}
+
+/// Loads the store of a tape. A tape that is refused comes back.
+pub fn load_store<T: Tape>(alloc: Global, tape: T, object: Object) -> Result<Store<T>, (Stop, T)>
+    ensures ok { IfOk result (λ store. (name : List ℕ) (a : Around) → Does (stored_on object name)
+        (with_lent_tape name (T.told tape) (T.count tape) a)
+        (with_lent_tape name store.told store.count a) (Ok (stored_of store))) }
+    ensures err { IfErr result (λ refused. (name : List ℕ) (a : Around)
+        → Does (stored_on object name)
+        (with_lent_tape name (T.told tape) (T.count tape) a)
+        (with_lent_tape name (T.told refused.1) (T.count refused.1) a) (Err refused.0)) }
+    ensures limit { IfOk result (λ store. (store.limit ≡ store_limit) × (store.torn ≡ false)) }
+    ensures loaded { IfOk result (IsLoaded (T.told tape) (T.count tape)) }
+{
+    match Store::load(alloc, tape, STORE_LIMIT) {
+        Ok(store) => Ok(store),
+        Err((why, tape)) => {
+            let faults = tape.faults();
+            Err((load_stop(object, faults, why), tape))
+        }
+    }
+}
+
+/// Writes a put behind the rows of a store. Nothing is wanted of memory once the tape is touched.
+pub fn add_put<T: Tape>(
+    store: &mut Store<T>,
+    object: Object,
+    path: &str,
+    resource: &str,
+    stored: Bytes,
+    check: Check,
+) -> Result<(), Stop>
+    requires path { IsPath path.now }
+    requires resource { IsResource resource.now }
+    requires stored { length stored ≤ value_limit }
+    requires within { store.old.limit ≡ store_limit }
+    ensures does { (name : List ℕ) (a : Around) →
+        let row = put_of path.now resource.now stored (check_in store.old.format check) in Does
+        (adding object name (stored_of store.old) row)
+        (with_lent_tape name store.old.told store.old.count a)
+        (with_lent_tape name store.new.told store.new.count a)
+        (grown_by row (stored_of store.old) result) }
+    ensures grown { IfOk result (λ done. HasOneMore
+        (put_of path.now resource.now stored (check_in store.old.format check))
+        store.old store.new) }
+    ensures kept { OnErr result (store.new.rows ≡ store.old.rows) }
+{
+    let written = store.put(path, resource, stored, check);
+    store.known();
+    match written {
+        Ok(_revision) => Ok(()),
+        Err(PutNo::Failed) => Err(Stop::Fault(object, store.faults())),
+        Err(PutNo::Full { needed: _needed }) => Err(Stop::Refused(Refusal::Limit(Limit::Store))),
+        Err(
+            PutNo::Changed {
+                revision: _revision,
+            },
+        ) => unreachable!(),
+        Err(PutNo::NoMemory) => Err(Stop::NoMemory),
+    }
+}
+
+/// Writes a delete of a live row behind the rows of a store. Nothing is wanted of memory once the
+/// tape is touched.
+pub fn add_delete<T: Tape>(store: &mut Store<T>, object: Object, path: &str) -> Result<(), Stop>
+    requires path { IsPath path.now }
+    requires live { IsSome (live store.old.rows path.now) }
+    requires within { store.old.limit ≡ store_limit }
+    ensures does { (name : List ℕ) (a : Around) →
+        let row = delete_of path.now in Does (adding object name (stored_of store.old) row)
+        (with_lent_tape name store.old.told store.old.count a)
+        (with_lent_tape name store.new.told store.new.count a)
+        (grown_by row (stored_of store.old) result) }
+    ensures grown { IfOk result (λ done. HasOneMore (delete_of path.now) store.old store.new) }
+    ensures kept { OnErr result (store.new.rows ≡ store.old.rows) }
+{
+    let written = store.delete(path);
+    store.known();
+    match written {
+        Ok(Some(_revision)) => Ok(()),
+        Ok(None) => unreachable!(),
+        Err(PutNo::Failed) => Err(Stop::Fault(object, store.faults())),
+        Err(PutNo::Full { needed: _length }) => Err(Stop::Refused(Refusal::Limit(Limit::Store))),
+        Err(
+            PutNo::Changed {
+                revision: _revision,
+            },
+        ) => unreachable!(),
+        Err(PutNo::NoMemory) => Err(Stop::NoMemory),
+    }
+}
+
+/// Why a store wasn't loaded, as a command says it.
+fn load_stop(object: Object, faults: u64, why: StoreNo) -> Stop
+    ensures { result ≡ load_stop object faults why }
+{
+    match why {
+        StoreNo::Magic => Stop::Refused(Refusal::Broken(Breach::Magic)),
+        StoreNo::Torn { at } => Stop::Refused(Refusal::Broken(Breach::Torn(at))),
+        StoreNo::BadRow { at } => Stop::Refused(Refusal::Broken(Breach::BadRow(at))),
+        StoreNo::Order { at } => Stop::Refused(Refusal::Broken(Breach::Order(at))),
+        StoreNo::TooLong => Stop::Refused(Refusal::Limit(Limit::Store)),
+        StoreNo::Failed => Stop::Fault(object, faults),
+        StoreNo::NoMemory => Stop::NoMemory,
+    }
+}

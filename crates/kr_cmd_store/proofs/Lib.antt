@@ -1,0 +1,10 @@
+-- The lemmas that the answers cite.
+pub mod Copying
+pub mod Found
+pub mod Judging
+pub mod Loads
+pub mod MigratedRows
+pub mod Migrating
+pub mod ReplicaLists
+pub mod TwoTapes
+pub mod Walk

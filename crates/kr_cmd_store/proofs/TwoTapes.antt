@@ -1,0 +1,139 @@
+-- A tape that is borrowed, and comes back, while another one is out.
+use Rattle.std.proofs.Common.{◌≡◌, ℕ, ◌+◌, List, Option, None, Some, Result, Err, refl, sym, ◌∙◌, ap, subst, arith}
+use Rattle.std.specs.Prelude.{Bool, true, false, ◌-◌, if◌then◌else◌}
+use Rattle.std.specs.Option.{option_map}
+use Rattle.kr_base.specs.Told.{Agrees}
+use Rattle.kr_kms.specs.Outside.{Outside, at_key, same_name, HandsOut, TakesBack, IsTape, KeepsFiles, KeepsObjects}
+use Rattle.kr_kms.proofs.Lent.{names_decide}
+use Rattle.kr_kms.specs.declared.world.WorldCall.TheVariants.{Tape}
+use Rattle.kr_cmd_steps.specs.Around.{Around, with_lent, with_world}
+use Rattle.kr_cmd_steps.specs.Commands.{tape_for}
+use Rattle.kr_cmd_steps.specs.Steps.{Steps}
+use Rattle.kr_cmd_steps.specs.inner.Lent.{Tapes, with_lent_tape, with_tapes}
+use Rattle.kr_cmd_steps.specs.inner.Phases.{AskedUnless, Does}
+use Rattle.kr_cmd_steps.specs.inner.Tapes.{LentTape, NoTape, ReturnedTape}
+use Rattle.kr_cmd_messages.specs.declared.refusal.Stop.{Stop}
+use Rattle.kr_cmd_messages.specs.declared.refusal.Stop.TheVariants.{Words, Refused, Fault, NoMemory}
+use Rattle.kr_cmd_steps.proofs.Tapes.{lends_tape, not_lent}
+
+one_of_two : {B : Type 0} (q : Bool) (x y z : B) → (q ≡ false → y ≡ z)
+    → (if q then x else y) ≡ (if q then x else z)
+one_of_two true x y z h = refl
+one_of_two false x y z h = h refl
+
+-- of two numbers of which one is 0
+apart_of : (q r : Bool) (n : ℕ) → (q ≡ true → r ≡ false)
+    → (n + (if r then 1 else 0)) - (if q then 1 else 0)
+    ≡ (n - (if q then 1 else 0)) + (if r then 1 else 0)
+apart_of true true n h = absurd (let t : true ≡ false = h refl in cc)
+apart_of true false n h = omega arith
+apart_of false true n h = omega arith
+apart_of false false n h = omega arith
+
+-- this one is out, and the other one is borrowed
+module _ (name other : List ℕ) (told : Option (List ℕ)) (count : ℕ)
+    (apart : same_name name other ≡ false) where
+  abbrev pub behind : Tapes → Tapes
+  behind tapes = with_lent same_name name (option_map Some told) count tapes
+
+  -- a name isn't both
+  not_both : (key : List ℕ) → same_name name key ≡ true → same_name other key ≡ false
+  not_both key t = by_test (same_name other key) refl
+    where
+      by_test : (q : Bool) → same_name other key ≡ q → q ≡ false
+      by_test false e = refl
+      by_test true e = absurd (let both : true ≡ false =
+          sym (subst (λ n. same_name name n ≡ true)
+          (sym ((names_decide other key).0 e)) t) ∙ apart in cc)
+
+  there : (tapes : Tapes) → (behind tapes).told other ≡ tapes.told other
+  there tapes = ap (λ q. if q then option_map Some told else tapes.told other) apart
+
+  counted : (tapes : Tapes) → (behind tapes).faults other ≡ tapes.faults other
+  counted tapes = ap (λ q. if q then count else tapes.faults other) apart
+
+  hands_out : {old out : Tapes} {first : ℕ} → HandsOut same_name old out other first
+      → HandsOut same_name (behind old) (behind out) other first
+  hands_out {old} {out} h = record {
+    count_is = h.count_is ∙ sym (counted old);
+    out = λ key. ap (λ n. n - at_key same_name name 1 key) (h.out key)
+        ∙ apart_of (same_name name key) (same_name other key) (old.out key) (not_both key);
+    told = λ key n. one_of_two (same_name name key) (option_map Some told) (out.told key)
+        (old.told key) (λ f. h.told key n);
+    faults = λ key n. one_of_two (same_name name key) count (out.faults key) (old.faults key)
+        (λ f. h.faults key n);
+  }
+
+  takes_back : {mid new : Tapes} {last : ℕ} → TakesBack same_name mid new other last
+      → TakesBack same_name (behind mid) (behind new) other last
+  takes_back {mid} {new} h = record {
+    count_is = counted new ∙ h.count_is;
+    out = λ key. sym (apart_of (same_name name key) (same_name other key) (new.out key)
+        (not_both key)) ∙ ap (λ n. n - at_key same_name name 1 key) (h.out key);
+    told = λ key n. one_of_two (same_name name key) (option_map Some told) (new.told key)
+        (mid.told key) (λ f. h.told key n);
+    faults = λ key n. one_of_two (same_name name key) count (new.faults key) (mid.faults key)
+        (λ f. h.faults key n);
+  }
+
+  abbrev pub seen : Outside → Outside
+  seen world = with_tapes (behind world.tapes) world
+
+  lent_behind : (make : Bool) {old out : Outside} {held : Option (List ℕ)} {first : ℕ}
+      → LentTape other make old out held first
+      → LentTape other make (seen old) (seen out) held first
+  lent_behind make {old} {out} {held} h = record {
+    out = hands_out h.out;
+    tape = subst (λ t. IsTape t make held) (sym (there old.tapes)) h.tape;
+    files = record { file = h.files.file; later = h.files.later };
+    asked = h.asked;
+    dice = h.dice;
+    links = h.links;
+  }
+
+  back_behind : {mid new : Outside} {held : Option (List ℕ)} {last : ℕ}
+      → ReturnedTape other mid new held last → ReturnedTape other (seen mid) (seen new) held last
+  back_behind {mid} {new} h = record {
+    home = takes_back h.home;
+    tape = there new.tapes ∙ h.tape;
+    file = h.file;
+    faults = h.faults;
+    asked = h.asked;
+    dice = h.dice;
+    links = h.links;
+  }
+
+  -- it is borrowed for what follows, and comes back
+  pub lends_behind : (make : Bool) {old out mid new : Outside} {given back : Option (List ℕ)}
+      {first last : ℕ} (a : Around) {B : Type 0} {next : Steps B} {result : Result B Stop}
+      → LentTape other make old out given first → ReturnedTape other mid new back last
+      → Does next (with_lent_tape other given first (with_lent_tape name told count
+      (with_world out a)))
+      (with_lent_tape other back last (with_lent_tape name told count (with_world mid a))) result
+      → Does (tape_for other make next) (with_lent_tape name told count (with_world old a))
+      (with_lent_tape name told count (with_world new a)) result
+  lends_behind make {old} {out} {mid} {new} a {next = next} {result} lent returned works =
+      lends_tape other make {old = seen old} {out = seen out} {mid = seen mid} {new = seen new} a
+      (lent_behind make lent) (back_behind returned) works
+
+  -- it isn't lent
+  pub not_lent_behind : (make : Bool) {old new : Outside} (a : Around) {B : Type 0}
+      {next : Steps B} (stop : Stop) → KeepsFiles old new → KeepsObjects old new
+      → NoTape old new other make stop → AskedUnless old.asked new.asked (Tape other make) stop
+      → Does (tape_for other make next) (with_lent_tape name told count (with_world old a))
+      (with_lent_tape name told count (with_world new a)) (Err stop)
+  not_lent_behind make {old} {new} a {next = next} stop files objects none asked =
+      subst (λ t. Does (tape_for other make next) (with_world (seen old) a)
+      (with_world (with_tapes (behind t) new) a) (Err stop)) (sym objects.tapes)
+      (not_lent {old = seen old} {new = with_tapes (behind old.tapes) new}
+      (record { file = files.file; later = files.later })
+      (record { dice = objects.dice; tapes = refl; links = objects.links }) a other make stop
+      (no_tape_apart make stop none) asked)
+    where
+      no_tape_apart : (make : Bool) (stop : Stop) → NoTape old new other make stop
+          → NoTape (seen old) (with_tapes (behind old.tapes) new) other make stop
+      no_tape_apart make (Words why) h = h
+      no_tape_apart make (Refused why) h =
+          (h.0, subst (λ t. Agrees t None) (sym (there old.tapes)) h.1, h.2)
+      no_tape_apart make (Fault object n) h = h
+      no_tape_apart make NoMemory h = h

@@ -1,0 +1,121 @@
+-- `get`: each phase goes on from the one before.
+use Rattle.std.proofs.Common.{◌≡◌, ◌≤◌, List, false, length, inl, refl, sym, ◌∙◌, ap, subst, arith}
+use Rattle.kr_base.specs.Limits.{path_limit, value_limit}
+use Rattle.kr_config.specs.Kept.{Row, rows_of}
+use Rattle.kr_kms.specs.Outside.{KeepsFiles, Outside}
+use Rattle.kr_provider.specs.PluginOrder.{plugin_order}
+use Rattle.kr_store.specs.declared.rows.Row as stored
+use Rattle.kr_cmd_steps.specs.Around.{with_world}
+use Rattle.kr_cmd_steps.specs.Commands.{configuration, bench_steps, linking_programs, row_on, tape_for}
+use Rattle.kr_cmd_steps.specs.Steps.{Steps, and_then}
+use Rattle.kr_cmd_messages.specs.declared.command.Direction.TheVariants.{Decrypt}
+use Rattle.kr_cmd_messages.specs.declared.command.Lookup.{Lookup}
+use Rattle.kr_cmd_steps.specs.declared.programs.Program.{Program}
+use Rattle.kr_cmd_messages.specs.declared.refusal.Outcome.{Outcome}
+use Rattle.kr_cmd_messages.specs.declared.refusal.Stop.TheVariants.{NoMemory}
+use Rattle.kr_cmd_steps.proofs.Apart.{bench_by, unlent}
+use Rattle.kr_cmd_steps.proofs.Goes.{goes_on, not_opened, stops, by_bytes}
+use Rattle.kr_cmd_steps.proofs.NamedPrograms.{names_in}
+use Rattle.kr_cmd_store.proofs.lookup.get.Goals as goal
+
+abbrev read_so : Lookup → List Row → List Program → stored.Row → Steps Outcome
+read_so words rows programs row =
+    bench_steps programs Decrypt row.resource words.path rows row.stored
+
+abbrev looked_up : Lookup → List Row → List Program → Steps Outcome
+looked_up words rows programs = and_then (tape_for words.store false
+    (row_on words.store words.path)) (read_so words rows programs)
+
+abbrev loaded : Lookup → List Row → Steps Outcome
+loaded words rows = and_then (linking_programs words.options rows) (looked_up words rows)
+
+pub returns-in-Err : goal.returns-in-Err
+returns-in-Err g c a t = let words = c.args.words.now in
+    stops (configuration words.config) (loaded words) c.in-Err.stop
+    (by_bytes configuration c.as_str.ensures (c.in-Err.ensures a))
+
+pub returns-in-Err-programs_of : goal.returns-in-Err-programs_of
+returns-in-Err-programs_of g c a t =
+    let words = c.args.words.now in
+    let rows = rows_of c.in-Ok.settings.entries.0 in
+    let now = with_world (g.W.World.told c.configure.new.world) a in
+    goes_on (configuration words.config) (loaded words) rows
+    (by_bytes configuration c.as_str.ensures (c.in-Ok.ensures a))
+    (stops (linking_programs words.options rows) (looked_up words rows)
+    c.in-Err-programs_of.stop (c.in-Err-programs_of.ensures.does now))
+
+pub returns-in-Err-find_row : goal.returns-in-Err-find_row
+returns-in-Err-find_row g c a t =
+    let words = c.args.words.now in
+    let rows = rows_of c.in-Ok.settings.entries.0 in
+    let programs = c.in-Ok-programs_of.programs in
+    let now = with_world (g.W.World.told c.configure.new.world) a in
+    goes_on (configuration words.config) (loaded words) rows
+    (by_bytes configuration c.as_str.ensures (c.in-Ok.ensures a))
+    (goes_on (linking_programs words.options rows) (looked_up words rows) programs
+    (c.in-Ok-programs_of.ensures.does now)
+    (stops (tape_for words.store false (row_on words.store words.path))
+    (read_so words rows programs) c.in-Err-find_row.stop (c.in-Err-find_row.ensures.does a)))
+
+keeps_files : (told : Outside) → KeepsFiles told told
+keeps_files told = record {
+  file = refl;
+  later = record {
+    loads = omega arith;
+    tapes = omega arith;
+    dice = omega arith;
+    links = omega arith;
+  };
+}
+
+-- there was no memory for a copy of the value
+pub returns-in_default : goal.returns-in_default
+returns-in_default g c a t =
+    let words = c.args.words.now in
+    let rows = rows_of c.in-Ok.settings.entries.0 in
+    let programs = c.in-Ok-programs_of.programs in
+    let now = with_world (g.W.World.told c.configure.new.world) a in
+    goes_on (configuration words.config) (loaded words) rows
+    (by_bytes configuration c.as_str.ensures (c.in-Ok.ensures a))
+    (goes_on (linking_programs words.options rows) (looked_up words rows) programs
+    (c.in-Ok-programs_of.ensures.does now)
+    (goes_on (tape_for words.store false (row_on words.store words.path))
+    (read_so words rows programs) c.in-Ok-find_row.row (c.in-Ok-find_row.ensures.does a)
+    (not_opened (keeps_files (g.W.World.told c.find_row.new.world))
+    (record { dice = refl; tapes = refl; links = refl }) a 0 NoMemory tt (inl refl))))
+
+pub make-requires-clause-programs : goal.make-requires-clause-programs
+make-requires-clause-programs g c κs within = subst (λ p. names_in p
+    ≡ plugin_order (rows_of c.in-Ok.settings.entries.0)) (sym c.as_slice-2.ensures)
+    c.in-Ok-programs_of.ensures.names
+
+pub make-requires-clause-path : goal.make-requires-clause-path
+make-requires-clause-path g c κs within =
+    subst (λ p. length p ≤ path_limit) (sym c.as_str-3.ensures) c.requires.path
+
+pub make-requires-clause-fits : goal.make-requires-clause-fits
+make-requires-clause-fits g c κs within =
+    subst (λ b. length b ≤ value_limit)
+    (sym (c.in-Ok-copy.ensures ∙ c.as_slice.ensures
+    ∙ ap (λ (r : stored.Row). r.stored) c.get-found.ensures))
+    c.in-Ok-find_row.ensures.fits
+
+pub returns : goal.returns
+returns g c a t =
+    let words = c.args.words.now in
+    let rows = rows_of c.in-Ok.settings.entries.0 in
+    let programs = c.in-Ok-programs_of.programs in
+    let now = with_world (g.W.World.told c.configure.new.world) a in
+    goes_on (configuration words.config) (loaded words) rows
+    (by_bytes configuration c.as_str.ensures (c.in-Ok.ensures a))
+    (goes_on (linking_programs words.options rows) (looked_up words rows) programs
+    (c.in-Ok-programs_of.ensures.does now)
+    (goes_on (tape_for words.store false (row_on words.store words.path))
+    (read_so words rows programs) c.in-Ok-find_row.row (c.in-Ok-find_row.ensures.does a)
+    (unlent a c.make.ensures.tapes
+    (bench_by Decrypt rows c.as_slice-2.ensures
+    (c.as_str-2.ensures ∙ ap (λ (r : stored.Row). r.resource) c.get-found.ensures)
+    c.as_str-3.ensures
+    (c.in-Ok-copy.ensures ∙ c.as_slice.ensures
+    ∙ ap (λ (r : stored.Row). r.stored) c.get-found.ensures)
+    (c.make.ensures.made (g.W.World.told c.find_row.new.world).tapes a t)))))

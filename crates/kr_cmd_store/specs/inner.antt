@@ -1,0 +1,3 @@
+-- The definitions of inner contracts.
+pub mod Judging
+pub mod Migrating

@@ -1,0 +1,51 @@
+//! The configurations of several replicas, in their order.
+ghost use Rattle.std.specs.Prelude.{[], IfOk};
+ghost use Rattle.kr_words.specs.Grammar.{replicas_of};
+ghost use Rattle.kr_kms.specs.Outside.{KeepsObjects};
+ghost use Rattle.kr_cmd_steps.specs.Around.{Around, with_world};
+ghost use Rattle.kr_cmd_messages.specs.Command.{replica_names};
+ghost use Rattle.kr_cmd_steps.specs.Commands.{configurations};
+ghost use Rattle.kr_cmd_steps.specs.inner.Lent.{Tapes, with_tapes};
+ghost use Rattle.kr_cmd_steps.specs.inner.Phases.{Does};
+ghost use Rattle.kr_cmd_store.specs.inner.Judging.{replica_rows, AreIn};
+
+use kr_base::{List, Shared};
+use kr_cmd_messages::{Options, Stop};
+use kr_cmd_steps::load_settings;
+use kr_config::Settings;
+use kr_kms::World;
+use std::alloc::Global;
+
+/// Loads the configurations, one for each name.
+pub fn load_replicas<W: World>(
+    alloc: Global,
+    options: &Options,
+    world: &mut W,
+) -> Result<List<Option<Shared<Settings>>>, Stop>
+    ensures loads { (tapes : Tapes) (a : Around)
+        → Does (configurations [] (replica_names options.now))
+        (with_world (with_tapes tapes (W.told world.old)) a)
+        (with_world (with_tapes tapes (W.told world.new)) a) (replica_rows result) }
+    ensures are_in { IfOk result (λ replicas. AreIn (replicas_of options.now) replicas.0) }
+    ensures objects { KeepsObjects (W.told world.old) (W.told world.new) }
+{
+    let mut replicas = List::new(alloc);
+    for number in 0..options.replicas() {
+        let Some(name) = options.replica(number) else {
+            unreachable!();
+        };
+        let settings = match load_settings(alloc, world, name) {
+            Ok(settings) => settings,
+            Err(stop) => return Err(stop),
+        };
+        let settings = match Shared::new(alloc, settings) {
+            Ok(settings) => settings,
+            Err(_) => return Err(Stop::NoMemory),
+        };
+        match replicas.push(Some(settings)) {
+            Ok(()) => {}
+            Err(_) => return Err(Stop::NoMemory),
+        }
+    }
+    Ok(replicas)
+}

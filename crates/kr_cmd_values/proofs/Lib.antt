@@ -1,0 +1,2 @@
+-- The lemmas that the answers cite.
+pub mod Listings

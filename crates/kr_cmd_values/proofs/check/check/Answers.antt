@@ -1,0 +1,20 @@
+use Rattle.std.proofs.Common.{◌≡◌, Ok, sym, subst}
+use Rattle.kr_config.specs.Kept.{rows_of}
+use Rattle.kr_cmd_steps.specs.Around.{with_world}
+use Rattle.kr_cmd_steps.specs.Check.{listing}
+use Rattle.kr_cmd_steps.specs.Commands.{configuration, show}
+use Rattle.kr_cmd_steps.specs.inner.Phases.{Does}
+use Rattle.kr_cmd_steps.proofs.Goes.{goes_on, stops, shows}
+use Rattle.kr_cmd_values.proofs.check.check.Goals as goal
+
+pub returns-in-Err : goal.returns-in-Err
+returns-in-Err g c a = stops (configuration _) _ c.in-Err.stop (c.in-Err.ensures a)
+
+pub returns : goal.returns
+returns g c a =
+    let rows = rows_of c.in-Ok.settings.entries.0 in
+    let now = with_world (g.W.World.told c.configure.new.world) a in
+    goes_on (configuration _) (λ rows. show (λ shown. shown ≡ Ok (listing rows c.args.resource.now)))
+    rows (c.in-Ok.ensures a)
+    (subst (λ r. Does (show (λ shown. shown ≡ Ok (listing rows c.args.resource.now))) now now r)
+    (sym c.show.ensures) (shows _ now c.listing.result c.listing.ensures))

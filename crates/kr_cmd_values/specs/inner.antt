@@ -1,0 +1,2 @@
+-- Definitions that serve inner contracts alone.
+pub mod Planned

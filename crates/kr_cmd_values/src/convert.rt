@@ -1,0 +1,48 @@
+//! `encrypt` and `decrypt`: configuration, programs of its plugins, input, random source, links,
+//! publish, seal or unseal.
+ghost use Rattle.std.specs.Prelude.{◌≤◌, length};
+ghost use Rattle.kr_base.specs.Limits.{path_limit};
+ghost use Rattle.kr_cmd_steps.specs.Around.{around};
+ghost use Rattle.kr_cmd_steps.specs.Commands.{converting};
+ghost use Rattle.kr_cmd_steps.specs.inner.Phases.{Does};
+
+use kr_base::Source;
+use kr_cmd_messages::{Conversion, Outcome, Stop};
+use kr_cmd_steps::{Task, configure, make, programs_of, take_input};
+use kr_kms::World;
+use std::alloc::Global;
+
+/// Encrypts or decrypts the input.
+pub fn convert<W: World, I: Source>(
+    alloc: Global,
+    words: &Conversion,
+    world: &mut W,
+    input: &mut I,
+) -> Result<Outcome, Stop>
+    requires path { length words.now.path ≤ path_limit }
+    ensures { Does (converting words.now)
+        (around W.Link.truth (W.told world.old) (I.left input.old)
+        (I.count input.old))
+        (around W.Link.truth (W.told world.new) (I.left input.new)
+        (I.count input.new))
+        result }
+{
+    let settings = match configure(alloc, world, words.config.as_str()) {
+        Ok(settings) => settings,
+        Err(stop) => return Err(stop),
+    };
+    let programs = match programs_of(alloc, &words.options, &settings) {
+        Ok(programs) => programs,
+        Err(stop) => return Err(stop),
+    };
+    let bytes = match take_input(alloc, input, words.direction) {
+        Ok(bytes) => bytes,
+        Err(stop) => return Err(stop),
+    };
+    let task = Task {
+        direction: words.direction,
+        resource: words.resource.as_str(),
+        path: words.path.as_str(),
+    };
+    make(alloc, &task, bytes, settings, programs.as_slice(), world)
+}

@@ -1,3 +1,0 @@
--- The lemmas that the answers cite.
-mod Lists
-pub mod Calling

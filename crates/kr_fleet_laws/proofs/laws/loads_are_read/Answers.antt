@@ -1,7 +1,0 @@
-use Rattle.kr_fleet_laws.proofs.LoadReadings.{load_readings}
-use Rattle.kr_fleet_laws.proofs.laws.loads_are_read.Goals as goal
-
-pub returns : goal.returns
-returns g c = λ words old new output errors status small ran.
-    load_readings g.row.W-Tap.Denot g.W.Link.Kms.truth g.W.Link.Kms.link words old new output
-    errors status small ran

@@ -1,4 +1,0 @@
-//! The command `fleet`, whose workers wait for each other, and what any fleet is run by.
-#![tactic(auto)]
-
-pub mod fleet;

@@ -1,8 +1,0 @@
--- `open_links`: so many links were borrowed.
-use Rattle.kr_fleet_steps.proofs.Outfitting.{IsLinking}
-use Rattle.kr_fleet_steps.proofs.outfit.open_links.Given as goal
-
-abbrev pub invariant-loop-program : goal.invariant-loop-program
-invariant-loop-program g l = IsLinking g.W.Link.Kms.link g.W.Rand.Dice.left g.W.Rand.Dice.count
-    l.seat l.programs (g.W.World.told l.initial.world) l.program-index (g.W.World.told l.world)
-    l.links

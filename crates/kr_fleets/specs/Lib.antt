@@ -1,3 +1,0 @@
--- What is printed for a line.
-pub mod FleetText
-pub mod Answers

@@ -1,0 +1,134 @@
+-- The links and the random source of a worker, behind each of its lines.
+use Rattle.std.specs.Prelude.{slice_get}
+use Rattle.std.proofs.Common.{◌≡◌, ℕ, zero, suc, ◌≤◌, List, [], ◌∷◌, ◌++◌, length, Option, Some, refl, ap, sym, subst, ◌∙◌, append-nil}
+use Rattle.std.proofs.lemmas.List.{append_assoc}
+use Rattle.std.proofs.lemmas.Option.{none-some, same_Some}
+use Rattle.kr_kms.specs.Calls.{Link}
+use Rattle.kr_kms.specs.Truth.{Truth}
+use Rattle.kr_provider.specs.AskedLinks.{AskedOnly}
+use Rattle.kr_provider.specs.Names.{names_of}
+use Rattle.kr_rollout.specs.declared.opening.Entry.{Entry}
+use Rattle.kr_history.specs.Acting.{Caller}
+use Rattle.kr_workers.specs.Runs.{DoesAll, IsDone, LineDone, entries_in}
+use Rattle.kr_workers.specs.ScriptLines.{Workplace}
+use Rattle.kr_workers.specs.declared.files.SettingsFile.{SettingsFile}
+
+module _ {L D : Type 0} (truth : Truth) (link : L → Link) (left : D → Option (List ℕ))
+    (count : D → ℕ) (files : List SettingsFile) (replica : ℕ) where
+  abbrev Chain : Workplace L D → List LineDone → Workplace L D → Type 0
+  Chain first run last = DoesAll truth link left count files replica first run last
+
+  abbrev pub bench_of : Workplace L D → List L × D
+  bench_of place = (place.links, place.dice)
+
+  abbrev pub benches_of : (first : Workplace L D) (run : List LineDone) (last : Workplace L D)
+      → Chain first run last → List (List L × D)
+  benches_of first [] last all = bench_of first ∷ []
+  benches_of first (done ∷ run) last all = bench_of first ∷ benches_of all.0 run last all.2
+
+  pub many_benches : (first : Workplace L D) (run : List LineDone) (last : Workplace L D)
+      → (all : Chain first run last) → length (benches_of first run last all) ≡ suc (length run)
+  many_benches first [] last all = refl
+  many_benches first (done ∷ run) last all = ap suc (many_benches all.0 run last all.2)
+
+  pub first_bench : (first : Workplace L D) (run : List LineDone) (last : Workplace L D)
+      → (all : Chain first run last)
+      → slice_get (benches_of first run last all) 0 ≡ Some (bench_of first)
+  first_bench first [] last all = refl
+  first_bench first (done ∷ run) last all = refl
+
+  pub last_bench : (first : Workplace L D) (run : List LineDone) (last : Workplace L D)
+      → (all : Chain first run last)
+      → slice_get (benches_of first run last all) (length run) ≡ Some (bench_of last)
+  last_bench first [] last all = ap (λ (place : Workplace L D). Some (bench_of place)) (sym all)
+  last_bench first (done ∷ run) last all = last_bench all.0 run last all.2
+
+  -- what a worker saw stays
+  seen_later : (first : Workplace L D) (run : List LineDone) (last : Workplace L D)
+      → Chain first run last
+      → (more : List Entry) × (last.caller.seen ≡ first.caller.seen ++ more)
+  seen_later first [] last all = (
+    [],
+    ap (λ (place : Workplace L D). place.caller.seen) all ∙ sym (append-nil first.caller.seen),
+  )
+  seen_later first (done ∷ run) last all =
+      let d = seen_later all.0 run last all.2 in
+      let a = all.1.adds in (
+        a.more ++ d.0,
+        d.1 ∙ ap (λ (c : Caller). c.seen ++ d.0) a.new_is
+            ∙ append_assoc first.caller.seen a.more d.0,
+      )
+
+  -- what was done at a place
+  pub record DoneThere (first last : Workplace L D) (benches : List (List L × D))
+      (ahead : List LineDone) (done : LineDone) : Type 0 where
+    pub before : Workplace L D
+    pub after : Workplace L D
+    pub before_is : slice_get benches (length ahead) ≡ Some (bench_of before)
+    pub after_is : slice_get benches (suc (length ahead)) ≡ Some (bench_of after)
+    pub seat_is : before.caller.seat ≡ first.caller.seat
+    pub opening_is : before.caller.opening ≡ first.caller.opening
+    pub mine_is : before.caller.mine ≡ first.caller.mine ++ entries_in ahead
+    pub more : List Entry
+    pub seen_is : last.caller.seen ≡ after.caller.seen ++ more
+    pub is : IsDone truth link left count files replica before done after
+
+  pub done_there : (first : Workplace L D) (ahead : List LineDone) (done : LineDone)
+      (behind : List LineDone) (last : Workplace L D)
+      → (all : Chain first (ahead ++ done ∷ behind) last)
+      → DoneThere first last (benches_of first (ahead ++ done ∷ behind) last all) ahead done
+  done_there first [] done behind last all =
+      let later = seen_later all.0 behind last all.2 in record {
+        before = first;
+        after = all.0;
+        before_is = refl;
+        after_is = first_bench all.0 behind last all.2;
+        seat_is = refl;
+        opening_is = refl;
+        mine_is = sym (append-nil first.caller.mine);
+        more = later.0;
+        seen_is = later.1;
+        is = all.1;
+      }
+  done_there first (other ∷ ahead) done behind last all =
+      let d = done_there all.0 ahead done behind last all.2 in record {
+        before = d.before;
+        after = d.after;
+        before_is = d.before_is;
+        after_is = d.after_is;
+        seat_is = d.seat_is ∙ ap (λ (c : Caller). c.seat) all.1.adds.new_is;
+        opening_is = d.opening_is ∙ ap (λ (c : Caller). c.opening) all.1.adds.new_is;
+        mine_is = d.mine_is
+            ∙ ap (λ (c : Caller). c.mine ++ entries_in ahead) all.1.adds.new_is
+            ∙ append_assoc first.caller.mine other.part (entries_in ahead);
+        more = d.more;
+        seen_is = d.seen_is;
+        is = d.is;
+      }
+
+  pub done_in_run : (first : Workplace L D) (run : List LineDone) (last : Workplace L D)
+      (ahead : List LineDone) (done : LineDone) (behind : List LineDone)
+      → run ≡ ahead ++ done ∷ behind → (all : Chain first run last)
+      → DoneThere first last (benches_of first run last all) ahead done
+  done_in_run first run last ahead done behind is = subst (λ (r : List LineDone).
+      (all : Chain first r last) → DoneThere first last (benches_of first r last all) ahead done)
+      (sym is) (done_there first ahead done behind last)
+
+  -- each link stays the same plugin's, and no count falls
+  abbrev Stays : (before after : List L × D) → Type 0
+  Stays before after = AskedOnly link (names_of link before.0) before.0 after.0
+      × (count before.1 ≤ count after.1)
+
+  pub benches_stay : (first : Workplace L D) (run : List LineDone) (last : Workplace L D)
+      → (all : Chain first run last) (at : ℕ) (before after : List L × D)
+      → slice_get (benches_of first run last all) at ≡ Some before
+      → slice_get (benches_of first run last all) (suc at) ≡ Some after → Stays before after
+  benches_stay first [] last all zero before after b a = absurd (none-some after a)
+  benches_stay first [] last all (suc at) before after b a = absurd (none-some before b)
+  benches_stay first (done ∷ run) last all zero before after b a =
+      subst (λ (x : List L × D). Stays x after) (same_Some (bench_of first) before b)
+      (subst (λ (x : List L × D). Stays (bench_of first) x)
+      (same_Some (bench_of all.0) after (sym (first_bench all.0 run last all.2) ∙ a))
+      (all.1.asked_only, all.1.later))
+  benches_stay first (done ∷ run) last all (suc at) before after b a =
+      benches_stay all.0 run last all.2 at before after b a

@@ -1,0 +1,780 @@
+-- The headline, from one history.
+use Rattle.std.specs.Prelude.{◌≢◌, All, slice_get, slice_index, IsSome}
+use Rattle.std.proofs.Common.{◌≡◌, ℕ, suc, ◌+◌, ◌<◌, ◌≤◌, ◌==◌, List, [], ◌∷◌, ◌++◌, length, map, get_or, Option, None, Some, ◌⊎◌, inl, inr, refl, ap, sym, subst, ◌∙◌, arith}
+use Rattle.std.proofs.lemmas.Bool.{cases_lt}
+use Rattle.std.proofs.lemmas.List.{append_assoc, append_cancel_left, get_or-map, length-map}
+use Rattle.std.proofs.lemmas.List.Elements.{filter-append}
+use Rattle.std.proofs.lemmas.Option.{none-some, same_Some, slice_get-get_or}
+use Rattle.kr_base.specs.Faults.{Rose}
+use Rattle.kr_base.specs.Lines.{of_seat}
+use Rattle.kr_kms.specs.Calls.{Link}
+use Rattle.kr_kms.specs.Health.{HasBreach}
+use Rattle.kr_kms.specs.Truth.{Opens, Truth}
+use Rattle.kr_kms.specs.declared.health.Field.{Field}
+use Rattle.kr_provider.specs.AskedLinks.{FaultRose, HasLinkWith}
+use Rattle.kr_provider.specs.Envelopes.{Envelope, unknown}
+use Rattle.kr_provider.specs.Publication.{Publication, list_at}
+use Rattle.kr_provider.specs.Reading.{Reading, data_of, refused, value_reading}
+use Rattle.kr_provider.specs.declared.refusal.ValueNo.{ValueNo}
+use Rattle.kr_store.specs.Rows.{live}
+use Rattle.kr_rewrite.specs.Drives.{CoversLive}
+use Rattle.kr_rewrite.specs.declared.outcome.Step as met_row
+use Rattle.kr_rollout.specs.Entries.{seat_of}
+use Rattle.kr_rollout.specs.Histories.{IsLegal, state_of}
+use Rattle.kr_rollout.specs.Openings.{start_of}
+use Rattle.kr_rollout.specs.declared.line.Did.TheVariants as did
+use Rattle.kr_rollout.specs.declared.line.Gave.TheVariants as gave
+use Rattle.kr_rollout.specs.declared.opening.Entry.{Entry}
+use Rattle.kr_rollout.specs.declared.opening.Opening.{Opening}
+use Rattle.kr_rollout.proofs.Appending.{front_law}
+use Rattle.kr_history.specs.Acting.{Caller}
+use Rattle.kr_history.specs.Contents.{IsContent}
+use Rattle.kr_history.proofs.ContentSteps.{one_content}
+use Rattle.kr_history.proofs.HavingContent.{some_content}
+use Rattle.kr_history.proofs.Judging.{judged_by_fit}
+use Rattle.kr_history.proofs.NeedsLive.{live_is_readable}
+use Rattle.kr_fleet.specs.LoadCalls.{AreKeysSame}
+use Rattle.kr_script.specs.Fleets.{Worker, worker_of}
+use Rattle.kr_script.specs.declared.script.Part.{Part}
+use Rattle.kr_script.specs.declared.script.ScriptLine.{ScriptLine}
+use Rattle.kr_script.specs.declared.script.ScriptLine.TheVariants as line
+use Rattle.kr_script.specs.declared.told.Told.{Told}
+use Rattle.kr_script.specs.declared.told.Told.TheVariants as told
+use Rattle.kr_workers.specs.Changes.{MayWrite}
+use Rattle.kr_workers.specs.Files.{rows_at}
+use Rattle.kr_workers.specs.Gets.{FetchesWhere, ReadsContent, TellContents, TellsContent}
+use Rattle.kr_workers.specs.Histories.{IsOneHistory, StandsIn, first_place}
+use Rattle.kr_workers.specs.Runs.{LineDone, entries_in, lines_in, replies_in}
+use Rattle.kr_workers.specs.Shapes.{PartIs}
+use Rattle.kr_workers.specs.ScriptLines.{Workplace}
+use Rattle.kr_workers.specs.declared.files.SettingsFile.{SettingsFile}
+use Rattle.kr_workers.specs.declared.worker.Worker as fleet_worker
+use Rattle.kr_workers.proofs.Getting.{gets_tell_content}
+use Rattle.kr_workers.proofs.HonestPlugins.{honest_of_plugins}
+use Rattle.kr_workers.proofs.ShapingLines.{parts_have_shape}
+use Rattle.kr_headline.specs.Fleets.{AreBenches, AreKnown, AtLine, FleetHeadline, Outside, Readings, ReadsWith, StaysReadable, Unwraps, outside_of, run_of}
+use Rattle.kr_headline.specs.Headline.{Finds, HasSteps, Headline, MeetsAll, Object, Run, Step, entries_of, own_entries, stands_at}
+use Rattle.kr_headline.specs.Laws.{HeadlineHolds}
+use Rattle.kr_headline.proofs.Answering.{alike, may_answer, some_lives}
+use Rattle.kr_headline.proofs.Benches.{DoneThere, benches_of, benches_stay, done_in_run, first_bench, last_bench, many_benches}
+use Rattle.kr_headline.proofs.Contents.{content_holds, content_of, data_in}
+use Rattle.kr_headline.proofs.Marks.{all_marks, entries_stay, mark, marks, marks_in_order, marks_split, place_of}
+use Rattle.kr_headline.proofs.Mono.{part_mono}
+use Rattle.kr_headline.proofs.Own.{own_part}
+use Rattle.kr_headline.proofs.Places as place
+use Rattle.kr_headline.proofs.ReadBack.{at_middle, fetched_row, here, known_trusted, legal_front, legal_one, unwraps_trusted}
+use Rattle.kr_headline.proofs.Seats.{below_of, first_in, past_end, path_in, plus_one, reading_in, revision_in, some_below, split_own}
+use Rattle.kr_headline.proofs.Standing.{faults_are, object_revision, row_revision}
+
+module _ {T L D : Type 0} (truth : Truth) (link : L → Link) (left : D → Option (List ℕ))
+    (count : D → ℕ) (files : List SettingsFile) (history : List Entry) (o : Opening)
+    (parts : List Part) (budgets : List ℕ) (old new : List (fleet_worker.Worker T L D))
+    (one : IsOneHistory truth link left count files history o parts budgets old new) where
+  abbrev workers : List Worker
+  workers = map worker_of parts
+
+  abbrev replies : List (List Told)
+  replies = map (λ (worker : fleet_worker.Worker T L D). worker.told.0) new
+
+  abbrev lines_at : ℕ → List ScriptLine
+  lines_at worker = get_or (map (λ (it : Worker). it.lines) workers) worker []
+
+  abbrev replica_at : ℕ → ℕ
+  replica_at worker = get_or (map (λ (it : Worker). it.replica) workers) worker 0
+
+  abbrev Told_at : (worker at : ℕ) → ScriptLine → Told → Type 0
+  Told_at worker at asked reply = (slice_get (lines_at worker) at ≡ Some asked)
+      × (slice_get (get_or replies worker []) at ≡ Some reply)
+
+  -- ---- the run of each seat
+
+  record Stood (seat : ℕ) (run : List LineDone) (benches : List (List L × D)) : Type 0 where
+    replica : ℕ
+    replica_is : replica_at seat ≡ replica
+    first : Workplace L D
+    last : Workplace L D
+    seat_is : first.caller.seat ≡ seat
+    opening_is : first.caller.opening ≡ o
+    none_yet : first.caller.mine ≡ []
+    unseen : List Entry
+    seen_is : last.caller.seen ++ unseen ≡ history
+    there : (ahead : List LineDone) (done : LineDone) (behind : List LineDone)
+        → run ≡ ahead ++ done ∷ behind
+        → DoneThere truth link left count files replica first last benches ahead done
+    benches_are : (part : Part) (before after : fleet_worker.Worker T L D)
+        → slice_get parts seat ≡ Some part → slice_get old seat ≡ Some before
+        → slice_get new seat ≡ Some after
+        → AreBenches link count benches (length part.lines.0) before.bench after.bench
+    parts_are : entries_in run ≡ of_seat seat_of seat history
+    lines_are : lines_in run ≡ lines_at seat
+    replies_are : replies_in run ≡ get_or replies seat []
+    tells : TellContents truth o history seat run
+
+  many_new : length new ≡ length parts
+  many_new = one.many ∙ one.whole
+
+  module _ (seat : ℕ) (within : seat < length parts) where
+    abbrev first_part : Part
+    first_part = first_in parts seat within
+
+    abbrev first_old : fleet_worker.Worker T L D
+    first_old = first_in old seat (omega (arith, within, one.whole))
+
+    abbrev its_part : Part
+    its_part = get_or parts seat first_part
+
+    abbrev its_old : fleet_worker.Worker T L D
+    its_old = get_or old seat first_old
+
+    abbrev its_new : fleet_worker.Worker T L D
+    its_new = get_or new seat first_old
+
+    abbrev its_place : Workplace L D
+    its_place = first_place o seat (slice_index budgets seat) its_old.bench
+
+    within_workers : seat < length workers
+    within_workers = omega (arith, within, length-map parts worker_of)
+
+    lines_there : lines_at seat ≡ its_part.lines.0
+    lines_there = get_or-map (λ (it : Worker). it.lines) workers seat (worker_of first_part) []
+        within_workers
+        ∙ ap (λ (it : Worker). it.lines)
+        (get_or-map worker_of parts seat first_part (worker_of first_part) within)
+
+    replica_there : replica_at seat ≡ its_part.replica
+    replica_there = get_or-map (λ (it : Worker). it.replica) workers seat (worker_of first_part) 0
+        within_workers
+        ∙ ap (λ (it : Worker). it.replica)
+        (get_or-map worker_of parts seat first_part (worker_of first_part) within)
+
+    module _ (s : StandsIn truth link left count files history its_part its_place its_new.told.0
+        its_new.bench) where
+      abbrev its_benches : List (List L × D)
+      its_benches = benches_of truth link left count files its_part.replica its_place s.run s.last
+          s.does
+
+      are_there : AreBenches link count its_benches (length its_part.lines.0) its_old.bench
+          its_new.bench
+      are_there =
+          let many : length its_part.lines.0 ≡ length s.run =
+          ap length (sym s.lines_are) ∙ length-map s.run (λ (d : LineDone). d.line) in record {
+            many = omega (
+              arith,
+              many,
+              many_benches truth link left count files its_part.replica
+                  its_place s.run s.last s.does,
+            );
+            first = first_bench truth link left count files its_part.replica its_place s.run s.last
+                s.does;
+            last = ap (λ n. slice_get its_benches n) many
+                ∙ last_bench truth link left count files its_part.replica its_place s.run s.last
+                s.does
+                ∙ (λ i. Some (sym s.links_are i, sym s.dice_are i));
+            stay = λ at before after b a. benches_stay truth link left count files its_part.replica
+                its_place s.run s.last s.does at before after b
+                (ap (slice_get its_benches) (plus_one at) ∙ a);
+          }
+
+      stood_by : Stood seat s.run its_benches
+      stood_by = record {
+        replica = its_part.replica;
+        replica_is = replica_there;
+        first = its_place;
+        last = s.last;
+        seat_is = refl;
+        opening_is = refl;
+        none_yet = refl;
+        unseen = s.front.0;
+        seen_is = s.front.1;
+        there = λ ahead done behind is. done_in_run truth link left count files its_part.replica
+            its_place s.run s.last ahead done behind is s.does;
+        benches_are = λ part before after part_is before_is after_is.
+            subst (λ (p : Part). AreBenches link count its_benches (length p.lines.0) before.bench
+            after.bench)
+            (same_Some its_part part
+            (sym (slice_get-get_or parts seat first_part within) ∙ part_is))
+            (subst (λ (w : fleet_worker.Worker T L D). AreBenches link count its_benches
+            (length its_part.lines.0) w.bench after.bench)
+            (same_Some its_old before (sym (slice_get-get_or old seat first_old
+            (omega (arith, within, one.whole))) ∙ before_is))
+            (subst (λ (w : fleet_worker.Worker T L D). AreBenches link count its_benches
+            (length its_part.lines.0) its_old.bench w.bench)
+            (same_Some its_new after (sym (slice_get-get_or new seat first_old
+            (omega (arith, within, many_new))) ∙ after_is)) are_there));
+        parts_are = s.parts_are;
+        lines_are = s.lines_are ∙ sym lines_there;
+        replies_are = sym s.replies_are
+            ∙ sym (get_or-map (λ (w : fleet_worker.Worker T L D). w.told.0) new seat first_old []
+            (omega (arith, within, many_new)));
+        tells = gets_tell_content truth link left count files history its_part its_place
+            its_new.told.0 its_new.bench s refl;
+      }
+
+  some_run : (seat : ℕ) → (run : List LineDone) × (benches : List (List L × D))
+      × (seat < length parts → Stood seat run benches)
+  some_run seat = by (cases_lt seat (length parts))
+    where
+      by : (seat < length parts) ⊎ (length parts ≤ seat)
+          → (run : List LineDone) × (benches : List (List L × D))
+          × (seat < length parts → Stood seat run benches)
+      by (inl within) =
+          let s = one.each seat (first_part seat within) (first_old seat within) within in
+          (s.run, its_benches seat within s, λ again. stood_by seat within s)
+      by (inr past) = ([], [], λ within. absurd (omega (arith, past, within)))
+
+  abbrev runs : ℕ → List LineDone
+  runs seat = (some_run seat).0
+
+  abbrev benches : ℕ → List (List L × D)
+  benches seat = (some_run seat).1
+
+  run_stood : (seat : ℕ) → seat < length parts → Stood seat (runs seat) (benches seat)
+  run_stood seat within = (some_run seat).2 within
+
+  seat_within : (front : List Entry) (e : Entry) (rest : List Entry)
+      → history ≡ front ++ e ∷ rest → seat_of e < length parts
+  seat_within front e rest is = at_middle (λ (x : Entry). seat_of x < length parts) front e rest
+      (subst (λ (l : List Entry). All (λ (x : Entry). seat_of x < length parts) l) is one.no_other)
+
+  abbrev steps : List Step
+  steps = marks runs [] history
+
+  step_at : (front : List Entry) (e : Entry) (rest : List Entry) → history ≡ front ++ e ∷ rest
+      → steps ≡ marks runs [] front ++ mark runs front e ∷ marks runs (front ++ e ∷ []) rest
+  step_at front e rest is = ap (marks runs []) is ∙ marks_split runs [] front e rest
+
+  told_there : (seat : ℕ) (ahead : List LineDone) (done : LineDone) (behind : List LineDone)
+      → Stood seat (runs seat) (benches seat) → runs seat ≡ ahead ++ done ∷ behind
+      → Told_at seat (length ahead) done.line done.reply
+  told_there seat ahead done behind s is = (
+    ap (λ (l : List ScriptLine). slice_get l (length ahead)) (sym s.lines_are ∙ ap lines_in is)
+        ∙ place.stands_at (λ (d : LineDone). d.line) ahead done behind,
+    ap (λ (l : List Told). slice_get l (length ahead)) (sym s.replies_are ∙ ap replies_in is)
+        ∙ place.stands_at (λ (d : LineDone). d.reply) ahead done behind,
+  )
+
+  -- ---- each step has its line
+
+  abbrev HasLine : Step → Type 0
+  HasLine step = (asked : ScriptLine) × (reply : Told)
+      × Told_at step.entry.line.seat step.at asked reply
+      × MayWrite (rows_at files) (replica_at step.entry.line.seat) asked reply step.entry
+
+  has_line : (front : List Entry) (e : Entry) (rest : List Entry)
+      → history ≡ front ++ e ∷ rest → HasLine (mark runs front e)
+  has_line front e rest is =
+      let seat = seat_of e in
+      let s = run_stood seat (seat_within front e rest is) in
+      let l = place.line_of (runs seat) (of_seat seat_of seat front) e (of_seat seat_of seat rest)
+      (s.parts_are ∙ ap (of_seat seat_of seat) is ∙ split_own seat front e rest refl) in
+      let d = s.there l.ahead l.done l.behind l.run_is in
+      let there : place_of runs front e ≡ length l.ahead =
+      ap (λ (r : List LineDone). get_or (place.places 0 r)
+      (length (of_seat seat_of seat front)) 0) l.run_is
+      ∙ ap (λ (xs : List Entry). get_or (place.places 0 (l.ahead ++ l.done ∷ l.behind))
+      (length xs) 0) l.xs_is
+      ∙ place.place_there l.ahead l.done l.behind l.front e l.rest l.part_is in
+      let r = subst (λ n. Told_at seat n l.done.line l.done.reply) (sym there)
+      (told_there seat l.ahead l.done l.behind s l.run_is) in (
+        l.done.line,
+        l.done.reply,
+        r,
+        subst (λ n. MayWrite (rows_at files) n l.done.line l.done.reply e) (sym s.replica_is)
+            (at_middle (MayWrite (rows_at files) s.replica l.done.line l.done.reply) l.front e
+            l.rest
+            (subst (λ (p : List Entry).
+            All (MayWrite (rows_at files) s.replica l.done.line l.done.reply) p) l.part_is
+            d.is.made)),
+      )
+
+  -- ---- the line at a place
+
+  record LineAt (worker at : ℕ) (asked : ScriptLine) (reply : Told) : Type 0 where
+    within : worker < length parts
+    s : Stood worker (runs worker) (benches worker)
+    d : place.DoneAt (runs worker) at asked reply
+    t : DoneThere truth link left count files s.replica s.first s.last (benches worker) d.ahead
+        d.done
+
+  line_at : (worker at : ℕ) (asked : ScriptLine) (reply : Told)
+      → Told_at worker at asked reply → LineAt worker at asked reply
+  line_at worker at asked reply r =
+      let within : worker < length parts =
+      let l = below_of (map (λ (it : Worker). it.lines) workers) worker at asked r.0 in
+      omega (
+        arith,
+        l,
+        length-map workers (λ (it : Worker). it.lines),
+        length-map parts worker_of,
+      ) in
+      let s = run_stood worker within in
+      let d = place.done_at (runs worker) at asked reply
+      (ap (λ (l : List ScriptLine). slice_get l at) s.lines_are ∙ r.0)
+      (ap (λ (l : List Told). slice_get l at) s.replies_are ∙ r.1) in
+      record {
+        within = within;
+        s = s;
+        d = d;
+        t = s.there d.ahead d.done d.behind d.run_is;
+      }
+
+  own_is : (worker at : ℕ) (asked : ScriptLine) (reply : Told)
+      → (l : LineAt worker at asked reply) → own_entries steps worker at ≡ l.d.done.part
+  own_is worker at asked reply l = own_part runs worker at history l.d.ahead l.d.done l.d.behind
+      l.d.run_is l.d.many l.s.parts_are
+
+  abbrev outside : Outside
+  outside = outside_of link count benches
+
+  -- ---- gets
+
+  -- the Fetch of a line was read so, with this envelope
+  record WasRead (worker at : ℕ) (path : List ℕ) (reading : Reading) (envelope : Envelope)
+      (revision : ℕ) : Type 0 where
+    front : List Entry
+    fetch : Entry
+    rest : List Entry
+    there : history ≡ front ++ fetch ∷ rest
+    own : (fetch.line.seat ≡ worker) × (place_of runs front fetch ≡ at)
+    fetches : fetch.line.did ≡ did.Fetch path
+    gave_is : fetch.line.gave ≡ gave.Found revision
+    r : ReadsContent truth o path reading front fetch
+    same : r.envelope ≡ envelope
+
+  -- the revision is that which the reply tells, if it tells one
+  record WasTold (worker at : ℕ) (path : List ℕ) (reading : Reading) (envelope : Envelope)
+      (reply : Told) : Type 0 where
+    revision : ℕ
+    was : WasRead worker at path reading envelope revision
+    tells : (n : ℕ) → revision_in reply ≡ Some n → revision ≡ n
+
+  read_part : (worker at : ℕ) (path : List ℕ) (reply : Told)
+      → (l : LineAt worker at (line.Get path) reply)
+      (Holds : (front : List Entry) → (fetch : Entry) → Type 0)
+      → (f : FetchesWhere history worker path (entries_in l.d.ahead) l.d.done.part Holds)
+      → place_of runs f.front f.fetch ≡ at
+  read_part worker at path reply l Holds f =
+      ap (λ n. get_or (place.places 0 (runs n)) (length (of_seat seat_of n f.front)) 0) f.own
+      ∙ ap (λ (r : List LineDone). get_or (place.places 0 r)
+      (length (of_seat seat_of worker f.front)) 0) l.d.run_is
+      ∙ ap (λ (xs : List Entry). get_or (place.places 0 (l.d.ahead ++ l.d.done ∷ l.d.behind))
+      (length xs) 0) f.its
+      ∙ place.place_there l.d.ahead l.d.done l.d.behind (f.adopt ∷ []) f.fetch (f.let_go ∷ [])
+      f.part_is ∙ l.d.many
+
+  was_read : (worker at : ℕ) (path : List ℕ) (reply : Told) (reading : Reading)
+      → (l : LineAt worker at (line.Get path) reply) → reading_in reply ≡ Some reading
+      → TellsContent truth o history worker path (entries_in l.d.ahead) l.d.done.part reply
+      → (envelope : Envelope) × WasTold worker at path reading envelope reply
+  was_read worker at path (told.Got revision bytes) reading l is t = (
+    t.holds.1.envelope,
+    subst (λ (it : Reading). WasTold worker at path it t.holds.1.envelope
+        (told.Got revision bytes)) (same_Some (data_of bytes) reading is) (record {
+          revision = revision;
+          tells = λ n n_is. same_Some revision n n_is;
+          was = record {
+            front = t.front;
+            fetch = t.fetch;
+            rest = t.rest;
+            there = t.there;
+            own = (
+              t.own,
+              read_part worker at path (told.Got revision bytes) l (λ front fetch.
+                  (fetch.line.gave ≡ gave.Found revision)
+                  × ReadsContent truth o path (data_of bytes) front fetch) t,
+            );
+            fetches = t.fetches;
+            gave_is = t.holds.0;
+            r = t.holds.1;
+            same = refl;
+          };
+        }),
+  )
+  was_read worker at path (told.Value why) reading l is t = (
+    t.holds.2.envelope,
+    subst (λ (it : Reading). WasTold worker at path it t.holds.2.envelope (told.Value why))
+        (same_Some (refused why) reading is) (record {
+          revision = t.holds.0;
+          tells = λ n n_is. absurd (none-some n n_is);
+          was = record {
+            front = t.front;
+            fetch = t.fetch;
+            rest = t.rest;
+            there = t.there;
+            own = (
+              t.own,
+              read_part worker at path (told.Value why) l (λ front fetch.
+                  (revision : ℕ) × (fetch.line.gave ≡ gave.Found revision)
+                  × ReadsContent truth o path (refused why) front fetch) t,
+            );
+            fetches = t.fetches;
+            gave_is = t.holds.1;
+            r = t.holds.2;
+            same = refl;
+          };
+        }),
+  )
+  was_read worker at path reply reading l is t = absurd (none-some reading is)
+
+  told_content : (worker at : ℕ) (path : List ℕ) (reply : Told)
+      → (l : LineAt worker at (line.Get path) reply)
+      → TellsContent truth o history worker path (entries_in l.d.ahead) l.d.done.part reply
+  told_content worker at path reply l = subst (λ (t : Told).
+      TellsContent truth o history worker path (entries_in l.d.ahead) l.d.done.part t) l.d.reply_is
+      (l.s.tells l.d.ahead l.d.done l.d.behind l.d.run_is path l.d.line_is)
+
+  -- of each line there is one envelope, with which its `get` was read, if it is one
+  abbrev ReadAt : (worker at : ℕ) → Envelope → Type 0
+  ReadAt worker at envelope = (path : List ℕ) (reply : Told) (reading : Reading)
+      → Told_at worker at (line.Get path) reply → reading_in reply ≡ Some reading
+      → WasTold worker at path reading envelope reply
+
+  read_at : (worker at : ℕ) → (envelope : Envelope) × ReadAt worker at envelope
+  read_at worker at = by (slice_get (lines_at worker) at) (slice_get (get_or replies worker []) at)
+      refl refl
+    where
+      of_told : (path : List ℕ) (reply : Told) (reading : Option Reading)
+          → reading_in reply ≡ reading → slice_get (lines_at worker) at ≡ Some (line.Get path)
+          → slice_get (get_or replies worker []) at ≡ Some reply
+          → (envelope : Envelope) × ReadAt worker at envelope
+      of_told path reply None none asked_is reply_is = (
+        unknown,
+        λ other given reading r is.
+            absurd (none-some reading (sym none
+            ∙ ap reading_in (same_Some reply given (sym reply_is ∙ r.1)) ∙ is)),
+      )
+      of_told path reply (Some reading) some asked_is reply_is =
+          let l = line_at worker at (line.Get path) reply (asked_is, reply_is) in
+          let w = was_read worker at path reply reading l some
+          (told_content worker at path reply l) in (
+            w.0,
+            λ other given it r is.
+                let same_path = same_Some path other (ap path_in (same_Some (line.Get path)
+                (line.Get other) (sym asked_is ∙ r.0))) in
+                let same_reply = same_Some reply given (sym reply_is ∙ r.1) in
+                let same_reading = same_Some reading it
+                (sym some ∙ ap reading_in same_reply ∙ is) in
+                subst (λ (q : List ℕ). WasTold worker at q it w.0 given) same_path
+                (subst (λ (it : Reading). WasTold worker at path it w.0 given) same_reading
+                (subst (λ (t : Told). WasTold worker at path reading w.0 t) same_reply w.1)),
+          )
+
+      by : (asked : Option ScriptLine) → (reply : Option Told)
+          → slice_get (lines_at worker) at ≡ asked
+          → slice_get (get_or replies worker []) at ≡ reply
+          → (envelope : Envelope) × ReadAt worker at envelope
+      by None reply asked_is reply_is = (
+        unknown,
+        λ path given reading r is.
+            absurd (none-some (line.Get path) (sym asked_is ∙ r.0)),
+      )
+      by (Some asked) None asked_is reply_is = (
+        unknown,
+        λ path given reading r is.
+            absurd (none-some given (sym reply_is ∙ r.1)),
+      )
+      by (Some (line.Get path)) (Some reply) asked_is reply_is =
+          of_told path reply (reading_in reply) refl asked_is reply_is
+      by (Some asked) (Some reply) asked_is reply_is = (
+        unknown,
+        λ path given reading r is.
+            absurd (none-some path
+            (ap path_in (same_Some asked (line.Get path) (sym asked_is ∙ r.0)))),
+      )
+
+  abbrev readings : Readings truth o files workers replies history
+  readings = record {
+    at_start = λ opens path. (some_content opens o [] path).0;
+    start_is = λ opens path. (some_content opens o [] path).1;
+    envelope_of = λ worker at. (read_at worker at).0;
+    reseals = (honest_of_plugins T truth link left count files history o parts budgets old new
+        one).reseals;
+  }
+
+  abbrev run : Run
+  run = run_of truth o files workers replies history outside readings
+
+  some_object : (now : Option Object) (revision : ℕ) → object_revision now ≡ Some revision
+      → (object : Object) × (now ≡ Some object) × (object.revision ≡ revision)
+  some_object None revision is = absurd (none-some revision is)
+  some_object (Some object) revision is =
+      (object, refl, same_Some object.revision revision is)
+
+  finds : (worker at : ℕ) (path : List ℕ) (reading : Reading) (revision : ℕ)
+      → WasRead worker at path reading (readings.envelope_of worker at) revision
+      → Finds run steps worker at path revision reading
+  finds worker at path reading revision w =
+      let found = fetched_row o history one.legal w.front w.fetch w.rest w.there path revision
+      w.r.row w.fetches w.gave_is w.r.found in
+      let entries : entries_of (marks runs [] w.front) ≡ w.front = entries_stay runs [] w.front in
+      let object = some_object (stands_at run path w.front) w.r.row.revision
+      (alike truth o files workers replies history outside readings w.front
+      (legal_front o history one.legal w.front w.fetch w.rest w.there) path
+      ∙ ap row_revision found.0) in
+      let reads : ReadsWith (readings.envelope_of worker at) w.fetch reading =
+      subst (λ (v : Envelope). ReadsWith v w.fetch reading) w.same (record {
+        p = w.r.p;
+        row = w.r.row;
+        held = w.r.held;
+        found = w.r.found;
+        object = w.r.object;
+        seed = w.r.seed;
+        unsourced = w.r.unsourced;
+        reads = subst (λ (q : List ℕ). value_reading w.r.envelope
+            (list_at w.r.p w.r.row.resource) q w.r.row.stored ≡ reading) (sym found.1) w.r.reads;
+      }) in
+      let content : (opens : Opens) → IsContent opens o w.front path
+      (content_of (data_in (stands_at run path w.front)) (readings.at_start opens path)) =
+      λ opens. content_holds opens o path (readings.at_start opens path)
+      (readings.start_is opens path) w.front in
+      let trusted : (opens : Opens) → run.PluginsUnwrapped opens path worker at w.fetch
+      → IsContent opens o w.front path (Some reading) = λ opens u. by opens u in
+      record {
+        front = marks runs [] w.front;
+        fetch = mark runs w.front w.fetch;
+        rest = marks runs (w.front ++ w.fetch ∷ []) w.rest;
+        there = step_at w.front w.fetch w.rest w.there;
+        own = w.own;
+        fetches = w.fetches;
+        found = w.gave_is;
+        reads = reads;
+        object = object.0;
+        stands = ap (stands_at run path) entries ∙ object.1;
+        revision_is = object.2 ∙ found.2;
+        is = λ opens u. ap (λ (it : Option Object).
+            content_of (data_in it) (readings.at_start opens path)) (sym object.1)
+            ∙ one_content opens o w.front path (content_of (data_in (stands_at run path w.front))
+            (readings.at_start opens path)) (Some reading) (content opens) (trusted opens u);
+      }
+    where
+      by : (opens : Opens)
+          → AreKnown truth opens o
+          ⊎ Unwraps truth o files workers replies history readings opens path worker at w.fetch
+          → IsContent opens o w.front path (Some reading)
+      by opens (inl known) = known_trusted o history one.legal w.front w.fetch w.rest w.there truth
+          opens path one.honest reading w.r.known known
+      by opens (inr u) = unwraps_trusted truth o files workers replies history readings opens path
+          worker at w.fetch u w.front w.rest w.there reading w.r w.same
+
+  gets : (worker at : ℕ) (path : List ℕ) (reply : Told) (reading : Reading)
+      → Told_at worker at (line.Get path) reply → reading_in reply ≡ Some reading
+      → WasTold worker at path reading (readings.envelope_of worker at) reply
+  gets worker at path reply reading r is = (read_at worker at).1 path reply reading r is
+
+  got : (worker at : ℕ) (path bytes : List ℕ) (revision : ℕ)
+      → Told_at worker at (line.Get path) (told.Got revision bytes)
+      → Finds run steps worker at path revision (data_of bytes)
+  got worker at path bytes revision r =
+      let w = gets worker at path (told.Got revision bytes) (data_of bytes) r refl in
+      subst (λ n. Finds run steps worker at path n (data_of bytes)) (w.tells revision refl)
+      (finds worker at path (data_of bytes) w.revision w.was)
+
+  refused_at : (worker at : ℕ) (path : List ℕ) (why : ValueNo)
+      → Told_at worker at (line.Get path) (told.Value why)
+      → (revision : ℕ) × Finds run steps worker at path revision (refused why)
+  refused_at worker at path why r =
+      let w = gets worker at path (told.Value why) (refused why) r refl in
+      (w.revision, finds worker at path (refused why) w.revision w.was)
+
+  -- ---- the steps of a line
+
+  -- an own entry of the line is a step of it
+  own_place : (worker at : ℕ) (asked : ScriptLine) (reply : Told)
+      → (l : LineAt worker at asked reply) (before : List Entry) (e : Entry) (behind : List Entry)
+      → l.d.done.part ≡ before ++ e ∷ behind → (front : List Entry) → seat_of e ≡ worker
+      → of_seat seat_of worker front ≡ entries_in l.d.ahead ++ before
+      → place_of runs front e ≡ at
+  own_place worker at asked reply l before e behind part front seat its =
+      ap (λ n. get_or (place.places 0 (runs n)) (length (of_seat seat_of n front)) 0) seat
+      ∙ ap (λ (r : List LineDone). get_or (place.places 0 r)
+      (length (of_seat seat_of worker front)) 0) l.d.run_is
+      ∙ ap (λ (xs : List Entry). get_or (place.places 0 (l.d.ahead ++ l.d.done ∷ l.d.behind))
+      (length xs) 0) its
+      ∙ place.place_there l.d.ahead l.d.done l.d.behind before e behind part ∙ l.d.many
+
+  -- what lives at each entry that a rewrite adds stands there at each of its steps
+  covers : (worker at : ℕ) (asked : ScriptLine) (reply : Told)
+      → (l : LineAt worker at asked reply) (met : List met_row.Step)
+      → CoversLive [] met l.t.before.caller l.t.after.caller → MeetsAll run steps worker at met
+  covers worker at asked reply l met c [] some stands = absurd (some refl)
+  covers worker at asked reply l met c (x ∷ xs) some stands = c (x ∷ xs) refl live_through
+    where
+      old_caller : Caller
+      old_caller = l.t.before.caller
+
+      live_through : (before : List Entry) (e : Entry) (rest : List Entry)
+          → l.t.after.caller.seen ≡ (old_caller.seen ++ before) ++ e ∷ rest
+          → e.line.seat ≡ old_caller.seat
+          → IsSome (live (state_of old_caller.opening (old_caller.seen ++ before)).rows (x ∷ xs))
+      live_through before e rest seen seat =
+          let adds = l.t.is.adds in
+          let front : List Entry = old_caller.seen ++ before in
+          let own_seat : old_caller.seat ≡ worker = l.t.seat_is ∙ l.s.seat_is in
+          let its_seat : seat_of e ≡ worker = seat ∙ own_seat in
+          let opened : old_caller.opening ≡ o = l.t.opening_is ∙ l.s.opening_is in
+          let more : adds.more ≡ before ++ e ∷ rest =
+          append_cancel_left old_caller.seen adds.more (before ++ e ∷ rest)
+          (sym (ap (λ (c : Caller). c.seen) adds.new_is) ∙ seen
+          ∙ append_assoc old_caller.seen before (e ∷ rest)) in
+          let there : history ≡ front ++ e ∷ (rest ++ (l.t.more ++ l.s.unseen)) =
+          sym l.s.seen_is
+          ∙ ap (λ (h : List Entry). h ++ l.s.unseen)
+          (l.t.seen_is ∙ ap (λ (h : List Entry). h ++ l.t.more) seen)
+          ∙ append_assoc (front ++ e ∷ rest) l.t.more l.s.unseen
+          ∙ append_assoc front (e ∷ rest) (l.t.more ++ l.s.unseen) in
+          let mine : of_seat seat_of worker old_caller.seen ≡ entries_in l.d.ahead =
+          ap (λ n. of_seat seat_of n old_caller.seen) (sym own_seat) ∙ l.t.is.known.own
+          ∙ l.t.mine_is
+          ∙ ap (λ (p : List Entry). p ++ entries_in l.d.ahead) l.s.none_yet in
+          let part : l.d.done.part
+          ≡ of_seat seat_of worker before ++ e ∷ of_seat seat_of worker rest =
+          sym adds.own ∙ ap (λ n. of_seat seat_of n adds.more) own_seat
+          ∙ ap (of_seat seat_of worker) more ∙ split_own worker before e rest its_seat in
+          let its : of_seat seat_of worker front
+          ≡ entries_in l.d.ahead ++ of_seat seat_of worker before =
+          filter-append (λ (y : Entry). seat_of y == worker) old_caller.seen before
+          ∙ ap (λ (p : List Entry). p ++ of_seat seat_of worker before) mine in
+          let legal_now : IsLegal o front =
+          legal_front o history one.legal front e (rest ++ (l.t.more ++ l.s.unseen)) there in
+          let standing : stands_at run (x ∷ xs) (entries_of (marks runs [] front)) ≢ None =
+          stands (marks runs [] front) (mark runs front e)
+          (marks runs (front ++ e ∷ []) (rest ++ (l.t.more ++ l.s.unseen)))
+          (step_at front e (rest ++ (l.t.more ++ l.s.unseen)) there) (
+            its_seat,
+            own_place worker at asked reply l (of_seat seat_of worker before) e
+                (of_seat seat_of worker rest) part front its_seat its,
+          ) in
+          subst (λ (it : Opening). IsSome (live (state_of it front).rows (x ∷ xs))) (sym opened)
+          (some_lives (stands_at run (x ∷ xs) front) (live (state_of o front).rows (x ∷ xs))
+          (alike truth o files workers replies history outside readings front legal_now (x ∷ xs))
+          (subst (λ (h : List Entry). stands_at run (x ∷ xs) h ≢ None)
+          (entries_stay runs [] front) standing))
+
+  at_line : (worker at : ℕ) (asked : ScriptLine) (reply : Told)
+      → (l : LineAt worker at asked reply) (Has : (before after : List L × D) → Type 0)
+      → Has (l.t.before.links, l.t.before.dice) (l.t.after.links, l.t.after.dice)
+      → AtLine link count (benches worker) at Has
+  at_line worker at asked reply l Has has = record {
+    before = (l.t.before.links, l.t.before.dice);
+    after = (l.t.after.links, l.t.after.dice);
+    before_is = ap (slice_get (benches worker)) (sym l.d.many) ∙ l.t.before_is;
+    after_is = ap (slice_get (benches worker)) (sym (plus_one at) ∙ ap suc (sym l.d.many))
+        ∙ l.t.after_is;
+    has = has;
+  }
+
+  has_steps : (worker at : ℕ) (asked : ScriptLine) (reply : Told)
+      → Told_at worker at asked reply → HasSteps run steps worker at asked reply
+  has_steps worker at asked reply r =
+      let l = line_at worker at asked reply r in
+      let old_place : Workplace L D = l.t.before in
+      let new_place : Workplace L D = l.t.after in
+      let Plugin : (name : List ℕ) → Type 0 =
+      λ name. FaultRose link name old_place.links new_place.links in
+      let Dice : Type 0 = Rose (count old_place.dice) (count new_place.dice) in
+      let Breaks : (name : List ℕ) → Field → (text : List ℕ) → Type 0 = λ name field text.
+      HasLinkWith link name (λ it. HasBreach it (Some (field, text))) old_place.links in
+      let Keys : Publication → Type 0 = λ p. AreKeysSame link old_place.links p.seeds in
+      let Covers : List met_row.Step → Type 0 =
+      λ met. CoversLive [] met old_place.caller new_place.caller in
+      let shape = parts_have_shape truth link left count files l.s.replica old_place new_place
+      l.d.done l.t.is in
+      part_mono Plugin (run.PluginFailed worker at) Dice (run.SourceFailed worker at) Breaks
+      (run.BreaksRule worker at) Keys (run.KeysAreSame worker at) Covers
+      (MeetsAll run steps worker at) worker (replica_at worker) (own_entries steps worker at)
+      (λ name rose. at_line worker at asked reply l
+      (λ before after. FaultRose link name before.0 after.0) rose)
+      (λ rose. at_line worker at asked reply l
+      (λ before after. Rose (count before.1) (count after.1)) rose)
+      (λ name field text breaks. at_line worker at asked reply l (λ before after.
+      HasLinkWith link name (λ it. HasBreach it (Some (field, text))) before.0) breaks)
+      (λ p same. at_line worker at asked reply l
+      (λ before after. AreKeysSame link before.0 p.seeds) same)
+      (covers worker at asked reply l) (rows_at files) asked reply
+      (subst (λ (part : List Entry). PartIs Plugin Dice Breaks Keys Covers worker
+      (replica_at worker) part (rows_at files) asked reply)
+      (sym (own_is worker at asked reply l))
+      (subst (λ n. PartIs Plugin Dice Breaks Keys Covers worker n l.d.done.part (rows_at files)
+      asked reply) (sym l.s.replica_is)
+      (subst (λ n. PartIs Plugin Dice Breaks Keys Covers n l.s.replica l.d.done.part
+      (rows_at files) asked reply) (l.t.seat_is ∙ l.s.seat_is)
+      (subst (λ (t : Told). PartIs Plugin Dice Breaks Keys Covers old_place.caller.seat l.s.replica
+      l.d.done.part (rows_at files) asked t) l.d.reply_is
+      (subst (λ (a : ScriptLine). PartIs Plugin Dice Breaks Keys Covers old_place.caller.seat
+      l.s.replica l.d.done.part (rows_at files) a l.d.done.reply) l.d.line_is shape)))))
+
+  -- ---- the headline
+
+  all_told : (worker : ℕ) → length (get_or replies worker []) ≡ length (lines_at worker)
+  all_told worker = by (cases_lt worker (length parts))
+    where
+      by : (worker < length parts) ⊎ (length parts ≤ worker)
+          → length (get_or replies worker []) ≡ length (lines_at worker)
+      by (inl within) = let s = run_stood worker within in
+          ap length (sym s.replies_are) ∙ length-map (runs worker) (λ (d : LineDone). d.reply)
+          ∙ sym (length-map (runs worker) (λ (d : LineDone). d.line)) ∙ ap length s.lines_are
+      by (inr past) =
+          ap length (past_end replies worker (omega (
+            arith,
+            past,
+            one.many,
+            one.whole,
+            length-map new (λ (w : fleet_worker.Worker T L D). w.told.0),
+          )))
+          ∙ sym (ap length (past_end (map (λ (it : Worker). it.lines) workers) worker (omega (
+            arith,
+            past,
+            length-map workers (λ (it : Worker). it.lines),
+            length-map parts worker_of,
+          ))))
+
+  own_entries_there : (front : List Entry) (e : Entry) (rest : List Entry)
+      → history ≡ front ++ e ∷ rest
+      → entries_in (runs (seat_of e)) ≡ of_seat seat_of (seat_of e) history
+  own_entries_there front e rest is =
+      (run_stood (seat_of e) (seat_within front e rest is)).parts_are
+
+  headline : Headline run
+  headline = record {
+    all_told = all_told;
+    steps = steps;
+    entries_are = entries_stay runs [] history;
+    in_order = marks_in_order runs history own_entries_there [] history refl;
+    answers = λ front e rest is. may_answer truth o files workers replies history outside readings
+        front (legal_front o history one.legal front e rest is) e rest is
+        (here o history one.legal front e rest is)
+        (judged_by_fit o front e (legal_one o history one.legal front e rest is));
+    counts = λ front e rest is. subst (λ n. n ≤ e.line.faults)
+        (sym (faults_are (start_of o) front)) (here o history one.legal front e rest is).counted;
+    writes = all_marks runs HasLine [] history (λ front e rest is. has_line front e rest is);
+    tells = has_steps;
+    gets = got;
+    refuses = refused_at;
+  }
+
+  stays_readable : StaysReadable truth o files workers replies history
+  stays_readable front rest path row rows is lives live_rows =
+      let l = live_is_readable o front path row rows
+      (front_law o front rest (subst (IsLegal o) is one.legal)) lives live_rows in
+      (l.0, l.2)
+
+  pub the_headline : FleetHeadline link count old new truth files o parts history
+  the_headline = record {
+    whole = one.whole;
+    many = many_new;
+    benches = benches;
+    benches_are = λ worker part before after part_is before_is after_is.
+        (run_stood worker (some_below parts worker part part_is)).benches_are part before after
+        part_is before_is after_is;
+    has = record {
+      legal = one.legal;
+      readable = stays_readable;
+      readings = readings;
+      headline = headline;
+    };
+  }
+
+pub fleet_headline : (T : Type 0) → {L D : Type 0} → (truth : Truth) (link : L → Link)
+    (left : D → Option (List ℕ)) (count : D → ℕ) → HeadlineHolds T truth link left count
+fleet_headline T truth link left count files history o parts budgets old new one =
+    the_headline truth link left count files history o parts budgets old new one

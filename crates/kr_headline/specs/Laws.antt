@@ -1,0 +1,19 @@
+-- The headline follows from one history.
+use Rattle.std.specs.Prelude.{ℕ, List, Option}
+use Rattle.kr_kms.specs.Calls.{Link}
+use Rattle.kr_kms.specs.Truth.{Truth}
+use Rattle.kr_rollout.specs.declared.opening.Entry.{Entry}
+use Rattle.kr_rollout.specs.declared.opening.Opening.{Opening}
+use Rattle.kr_script.specs.declared.script.Part.{Part}
+use Rattle.kr_workers.specs.declared.files.SettingsFile.{SettingsFile}
+use Rattle.kr_workers.specs.declared.worker.Worker.{Worker}
+use Rattle.kr_workers.specs.Histories.{IsOneHistory}
+use Rattle.kr_headline.specs.Fleets.{FleetHeadline}
+
+abbrev pub HeadlineHolds : (T : Type 0) → {L D : Type 0} → Truth → (L → Link)
+    → (D → Option (List ℕ)) → (D → ℕ) → Type 0
+HeadlineHolds T {L} {D} truth link left count = (files : List SettingsFile)
+    (history : List Entry) (o : Opening) (parts : List Part) (budgets : List ℕ)
+    (old new : List (Worker T L D))
+    → IsOneHistory truth link left count files history o parts budgets old new
+    → FleetHeadline link count old new truth files o parts history

@@ -1,0 +1,112 @@
+-- What no run with the headline prints: each of these would contradict it.
+use Rattle.std.specs.Prelude.{◌≡◌, ◌≢◌, ◌≤◌, ℕ, List, ◌∷◌, ◌++◌, length, All, Contains, None, Some}
+use Rattle.kr_kms.specs.Calls.{Link}
+use Rattle.kr_kms.specs.Truth.{Truth}
+use Rattle.kr_kms.specs.declared.health.Field.{Field}
+use Rattle.kr_provider.specs.Publication.{Publication}
+use Rattle.kr_judge.specs.declared.verdict.Verdict.{Verdict}
+use Rattle.kr_rollout.specs.declared.line.Did.{Did}
+use Rattle.kr_rollout.specs.declared.line.Did.TheVariants as did
+use Rattle.kr_rollout.specs.declared.line.Gave.{Gave}
+use Rattle.kr_rollout.specs.declared.line.Gave.TheVariants as gave
+use Rattle.kr_rollout.specs.declared.opening.Entry.{Entry}
+use Rattle.kr_script.specs.declared.script.ScriptLine.{ScriptLine}
+use Rattle.kr_script.specs.declared.script.ScriptLine.TheVariants as line
+use Rattle.kr_script.specs.declared.told.Told.{Told}
+use Rattle.kr_script.specs.declared.told.Told.TheVariants as told
+use Rattle.kr_rollout.specs.declared.opening.Opening.{Opening}
+use Rattle.kr_script.specs.declared.script.Part.{Part}
+use Rattle.kr_workers.specs.declared.files.SettingsFile.{SettingsFile}
+use Rattle.kr_workers.specs.declared.worker.Worker.{Worker}
+use Rattle.kr_headline.specs.Fleets.{FleetHeadline, run_in}
+use Rattle.kr_headline.specs.Headline.{Headline, IsTold, Object, Run, Step, has_at, own_entries, stands_at}
+
+-- an entry that did this and was answered so, behind this front
+pub record Stands (run : Run) (front : List Entry) (done : Did) (given : Gave) : Type 0 where
+  pub entry : Entry
+  pub rest : List Entry
+  pub there : run.history ≡ front ++ entry ∷ rest
+  pub did_is : entry.line.did ≡ done
+  pub gave_is : entry.line.gave ≡ given
+
+module _ (run : Run) (h : Headline run) where
+  pub record WrongPages : Type 0 where
+    -- a path at which nothing stands is found, or one at which something stands isn't: so a delete
+    -- takes its object away, and a put sets it
+    pub found_nothing : (front : List Entry) (path : List ℕ) (revision : ℕ)
+        → Stands run front (did.Fetch path) (gave.Found revision)
+        → stands_at run path front ≡ None → ⊥
+    pub missed : (front : List Entry) (path : List ℕ)
+        → Stands run front (did.Fetch path) gave.Absent → stands_at run path front ≢ None → ⊥
+    -- another revision is found than that of what stands there
+    pub other_revision : (front : List Entry) (path : List ℕ) (revision : ℕ) (object : Object)
+        → Stands run front (did.Fetch path) (gave.Found revision)
+        → stands_at run path front ≡ Some object → object.revision ≢ revision → ⊥
+    -- a write stands twice
+    pub written_twice : (front mid rest : List Entry) (e again : Entry) (revision : ℕ)
+        → run.history ≡ front ++ e ∷ (mid ++ again ∷ rest) → e.line.gave ≡ gave.Written revision
+        → again.line.gave ≡ gave.Written revision → ⊥
+    -- what was written was done for a `put` that tells a fault, a full store, or anything else
+    pub wrote_untold : (step : Step) (path resource plain : List ℕ) (revision : ℕ) (reply : Told)
+        → Contains h.steps step → step.entry.line.did ≡ did.Put path resource plain
+        → step.entry.line.gave ≡ gave.Written revision
+        → IsTold run step.entry.line.seat step.at (line.Put resource path plain) reply
+        → reply ≢ told.Put revision → ⊥
+    -- a replica leaves at another line than `leave`
+    pub left_elsewhere : (step : Step) (replica number : ℕ) (asked : ScriptLine) (reply : Told)
+        → Contains h.steps step → step.entry.line.did ≡ did.Leave replica
+        → step.entry.line.gave ≡ gave.Departed number
+        → IsTold run step.entry.line.seat step.at asked reply
+        → asked ≢ line.Leave replica → ⊥
+    -- a put has other steps than an Adopt, one Put and a LetGo
+    pub put_twice : (worker at : ℕ) (path resource plain : List ℕ) (revision : ℕ)
+        → IsTold run worker at (line.Put resource path plain) (told.Put revision)
+        → length (own_entries h.steps worker at) ≢ 3 → ⊥
+    -- a replica that is in is gone, or another configuration is adopted than it has
+    pub gone_in : (front : List Entry) (replica : ℕ)
+        → Stands run front (did.Adopt replica) (gave.Gone replica)
+        → has_at run replica front ≢ None → ⊥
+    pub other_adopted : (front : List Entry) (replica number : ℕ)
+        → Stands run front (did.Adopt replica) (gave.Adopted number)
+        → has_at run replica front ≢ Some number → ⊥
+    -- the store is full with room left
+    pub full_with_room : (front : List Entry) (path resource plain : List ℕ) (needed : ℕ)
+        → Stands run front (did.Put path resource plain) (gave.StoreFull needed)
+        → needed ≤ run.limit → ⊥
+    -- a fault is told that no count bears out while the line was done, or a healthy plugin is
+    -- unhealthy
+    pub no_plugin_failed : (worker at : ℕ) (path name : List ℕ)
+        → IsTold run worker at (line.Get path) (told.FaultPlugin name)
+        → (run.PluginFailed worker at name → ⊥) → ⊥
+    pub no_source_failed : (worker at seat : ℕ) (path resource plain : List ℕ)
+        → IsTold run worker at (line.Put resource path plain) (told.FaultDice seat)
+        → (run.SourceFailed worker at → ⊥) → ⊥
+    pub was_healthy : (worker at : ℕ) (name : List ℕ) (field : Field) (text : List ℕ)
+        → IsTold run worker at line.Refresh (told.Unhealthy name field text)
+        → (run.BreaksRule worker at name field text → ⊥) → ⊥
+    -- a configuration is taken up that leaves something unreadable, or refused though it fits
+    pub taken_up : (front : List Entry) (replica number : ℕ) (p : Publication)
+        → Stands run front (did.Reload replica p None) (gave.Reloaded number)
+        → (run.WouldStayReadable front (did.Reload replica p None) → ⊥) → ⊥
+    pub refused_fit : (front : List Entry) (replica : ℕ) (p : Publication) (verdict : Verdict)
+        → Stands run front (did.Reload replica p None) (gave.Refused verdict)
+        → run.WouldStayReadable front (did.Reload replica p None) → ⊥
+    -- a rewrite counts what it didn't write
+    pub counted_unwritten : (worker at rewritten fresh changed left : ℕ)
+        → IsTold run worker at line.Rewrite (told.Rewritten rewritten fresh changed left)
+        → All (λ e. (revision : ℕ) → e.line.gave ≢ gave.Written revision)
+        (own_entries h.steps worker at) → rewritten ≢ 0 → ⊥
+    -- a rewrite tells a `get`'s reply, a `leave` want of memory, a `refresh` a refusal
+    pub rewrite_got : (worker at revision : ℕ) (bytes : List ℕ)
+        → IsTold run worker at line.Rewrite (told.Got revision bytes) → ⊥
+    pub leave_memory : (worker at replica : ℕ)
+        → IsTold run worker at (line.Leave replica) told.Memory → ⊥
+    pub refresh_refused : (worker at : ℕ) (verdict : Verdict)
+        → IsTold run worker at line.Refresh (told.Refused verdict) → ⊥
+
+-- so it is with each run of workers
+abbrev pub EachIsWrong : (T : Type 0) → {L D : Type 0} → (L → Link) → (D → ℕ) → Type 0
+EachIsWrong T {L} {D} link count = (old new : List (Worker T L D)) (truth : Truth)
+    (files : List SettingsFile) (o : Opening) (parts : List Part) (history : List Entry)
+    → (h : FleetHeadline link count old new truth files o parts history)
+    → WrongPages (run_in link count old new truth files o parts history h) h.has.headline

@@ -1,0 +1,6 @@
+//! The headline of a fleet.
+#![tactic(auto)]
+
+mod laws;
+
+pub use laws::{each_is_wrong, got_was_put, headline_holds, nothing_supposed, refused_stood_there};

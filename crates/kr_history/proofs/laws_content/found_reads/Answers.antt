@@ -1,0 +1,5 @@
+use Rattle.kr_history.proofs.FoundRows as proved
+use Rattle.kr_history.proofs.laws_content.found_reads.Goals as goal
+
+pub returns : goal.returns
+returns c = proved.found_reads

@@ -1,0 +1,5 @@
+use Rattle.kr_history.proofs.HonestSeats as proved
+use Rattle.kr_history.proofs.laws_content.honest_by_entries.Goals as goal
+
+pub returns : goal.returns
+returns c = proved.honest_by_entries

@@ -1,0 +1,5 @@
+use Rattle.kr_history.proofs.Judging as proved
+use Rattle.kr_history.proofs.laws_fit.refusal_is_exact.Goals as goal
+
+pub returns : goal.returns
+returns c = proved.refusal_is_exact

@@ -1,0 +1,85 @@
+//! What calls do that hold a generation meanwhile.
+ghost use Rattle.std.specs.Prelude.{◌≡◌, ◌<◌, ◌≤◌, [], length, None, Some, IfOk, IfErr, IsSome};
+ghost use Rattle.kr_provider.specs.KeyPages.{size_of};
+ghost use Rattle.kr_provider.specs.Names.{HasLinks, names_of};
+ghost use Rattle.kr_rollout.specs.Callers.{holding};
+ghost use Rattle.kr_history.specs.Calls.{Adopts, IsIdle, IsIdleAfter, KeepsHonesty, LetsGo};
+ghost use Rattle.kr_rollout.specs.Openings.{IsAdmitted};
+ghost use Rattle.kr_history.specs.Parts.{AddsWithin};
+ghost use Rattle.kr_history.specs.inner.Adopting.{AdoptsBy, AnswersAdopt};
+
+use crate::acts::Acts;
+use crate::call::CallNo;
+use kr_base::{Dice, Shared, Spent};
+use kr_kms::Kms;
+use kr_provider::{Bench, Published};
+use kr_rollout::{Answer, Event};
+
+/// Adopts the replica's current generation, with its configuration, which the seat then holds. The
+/// configuration is one that a bench with a link to each of the opening's plugins may take up. A
+/// call that holds it lets it go again by `let_go`, whatever it did.
+pub fn adopt<A: Acts>(acts: &mut A, replica: u32) -> Result<(u32, Shared<Published>), CallNo>
+    requires replica { replica < length (A.caller acts.old).opening.replicas }
+    requires idle { holding (A.caller acts.old).mine ≡ None }
+    ensures adopts { Adopts replica (A.caller acts.old) result (A.caller acts.new) }
+    ensures known { IfOk result (λ held. IsAdmitted (A.caller acts.old).opening.names held.1
+        × (holding (A.caller acts.new).mine ≡ Some (held.0, held.1))) }
+    ensures adds { AddsWithin 1 0 [] (A.caller acts.old) (A.caller acts.new) }
+    ensures honest { KeepsHonesty (A.caller acts.old) (A.caller acts.new) }
+    ensures idle { IfErr result (λ why. IsIdleAfter why (A.caller acts.new)) }
+    ensures place { A.place acts.new ≡ A.place acts.old }
+{
+    acts.known();
+    match acts.act(Event::Adopt { replica }) {
+        Ok(answer) => adopted(answer),
+        Err(Spent) => Err(CallNo::Spent),
+    }
+}
+
+/// The generation that was adopted, with its configuration.
+fn adopted(answer: Answer) -> Result<(u32, Shared<Published>), CallNo>
+    requires { AnswersAdopt answer }
+    ensures { AdoptsBy answer result }
+{
+    match answer {
+        Answer::Adopted {
+            generation,
+            published,
+        } => Ok((generation, published)),
+        Answer::Gone { replica: _ } => Err(CallNo::Gone),
+        Answer::NoMemory => Err(CallNo::NoMemory),
+        _ => unreachable!(),
+    }
+}
+
+/// Gives the bench an adopted configuration, in place of the one that it had. 64 pages are enough
+/// for each, so it takes no memory and is never refused.
+pub fn take_up<L: Kms, D: Dice>(bench: &mut Bench<L, D>, published: Shared<Published>)
+    requires links { HasLinks (names_of L.link bench.old.links) published.rows }
+    requires pages { 64 ≤ size_of bench.old.pages }
+    ensures taken { bench.new
+        ≡ record bench.old { published = Some published; pages = bench.new.pages } }
+    ensures pages { size_of bench.new.pages ≡ size_of bench.old.pages }
+{
+    published.get().known();
+    let Ok(()) = bench.adopt(published) else {
+        unreachable!()
+    };
+}
+
+/// Lets the generation go that the seat holds, whatever was done meanwhile, and answers what was
+/// done. Only where the seat may add no more lines it answers that, and the seat goes on to hold.
+pub fn let_go<A: Acts, T: Drop>(acts: &mut A, done: Result<T, CallNo>) -> Result<T, CallNo>
+    requires holds { IsSome (holding (A.caller acts.old).mine) }
+    ensures lets_go { LetsGo (A.caller acts.old) done result (A.caller acts.new) }
+    ensures adds { AddsWithin 1 0 [] (A.caller acts.old) (A.caller acts.new) }
+    ensures honest { KeepsHonesty (A.caller acts.old) (A.caller acts.new) }
+    ensures idle { IsIdle result (A.caller acts.new) }
+    ensures place { A.place acts.new ≡ A.place acts.old }
+{
+    acts.known();
+    match acts.act(Event::LetGo) {
+        Ok(_answer) => done,
+        Err(Spent) => Err(CallNo::Spent),
+    }
+}

@@ -1,0 +1,23 @@
+-- The members hold no float and don't nest deep, and what is written is read back.
+use Rattle.std.proofs.Common.{◌≤◌, sym, ◌∙◌, ap, subst}
+use Rattle.serde_json.specs.Data.{depth, object}
+use Rattle.serde_json.specs.Read.{max_depth}
+use Rattle.serde_json.specs.View.{members_view}
+use Rattle.serde_json.specs.Written.{has_float}
+use Rattle.kr_kms_wire.proofs.Lines.{answer_no_float, answer_depth}
+use Rattle.kr_kms_wire.proofs.ReadBack.{answer_reads_if}
+use Rattle.kr_kms_wire.proofs.replies.reply_line.Goals as goal
+
+pub line_of-requires-clause-floats : goal.line_of-requires-clause-floats
+line_of-requires-clause-floats c =
+    ap (λ m. has_float (object m)) c.in_ok-members.ensures ∙ answer_no_float c.args.answered.now
+
+pub line_of-requires-clause-nests : goal.line_of-requires-clause-nests
+line_of-requires-clause-nests c =
+    subst (λ m. depth (object m) ≤ max_depth) (sym c.in_ok-members.ensures)
+    (answer_depth c.args.answered.now)
+
+pub returns-clause-read : goal.returns-clause-read
+returns-clause-read c = answer_reads_if c.line_of.result c.args.answered.now
+    (members_view c.in_ok-members.members.entries) c.in_ok-members.ensures c.tell_bytes.ensures
+    c.line_of.ensures.read

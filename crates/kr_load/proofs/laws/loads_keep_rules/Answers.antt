@@ -1,6 +1,0 @@
--- `loads_keep_rules`: each rule by itself.
-use Rattle.kr_load.proofs.Ruling.{keeps_rules}
-use Rattle.kr_load.proofs.laws.loads_keep_rules.Goals as goal
-
-pub returns : goal.returns
-returns c = keeps_rules

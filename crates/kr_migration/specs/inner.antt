@@ -1,2 +1,0 @@
--- The definitions of inner contracts.
-pub mod Migrating

@@ -1,0 +1,188 @@
+-- No reload of a plan is refused.
+use Rattle.std.proofs.Common.{◌≡◌, ℕ, ◌+◌, ◌<◌, Bool, true, false, List, [], ◌∷◌, Option, None, Some, Contains, refl, sym, ap, subst, ◌∙◌, ◌⊎◌, inl, inr, arith, IsTrue}
+use Rattle.std.specs.Prelude.{◌&&◌, ◌||◌, ◌==◌, not, nat_lt}
+use Rattle.std.specs.List.{filter}
+use Rattle.std.proofs.lemmas.Bool.{ltb-true}
+use Rattle.std.proofs.lemmas.List.Elements.{All-contains, filter_passes}
+use Rattle.std.proofs.lemmas.List.Folds.{Any-from_list_any}
+use Rattle.kr_config.specs.declared.class.Class.{Class}
+use Rattle.kr_config.specs.declared.class.Class.TheVariants.{Exact}
+use Rattle.kr_config.specs.declared.who.Who.{Who}
+use Rattle.kr_config.specs.Kept.{Row}
+use Rattle.kr_config.specs.Lists.{list_of, class_list}
+use Rattle.kr_config.proofs.Inversions.{left}
+use Rattle.kr_judge.specs.declared.need.Need.{Need}
+use Rattle.kr_judge.specs.declared.verdict.Verdict.TheVariants.{Pass}
+use Rattle.kr_judge.specs.Boards.{GenerationState, is_live, is_current_of}
+use Rattle.kr_judge.specs.Fits.{ReadsWriter}
+use Rattle.kr_judge.specs.Verdicts.{first, verdict_of, with_numbers, is_other, others}
+use Rattle.kr_judge.proofs.Lists.{here, there, cases, head_is}
+use Rattle.kr_judge.proofs.Passing.{passes_exactly}
+use Rattle.kr_plan.specs.Laws.{WidePasses, TurnedPasses, TargetPasses}
+use Rattle.kr_plan.specs.Merges.{merge, wide_rows, turned_rows}
+use Rattle.kr_plan.specs.Rollouts.{IsBetween, GivesEither}
+use Rattle.kr_plan.proofs.ClassLists.{merges_each_class}
+use Rattle.kr_plan.proofs.KeptLists.{full_list}
+use Rattle.kr_plan.proofs.Merged.{from_passed, in_one, first_member, first_merged, merges_members}
+
+-- ---- live generations
+
+numbered : (number : ℕ) (generations : List GenerationState) (other : ℕ × GenerationState)
+    → Contains (with_numbers number generations) other → Contains generations other.1
+numbered number [] other m = absurd (omega (arith, m.1))
+numbered number (g ∷ gs) other m = elim (cases (number, g) other (with_numbers (number + 1) gs) m) [
+  | inl e ↦ head_is g other.1 gs (ap (λ (p : ℕ × GenerationState). p.1) e)
+  | inr n ↦ there g other.1 gs (numbered (number + 1) gs other n)
+]
+
+other_there : (replica : ℕ) (generations : List GenerationState) (other : ℕ × GenerationState)
+    → Contains (others replica generations) other
+    → Contains generations other.1 × (is_live other.1 ≡ true)
+unfolding others
+other_there replica generations other m =
+    let test : ℕ × GenerationState → Bool = λ n. is_other replica n.1 in
+    let those : List (ℕ × GenerationState) = with_numbers 0 generations in (
+      numbered 0 generations other (from_passed test those other m),
+      left (is_live other.1) (not ((other.1.replica == replica)
+          && (other.1.current && (other.1.holders == 0))))
+          (All-contains (λ n. test n ≡ true) (filter test those) other (filter_passes test those) m),
+    )
+
+-- the one settings and the other, and what a board has
+module _ (one other : List Row) (needs : List Need) (generations : List GenerationState)
+    (replica : ℕ) (between : IsBetween one other needs generations replica) where
+  live_gives : (own : GenerationState) (class : Class) → Contains generations own
+      → is_live own ≡ true → GivesEither one other own.rows class
+  live_gives own class m live = between.gives own class m (by own.current refl live)
+    where
+      by : (v : Bool) → own.current ≡ v → (v || nat_lt 0 own.holders) ≡ true → own.current ≡ true
+      by true e k = e
+      by false e k = between.held own m (ltb-true 0 own.holders k)
+
+  -- what is stored is read by the replica's own settings
+  stored_at : (need : Need) → Contains needs need
+      → Contains (class_list one (Exact need.resource)) need.who
+      ⊎ Contains (class_list other (Exact need.resource)) need.who
+  stored_at need m =
+      let some = Any-from_list_any (is_current_of replica) generations between.is_in in
+      let own : GenerationState = some.1 in
+      let member : Contains generations own = (some.0, some.2, some.3) in
+      let current : own.current ≡ true = left own.current (own.replica == replica) some.4 in
+      let live : is_live own ≡ true = ap (λ v. v || nat_lt 0 own.holders) current in
+      let reads : Contains (list_of own.rows need.resource) need.who =
+      between.fit.stored own need member live m in
+      elim (between.gives own (Exact need.resource) member current) [
+        | inl e ↦ inl (subst (λ l. Contains l need.who) e reads)
+        | inr e ↦ inr (subst (λ l. Contains l need.who) e reads)
+      ]
+
+  -- new settings pass that read what is stored, and at each class go with either list
+  pub passes : (rows : List Row)
+      → ((need : Need) → Contains needs need → Contains (list_of rows need.resource) need.who)
+      → ((list : List Who) (class : Class)
+      → (list ≡ class_list one class) ⊎ (list ≡ class_list other class)
+      → ReadsWriter list (class_list rows class) × ReadsWriter (class_list rows class) list)
+      → verdict_of needs generations replica rows ≡ Pass
+  passes rows stored goes = (passes_exactly needs generations replica rows).1 (record {
+    stored = stored;
+    writers = λ own class m of.
+        let l = other_there replica generations own m in
+        (goes (class_list own.1.rows class) class (live_gives own.1 class l.0 l.1)).0;
+    readers = λ own class m of.
+        let l = other_there replica generations own m in
+        (goes (class_list own.1.rows class) class (live_gives own.1 class l.0 l.1)).1;
+  })
+
+-- ---- the phases
+
+pub wide_passes : WidePasses
+wide_passes from to needs generations replica kept between =
+    let wide : List Row = wide_rows from to in
+    let at : (class : Class)
+    → class_list wide class ≡ merge (class_list from class) (class_list to class) =
+    λ class. (merges_each_class from to class).0 in
+    let widens : (class : Class) (who : Who) → Contains (class_list from class) who
+    → Contains (class_list wide class) who =
+    λ class who m. subst (λ l. Contains l who) (sym (at class))
+    (in_one (class_list from class) (class_list to class) who m) in
+    passes from wide needs generations replica between wide
+    (λ need m. elim (stored_at from wide needs generations replica between need m) [
+      | inl k ↦ widens (Exact need.resource) need.who k
+      | inr k ↦ k
+    ])
+    (λ list class e. elim e [
+      | inl own ↦ (
+        λ who f. widens class who
+            (first_member (class_list from class) who (ap first (sym own) ∙ f)),
+        λ who f. subst (λ l. Contains l who) (sym own)
+            (first_merged (class_list from class) (class_list to class) who
+            (full_list from class kept) (ap first (sym (at class)) ∙ f)),
+      )
+      | inr own ↦ (
+        λ who f. first_member (class_list wide class) who (ap first (sym own) ∙ f),
+        λ who f. subst (λ l. Contains l who) (sym own)
+            (first_member (class_list wide class) who f),
+      )
+    ])
+
+pub turned_passes : TurnedPasses
+turned_passes from to needs generations replica between =
+    let wide : List Row = wide_rows from to in
+    let turned : List Row = turned_rows from to in
+    let here_wide : (class : Class)
+    → class_list wide class ≡ merge (class_list from class) (class_list to class) =
+    λ class. (merges_each_class from to class).0 in
+    let here_turned : (class : Class)
+    → class_list turned class ≡ merge (class_list to class) (class_list from class) =
+    λ class. (merges_each_class from to class).1 in
+    let turn : (class : Class) (who : Who) → Contains (class_list wide class) who
+    → Contains (class_list turned class) who =
+    λ class who m. subst (λ l. Contains l who) (sym (here_turned class))
+    ((merges_members (class_list from class) (class_list to class) who).0
+    (subst (λ l. Contains l who) (here_wide class) m)) in
+    let back : (class : Class) (who : Who) → Contains (class_list turned class) who
+    → Contains (class_list wide class) who =
+    λ class who m. subst (λ l. Contains l who) (sym (here_wide class))
+    ((merges_members (class_list from class) (class_list to class) who).1
+    (subst (λ l. Contains l who) (here_turned class) m)) in
+    passes wide turned needs generations replica between turned
+    (λ need m. elim (stored_at wide turned needs generations replica between need m) [
+      | inl k ↦ turn (Exact need.resource) need.who k
+      | inr k ↦ k
+    ])
+    (λ list class e. elim e [
+      | inl own ↦ (
+        λ who f. turn class who
+            (first_member (class_list wide class) who (ap first (sym own) ∙ f)),
+        λ who f. subst (λ l. Contains l who) (sym own)
+            (back class who (first_member (class_list turned class) who f)),
+      )
+      | inr own ↦ (
+        λ who f. first_member (class_list turned class) who (ap first (sym own) ∙ f),
+        λ who f. subst (λ l. Contains l who) (sym own)
+            (first_member (class_list turned class) who f),
+      )
+    ])
+
+pub target_passes : TargetPasses
+target_passes from to needs generations replica kept between stored =
+    let turned : List Row = turned_rows from to in
+    let at : (class : Class)
+    → class_list turned class ≡ merge (class_list to class) (class_list from class) =
+    λ class. (merges_each_class from to class).1 in
+    passes turned to needs generations replica between to
+    (λ need m. first_member (list_of to need.resource) need.who (stored need m))
+    (λ list class e. elim e [
+      | inl own ↦ (
+        λ who f. first_merged (class_list to class) (class_list from class) who
+            (full_list to class kept) (ap first (sym (at class)) ∙ ap first (sym own) ∙ f),
+        λ who f. subst (λ l. Contains l who) (sym (own ∙ at class))
+            (in_one (class_list to class) (class_list from class) who
+            (first_member (class_list to class) who f)),
+      )
+      | inr own ↦ (
+        λ who f. first_member (class_list to class) who (ap first (sym own) ∙ f),
+        λ who f. subst (λ l. Contains l who) (sym own)
+            (first_member (class_list to class) who f),
+      )
+    ])

@@ -1,0 +1,187 @@
+-- Loops over classes, providers and entries.
+use Rattle.std.proofs.Common.{◌≡◌, ℕ, ◌+◌, ◌<◌, ◌≤◌, Bool, true, false, List, [], ◌∷◌, ◌++◌, length, get_or, take, drop, map, Option, None, Some, refl, sym, ap, ◌∙◌, arith, count_by, append-nil, ◌^◌, Fits, w64}
+use Rattle.std.specs.Prelude.{not, cond}
+use Rattle.std.specs.List.{cons_option, filter, fold, sum_by}
+use Rattle.std.specs.Option.{option_map}
+use Rattle.std.proofs.lemmas.List.{append_assoc, map-append, take_all}
+use Rattle.std.proofs.lemmas.List.Elements.{filter-append}
+use Rattle.std.proofs.lemmas.List.Folds.{fold-map}
+use Rattle.std.proofs.lemmas.List.FromFn.{map-range_with_len_more}
+use Rattle.std.proofs.lemmas.List.Sums.{sum_by-append, sum_by-cons, sum_by_more, sum_by_more_le}
+use Rattle.kr_config.specs.declared.class.Class.{Class}
+use Rattle.kr_config.specs.declared.settings.Entry.{Entry}
+use Rattle.kr_config.specs.declared.who.Who.{Who}
+use Rattle.kr_config.specs.Kept.{Row, row_of, rows_of}
+use Rattle.kr_config.specs.Lists.{class_list}
+use Rattle.kr_judge.specs.Providers.{has}
+use Rattle.kr_judge.specs.Verdicts.{first}
+use Rattle.kr_judge.proofs.Parts.{drop_at, drop_end, take_at_more}
+use Rattle.kr_plan.specs.Merges.{merged_row, merged_rows}
+use Rattle.kr_plan.specs.Plans.{reloads, first_clash, clashes_at}
+use Rattle.kr_plan.specs.declared.moves.Move.{Move}
+use Rattle.kr_plan.specs.declared.moves.Move.TheVariants.{Reload}
+use Rattle.kr_plan.specs.declared.moves.Phase.{Phase}
+
+-- ---- the first clash
+
+-- what is left of the classes decides
+pub record IsLeft (classes : List Class) (one other : List Row) (i : ℕ) : Type 0 where
+  pub first_is : first (clashes_at classes one other) ≡ first (clashes_at (drop i classes) one other)
+
+-- what one class adds
+abbrev at_class : Class → Option Who → List (Class × Who) → List (Class × Who)
+at_class class who rest = cons_option (option_map (λ own. (class, own)) who) rest
+
+pub left_begin : (classes : List Class) (one other : List Row) → IsLeft classes one other 0
+left_begin classes one other = record { first_is = refl }
+
+pub left_more : (classes : List Class) (one other : List Row) (i : ℕ) (class : Class)
+    → IsLeft classes one other i → i < length classes → class ≡ get_or classes i class
+    → None ≡ first_clash (class_list one class) (class_list other class)
+    → IsLeft classes one other (i + 1)
+left_more classes one other i class left h is none = record {
+  first_is = left.first_is
+      ∙ ap (λ l. first (clashes_at l one other)) (drop_at classes i class h is)
+      ∙ ap (λ w. first (at_class class w (clashes_at (drop (i + 1) classes) one other)))
+      (sym none);
+}
+
+pub left_found : (classes : List Class) (one other : List Row) (i : ℕ) (class : Class) (who : Who)
+    → IsLeft classes one other i → i < length classes → class ≡ get_or classes i class
+    → Some who ≡ first_clash (class_list one class) (class_list other class)
+    → Some (class, who) ≡ first (clashes_at classes one other)
+left_found classes one other i class who left h is some =
+    sym (left.first_is ∙ ap (λ l. first (clashes_at l one other)) (drop_at classes i class h is)
+    ∙ ap (λ w. first (at_class class w (clashes_at (drop (i + 1) classes) one other))) (sym some))
+
+pub left_end : (classes : List Class) (one other : List Row) (i : ℕ) → IsLeft classes one other i
+    → length classes ≤ i → None ≡ first (clashes_at classes one other)
+left_end classes one other i left h =
+    sym (left.first_is ∙ ap (λ l. first (clashes_at l one other)) (drop_end classes i h))
+
+-- ---- entries
+
+pub merged_more : (classes : List Class) (one other : List Row) (i : ℕ) (class : Class)
+    (entries : List Entry) (entry : Entry)
+    → rows_of entries ≡ merged_rows (take i classes) one other → i < length classes
+    → class ≡ get_or classes i class → row_of entry ≡ merged_row one other class
+    → rows_of (entries ++ entry ∷ []) ≡ merged_rows (take (i + 1) classes) one other
+merged_more classes one other i class entries entry was h is row =
+    map-append row_of entries (entry ∷ [])
+    ∙ ap (λ l. l ++ row_of entry ∷ []) was
+    ∙ ap (λ r. merged_rows (take i classes) one other ++ r ∷ []) row
+    ∙ sym (ap (map (merged_row one other)) (take_at_more classes i class h is)
+    ∙ map-append (merged_row one other) (take i classes) (class ∷ []))
+
+pub merged_end : (classes : List Class) (one other : List Row) (i : ℕ) (entries : List Entry)
+    → rows_of entries ≡ merged_rows (take i classes) one other → length classes ≤ i
+    → rows_of entries ≡ merged_rows classes one other
+merged_end classes one other i entries was h =
+    was ∙ ap (λ l. merged_rows l one other) (take_all i classes h)
+
+-- ---- providers
+
+pub copied_more : (begun one : List Who) (i : ℕ) (who copy : Who) (providers : List Who)
+    → providers ≡ begun ++ take i one → i < length one → who ≡ get_or one i who → copy ≡ who
+    → providers ++ copy ∷ [] ≡ begun ++ take (i + 1) one
+copied_more begun one i who copy providers was h is same =
+    ap (λ l. l ++ copy ∷ []) was ∙ append_assoc begun (take i one) (copy ∷ [])
+    ∙ ap (λ w. begun ++ (take i one ++ w ∷ [])) same
+    ∙ ap (λ l. begun ++ l) (sym (take_at_more one i who h is))
+
+pub copied_end : (begun one : List Who) (i : ℕ) (providers : List Who)
+    → providers ≡ begun ++ take i one → length one ≤ i → providers ≡ begun ++ one
+copied_end begun one i providers was h = was ∙ ap (λ l. begun ++ l) (take_all i one h)
+
+abbrev new : List Who → Who → Bool
+new one who = not (has one who)
+
+new_step : (one other : List Who) (i : ℕ) (who : Who) → i < length other
+    → who ≡ get_or other i who
+    → filter (new one) (take (i + 1) other)
+    ≡ filter (new one) (take i other) ++ cond (new one who) (who ∷ []) []
+new_step one other i who h is =
+    ap (filter (new one)) (take_at_more other i who h is)
+    ∙ filter-append (new one) (take i other) (who ∷ [])
+
+pub new_more : (begun one other : List Who) (i : ℕ) (who copy : Who) (providers : List Who)
+    → providers ≡ begun ++ filter (new one) (take i other) → i < length other
+    → who ≡ get_or other i who → has one who ≡ false → copy ≡ who
+    → providers ++ copy ∷ [] ≡ begun ++ filter (new one) (take (i + 1) other)
+new_more begun one other i who copy providers was h is absent same =
+    ap (λ l. l ++ copy ∷ []) was
+    ∙ append_assoc begun (filter (new one) (take i other)) (copy ∷ [])
+    ∙ ap (λ w. begun ++ (filter (new one) (take i other) ++ w ∷ [])) same
+    ∙ ap (λ l. begun ++ l) (sym (new_step one other i who h is
+    ∙ ap (λ v. filter (new one) (take i other) ++ cond (not v) (who ∷ []) []) absent))
+
+pub new_over : (begun one other : List Who) (i : ℕ) (who : Who) (providers : List Who)
+    → providers ≡ begun ++ filter (new one) (take i other) → i < length other
+    → who ≡ get_or other i who → has one who ≡ true
+    → providers ≡ begun ++ filter (new one) (take (i + 1) other)
+new_over begun one other i who providers was h is present =
+    was ∙ ap (λ l. begun ++ l) (sym (new_step one other i who h is
+    ∙ ap (λ v. filter (new one) (take i other) ++ cond (not v) (who ∷ []) []) present
+    ∙ append-nil (filter (new one) (take i other))))
+
+pub new_end : (begun one other : List Who) (i : ℕ) (providers : List Who)
+    → providers ≡ begun ++ filter (new one) (take i other) → length other ≤ i
+    → providers ≡ begun ++ filter (new one) other
+new_end begun one other i providers was h =
+    was ∙ ap (λ l. begun ++ filter (new one) l) (take_all i other h)
+
+-- ---- moves
+
+pub reloads_more : (phase : Phase) (i : ℕ) (begun moves : List Move)
+    → moves ≡ begun ++ reloads phase i
+    → moves ++ Reload i phase ∷ [] ≡ begun ++ reloads phase (i + 1)
+reloads_more phase i begun moves was =
+    ap (λ l. l ++ Reload i phase ∷ []) was ∙ append_assoc begun (reloads phase i) (Reload i phase ∷ [])
+    ∙ ap (λ l. begun ++ l) (sym (map-range_with_len_more (λ replica. Reload replica phase) 0 i i (omega arith)))
+
+-- ---- sums
+
+abbrev amount : (Who → Bool) → Row → ℕ
+amount test row = count_by test row.providers
+
+by_entries : (test : Who → Bool) (entries : List Entry)
+    → sum_by (amount test) (rows_of entries) ≡ sum_by (λ e. amount test (row_of e)) entries
+by_entries test entries = fold-map (λ s row. s + amount test row) row_of 0 entries
+
+pub sum_more : (test : Who → Bool) (entries : List Entry) (i : ℕ) (entry : Entry) (sum n : ℕ)
+    → sum ≡ sum_by (amount test) (rows_of (take i entries)) → i < length entries
+    → entry ≡ get_or entries i entry → n ≡ count_by test entry.providers.0
+    → sum + n ≡ sum_by (amount test) (rows_of (take (i + 1) entries))
+sum_more test entries i entry sum n was h is counted =
+    let a = by_entries test (take i entries) in
+    let b = by_entries test (take (i + 1) entries) in
+    let s = sum_by_more (λ (e : Entry). amount test (row_of e)) entries i entry h in
+    let own : amount test (row_of entry) ≡ amount test (row_of (get_or entries i entry)) =
+    ap (λ (e : Entry). amount test (row_of e)) is in
+    omega (arith, was, a, b, s, own, counted)
+
+pub sum_fits : (test : Who → Bool) (entries : List Entry) (i : ℕ) (entry : Entry) (sum n most : ℕ)
+    → sum ≡ sum_by (amount test) (rows_of (take i entries)) → i < length entries
+    → entry ≡ get_or entries i entry → n ≡ count_by test entry.providers.0
+    → sum_by (amount test) (rows_of entries) < most → sum + n < most
+sum_fits test entries i entry sum n most was h is counted small =
+    let a = by_entries test (take i entries) in
+    let b = by_entries test entries in
+    let s = sum_by_more_le (λ (e : Entry). amount test (row_of e)) entries i entry h in
+    let own : amount test (row_of entry) ≡ amount test (row_of (get_or entries i entry)) =
+    ap (λ (e : Entry). amount test (row_of e)) is in
+    omega (arith, was, a, b, s, own, counted, small)
+
+pub sum_in_word : (test : Who → Bool) (entries : List Entry) (i : ℕ) (entry : Entry) (sum n : ℕ)
+    → sum ≡ sum_by (amount test) (rows_of (take i entries)) → i < length entries
+    → entry ≡ get_or entries i entry → n ≡ count_by test entry.providers.0
+    → sum_by (amount test) (rows_of entries) < 2 ^ 32 → Fits w64 (sum + n)
+sum_in_word test entries i entry sum n was h is counted small =
+    let fits = sum_fits test entries i entry sum n (2 ^ 32) was h is counted small in
+    omega (arith, fits)
+
+pub sum_end : (test : Who → Bool) (entries : List Entry) (i sum : ℕ)
+    → sum ≡ sum_by (amount test) (rows_of (take i entries)) → length entries ≤ i
+    → sum ≡ sum_by (amount test) (rows_of entries)
+sum_end test entries i sum was h =
+    was ∙ ap (λ l. sum_by (amount test) (rows_of l)) (take_all i entries h)

@@ -1,0 +1,3 @@
+-- Definitions that serve inner contracts alone.
+pub mod Checks
+pub mod Written

@@ -1,0 +1,103 @@
+//! The settings of a phase: at each class both configurations' lists, one behind the other.
+ghost use Rattle.std.specs.Prelude.{◌≡◌, ◌++◌, not, IfOk, OnOk};
+ghost use Rattle.std.specs.List.{filter};
+ghost use Rattle.kr_config.specs.Kept.{row_of, rows_of};
+ghost use Rattle.kr_judge.specs.Providers.{has};
+ghost use Rattle.kr_plan.specs.Merges.{merge, pattern_of, merged_row, merged_rows};
+
+use crate::providers::has;
+use kr_base::{List, NoMemory, Text};
+use kr_config::{Class, Entry, Pattern, Settings, Who};
+use std::alloc::Global;
+
+/// An entry for each of the classes.
+#[tactic(auto, using(crate::proofs::Steps::merged_more, crate::proofs::Steps::merged_end))]
+pub fn merged_entries(
+    alloc: Global,
+    classes: &[Class],
+    one: &Settings,
+    other: &Settings,
+) -> Result<List<Entry>, NoMemory>
+    ensures { IfOk result (λ entries. rows_of entries.0 ≡ merged_rows classes.now
+        (rows_of one.now.entries.0) (rows_of other.now.entries.0)) }
+{
+    let mut entries = Vec::with_capacity(alloc, classes.len())?;
+    for class in classes {
+        entries.push(merged_entry(alloc, class, one, other)?)?;
+    }
+    Ok(List::from_vec(entries))
+}
+
+/// The entry of a class.
+fn merged_entry(
+    alloc: Global,
+    class: &Class,
+    one: &Settings,
+    other: &Settings,
+) -> Result<Entry, NoMemory>
+    ensures { IfOk result (λ entry. row_of entry
+        ≡ merged_row (rows_of one.now.entries.0) (rows_of other.now.entries.0) class.now) }
+{
+    let mut patterns = Vec::new(alloc);
+    patterns.push(pattern_of(alloc, class)?)?;
+    let providers = merged(
+        alloc,
+        one.list_for_class(class),
+        other.list_for_class(class),
+    )?;
+    Ok(Entry {
+        patterns: List::from_vec(patterns),
+        providers: List::from_vec(providers),
+    })
+}
+
+/// The pattern that speaks of the class.
+fn pattern_of(alloc: Global, class: &Class) -> Result<Pattern, NoMemory>
+    ensures { IfOk result (λ pattern. pattern ≡ pattern_of class.now) }
+{
+    match class {
+        Class::Exact(text) => Ok(Pattern::Exact(Text::copy(alloc, text.as_str())?)),
+        Class::Group(group) => Ok(Pattern::Group(Text::copy(alloc, group.as_str())?)),
+        Class::Rest => Ok(Pattern::All),
+    }
+}
+
+/// The providers of the one list, and behind them those of the other that it hasn't.
+fn merged(alloc: Global, one: &[Who], other: &[Who]) -> Result<Vec<Who>, NoMemory>
+    ensures { IfOk result (λ providers. providers.items ≡ merge one.now other.now) }
+{
+    let mut providers = Vec::with_capacity(alloc, one.len())?;
+    push_all(alloc, &mut providers, one)?;
+    push_missing(alloc, &mut providers, one, other)?;
+    Ok(providers)
+}
+
+/// Adds copies of the providers.
+#[tactic(auto, using(crate::proofs::Steps::copied_more, crate::proofs::Steps::copied_end))]
+fn push_all(alloc: Global, providers: &mut Vec<Who>, one: &[Who]) -> Result<(), NoMemory>
+    ensures { OnOk result (providers.new.items ≡ providers.old.items ++ one.now) }
+{
+    for who in one {
+        providers.push(who.copy(alloc)?)?;
+    }
+    Ok(())
+}
+
+/// Adds copies of those of the other list that the one hasn't.
+#[tactic(auto, using(crate::proofs::Steps::new_more, crate::proofs::Steps::new_over, crate::proofs::Steps::new_end))]
+fn push_missing(
+    alloc: Global,
+    providers: &mut Vec<Who>,
+    one: &[Who],
+    other: &[Who],
+) -> Result<(), NoMemory>
+    ensures { OnOk result (providers.new.items
+        ≡ providers.old.items ++ filter (λ who. not (has one.now who)) other.now) }
+{
+    for who in other {
+        if !has(one, who) {
+            providers.push(who.copy(alloc)?)?;
+        }
+    }
+    Ok(())
+}

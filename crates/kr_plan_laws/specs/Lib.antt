@@ -1,0 +1,3 @@
+-- The laws and what they speak of.
+pub mod PlannedStates
+pub mod PlannedLaws

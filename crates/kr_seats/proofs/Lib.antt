@@ -1,3 +1,0 @@
--- The lemmas of kr_seats.
-pub mod Beginning
-pub mod Closing

@@ -1,2 +1,0 @@
--- The definitions that public contracts and laws name.
-pub mod Fleets

@@ -1,3 +1,0 @@
--- Lemmas of the tests.
-pub mod Bare
-pub mod Leaving

@@ -1,5 +1,0 @@
-use Rattle.kr_starts.proofs.Sharing.{AreNumbered}
-use Rattle.kr_starts.proofs.start_parts.number_replicas.Given as goal
-
-abbrev pub invariant-loop-replica : goal.invariant-loop-replica
-invariant-loop-replica l = AreNumbered l.replicas l.current.items l.number l.replica-index

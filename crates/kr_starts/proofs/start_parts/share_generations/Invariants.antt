@@ -1,5 +1,0 @@
-use Rattle.kr_starts.proofs.Sharing.{AreMade}
-use Rattle.kr_starts.proofs.start_parts.share_generations.Given as goal
-
-abbrev pub invariant-loop-replica : goal.invariant-loop-replica
-invariant-loop-replica l = AreMade l.replicas l.generations.items l.replica

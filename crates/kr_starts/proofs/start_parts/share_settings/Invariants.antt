@@ -1,5 +1,0 @@
-use Rattle.kr_starts.proofs.Sharing.{AreShared}
-use Rattle.kr_starts.proofs.start_parts.share_settings.Given as goal
-
-abbrev pub invariant-loop-replica : goal.invariant-loop-replica
-invariant-loop-replica l = AreShared l.replicas l.settings.items l.replica-index

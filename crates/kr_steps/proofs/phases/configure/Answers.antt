@@ -1,7 +1,0 @@
-use Rattle.kr_steps.proofs.Goes.{configures}
-use Rattle.kr_steps.proofs.phases.configure.Goals as goal
-
-pub returns : goal.returns
-returns g c a = let done = c.load_settings in
-    configures done.ensures.files done.ensures.objects a c.args.name.now done.result
-    done.ensures.settings done.ensures.asked

@@ -1,8 +1,0 @@
-use Rattle.kr_kms.specs.declared.world.WorldCall.TheVariants.{File}
-use Rattle.kr_steps.proofs.Goes.{asked_for}
-use Rattle.kr_steps.proofs.phases.load_settings.Goals as goal
-
-pub returns-clause-asked : goal.returns-clause-asked
-returns-clause-asked g c =
-    asked_for (g.W.World.told c.args.world.now).asked
-    (File c.args.name.now) c.read_settings.result c.in-Ok-load.ensures.asked

@@ -1,0 +1,55 @@
+-- All that a call of `run` promises, by what its words ask for. Of a call is told what stood around
+-- it before and after (`old`, `new`: the files, the stores' tapes, the random sources, the plugins'
+-- links and the input, each with its count of faults), what was printed (`output`, `errors`) and
+-- the answer (`status`). The members in front are those of the world: what plugins' truth is, what
+-- a link tells, and what a random source has left and how often it failed.
+use Rattle.std.specs.Prelude.{ℕ, List, Option}
+use Rattle.kr_kms.specs.Calls.{Link}
+use Rattle.kr_kms.specs.Truth.{Truth}
+use Rattle.kr_cmd_messages.specs.FleetAsked.{AskAlone, AsksFleet}
+use Rattle.kr_cmd_messages.specs.LoadAsked.{AsksLoad}
+use Rattle.kr_cmd_messages.specs.Receipts.{Receipt}
+use Rattle.kr_cmd_messages.specs.declared.fleet_words.FleetWords.{FleetWords}
+use Rattle.kr_cmd_messages.specs.declared.load_words.LoadWords.{LoadWords}
+use Rattle.kr_cmd_steps.specs.Afterwards.{AreLeft}
+use Rattle.kr_cmd_steps.specs.Around.{Around}
+use Rattle.kr_cmd_steps.specs.Ran.{Ran, Readings}
+use Rattle.kr_cmd_fleet.specs.FleetReadings.{FleetReadings}
+use Rattle.kr_cmd_fleet.specs.Fleets.{RanFleet}
+use Rattle.kr_cmd_gen.specs.GeneratedLoads.{RanLoad}
+use Rattle.kr_cmd_gen.specs.LoadHeadlines.{LoadHeadline}
+use Rattle.kr_cmd_gen.specs.LoadReadings.{LoadReadings}
+use Rattle.kr_cmd_laws.specs.RunHeadlines.{RunHeadline}
+
+pub record Runs (T : Type 0) {L D : Type 0} (truth : Truth) (link : L → Link)
+    (left : D → Option (List ℕ)) (count : D → ℕ) (words : List (List ℕ)) (old new : Around)
+    (output errors : Receipt) (status : ℕ) : Type 0 where
+  -- `fleet`, for its operator: a `get` by any replica is answered with the bytes that were put last
+  -- at its path, or with a reply that has its cause
+  pub headline : (asked : FleetWords) → AsksFleet words asked
+      → RunHeadline T truth link left count asked old new output errors status
+  -- each command but `fleet` and `gen`, and words that mean none: its steps, one behind another,
+  -- what they consumed and said, and how they ended
+  pub ran : AskAlone words → Ran words old new output errors status
+  -- what follows from `ran`: from what each status comes, and when it must come
+  pub readings : AskAlone words → Readings words old new output errors status
+  -- and what is left of the stores' tapes, whatever the status is
+  pub tapes : AskAlone words → AreLeft words old new status
+  -- `fleet`: the steps up to its workers; from there one history in which each worker's lines
+  -- stand; just this journal and these replies on the output; and the status that they decide
+  pub fleet : (asked : FleetWords) → AsksFleet words asked
+      → RanFleet T truth link left count asked old new output errors status
+  -- what follows from `fleet`: from what each status comes, and when it must come
+  pub fleet_readings : (asked : FleetWords) → AsksFleet words asked
+      → FleetReadings T truth link left count asked old new output errors status
+  -- `gen`, for its operator: the same headline over the lines that the seed and the size decide
+  pub load_headline : (asked : LoadWords) → AsksLoad words asked
+      → LoadHeadline T truth link asked old new output errors status
+  -- `gen`: what `fleet` says, over the load that the seed and the size decide, with one summary of
+  -- it on the output
+  pub load : (asked : LoadWords) → AsksLoad words asked
+      → RanLoad T truth link asked old new output errors status
+  -- what follows from `load`: the statuses, that a load over an empty store is done whole, and that
+  -- each put that was counted has its row
+  pub load_readings : (asked : LoadWords) → AsksLoad words asked
+      → LoadReadings T truth link asked old new output errors status

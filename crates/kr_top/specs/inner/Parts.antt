@@ -1,0 +1,34 @@
+-- What the calls behind `run` did: the same promises, for fewer words.
+use Rattle.std.specs.Prelude.{ℕ, List}
+use Rattle.kr_kms.specs.Calls.{Link}
+use Rattle.kr_kms.specs.Truth.{Truth}
+use Rattle.kr_cmd_messages.specs.LoadAsked.{AskNoLoad, AsksLoad}
+use Rattle.kr_cmd_messages.specs.Receipts.{Receipt}
+use Rattle.kr_cmd_messages.specs.declared.load_words.LoadWords.{LoadWords}
+use Rattle.kr_cmd_steps.specs.Afterwards.{AreLeft}
+use Rattle.kr_cmd_steps.specs.Around.{Around}
+use Rattle.kr_cmd_steps.specs.Ran.{Ran, Readings}
+use Rattle.kr_cmd_gen.specs.GeneratedLoads.{RanLoad}
+use Rattle.kr_cmd_gen.specs.LoadHeadlines.{LoadHeadline}
+use Rattle.kr_cmd_gen.specs.LoadReadings.{LoadReadings}
+
+-- a command that no one waits in, or words that mean none
+pub record RunsAlone (words : List (List ℕ)) (old new : Around) (output errors : Receipt)
+    (status : ℕ) : Type 0 where
+  pub ran : Ran words old new output errors status
+  pub readings : Readings words old new output errors status
+  pub tapes : AreLeft words old new status
+
+-- words that ask for no fleet
+pub record RunsOther (T : Type 0) {L : Type 0} (truth : Truth) (link : L → Link)
+    (words : List (List ℕ)) (old new : Around) (output errors : Receipt) (status : ℕ)
+    : Type 0 where
+  pub ran : AskNoLoad words → Ran words old new output errors status
+  pub readings : AskNoLoad words → Readings words old new output errors status
+  pub tapes : AskNoLoad words → AreLeft words old new status
+  pub load_headline : (asked : LoadWords) → AsksLoad words asked
+      → LoadHeadline T truth link asked old new output errors status
+  pub load : (asked : LoadWords) → AsksLoad words asked
+      → RanLoad T truth link asked old new output errors status
+  pub load_readings : (asked : LoadWords) → AsksLoad words asked
+      → LoadReadings T truth link asked old new output errors status

@@ -1,3 +1,0 @@
--- The definitions that contracts name.
-pub mod TreeText
-pub mod Answers

@@ -1,3 +1,0 @@
--- The lemmas that the answers cite.
-pub mod Listings
-pub mod Walk

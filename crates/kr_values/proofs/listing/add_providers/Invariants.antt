@@ -1,9 +1,0 @@
-use Rattle.std.proofs.Common.{◌≡◌, ◌++◌, drop, map}
-use Rattle.kr_steps.specs.Check.{provider_text}
-use Rattle.kr_values.proofs.Listings.{tail}
-use Rattle.kr_values.proofs.listing.add_providers.Given as goal
-
-abbrev pub invariant-loop-who : goal.invariant-loop-who
-invariant-loop-who l = l.text.items
-    ++ tail (map provider_text (drop l.who-index l.rest)) ≡ l.initial.text.items
-    ++ tail (map provider_text l.rest)

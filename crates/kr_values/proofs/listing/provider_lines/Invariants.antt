@@ -1,7 +1,0 @@
-use Rattle.std.proofs.Common.{◌≡◌, ◌++◌, drop}
-use Rattle.kr_steps.specs.Check.{provider_lines}
-use Rattle.kr_values.proofs.listing.provider_lines.Given as goal
-
-abbrev pub invariant-loop-who : goal.invariant-loop-who
-invariant-loop-who l = l.text.items
-    ++ provider_lines (drop l.who-index l.providers) ≡ provider_lines l.providers

@@ -1,3 +1,0 @@
--- Lemmas.
-mod Written
-pub mod Counts

@@ -1,5 +1,0 @@
-use Rattle.kr_vectors.proofs.Written.{stands_for-word_of}
-use Rattle.kr_vectors.proofs.laws.word_of_bytes.Goals as goal
-
-pub returns : goal.returns
-returns c = stands_for-word_of

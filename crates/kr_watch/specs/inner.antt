@@ -1,0 +1,4 @@
+-- What serves inner contracts.
+pub mod ToldEffects
+pub mod Keeping
+pub mod Keyed

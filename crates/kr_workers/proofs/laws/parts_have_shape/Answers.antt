@@ -1,0 +1,7 @@
+-- The part of each line has its shape.
+use Rattle.kr_workers.proofs.ShapingLines as proved
+use Rattle.kr_workers.proofs.laws.parts_have_shape.Goals as goal
+
+pub returns : goal.returns
+returns g c =
+    proved.parts_have_shape g.L.Kms.truth g.L.Kms.link g.D.Dice.left g.D.Dice.count

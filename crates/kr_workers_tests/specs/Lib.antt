@@ -1,2 +1,0 @@
--- The definitions of the test.
-pub mod Ready

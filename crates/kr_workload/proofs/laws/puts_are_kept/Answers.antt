@@ -1,0 +1,7 @@
+-- `puts_are_kept`.
+use Rattle.kr_workload.proofs.KeptPuts as proved
+use Rattle.kr_workload.proofs.laws.puts_are_kept.Goals as goal
+
+pub returns : goal.returns
+returns g c =
+    proved.puts_are_kept g.row.T.Denot g.L.Kms.truth g.L.Kms.link g.D.Dice.left g.D.Dice.count

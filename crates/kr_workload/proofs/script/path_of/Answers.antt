@@ -1,0 +1,10 @@
+-- `path_of`: as it is formatted.
+use Rattle.std.proofs.Common.{[], ◌∷◌, ◌∙◌, codes}
+use Rattle.std.specs.Prelude.{decimal}
+use Rattle.kr_workload.proofs.Joining.{joined}
+use Rattle.kr_workload.proofs.script.path_of.Goals as goal
+
+pub returns : goal.returns
+returns c = c.from_string.ensures ∙ c.in_ok-path.ensures.ok
+    ∙ joined (codes "/registry/secrets/gen/w")
+    (decimal c.args.worker ∷ (codes "-" ∷ (decimal c.args.number ∷ [])))

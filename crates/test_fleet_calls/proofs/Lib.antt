@@ -1,0 +1,5 @@
+-- The lemmas that the answers cite.
+mod Beginning
+pub mod Calling
+mod Lists
+mod OpeningLists

@@ -1,0 +1,243 @@
+//! Calls as lines, and their answers.
+//!
+//!     read REPLICA PATH
+//!     write REPLICA PATH RESOURCE HEX
+//!     delete PATH
+//!     leave REPLICA
+//!     reload REPLICA NAME
+//!     join REPLICA NAME
+//!     refresh REPLICA
+//!     step REPLICA AFTER               one step of a rewrite; `-` for AFTER begins it
+//!     drive REPLICA AFTER              all of them
+use crate::desk::Desk;
+use crate::linked::{Spelled, bench_of, end_bench};
+use crate::telling::tell;
+use kr_base::{Bytes, Shared, Text, both};
+use kr_config::Settings;
+use kr_history::Acts;
+use kr_kms::Kms;
+use std::alloc::Global;
+use test_support::{
+    NamedValues, Page, Wrong, bytes_of, kept, number_before, number_of, own_text_of, two_words,
+};
+
+/// A call with its arguments.
+#[derive(Drop)]
+pub enum Call {
+    Read {
+        replica: u32,
+        path: Text,
+    },
+    Write {
+        replica: u32,
+        path: Text,
+        resource: Text,
+        plain: Bytes,
+    },
+    Delete {
+        path: Text,
+    },
+    Leave {
+        replica: u32,
+    },
+    Reload {
+        replica: u32,
+        settings: Shared<Settings>,
+    },
+    Join {
+        replica: u32,
+        settings: Shared<Settings>,
+    },
+    Refresh {
+        replica: u32,
+    },
+    /// One step of the rewrite above a path.
+    Step {
+        replica: u32,
+        after: Text,
+    },
+    /// All of them.
+    Drive {
+        replica: u32,
+        after: Text,
+    },
+}
+
+impl Call {
+    /// The call that a line spells, as they stand at the head of this file.
+    pub fn spelled(
+        alloc: Global,
+        named: &NamedValues<Settings>,
+        line: &str,
+    ) -> Result<Call, Wrong> {
+        let (word, rest) = two_words(line)?;
+        match key_of(word)? {
+            Key::Read => read_of(alloc, rest),
+            Key::Write => write_of(alloc, rest),
+            Key::Delete => {
+                let path = kept(alloc, rest)?;
+                Ok(Call::Delete { path })
+            }
+            Key::Leave => {
+                let replica = number_of(rest)?;
+                Ok(Call::Leave { replica })
+            }
+            Key::Reload => load_of(named, rest, true),
+            Key::Join => load_of(named, rest, false),
+            Key::Refresh => {
+                let replica = number_of(rest)?;
+                Ok(Call::Refresh { replica })
+            }
+            Key::Step => rewrite_of(alloc, rest, false),
+            Key::Drive => rewrite_of(alloc, rest, true),
+        }
+    }
+}
+
+/// Which call a line spells.
+#[derive(Clone, Copy)]
+enum Key {
+    Read,
+    Write,
+    Delete,
+    Leave,
+    Reload,
+    Join,
+    Refresh,
+    Step,
+    Drive,
+}
+
+fn key_of(word: &str) -> Result<Key, Wrong> {
+    match word {
+        "read" => Ok(Key::Read),
+        "write" => Ok(Key::Write),
+        "delete" => Ok(Key::Delete),
+        "leave" => Ok(Key::Leave),
+        "reload" => Ok(Key::Reload),
+        "join" => Ok(Key::Join),
+        "refresh" => Ok(Key::Refresh),
+        "step" => Ok(Key::Step),
+        "drive" => Ok(Key::Drive),
+        _ => Err(Wrong::Form),
+    }
+}
+
+/// `REPLICA PATH`.
+fn read_of(alloc: Global, words: &str) -> Result<Call, Wrong> {
+    let (replica, path) = number_before(words)?;
+    let path = kept(alloc, path)?;
+    Ok(Call::Read { replica, path })
+}
+
+/// `REPLICA PATH RESOURCE HEX`.
+fn write_of(alloc: Global, words: &str) -> Result<Call, Wrong> {
+    let (replica, rest) = number_before(words)?;
+    let (path, rest) = two_words(rest)?;
+    let (resource, plain) = two_words(rest)?;
+    let names = both(kept(alloc, path), kept(alloc, resource));
+    match both(names, bytes_of(alloc, plain)) {
+        Ok((names, plain)) => {
+            let (path, resource) = names;
+            let plain = Bytes::from_vec(plain);
+            Ok(Call::Write {
+                replica,
+                path,
+                resource,
+                plain,
+            })
+        }
+        Err(why) => Err(why),
+    }
+}
+
+/// `REPLICA NAME`.
+fn load_of(named: &NamedValues<Settings>, words: &str, again: bool) -> Result<Call, Wrong> {
+    let (replica, name) = number_before(words)?;
+    let settings = named.share(name)?;
+    if again {
+        return Ok(Call::Reload { replica, settings });
+    }
+    Ok(Call::Join { replica, settings })
+}
+
+/// `REPLICA AFTER`.
+fn rewrite_of(alloc: Global, words: &str, all: bool) -> Result<Call, Wrong> {
+    let (replica, after) = number_before(words)?;
+    let after = own_text_of(alloc, after)?;
+    if all {
+        return Ok(Call::Drive { replica, after });
+    }
+    Ok(Call::Step { replica, after })
+}
+
+/// Makes the call, and prints what it answered, or `line` where it can't be made.
+pub fn serve<A: Acts, L: Kms>(alloc: Global, desk: &mut Desk<A, L>, call: &Call, page: &mut Page) {
+    match call {
+        Call::Read { replica, path } => {
+            tell(alloc, page, desk.read(alloc, *replica, path.as_str()));
+        }
+        Call::Write {
+            replica,
+            path,
+            resource,
+            plain,
+        } => {
+            let (path, resource) = (path.as_str(), resource.as_str());
+            let done = desk.write(alloc, *replica, resource, path, plain.as_slice());
+            tell(alloc, page, done);
+        }
+        Call::Delete { path } => tell(alloc, page, desk.delete(alloc, path.as_str())),
+        Call::Leave { replica } => tell(alloc, page, desk.leave(*replica)),
+        Call::Reload { replica, settings } => {
+            tell(alloc, page, desk.reload(alloc, *replica, settings));
+        }
+        Call::Join { replica, settings } => {
+            tell(alloc, page, desk.join(alloc, *replica, settings));
+        }
+        Call::Refresh { replica } => tell(alloc, page, desk.refresh(alloc, *replica)),
+        Call::Step { replica, after } => {
+            tell(alloc, page, desk.step(alloc, *replica, after.as_str()));
+        }
+        Call::Drive { replica, after } => {
+            tell(alloc, page, desk.drive(alloc, *replica, after.as_str()));
+        }
+    }
+}
+
+/// Another bench takes the place of a desk's.
+fn change_bench<A: Acts, L: Spelled>(
+    alloc: Global,
+    desk: &mut Desk<A, L>,
+    words: &str,
+    page: &mut Page,
+) -> Result<(), Wrong> {
+    let bench = bench_of(alloc, words)?;
+    end_bench(desk.change(bench), page);
+    Ok(())
+}
+
+/// Does what the line asks: `# TEXT` says nothing, `bench WORDS` brings another bench, and else it
+/// spells a call.
+pub fn serve_line<A: Acts, L: Spelled>(
+    alloc: Global,
+    named: &NamedValues<Settings>,
+    desk: &mut Desk<A, L>,
+    line: &str,
+    page: &mut Page,
+) -> Result<(), Wrong> {
+    if line.starts_with("# ") {
+        return Ok(());
+    }
+    if let Some(words) = line.strip_prefix("bench ") {
+        return change_bench(alloc, desk, words, page);
+    }
+    match Call::spelled(alloc, named, line) {
+        Ok(call) => {
+            serve(alloc, desk, &call, page);
+            drop(call);
+        }
+        Err(why) => page.told_wrong("line", why),
+    }
+    Ok(())
+}

@@ -1,0 +1,184 @@
+//! Cases, each of a few lines.
+//!
+//!     keys KEYID FAILS DRAWN DICEFAILS     a bench with a link over keys; `masks` with one in
+//!                                          memory
+//!     store HEX LIMIT FAILS                a store of these bytes
+//!     solo ROOM RELOADS NAME NAME          a core with one caller; `two`: with a second one, with
+//!                                          a bench of its own like the first one's
+//!     CALL                                 prints its answer
+//!     bench KEYID FAILS DRAWN DICEFAILS    another bench
+//!     between NUMBER CALL                  of two callers: the second one's, before the event of
+//!                                          this number of the first one, counted from here
+//!
+//! A case whose first line begins with `settings` names settings for those behind it (`naming`).
+ghost use Rattle.kr_provider.specs.Names.{names_of};
+ghost use Rattle.test_fleet_calls.specs.Desks.{IsBench};
+ghost use Rattle.test_fleet_calls.specs.Openings.{IsCore};
+
+use crate::call::serve_line;
+use crate::desk::Desk;
+use crate::linked::{Spelled, bench_of, end_bench, end_benches};
+use crate::naming::name_all;
+use crate::opening::{Budget, Terms, core_of, terms_of};
+use crate::stored::add_rows;
+use crate::two::{play_two, seated};
+use kr_base::{MemDice, MemTape, both};
+use kr_config::Settings;
+use kr_history::{Acts, Solo};
+use kr_keywrap::{ExampleRing, KeyLink};
+use kr_kms::TablePlugin;
+use kr_provider::Bench;
+use kr_rollout::Core;
+use kr_store::Store;
+use std::alloc::Global;
+use std::sync::Wait;
+use test_support::{NamedValues, Page, Wrong, behind, load_store, two_lines, two_words};
+
+/// How many bytes a tape may have.
+const ROOM: usize = 262_144;
+
+/// Runs a case, and prints what came of its lines.
+pub fn run<R: Wait>(
+    rt: &R,
+    alloc: Global,
+    named: &mut NamedValues<Settings>,
+    case: &str,
+    page: &mut Page,
+) -> Result<(), Wrong> {
+    let (first, rest) = two_lines(case);
+    let (key, words) = two_words(first)?;
+    match key {
+        "settings" => name_all(alloc, named, case),
+        "keys" => begin::<KeyLink<ExampleRing>, R>(rt, alloc, named, words, rest, page),
+        "masks" => begin::<TablePlugin, R>(rt, alloc, named, words, rest, page),
+        _ => Err(Wrong::Form),
+    }
+}
+
+/// Starts the core, and lets its callers make their calls.
+fn begin<L: Spelled, R: Wait>(
+    rt: &R,
+    alloc: Global,
+    named: &NamedValues<Settings>,
+    words: &str,
+    rest: &str,
+    page: &mut Page,
+) -> Result<(), Wrong> {
+    let (second, rest) = two_lines(rest);
+    let (third, calls) = two_lines(rest);
+    let stored = behind("store", second)?;
+    let (store, terms) = both(load_store(alloc, stored, ROOM), terms_of(named, third))?;
+    match bench_of::<L>(alloc, words) {
+        Ok(bench) => play(rt, alloc, named, store, terms, bench, words, calls, page),
+        Err(why) => {
+            drop(store);
+            drop(terms);
+            Err(why)
+        }
+    }
+}
+
+/// Starts the core by the bench.
+fn play<L: Spelled, R: Wait>(
+    rt: &R,
+    alloc: Global,
+    named: &NamedValues<Settings>,
+    store: Store<MemTape>,
+    terms: Terms,
+    mut bench: Bench<L, MemDice>,
+    words: &str,
+    calls: &str,
+    page: &mut Page,
+) -> Result<(), Wrong>
+    requires { IsBench (names_of L.link bench.links) bench.pages }
+{
+    let (budget, with_rival) = (terms.budget, terms.with_rival);
+    let made = core_of(alloc, &mut bench, store, &terms);
+    drop(terms);
+    match made {
+        Ok(core) => {
+            if with_rival {
+                play_with_rival(rt, alloc, named, core, budget, bench, words, calls, page)
+            } else {
+                play_alone(alloc, named, core, budget, bench, calls, page)
+            }
+        }
+        Err(why) => {
+            end_bench(bench, page);
+            Err(why)
+        }
+    }
+}
+
+/// The calls of two callers, of which the second one has a bench like the first one's.
+fn play_with_rival<L: Spelled, R: Wait>(
+    rt: &R,
+    alloc: Global,
+    named: &NamedValues<Settings>,
+    core: Core<MemTape>,
+    budget: Budget,
+    bench: Bench<L, MemDice>,
+    words: &str,
+    calls: &str,
+    page: &mut Page,
+) -> Result<(), Wrong>
+    requires core { IsCore budget core }
+    requires bench { IsBench (names_of L.link bench.links) bench.pages }
+{
+    let other = match bench_of(alloc, words) {
+        Ok(other) => other,
+        Err(why) => {
+            drop(core);
+            end_bench(bench, page);
+            return Err(why);
+        }
+    };
+    match seated(alloc, core, budget) {
+        Some(seats) => play_two(rt, alloc, named, seats, budget, bench, other, calls, page),
+        None => {
+            end_benches(bench, other, page);
+            Err(Wrong::Memory)
+        }
+    }
+}
+
+/// The calls of an only caller.
+fn play_alone<L: Spelled>(
+    alloc: Global,
+    named: &NamedValues<Settings>,
+    core: Core<MemTape>,
+    budget: Budget,
+    bench: Bench<L, MemDice>,
+    calls: &str,
+    page: &mut Page,
+) -> Result<(), Wrong>
+    requires core { IsCore budget core }
+    requires bench { IsBench (names_of L.link bench.links) bench.pages }
+{
+    let solo = Solo::new(core);
+    let mut desk = Desk::new(solo, bench, 2, budget.reloads);
+    let done = serve_all(alloc, named, &mut desk, calls, page);
+    let (solo, bench) = desk.into_parts();
+    let (store, lines) = solo.into_core().close();
+    drop(lines);
+    end_bench(bench, page);
+    if done.is_ok() {
+        add_rows(page, &store);
+    }
+    drop(store);
+    done
+}
+
+/// Makes the calls, one behind another.
+fn serve_all<A: Acts, L: Spelled>(
+    alloc: Global,
+    named: &NamedValues<Settings>,
+    desk: &mut Desk<A, L>,
+    calls: &str,
+    page: &mut Page,
+) -> Result<(), Wrong> {
+    for line in calls.lines() {
+        serve_line(alloc, named, desk, line, page)?;
+    }
+    Ok(())
+}

@@ -1,0 +1,60 @@
+//! What the core answered.
+//!
+//!     absent, released, failed, nothing, refused VERDICT
+//!     found REVISION, written REVISION, changed REVISION, full BYTES
+//!     adopted GENERATION, reloaded GENERATION, joined GENERATION, moved GENERATION,
+//!     present GENERATION, departed GENERATION, gone REPLICA
+use crate::verdict::verdict_of;
+use kr_rollout::Gave;
+use std::alloc::Global;
+use test_support::{Wrong, long_of, number_of};
+
+/// Reads an answer; a number behind a word that takes none, or a word not listed, is no form.
+pub fn gave_of(alloc: Global, text: &str) -> Result<Gave, Wrong> {
+    match text.split_once(' ') {
+        Some((word, rest)) => with_more(alloc, word, rest),
+        None => alone(text),
+    }
+}
+
+fn alone(word: &str) -> Result<Gave, Wrong> {
+    match word {
+        "absent" => Ok(Gave::Absent),
+        "released" => Ok(Gave::Released),
+        "failed" => Ok(Gave::StoreFailed),
+        "nothing" => Ok(Gave::Nothing),
+        _ => Err(Wrong::Form),
+    }
+}
+
+fn with_more(alloc: Global, word: &str, rest: &str) -> Result<Gave, Wrong> {
+    match word {
+        "refused" => Ok(Gave::Refused(verdict_of(alloc, rest)?)),
+        "found" | "written" | "changed" | "full" => of_store(word, long_of(rest)?),
+        _ => of_replica(word, number_of(rest)?),
+    }
+}
+
+fn of_store(word: &str, revision: u64) -> Result<Gave, Wrong> {
+    match word {
+        "found" => Ok(Gave::Found { revision }),
+        "written" => Ok(Gave::Written { revision }),
+        "changed" => Ok(Gave::Changed { revision }),
+        _ => Ok(Gave::StoreFull { needed: revision }),
+    }
+}
+
+fn of_replica(word: &str, generation: u32) -> Result<Gave, Wrong> {
+    match word {
+        "adopted" => Ok(Gave::Adopted { generation }),
+        "reloaded" => Ok(Gave::Reloaded { generation }),
+        "joined" => Ok(Gave::Joined { generation }),
+        "moved" => Ok(Gave::Moved { generation }),
+        "present" => Ok(Gave::Present { generation }),
+        "departed" => Ok(Gave::Departed { generation }),
+        "gone" => Ok(Gave::Gone {
+            replica: generation,
+        }),
+        _ => Err(Wrong::Form),
+    }
+}

@@ -1,0 +1,77 @@
+//! What a seat did, by its kind and what it is about.
+//!
+//!     adopt REPLICA, leave REPLICA, reload REPLICA, join REPLICA, letgo
+//!     fetch PATH, after PATH, delete PATH, put PATH RESOURCE HEX, replace PATH REVISION
+use crate::configuration::published;
+use kr_base::{Bytes, Text, both};
+use kr_rollout::Did;
+use std::alloc::Global;
+use test_support::{Wrong, bytes_of, long_of, number_of, own_text_of, two_words};
+
+/// Reads what a seat did. A path, a resource and the hex stand as words, so none holds a space.
+pub fn did_of(alloc: Global, text: &str) -> Result<Did, Wrong> {
+    if text == "letgo" {
+        return Ok(Did::LetGo);
+    }
+    let (kind, rest) = two_words(text)?;
+    match kind {
+        "put" => put_of(alloc, rest),
+        "replace" => replace_of(alloc, rest),
+        "fetch" | "after" | "delete" => about_path(kind, own_text_of(alloc, rest)?),
+        _ => about_replica(alloc, kind, number_of(rest)?),
+    }
+}
+
+fn about_path(kind: &str, path: Text) -> Result<Did, Wrong> {
+    match kind {
+        "fetch" => Ok(Did::Fetch { path }),
+        "after" => Ok(Did::After { path }),
+        _ => Ok(Did::Delete { path }),
+    }
+}
+
+fn about_replica(alloc: Global, kind: &str, replica: u32) -> Result<Did, Wrong> {
+    match kind {
+        "adopt" => Ok(Did::Adopt { replica }),
+        "leave" => Ok(Did::Leave { replica }),
+        "reload" => Ok(Did::Reload {
+            replica,
+            published: published(alloc)?,
+            expect: Some(replica),
+        }),
+        "join" => Ok(Did::Join {
+            replica,
+            published: published(alloc)?,
+        }),
+        _ => Err(Wrong::Form),
+    }
+}
+
+/// `PATH RESOURCE HEX`.
+fn put_of(alloc: Global, rest: &str) -> Result<Did, Wrong> {
+    let (path, rest) = two_words(rest)?;
+    let (resource, plain) = two_words(rest)?;
+    let names = both(own_text_of(alloc, path), own_text_of(alloc, resource));
+    match both(names, bytes_of(alloc, plain)) {
+        Ok((names, plain)) => {
+            let (path, resource) = names;
+            let plain = Bytes::from_vec(plain);
+            Ok(Did::Put {
+                path,
+                resource,
+                plain,
+            })
+        }
+        Err(why) => Err(why),
+    }
+}
+
+/// `PATH REVISION`.
+fn replace_of(alloc: Global, rest: &str) -> Result<Did, Wrong> {
+    let (path, revision) = two_words(rest)?;
+    let revision = long_of(revision)?;
+    Ok(Did::Replace {
+        path: own_text_of(alloc, path)?,
+        revision,
+    })
+}

@@ -1,0 +1,88 @@
+//! The lines, of words parted by single spaces. What isn't of the form is answered by `line`.
+//!
+//!     fleet HEX                the fleet file; nothing happened yet
+//!     event SEAT DID | GAVE    an event of the worker, with its answer
+//!     reply TOLD               a reply of the worker at hand, the first one at the beginning
+//!     next                     the worker behind it is at hand
+//!     print                    prints the output
+//!     # TEXT                   says nothing
+use crate::answered::gave_of;
+use crate::asked::did_of;
+use crate::fleet_output::FleetOutput;
+use crate::told::told_of;
+use kr_base::both;
+use kr_rollout::Line;
+use kr_script::read_script;
+use std::alloc::{AllocError, Global};
+use std::mem;
+use test_support::{Wrong, answer_or_line, bytes_of, first_word, number_before};
+
+/// Takes the line up, and tells what is printed for it.
+pub fn answer(
+    alloc: Global,
+    current: &mut Option<FleetOutput>,
+    line: &str,
+) -> Result<Vec<u8>, AllocError> {
+    answer_or_line(alloc, act(alloc, current, line))
+}
+
+fn act(alloc: Global, current: &mut Option<FleetOutput>, line: &str) -> Result<Vec<u8>, Wrong> {
+    let (key, rest) = first_word(line);
+    match key {
+        "#" => Ok(Vec::new(alloc)),
+        "fleet" => {
+            let page = begin(alloc, rest)?;
+            drop(mem::replace(current, Some(page)));
+            Ok(Vec::new(alloc))
+        }
+        _ => match current {
+            Some(page) => act_on(alloc, page, key, rest),
+            None => Err(Wrong::Form),
+        },
+    }
+}
+
+fn act_on(alloc: Global, page: &mut FleetOutput, key: &str, rest: &str) -> Result<Vec<u8>, Wrong> {
+    if key == "print" {
+        return page.print(alloc);
+    }
+    match key {
+        "event" => page.add_line(line_of(alloc, rest)?)?,
+        "reply" => page.add_reply(told_of(alloc, rest)?)?,
+        "next" => page.end_worker(alloc)?,
+        _ => return Err(Wrong::Form),
+    }
+    Ok(Vec::new(alloc))
+}
+
+/// `HEX`.
+fn begin(alloc: Global, rest: &str) -> Result<FleetOutput, Wrong> {
+    let file = bytes_of(alloc, rest)?;
+    let script = read_script(alloc, file.as_slice());
+    drop(file);
+    match script {
+        Ok(script) => Ok(FleetOutput::new(alloc, script)),
+        Err(why) => {
+            drop(why);
+            Err(Wrong::Form)
+        }
+    }
+}
+
+/// `SEAT DID | GAVE`.
+fn line_of(alloc: Global, rest: &str) -> Result<Line, Wrong> {
+    let (seat, rest) = number_before(rest)?;
+    let Some((did, gave)) = rest.split_once(" | ") else {
+        return Err(Wrong::Form);
+    };
+    match both(gave_of(alloc, gave), did_of(alloc, did)) {
+        Ok((gave, did)) => Ok(Line {
+            seat,
+            did,
+            held: None,
+            gave,
+            faults: 0,
+        }),
+        Err(why) => Err(why),
+    }
+}

@@ -1,0 +1,86 @@
+//! Verdicts, in the words in which they are printed.
+use kr_base::{Bytes, both};
+use kr_config::{Class, Who};
+use kr_judge::Verdict;
+use std::alloc::Global;
+use test_support::{Wrong, kept, number_of, two_words};
+
+/// The verdict of a line's last words, as `verdict_text` prints it: `pass`, or the reason with its
+/// generation or path, its class and its provider.
+pub fn verdict_of(alloc: Global, text: &str) -> Result<Verdict, Wrong> {
+    if text == "pass" {
+        return Ok(Verdict::Pass);
+    }
+    let (word, rest) = two_words(text)?;
+    match word {
+        "drops-stored" => stored(alloc, rest),
+        "drops-writer" => numbered(alloc, true, rest),
+        "unread" => numbered(alloc, false, rest),
+        _ => Err(Wrong::Form),
+    }
+}
+
+/// `PATH WHO`.
+fn stored(alloc: Global, rest: &str) -> Result<Verdict, Wrong> {
+    let (path, who) = two_words(rest)?;
+    match both(kept(alloc, path), who_of(alloc, who)) {
+        Ok((path, who)) => Ok(Verdict::DropsStored { path, who }),
+        Err(why) => Err(why),
+    }
+}
+
+/// `GENERATION CLASS WHO`.
+fn numbered(alloc: Global, is_writer: bool, rest: &str) -> Result<Verdict, Wrong> {
+    let (generation, rest) = two_words(rest)?;
+    let generation = number_of(generation)?;
+    let (class, who) = two_words(rest)?;
+    match both(class_of(alloc, class), who_of(alloc, who)) {
+        Ok((class, who)) => Ok(placed(is_writer, generation, class, who)),
+        Err(why) => Err(why),
+    }
+}
+
+fn placed(is_writer: bool, generation: u32, class: Class, who: Who) -> Verdict {
+    if is_writer {
+        return Verdict::DropsWriter {
+            generation,
+            class,
+            who,
+        };
+    }
+    Verdict::Unread {
+        generation,
+        class,
+        who,
+    }
+}
+
+fn class_of(alloc: Global, text: &str) -> Result<Class, Wrong> {
+    if text == "*.*" {
+        return Ok(Class::Rest);
+    }
+    match text.strip_prefix("*.") {
+        Some(group) => Ok(Class::Group(kept(alloc, group)?)),
+        None => Ok(Class::Exact(kept(alloc, text)?)),
+    }
+}
+
+/// A provider by its kind and name; a key's secret is empty.
+fn who_of(alloc: Global, text: &str) -> Result<Who, Wrong> {
+    if text == "identity" {
+        return Ok(Who::Identity);
+    }
+    let Some((kind, name)) = text.split_once(':') else {
+        return Err(Wrong::Form);
+    };
+    let name = kept(alloc, name)?;
+    match kind {
+        "aescbc" => Ok(Who::Aescbc(name, Bytes::new(alloc))),
+        "aesgcm" => Ok(Who::Aesgcm(name, Bytes::new(alloc))),
+        "kms" => Ok(Who::Kms(name)),
+        _ => {
+            drop(name);
+            Err(Wrong::Form)
+        }
+    }
+}

@@ -1,0 +1,3 @@
+-- The definitions of the tests.
+pub mod NewCores
+pub mod Ready

@@ -1,0 +1,60 @@
+//! What is asked of a board, which stays as it is.
+use crate::named::{NamedSettings, writer};
+use crate::play::Play;
+use crate::printing::{numbers_line, paths_line, verdict_line};
+use std::alloc::Global;
+use test_support::{Wrong, number_before, two_words};
+
+/// Takes the line's words apart, and asks the play what they ask.
+pub fn ask(
+    alloc: Global,
+    named: &NamedSettings,
+    play: &Play,
+    key: &str,
+    rest: &str,
+) -> Result<Vec<u8>, Wrong> {
+    match key {
+        "judge" => judge(alloc, named, play, 1, rest),
+        "again" => judge_again(alloc, named, play, rest),
+        "live" => numbers_line(alloc, play.live()),
+        "paths" => tell_paths(alloc, named, play, rest),
+        _ => Err(Wrong::Form),
+    }
+}
+
+/// `REPLICA NAME`.
+fn judge(
+    alloc: Global,
+    named: &NamedSettings,
+    play: &Play,
+    times: u32,
+    rest: &str,
+) -> Result<Vec<u8>, Wrong> {
+    let (replica, name) = number_before(rest)?;
+    let verdict = play.judge(times, replica, named.at(name)?.get())?;
+    let line = verdict_line(alloc, &verdict);
+    drop(verdict);
+    line
+}
+
+/// `TIMES REPLICA NAME`.
+fn judge_again(
+    alloc: Global,
+    named: &NamedSettings,
+    play: &Play,
+    rest: &str,
+) -> Result<Vec<u8>, Wrong> {
+    let (times, rest) = number_before(rest)?;
+    judge(alloc, named, play, times, rest)
+}
+
+/// `RESOURCE NAME`.
+fn tell_paths(
+    alloc: Global,
+    named: &NamedSettings,
+    play: &Play,
+    rest: &str,
+) -> Result<Vec<u8>, Wrong> {
+    let (resource, name) = two_words(rest)?;
+    paths_line(alloc, play.paths(resource, writer(named, resource, name)?))
+}

@@ -1,0 +1,16 @@
+-- `replacing`: what the seat holds seals the row anew.
+use Rattle.std.proofs.Common.{refl, sym}
+use Rattle.test_rollout.proofs.hand.Hand.replacing.Goals as goal
+
+pub returns-in-Ok : goal.returns-in-Ok
+returns-in-Ok c =
+    let place = c.is_place.ensures c.if-not-is_place.false in (
+      c.in_ok-held.held.now,
+      c.in_ok-held.ensures,
+      c.in_ok-row.row.now,
+      c.in_ok-row.ensures,
+      sym c.in-Ok.ensures,
+      refl,
+      place.0,
+      c.in_ok-stored.ensures,
+    )

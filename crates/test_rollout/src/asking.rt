@@ -1,0 +1,155 @@
+//! What seats ask, by words.
+//!
+//!     adopt REPLICA, leave REPLICA, letgo
+//!     fetch PATH, after PATH, delete PATH
+//!     put PATH RESOURCE HEX            sealed by what the seat holds
+//!     replace                          the row that the seat found last, sealed anew by that
+//!     reload REPLICA NAME EXPECTED, join REPLICA NAME
+use crate::configuration::Named;
+use crate::line_text::add_line;
+use crate::play::{Play, Stage};
+use crate::request::Request;
+use crate::stored::add_parts;
+use crate::table::Table;
+use kr_base::{Bytes, Text, both};
+use kr_rollout::{Event, Gave};
+use std::alloc::Global;
+use test_support::{
+    Page, Wrong, bytes_of, first_word, number_before, number_of, option_of, own_text_of, two_words,
+};
+
+impl Play {
+    /// `SEAT EVENT`: makes the event, and prints its line; of a core with one caller at its close.
+    pub fn once(&mut self, alloc: Global, page: &mut Page, rest: &str) -> Result<(), Wrong> {
+        let (seat, event) = number_before(rest)?;
+        let request = request_of(alloc, &self.named, event)?;
+        self.ask(alloc, seat, request)?;
+        match &self.stage {
+            Stage::Running(table) => add_last(alloc, page, table, seat),
+            _ => Ok(()),
+        }
+    }
+
+    /// Asks this of the core for the seat, if it may ask for it.
+    fn ask(&mut self, alloc: Global, seat: u32, request: Request) -> Result<(), Wrong> {
+        match &mut self.stage {
+            Stage::Running(table) => table.ask(alloc, seat, request),
+            Stage::Alone(alone) => alone.ask(alloc, seat, request),
+            _ => request.refused(),
+        }
+    }
+
+    /// `TIMES SEAT REPLICA NAME NAME`: reloads the replica as often with the two configurations in
+    /// turn, and prints the last line and how many there are.
+    pub fn turns(&mut self, alloc: Global, page: &mut Page, rest: &str) -> Result<(), Wrong> {
+        let (times, rest) = number_before(rest)?;
+        let (seat, rest) = number_before(rest)?;
+        let (replica, names) = number_before(rest)?;
+        let (first, second) = two_words(names)?;
+        self.table()?;
+        for turn in 0..times {
+            let name = if turn % 2 == 0 { first } else { second };
+            self.turn(alloc, seat, replica, name)?;
+        }
+        add_turns(alloc, page, self.table()?, seat)
+    }
+
+    /// Reloads the replica with the configuration.
+    fn turn(&mut self, alloc: Global, seat: u32, replica: u32, name: &str) -> Result<(), Wrong> {
+        let request = reload_of(&self.named, replica, name, None)?;
+        self.ask(alloc, seat, request)
+    }
+}
+
+/// The last line of the journal, and how many there are.
+fn add_turns(alloc: Global, page: &mut Page, table: &Table, seat: u32) -> Result<(), Wrong> {
+    add_last(alloc, page, table, seat)?;
+    page.counted("lines", table.journal().len() as u64);
+    page.end_line();
+    Ok(())
+}
+
+fn request_of(alloc: Global, named: &Named, event: &str) -> Result<Request, Wrong> {
+    let (key, rest) = first_word(event);
+    match key {
+        "put" => putting(alloc, rest),
+        "replace" => Ok(Request::Replace),
+        "letgo" => Ok(Request::Plain(Event::LetGo)),
+        "fetch" | "after" | "delete" => Ok(about_path(key, own_text_of(alloc, rest)?)),
+        "reload" | "join" => bringing(named, key, rest),
+        _ => about_replica(key, number_of(rest)?),
+    }
+}
+
+/// `PATH RESOURCE HEX`.
+fn putting(alloc: Global, rest: &str) -> Result<Request, Wrong> {
+    let (path, rest) = two_words(rest)?;
+    let (resource, plain) = two_words(rest)?;
+    let names = both(own_text_of(alloc, path), own_text_of(alloc, resource));
+    match both(names, bytes_of(alloc, plain)) {
+        Ok((names, plain)) => {
+            let (path, resource) = names;
+            let plain = Bytes::from_vec(plain);
+            Ok(Request::Put {
+                path,
+                resource,
+                plain,
+            })
+        }
+        Err(why) => Err(why),
+    }
+}
+
+fn about_path(key: &str, path: Text) -> Request {
+    match key {
+        "fetch" => Request::Plain(Event::Fetch { path }),
+        "after" => Request::Plain(Event::After { path }),
+        _ => Request::Plain(Event::Delete { path }),
+    }
+}
+
+fn about_replica(key: &str, replica: u32) -> Result<Request, Wrong> {
+    match key {
+        "adopt" => Ok(Request::Plain(Event::Adopt { replica })),
+        "leave" => Ok(Request::Plain(Event::Leave { replica })),
+        _ => Err(Wrong::Form),
+    }
+}
+
+/// `REPLICA NAME`, and for a reload `EXPECTED` behind it.
+fn bringing(named: &Named, key: &str, rest: &str) -> Result<Request, Wrong> {
+    let (replica, rest) = number_before(rest)?;
+    if key == "join" {
+        let published = named.share(rest)?;
+        return Ok(Request::Plain(Event::Join { replica, published }));
+    }
+    let (name, expect) = two_words(rest)?;
+    reload_of(named, replica, name, option_of(expect)?)
+}
+
+fn reload_of(
+    named: &Named,
+    replica: u32,
+    name: &str,
+    expect: Option<u32>,
+) -> Result<Request, Wrong> {
+    let published = named.share(name)?;
+    Ok(Request::Plain(Event::Reload {
+        replica,
+        published,
+        expect,
+    }))
+}
+
+/// The last line of the journal; behind a row that was found its parts.
+fn add_last(alloc: Global, page: &mut Page, table: &Table, seat: u32) -> Result<(), Wrong> {
+    let Some(line) = table.journal().last() else {
+        return Err(Wrong::Form);
+    };
+    add_line(alloc, page, line);
+    if let Gave::Found { .. } = &line.gave {
+        add_parts(page, table.found(seat)?);
+    }
+    page.end_line();
+    Ok(())
+}

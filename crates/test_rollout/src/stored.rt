@@ -1,0 +1,79 @@
+//! What is put into a store as it stands, and what is printed of it.
+use kr_base::{Bytes, MemTape, VALUE_LIMIT, path_ok, resource_ok};
+use kr_store::{Check, PutNo, Row, RowRef, Store};
+use std::alloc::Global;
+use test_support::{Page, Wrong, bytes_of, long_of, two_words};
+
+/// `PATH RESOURCE CHECK HEX`: writes the row as it stands.
+pub fn put_row(
+    alloc: Global,
+    store: &mut Store<MemTape>,
+    page: &mut Page,
+    rest: &str,
+) -> Result<(), Wrong> {
+    let (path, rest) = two_words(rest)?;
+    let (resource, rest) = two_words(rest)?;
+    let (check, stored) = two_words(rest)?;
+    let check = Check {
+        value: long_of(check)?,
+    };
+    let stored = Bytes::from_vec(bytes_of(alloc, stored)?);
+    if !path_ok(path) || !resource_ok(resource) || stored.as_slice().len() as u64 > VALUE_LIMIT {
+        drop(stored);
+        return Err(Wrong::Form);
+    }
+    match store.put(path, resource, stored, check) {
+        Ok(revision) => page.counted("written", revision),
+        Err(PutNo::Failed) => page.word("failed"),
+        Err(PutNo::Full { needed }) => page.counted("full", needed),
+        Err(refused) => {
+            drop(refused);
+            return Err(Wrong::Memory);
+        }
+    }
+    page.end_line();
+    Ok(())
+}
+
+/// The rows, and then how many there are, how long the file is, how often the tape failed and
+/// whether a write is broken off.
+pub fn add_rows(page: &mut Page, store: &Store<MemTape>) {
+    for before in 0..store.revision() {
+        let revision = before + 1;
+        match store.row_at(revision) {
+            Some(RowRef::Put(row)) => add_put(page, row),
+            Some(RowRef::Delete(path)) => add_delete(page, revision, path),
+            None => {}
+        }
+    }
+    page.counted("rows", store.revision());
+    page.number(store.length());
+    page.number(store.faults());
+    page.word(if store.torn() { "torn" } else { "whole" });
+    page.end_line();
+}
+
+fn add_put(page: &mut Page, row: &Row) {
+    page.counted("row", row.revision);
+    add_parts(page, row);
+    page.end_line();
+}
+
+fn add_delete(page: &mut Page, revision: u64, path: &str) {
+    page.counted("row", revision);
+    page.word(path);
+    page.word("deleted");
+    page.end_line();
+}
+
+/// Adds a row's path and resource, the length of its value, and whether it has a check.
+pub fn add_parts(page: &mut Page, row: &Row) {
+    page.word(row.path.as_str());
+    page.word(row.resource.as_str());
+    page.number(row.stored.as_slice().len() as u64);
+    page.word(if row.check.is_some() {
+        "checked"
+    } else {
+        "bare"
+    });
+}

@@ -1,0 +1,265 @@
+//! The one place that calls `run`.
+use crate::case::{Case, Plugin};
+use crate::lists::add;
+use crate::opening::{Streams, streams_of, world_of};
+use crate::world::FailingWorld;
+use kr_base::{Bytes, Dice, List, NoMemory, Sink, Source, Tape, Text, both, whole};
+use kr_kms::{Kms, World, WorldCall};
+use kr_top::run;
+use std::alloc::Global;
+use std::sync::Wait;
+use std::thread::Threads;
+
+/// What a call left.
+#[derive(Drop)]
+pub struct Left {
+    pub status: u8,
+    pub output: Bytes,
+    pub errors: Bytes,
+    /// How many bytes of the input weren't taken.
+    pub input: usize,
+    pub dice: List<DiceLeft>,
+    pub tapes: List<TapeLeft>,
+    pub links: List<LinkLeft>,
+    pub asked: List<LinkAsked>,
+    pub input_faults: u64,
+    pub output_faults: u64,
+    pub error_faults: u64,
+    pub file_faults: u64,
+}
+
+/// A random source: how many bytes weren't drawn and how often it failed, or nothing where it isn't
+/// back.
+#[derive(Drop)]
+pub struct DiceLeft {
+    pub seat: u32,
+    pub home: Option<(usize, u64)>,
+}
+
+/// A tape: its bytes and how often it failed, or nothing where it isn't there.
+#[derive(Drop)]
+pub struct TapeLeft {
+    pub name: Text,
+    pub home: Option<(Bytes, u64)>,
+}
+
+/// A link to a plugin: how many calls were made on it and how often it failed, or nothing where it
+/// isn't back.
+#[derive(Drop)]
+pub struct LinkLeft {
+    pub seat: u32,
+    pub name: Text,
+    pub home: Option<(u64, u64)>,
+}
+
+/// A link that the world was asked for.
+#[derive(Drop)]
+pub struct LinkAsked {
+    pub seat: u32,
+    pub name: Text,
+    pub program: Text,
+}
+
+/// Makes the case's call.
+pub fn left_by<R: Threads + Wait + Sync>(
+    rt: &R,
+    alloc: Global,
+    case: &Case,
+) -> Result<Left, NoMemory> {
+    let (mut world, mut streams) = both(world_of(alloc, case), streams_of(alloc, case))?;
+    let status = run(
+        rt,
+        alloc,
+        case.words.as_slice(),
+        &mut world,
+        &mut streams.input,
+        &mut streams.output,
+        &mut streams.errors,
+    );
+    let left = left_in(alloc, case, status, &world, &streams);
+    drop(world);
+    drop(streams);
+    left
+}
+
+/// What the call left, which ended with this status.
+fn left_in(
+    alloc: Global,
+    case: &Case,
+    status: u8,
+    world: &FailingWorld,
+    streams: &Streams,
+) -> Result<Left, NoMemory> {
+    let said = both(
+        Bytes::copy(alloc, streams.output.sink.bytes()),
+        Bytes::copy(alloc, streams.errors.sink.bytes()),
+    );
+    let things = both(
+        dice_left(alloc, case, world),
+        tapes_left(alloc, case, world),
+    );
+    let linked = both(links_left(alloc, case, world), links_asked(alloc, world));
+    let (said, lists) = both(said, both(things, linked))?;
+    let (output, errors) = said;
+    let (things, linked) = lists;
+    let (dice, tapes) = things;
+    let (links, asked) = linked;
+    Ok(Left {
+        status,
+        output,
+        errors,
+        input: streams.input.source.bytes().len(),
+        dice,
+        tapes,
+        links,
+        asked,
+        input_faults: streams.input.faults(),
+        output_faults: streams.output.faults(),
+        error_faults: streams.errors.faults(),
+        file_faults: world.faults(),
+    })
+}
+
+/// Adds what is left of each random source of the case.
+fn add_dice_left(
+    case: &Case,
+    world: &FailingWorld,
+    all: &mut List<DiceLeft>,
+) -> Result<(), NoMemory> {
+    for (seat, _content) in &case.dice {
+        let home = match world.dice_of(*seat) {
+            Some(dice) => Some((dice.bytes().len(), dice.faults())),
+            None => None,
+        };
+        add(all, Ok(DiceLeft { seat: *seat, home }))?;
+    }
+    Ok(())
+}
+
+fn dice_left(alloc: Global, case: &Case, world: &FailingWorld) -> Result<List<DiceLeft>, NoMemory> {
+    let mut all = List::new(alloc);
+    let done = add_dice_left(case, world, &mut all);
+    whole(all, done)
+}
+
+/// Adds what is left of each tape of the case, and of those that it says aren't there.
+fn add_tapes_left(
+    alloc: Global,
+    case: &Case,
+    world: &FailingWorld,
+    all: &mut List<TapeLeft>,
+) -> Result<(), NoMemory> {
+    for (name, _content) in &case.tapes {
+        add(all, tape_left(alloc, world, name.as_str()))?;
+    }
+    for name in &case.absent {
+        add(all, tape_left(alloc, world, name.as_str()))?;
+    }
+    Ok(())
+}
+
+fn tapes_left(
+    alloc: Global,
+    case: &Case,
+    world: &FailingWorld,
+) -> Result<List<TapeLeft>, NoMemory> {
+    let mut all = List::new(alloc);
+    let done = add_tapes_left(alloc, case, world, &mut all);
+    whole(all, done)
+}
+
+/// The bytes of the tape of a name and how often it failed, if it is there.
+fn home_of(
+    alloc: Global,
+    world: &FailingWorld,
+    name: &str,
+) -> Result<Option<(Bytes, u64)>, NoMemory> {
+    match world.tape_of(name) {
+        Some(tape) => Ok(Some((Bytes::copy(alloc, tape.bytes())?, tape.faults()))),
+        None => Ok(None),
+    }
+}
+
+/// What is left of the tape of a name.
+fn tape_left(alloc: Global, world: &FailingWorld, name: &str) -> Result<TapeLeft, NoMemory> {
+    let (name, home) = both(Text::copy(alloc, name), home_of(alloc, world, name))?;
+    Ok(TapeLeft { name, home })
+}
+
+/// What is left of a link of the case.
+fn link_left(alloc: Global, world: &FailingWorld, plugin: &Plugin) -> Result<LinkLeft, NoMemory> {
+    let home = match world.link_of(plugin.seat, plugin.name.as_str()) {
+        Some(link) => Some((link.made(), link.faults())),
+        None => None,
+    };
+    Ok(LinkLeft {
+        seat: plugin.seat,
+        name: Text::copy(alloc, plugin.name.as_str())?,
+        home,
+    })
+}
+
+fn add_links_left(
+    alloc: Global,
+    case: &Case,
+    world: &FailingWorld,
+    all: &mut List<LinkLeft>,
+) -> Result<(), NoMemory> {
+    for plugin in &case.plugins {
+        add(all, link_left(alloc, world, plugin))?;
+    }
+    Ok(())
+}
+
+fn links_left(
+    alloc: Global,
+    case: &Case,
+    world: &FailingWorld,
+) -> Result<List<LinkLeft>, NoMemory> {
+    let mut all = List::new(alloc);
+    let done = add_links_left(alloc, case, world, &mut all);
+    whole(all, done)
+}
+
+fn link_asked(
+    alloc: Global,
+    seat: u32,
+    plugin: &str,
+    program: &str,
+) -> Result<LinkAsked, NoMemory> {
+    let (name, program) = both(Text::copy(alloc, plugin), Text::copy(alloc, program))?;
+    Ok(LinkAsked {
+        seat,
+        name,
+        program,
+    })
+}
+
+/// Adds the links that the world was asked for, in their order.
+fn add_links_asked(
+    alloc: Global,
+    world: &FailingWorld,
+    all: &mut List<LinkAsked>,
+) -> Result<(), NoMemory> {
+    for call in world.asked() {
+        let WorldCall::Link {
+            seat,
+            plugin,
+            program,
+        } = call
+        else {
+            continue;
+        };
+        add(
+            all,
+            link_asked(alloc, *seat, plugin.as_str(), program.as_str()),
+        )?;
+    }
+    Ok(())
+}
+
+fn links_asked(alloc: Global, world: &FailingWorld) -> Result<List<LinkAsked>, NoMemory> {
+    let mut all = List::new(alloc);
+    let done = add_links_asked(alloc, world, &mut all);
+    whole(all, done)
+}

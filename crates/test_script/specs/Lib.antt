@@ -1,0 +1,3 @@
+-- What is printed for a line.
+pub mod Answers
+pub mod FleetText

@@ -1,0 +1,3 @@
+-- Lemmas.
+pub mod Counts
+mod Written

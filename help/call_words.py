@@ -1,0 +1,142 @@
+"""The words of a call that wrote a line: which files they name, and why they mean no command."""
+
+import difflib
+import re
+from pathlib import Path
+
+from commands import COMMANDS, OPTIONS, REPEATED
+from reference import configuration, words as grammar
+
+BY_NAME = {command.name: command for command in COMMANDS}
+
+
+class Call:
+    """The command and the options of some words, as far as they can be made out."""
+
+    def __init__(self, words):
+        words = list(words)
+        if words and (words[0].endswith("kmsrest") or words[0] in ("$", "sudo")):
+            words = words[1:]
+        self.words, self.command, self.options = words, words[0] if words else "", {}
+        rest = words[1:]
+        while rest:
+            word = rest.pop(0)
+            if word.startswith("--"):
+                name, equals, value = word[2:].partition("=")
+                self.options.setdefault(name, []).append(value if equals else rest.pop(0) if rest else "")
+
+    def one(self, name):
+        return self.options.get(name, [None])[0]
+
+    def configurations(self):
+        """The names of the configurations with what each is to the call."""
+        found = [(name, "--config") for name in self.options.get("config", ())]
+        found += [(name, f"--replica, API server {number}") for number, name in enumerate(self.options.get("replica", ()))]
+        for value in self.options.get("reload", ()):
+            number, _, name = value.partition("=")
+            found.append((name, f"--reload of API server {number}"))
+        for name in self.options.get("file", ()):
+            found += fleet_configurations(name)
+        return [(name, what) for name, what in found if name]
+
+    def files(self):
+        """All files that the call opens, with what each is to it."""
+        found = self.configurations()
+        found += [(name, f"--{option}") for option in ("file", "store", "to") for name in self.options.get(option, ())]
+        return found
+
+    def plugins(self):
+        return [tuple(value.partition("=")[::2]) for value in self.options.get("plugin", ())]
+
+
+def fleet_configurations(name):
+    """What a fleet file names, each once."""
+    try:
+        text = Path(name).read_text(encoding="utf-8", errors="replace")
+    except OSError:
+        return []
+    found = {}
+    for number, line in enumerate(text.split("\n"), 1):
+        parts = line.split()
+        if len(parts) == 3 and parts[0] in ("replica", "reload", "join") and (parts[2] != "-" or parts[0] != "replica"):
+            found.setdefault(parts[2], f"line {number} of {name}")
+    return list(found.items())
+
+
+def near(word, known):
+    found = difflib.get_close_matches(word, known, 1, 0.6)
+    return f"; did you mean {found[0]}?" if found else ""
+
+
+def usage_faults(call):
+    """Why the words mean no command, as pairs of what was found and what to do."""
+    if not call.words:
+        return [("there are no words", "kmsrest help lists the commands")]
+    if call.command not in BY_NAME:
+        return [(f"`{call.command}` is no command{near(call.command, BY_NAME)}", "kmsrest help lists the commands")]
+    command, faults, rest, seen = BY_NAME[call.command], [], call.words[1:], set()
+    own = command.required + command.further
+    while rest:
+        word = rest.pop(0)
+        name, equals, value = word[2:].partition("=")
+        if not word.startswith("--"):
+            return [(f"`{word}` is no option and no option's value", "put -- before an option's name, and quotes around a value with spaces")]
+        if name not in own:
+            why = f"{call.command} has no option --{name}" if name in OPTIONS else f"there is no option --{name}"
+            return [(why + near(name, own), f"kmsrest help {call.command} lists its options")]
+        if not equals and not rest:
+            return [(f"--{name} has no value", f"write --{name} {OPTIONS[name][0]}")]
+        if not equals:
+            value = rest.pop(0)
+        if name in seen and name not in REPEATED:
+            return [(f"--{name} stands twice", "delete one of the two")]
+        seen.add(name)
+        faults += value_faults(call, name, value)
+    missing = [name for name in command.required if name not in seen]
+    if missing:
+        faults.insert(0, (f"{call.command} wants --{missing[0]} {OPTIONS[missing[0]][0]}", f"kmsrest help {call.command} shows its words"))
+    return faults
+
+
+def value_faults(call, name, value):
+    """What is wrong with an option's value."""
+    if name == "resource" and not grammar.is_resource(value.encode()):
+        return [(f"--resource `{value}` is no resource", "small letters, digits, - and dots: secrets, deployments.apps")]
+    if name == "path" and not grammar.is_path(value.encode()) and not (value == "" and call.command in ("encrypt", "decrypt")):
+        return [(f"--path `{value}` is no path", "1 to 1,024 bytes without spaces and beyond no ASCII, such as /registry/secrets/default/db")]
+    if name == "plugin":
+        own, equals, program = value.partition("=")
+        if not equals or not program:
+            return [(f"--plugin `{value}` names no program", "write --plugin NAME=PROGRAM")]
+        if not grammar.is_name(own.encode()):
+            return [(f"--plugin: `{own}` is no name", "1 to 253 bytes from ! to ~, none of them a colon")]
+        if [name for name, _ in call.plugins()].count(own) > 1:
+            return [(f"--plugin gives `{own}` two programs", "delete one of the two")]
+    if name == "reload":
+        digits, equals, _ = value.partition("=")
+        most = len(call.options.get("replica", ())) - 1
+        if not equals:
+            return [(f"--reload `{value}` has no file", "write --reload N=FILE")]
+        if not re.fullmatch(r"0|[1-9][0-9]*", digits) or int(digits) > most:
+            return [(f"--reload `{digits}` is no API server of this call", f"they are numbered by --replica, from 0 to {most}")]
+    if name in ("seed", "size") and not re.fullmatch(r"0|[1-9][0-9]*", value):
+        return [(f"--{name} `{value}` is no number", "decimal digits, without a sign or a leading zero")]
+    if name == "size" and value == "0":
+        return [("--size 0 is no load", "at least 1")]
+    if name == "seed" and int(value) > grammar.MOST_SEED:
+        return [(f"--seed `{value}` is too large", f"at most {grammar.MOST_SEED}")]
+    if name == "to" and value == call.one("store"):
+        return [("--to is the store itself", "name another file")]
+    return []
+
+
+def entries_of(name):
+    """The entries of a configuration that keeps the rules, or None."""
+    try:
+        return configuration.read(Path(name).read_bytes())
+    except (OSError, configuration.Breach):
+        return None
+
+
+def provider_text(provider):
+    return ":".join(provider[:2]) if provider[1] else provider[0]

@@ -1,0 +1,217 @@
+"""The commands and their options, as one table: `help/write` makes the help texts, the man page and the completion of it."""
+
+# What stands for an option's value, and what the option says. A value's word tells the completion what to offer.
+OPTIONS = {
+    "config": ("FILE", "the EncryptionConfiguration, in YAML or JSON, as the API server has it"),
+    "file": ("FILE", "the fleet file: replicas, and what workers do at them"),
+    "from": ("FILE", "the configuration that all API servers have"),
+    "path": ("PATH", "the object's key in etcd, such as /registry/secrets/default/db; aesgcm and kms bind a value to it"),
+    "plugin": ("NAME=PROGRAM", "the program that answers for the KMS plugin NAME; once for each plugin"),
+    "reload": ("N=FILE", "the configuration that API server N, from 0, is to read next"),
+    "replica": ("FILE", "the configuration that an API server has now; once for each, the first is number 0; at most 16"),
+    "replicas": ("NUMBER", "how many API servers there are, 1 to 16"),
+    "resource": ("RESOURCE", "the resource in the plural, with its group: secrets, deployments.apps"),
+    "seed": ("NUMBER", "which load is made, at most 18446744073709551615"),
+    "size": ("NUMBER", "how many objects each of the four workers writes, 1 to 10000"),
+    "show": ("WORD", "wide or turned: print that configuration in place of the moves"),
+    "store": ("FILE", "the store file"),
+    "to": ("FILE", "the store file that is written; it is absent or empty"),
+}
+
+REPEATED = ("plugin", "replica")
+
+# What the script at the top answers by itself, before any build.
+OWN_WORDS = {
+    "help [COMMAND]": "this page, or a command's",
+    "--help": "this page",
+    "--version": "the version",
+    "--build [WORD..]": "prove and build the program where that is due, then do the words",
+    "explain 'LINE' [WORD..]": "what a line that kmsrest wrote means for the call with these words, and what to do",
+}
+
+
+class Command:
+    """`texts` has the options that this command means otherwise than OPTIONS."""
+
+    def __init__(self, name, summary, required, further, *, reads, writes, answers, notes="", example=(), texts=None):
+        self.name, self.summary, self.required, self.further = name, summary, required, further
+        self.reads, self.writes, self.answers, self.notes, self.example = reads, writes, answers, notes, example
+        self.texts = {option: (texts or {}).get(option, OPTIONS.get(option)) for option in required + further}
+
+    def words(self):
+        """The words of a call, as a usage line has them."""
+        told = [self.name]
+        for option in self.required + self.further:
+            word = f"--{option} {self.texts[option][0]}"
+            if option in self.further:
+                told.append(f"[{word}]" + (".." if option in REPEATED else ""))
+            else:
+                told.append(word + (f" [{word}].." if option in REPEATED else ""))
+        return " ".join(told)
+
+
+AT_SECRETS = "--resource secrets --path /registry/secrets/d/s"
+
+COMMANDS = [
+    Command(
+        "check",
+        "what a configuration says, or the first rule that it breaks",
+        ("config",),
+        ("resource",),
+        reads="the configuration",
+        writes="nothing",
+        answers="a line for each entry with its resources and providers; with --resource the providers of that resource, the writer first",
+        example=("./kmsrest check --config examples/three-entries.yaml --resource deployments.apps", "aesgcm:key1", "identity"),
+    ),
+    Command(
+        "encrypt",
+        "seal a value as the API server would store it",
+        ("config", "resource", "path"),
+        ("plugin",),
+        reads="the configuration, and the data from standard input",
+        writes="nothing",
+        answers="the stored value on standard output, as bytes",
+        notes="The first provider of the resource writes the value.",
+        example=(f"printf hello | ./kmsrest encrypt --config examples/identity.yaml {AT_SECRETS}", "hello"),
+    ),
+    Command(
+        "decrypt",
+        "read a stored value",
+        ("config", "resource", "path"),
+        ("plugin",),
+        reads="the configuration, and the value from standard input, byte for byte",
+        writes="nothing",
+        answers="the data on standard output; `fresh` or `stale` on standard error, which is no failure",
+        notes="`stale` says that the resource's writer is another provider, or has another key, than the one that wrote the value.",
+        example=(f"./kmsrest decrypt --config examples/three-entries.yaml {AT_SECRETS} <value",),
+    ),
+    Command(
+        "inspect",
+        "who wrote a stored value, without any key",
+        (),
+        (),
+        reads="the value from standard input",
+        writes="nothing",
+        answers="the provider, the key's name and the length; of a KMS value the key id, annotations and lengths too",
+        example=("./kmsrest inspect <value",),
+    ),
+    Command(
+        "put",
+        "seal data and add them to a store file",
+        ("config", "store", "resource", "path"),
+        ("plugin",),
+        reads="the configuration, the data from standard input, the store",
+        writes="one row to the store, which is made where it is absent",
+        answers="`revision N`",
+        example=("printf hi | ./kmsrest put --config examples/identity.yaml --store /tmp/store --resource secrets --path /s", "revision 1"),
+    ),
+    Command(
+        "get",
+        "read an object of a store file",
+        ("config", "store", "path"),
+        ("plugin",),
+        reads="the configuration and the store",
+        writes="nothing",
+        answers="the data on standard output; `fresh` or `stale` on standard error, which is no failure",
+        example=("./kmsrest get --config examples/identity.yaml --store /tmp/store --path /s",),
+    ),
+    Command(
+        "list",
+        "the objects of a store file and who wrote each, without any key",
+        ("store",),
+        (),
+        reads="the store",
+        writes="nothing",
+        answers="REVISION RESOURCE PATH TAG, a line for each object; `plain` says that it is stored in the clear",
+        example=("./kmsrest list --store /tmp/store", "1 secrets /s plain"),
+    ),
+    Command(
+        "judge",
+        "may an API server read another configuration now?",
+        ("store", "replica", "reload"),
+        (),
+        reads="the store, the configurations of all API servers, and the new one",
+        writes="nothing",
+        answers="`pass`, or the first reason against it with status 1",
+        notes="A key is known by its name and its secret. `judge` opens no value: which secret sealed a row it knows by the row's check alone.",
+        example=(
+            "cd examples/rotation",
+            "../../kmsrest judge --store /tmp/store --replica new.yaml --replica both.yaml --reload 0=last.yaml",
+            "drops-writer 1 secrets aescbc:key1",
+        ),
+    ),
+    Command(
+        "plan",
+        "the moves that bring all API servers from one configuration to another",
+        ("from", "to", "replicas"),
+        ("show",),
+        reads="both configurations",
+        writes="nothing",
+        answers="`reload R wide` for each API server, `reload R turned` for each, `rewrite`, `reload R to` for each; with --show a configuration",
+        notes="wide reads both and writes as --from does; turned reads both and writes as --to does. A rewrite must leave nothing.",
+        example=(
+            "cd examples/rotation",
+            "../../kmsrest plan --from old.yaml --to last.yaml --replicas 2",
+            "reload 0 wide",
+            "reload 1 wide",
+            "reload 0 turned",
+            "reload 1 turned",
+            "rewrite",
+            "reload 0 to",
+            "reload 1 to",
+        ),
+        texts={"to": ("FILE", "the configuration that all are to have")},
+    ),
+    Command(
+        "rewrite",
+        "seal anew each object that the configuration would write otherwise today",
+        ("config", "store"),
+        ("plugin",),
+        reads="the configuration and the store",
+        writes="a row for each stale object to the store",
+        answers="`rewritten N`, `fresh N`, `changed N`, `left N`; status 1 where some are left, since they can't be read or sealed",
+        example=("./kmsrest rewrite --config examples/rotation/new.yaml --store /tmp/store",),
+    ),
+    Command(
+        "migrate",
+        "copy a store of the first format into a new one of the second, with checks",
+        ("config", "store", "to"),
+        (),
+        reads="the configuration and the store",
+        writes="the rows to the file of --to",
+        answers="`migrated N`",
+        notes="The configuration's secrets decide the checks, and no value is opened. With the wrong file the checks are wrong, and judge believes them.",
+        example=("./kmsrest migrate --config old.yaml --store store1 --to store2",),
+    ),
+    Command(
+        "fleet",
+        "several API servers over one store: their reloads, reads, writes and rewrites",
+        ("file", "store"),
+        ("plugin",),
+        reads="the fleet file, the configurations that it names, from the current folder, and the store",
+        writes="the rows to the store, which is made where it is absent",
+        answers="the journal of all that was done, and each line's reply",
+        example=("cd examples/fleet", "../../kmsrest fleet --file rollout --store /tmp/fleet-store"),
+    ),
+    Command(
+        "gen",
+        "run a load that a seed and a size make, and print its summary",
+        ("seed", "size", "store"),
+        (),
+        reads="the store",
+        writes="the load's rows to the store, which is made where it is absent",
+        answers="how many puts and gets were done, and a digest of what was read",
+        example=("./kmsrest gen --seed 1 --size 2 --store /tmp/load-store", "gen 1 2", "puts 8", "gets 8"),
+    ),
+]
+
+STATUSES = {
+    0: "done",
+    1: "the answer is no: a value is refused or absent, a verdict isn't `pass`, objects are left",
+    2: "the words mean no command",
+    3: "a file is absent, or what it says breaks a rule",
+    4: "a file, a stream, the store or a plugin failed",
+    5: "want of memory",
+    6: "a limit is passed",
+    70: "the script: the program isn't built and wasn't built now",
+}

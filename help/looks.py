@@ -1,0 +1,144 @@
+"""What can be seen of the files, plugins and stores that a call names."""
+
+import os
+import shutil
+import stat
+from pathlib import Path
+
+from call_words import entries_of, provider_text
+from reference import configuration, store
+from reference.values import reader_of
+
+MAGICS = (b"KRSTORE1", b"KRSTORE2")
+
+
+def is_read_only(path):
+    try:
+        return bool(os.statvfs(path).f_flag & os.ST_RDONLY)
+    except OSError:
+        return False
+
+
+def holder_of(path):
+    """The process that has the store open and locked, as the system lists locks, or None. Nothing is locked for that."""
+    found = os.stat(path)
+    place = f"{os.major(found.st_dev):02x}:{os.minor(found.st_dev):02x}:{found.st_ino}"
+    try:
+        lines = Path("/proc/locks").read_text(encoding="utf-8").splitlines()
+    except OSError:
+        return None
+    return next((words[4] for words in map(str.split, lines) if words[1] == "FLOCK" and words[5] == place), None)
+
+
+def file_fault(name, is_store=False):
+    """What is wrong with a file that is to be read, or with a store, which is opened for writing too; or None."""
+    path, folder = Path(name), Path(name).parent
+    try:
+        found = path.stat()
+    except FileNotFoundError:
+        if path.is_symlink():
+            return f"a link to {os.readlink(path)}, which isn't there", "make what it names, or name another file"
+        if not folder.exists():
+            return f"its folder {folder} isn't there", f"mkdir -p {folder}, or name it from the current folder, {os.getcwd()}"
+        return "it isn't there", f"name it from the current folder, {os.getcwd()}" + similar(path)
+    except NotADirectoryError:
+        return "its path goes through what is no folder", "name the file itself"
+    except PermissionError:
+        return "its folder may not be entered", "run as a user who may, or change the folder's mode"
+    except OSError as error:
+        return error.strerror, "name another file"
+    if stat.S_ISDIR(found.st_mode):
+        return "a folder", "name a file in it"
+    if not stat.S_ISREG(found.st_mode) and is_store:
+        return "a device, a pipe or a socket", "a store is a plain file"
+    if not os.access(path, os.R_OK):
+        return "there is no right to read it", f"it has mode {stat.filemode(found.st_mode)} and owner {found.st_uid}; run as its owner"
+    if is_store and is_read_only(path):
+        return "it is on a read-only file system", "copy it to another place; a store is opened for writing also where it is only read"
+    if is_store and not os.access(path, os.W_OK):
+        return "there is no right to write it", "a store is opened for writing also where it is only read; run as its owner, or copy it"
+    if is_store and holder_of(path):
+        return f"process {holder_of(path)} has it open", "wait for that one"
+    return None
+
+
+def similar(path):
+    import difflib
+
+    try:
+        names = [other.name for other in path.parent.iterdir()]
+    except OSError:
+        return ""
+    found = difflib.get_close_matches(path.name, names, 1, 0.6)
+    return f"; there is {path.parent / found[0]}" if found else ""
+
+
+def plugin_fault(name, program):
+    """Why a plugin's program can't be started, or None."""
+    if "/" not in program:
+        if shutil.which(program):
+            return None
+        beside = f": write --plugin {name}=./{program}" if Path(program).exists() else ""
+        return "no folder of PATH has it", "a program without / is looked for in PATH alone" + beside
+    path = Path(program)
+    if not path.exists():
+        return "it isn't there", f"name it from the current folder, {os.getcwd()}" + similar(path)
+    if path.is_dir():
+        return "it is a folder", "name the program in it"
+    if not os.access(path, os.X_OK):
+        return "it isn't executable", f"chmod +x {program}"
+    head = path.open("rb").read(128)
+    if head.startswith(b"#!"):
+        reader = head[2:].split(b"\n")[0].decode(errors="replace").split()
+        if not reader or not Path(reader[0]).exists():
+            return f"its first line names {reader[0] if reader else 'nothing'}, which isn't there", "mend its first line"
+        if head.split(b"\n")[0].endswith(b"\r"):
+            return "its first line ends in CR LF", "save it with LF alone"
+    elif not head.startswith(b"\x7fELF"):
+        return "it has no first line `#!..` and is no program", "begin it by `#!` and its interpreter"
+    return None
+
+
+# ---- stores
+
+
+def rows_before(name, place):
+    """How many whole rows stand before a byte of a store's file, or None."""
+    try:
+        return len(store.read(Path(name).read_bytes()[:place])[1])
+    except (OSError, store.Broken):
+        return None
+
+
+def rows_of(name):
+    try:
+        return store.read(Path(name).read_bytes())[1]
+    except (OSError, TypeError, store.Broken):
+        return None
+
+
+def row_at(name, path):
+    """The live row of a path with its revision, or None."""
+    return store.live(rows_of(name) or []).get(path.encode())
+
+
+def stored_with(name, path):
+    """What is stored at a path, in words."""
+    found = row_at(name, path)
+    if not found:
+        return None
+    return f"revision {found[0]} of {found[1].resource.decode()}, by {store.tag(found[1].value).decode()}"
+
+
+def readers_in(name, resource):
+    """A configuration's providers of a resource, in words."""
+    entries = entries_of(name)
+    return None if entries is None else ", ".join(map(provider_text, configuration.list_for(entries, resource)))
+
+
+def reader_at(config, name, path):
+    """The provider of the configuration that reads what is stored at the path, or None."""
+    entries, found = entries_of(config), row_at(name, path)
+    if entries is None or not found:
+        return None
+    return reader_of(configuration.list_for(entries, found[1].resource.decode()), found[1].value)
